@@ -1,29 +1,234 @@
--- Laws of FORM: the campaign stays early, its books balanced, and each unit that was there is unchanged.
-use Rattle.std.proofs.Common.{◌≡◌, ℕ, ◌≤◌, Bool, true, false, not, List, [], ◌∷◌, Option, Some, None, map, refl, sym, ap, subst, ◌∙◌, arith}
-use Rattle.std.specs.Prelude.{fold}
-use Rattle.std.specs.Option.{option_map_or}
-use Rattle.std.specs.FinMap.{get, values}
+-- Laws of FORM: the campaign stays early, its books balanced, all that changes is marked, and each unit that was there is
+-- unchanged.
+use Rattle.std.proofs.Common.{◌≡◌, ◌≢◌, ◌==◌, ◌||◌, ◌*◌, ℕ, ◌+◌, ◌≤◌, ◌<◌, Bool, true, false, cond, Some, None, length, nat_le, nat_lt, refl, sym, ap, ◌∙◌, arith, not, List, [], ◌∷◌, Option, map, subst}
+use Rattle.std.proofs.lemmas.Bool.{true≢false}
+use Rattle.std.specs.Prelude.{IsTrue, is_some, unwrap_or, fold}
+use Rattle.std.specs.Ordering.{nat_cmp}
+use Rattle.std.specs.Cmp.{nat_cmp_total}
+use Rattle.std.specs.FinMap.{FinMap, get, get-empty, insert, len, len-insert, values}
+use Rattle.std.proofs.lemmas.Bool.Decides.{nat_tests}
+use Rattle.atl_world.specs.Names.{name_ok}
 use Rattle.atl_world.specs.Worlds.{WorldValue}
+use Rattle.atl_world.proofs.SumLaws.{numbers_where-insert_other}
+use Rattle.atl_world.specs.ByNumber.{is_land_at}
+use Rattle.atl_campaign.specs.Covers.{MarksChanges}
+use Rattle.atl_records.specs.Limits.{holding_limit, last_unit, most_days, most_units}
+use Rattle.atl_records.specs.declared.books.Thing.{Thing}
+use Rattle.atl_records.specs.declared.books.Thing.TheVariants.{Item, Money, People}
+use Rattle.atl_records.specs.declared.records.Unit.{Unit}
+use Rattle.atl_records.specs.Every.{Every}
+use Rattle.atl_campaign.specs.Good.{AreAfloat, AreInRange, AreKnown, AreNamed, AreNumbered, AreOfOneFaction, AreOwned, GoneHaveNone, IsAboard, IsEarly, IsPlaced, IsSteady, guards}
+use Rattle.atl_records.specs.Holdings.{IsHolding}
+use Rattle.atl_campaign.specs.Marking.{mark_unit_added, mark_unit_begun}
+use Rattle.atl_campaign.specs.Campaign.{MarkedCampaign, CampaignValue, with_unit, with_unit_begun}
+use Rattle.atl_records.specs.Amounts.{unit_amount}
+use Rattle.atl_campaign.specs.Totals.{total}
+use Rattle.atl_campaign.proofs.CoverLaws.{Row, Stays, KeepsUnmarked, marks-trans, marks-unit, part_by_part}
+use Rattle.atl_records.proofs.EveryLaws.{every-empty, every-insert, get-insert_other, none_some, there-insert}
+use Rattle.atl_campaign.proofs.NumberListLaws.{none_passing}
+use Rattle.atl_campaign.proofs.TotalLaws.{total-with_unit}
+use Rattle.atl_phase.specs.Bounds.{StepsWell, nothing_remaining}
+use Rattle.atl_phase.proofs.MeaningLaws.{same_month_by}
+use Rattle.atl_phase.proofs.UnbookedLaws.{unbooked_well}
+use Rattle.atl_instant.specs.Form.{is_unit_limit, new_unit, form_by, form_meaning, form_order, is_forming, with_formed_unit}
+use Rattle.atl_campaign.proofs.NumberedNameLaws.{unit_name_ok}
+use Rattle.std.specs.Option.{option_map_or}
 use Rattle.atl_world.proofs.GeneralLaws.{is_equal}
 use Rattle.atl_records.specs.declared.event.EventFault.TheVariants.{NotYours, UnitLimit}
 use Rattle.atl_records.specs.declared.event.Outcome.TheVariants.{Done}
-use Rattle.atl_records.specs.declared.records.Unit.{Unit}
-use Rattle.atl_records.specs.Every.{Every}
-use Rattle.atl_campaign.specs.Good.{IsEarly}
-use Rattle.atl_records.specs.Limits.{last_unit}
-use Rattle.atl_campaign.specs.Campaign.{CampaignValue, with_unit_begun}
 use Rattle.atl_phase.specs.Month.{MonthValue}
 use Rattle.atl_phase.specs.Inside.{inside, region_of}
 use Rattle.atl_phase.specs.Outcomes.{first_fault, unless}
 use Rattle.atl_phase.specs.PhaseOrders.{Task, orders_of}
 use Rattle.atl_phase.specs.OrderEffects.{is_of_faction}
-use Rattle.atl_phase.specs.Bounds.{StepsWell, nothing_remaining}
 use Rattle.atl_phase.specs.declared.phase_order.Arrangement.TheVariants.{ByFaction}
 use Rattle.atl_phase.proofs.OrderEffectLaws.{well_same}
-use Rattle.atl_instant.specs.Form.{form_by, form_fault, form_meaning, form_order, is_forming, is_unit_limit, new_unit, with_formed_unit}
 use Rattle.atl_instant.specs.Forming.{form_apart, forming_of}
 use Rattle.atl_instant.specs.declared.form.Forming.{Forming}
-use Rattle.atl_instant.proofs.FormingLaws.{begun_stays, begun_well, room}
+
+-- ---- a campaign in which a unit has formed another
+
+-- a map has one value more after an insertion under a number that had none
+len_new : {V : Type 0} (m : FinMap nat_cmp V) (k : ℕ) (v : V) → get m k ≡ None → len (insert m k v) ≡ len m + 1
+len_new m k v h = len-insert nat_cmp_total m k v ∙ ap (λ o. cond (is_some o) (len m) (len m + 1)) h
+
+-- a value of a map is still there after an insertion under a number that had none
+still_there : {V : Type 0} (m : FinMap nat_cmp V) (k q : ℕ) (v x : V) → get m k ≡ None → get m q ≡ Some x → get (insert m k v) q ≡ Some x
+still_there m k q v x free is = get-insert_other m k q v (λ same. none_some x (sym free ∙ ap (get m) (sym same) ∙ is)) ∙ is
+
+-- if the test for the unit limit is false of a count u of units and a next number n, u is below 100,000, and n at most
+-- 999,999,999
+few : (u n : ℕ) → (nat_le most_units u || nat_lt last_unit n) ≡ false → (u < most_units) × (n ≤ last_unit)
+few u n h = (grind (arith, nat_tests), grind (arith, nat_tests))
+
+-- if the unit limit isn't reached, there are fewer units than 100,000, and the next number is at most 999,999,999
+pub room : (c : CampaignValue) → is_unit_limit c ≡ false → (len c.units < most_units) × (c.next_unit ≤ last_unit)
+room c h = few (len c.units) c.next_unit h
+
+module _ (w : WorldValue) (c : CampaignValue) (p : ℕ) (u : Unit) (is : get c.units p ≡ Some u) (early : IsEarly w c) where
+  -- the unit that unit p forms
+  abbrev child : Unit
+  child = new_unit c.next_unit u.faction u.region u.structure
+
+  -- the units of the campaign with the one that is formed
+  abbrev units : FinMap nat_cmp Unit
+  units = insert c.units c.next_unit child
+
+  -- the campaign after unit p formed a unit
+  abbrev begun : CampaignValue
+  begun = with_unit_begun c child
+
+  -- the campaign before FORM is steady
+  old : IsSteady w c
+  old = early.steady
+
+  -- there is no unit under the next unit number
+  free : get c.units c.next_unit ≡ None
+  free = old.next.units c.next_unit (omega arith)
+
+  -- each unit that was there stays as it was when the new unit is added
+  unit_stays : Every (λ n v. get units n ≡ Some v) c.units
+  unit_stays n v there = still_there c.units c.next_unit n child v free there
+
+  -- after a unit is formed, numbers and amounts are in their ranges (`AreInRange`), if the unit limit wasn't reached
+  numbers_kept : is_unit_limit c ≡ false → AreInRange w begun
+  numbers_kept limit =
+      let r = room c limit in
+      let n = old.numbers in
+      record {
+        month = n.month;
+        few_factions = n.few_factions;
+        few_regions = n.few_regions;
+        few_units = omega (arith, len_new c.units c.next_unit child free, r.0);
+        few_structures = n.few_structures;
+        next_unit_least = omega arith;
+        next_unit_most = omega (arith, r.1);
+        factions = n.factions;
+        regions = n.regions;
+        units = every-insert (λ k x. (1 ≤ k) × IsHolding x.holding) c.units c.next_unit child (n.next_unit_least, record { men = omega arith; money = omega arith; items = every-empty (λ item amount. (1 ≤ amount) × (amount ≤ holding_limit)) }) n.units;
+        structures = n.structures;
+        books = n.books;
+      }
+
+  -- after a unit is formed, all names follow their rules (`AreNamed`), if the unit limit wasn't reached
+  names_kept : is_unit_limit c ≡ false → AreNamed begun
+  names_kept limit =
+      let n = old.names in
+      record {
+        pass = n.pass;
+        factions = n.factions;
+        joined = n.joined;
+        units = every-insert (λ k x. IsTrue (name_ok x.holding.name)) c.units c.next_unit child (unit_name_ok c.next_unit (room c limit).1) n.units;
+        structures = n.structures;
+      }
+
+  -- after a unit is formed, all that the campaign refers to is there (`AreKnown`)
+  known_kept : AreKnown w begun
+  known_kept =
+      let k = old.known in
+      record {
+        regions = k.regions;
+        markets = k.markets;
+        units = every-insert (λ n x. IsPlaced w begun x) c.units c.next_unit child
+            (let q = k.units p u is in record { faction = q.faction; region = q.region; structure = q.structure; items = every-empty (λ i amount. i < length w.items); skills = every-empty (λ s days. s < length w.skills) })
+            k.units;
+        structures = λ n s there. let b = k.structures n s there in record { kind = b.kind; region = b.region; owner = λ owned. there-insert c.units c.next_unit s.owner child (b.owner owned) };
+        posts = k.posts;
+      }
+
+  -- after a unit is formed, factions, units and structures are numbered as the rule says (`AreNumbered`)
+  next_kept : AreNumbered begun
+  next_kept = record {
+    factions = old.next.factions;
+    structures = old.next.structures;
+    units = λ q above. get-insert_other c.units c.next_unit q child (λ same. omega arith) ∙ old.next.units q (omega arith);
+  }
+
+  -- after a unit is formed, factions that are gone still have no units
+  gone_kept : GoneHaveNone begun
+  gone_kept m f there gone =
+      let test = λ (x : Unit). x.faction == m in
+      let none = old.gone m f there gone in
+      numbers_where-insert_other test c.units c.next_unit child free (none_passing test c.units none p u is) ∙ none
+
+  -- after a unit is formed, each structure still has its right owner (`AreOwned`)
+  owners_kept : AreOwned begun
+  owners_kept n s there =
+      let o = old.owners n s there in
+      record {
+        owned = λ some. let (v, here, inside) = o.owned some in (v, unit_stays s.owner v here, inside);
+        ownerless = λ none. every-insert (λ m x. x.structure ≢ n) c.units c.next_unit child (o.ownerless none p u is) (o.ownerless none);
+      }
+
+  -- after a unit is formed, each unit on water is inside a ship (`AreAfloat`)
+  water_kept : AreAfloat w begun
+  water_kept = record {
+    units = every-insert (λ n x. is_land_at w x.region ≡ false → IsAboard w begun x) c.units c.next_unit child (old.water.units p u is) old.water.units;
+    structures = old.water.structures;
+  }
+
+  -- units that pass a test are still of one faction in each region, if the new unit doesn't pass the test
+  one_faction_kept : (test : Unit → Bool) → test child ≡ false → AreOfOneFaction test c → AreOfOneFaction test begun
+  one_faction_kept test fails one =
+      every-insert (λ n x. Every (λ m y. test x ≡ true → test y ≡ true → x.region ≡ y.region → x.faction ≡ y.faction) units) c.units c.next_unit child (λ m y there e. absurd (true≢false (sym e ∙ fails)))
+      (λ n x there. every-insert (λ m y. test x ≡ true → test y ≡ true → x.region ≡ y.region → x.faction ≡ y.faction) c.units c.next_unit child (λ _ e. absurd (true≢false (sym e ∙ fails))) (one n x there))
+
+  -- the campaign stays early when a unit is formed, if the unit limit isn't reached
+  early_begun : is_unit_limit c ≡ false → IsEarly w begun
+  early_begun limit = record {
+    steady = record {
+      numbers = numbers_kept limit;
+      names = names_kept limit;
+      known = known_kept;
+      next = next_kept;
+      days = every-insert (λ n x. Every (λ s days. (1 ≤ days) × (days ≤ most_days * x.holding.men)) x.holding.days) c.units c.next_unit child (every-empty (λ s days. (1 ≤ days) × (days ≤ most_days * 0))) old.days;
+      gone = gone_kept;
+      owners = owners_kept;
+      water = water_kept;
+      guarded = one_faction_kept guards refl old.guarded;
+    };
+    flags = one_faction_kept (λ x. x.holding.guard) refl early.flags;
+  }
+
+  -- the new unit holds nothing
+  nothing_held : (t : Thing) → unit_amount t child.holding ≡ 0
+  nothing_held Money = refl
+  nothing_held People = refl
+  nothing_held (Item i) = ap (λ o. unwrap_or o 0) (get-empty nat_cmp i)
+
+  -- two numbers are equal, if one is the other plus h, and h is 0
+  none_more : (a b h : ℕ) → a ≡ b + h → h ≡ 0 → a ≡ b
+  none_more a b h e none = omega arith
+
+  -- the campaign's total of each thing is the same after a unit is formed
+  same_total : (t : Thing) → total begun t ≡ total c t
+  unfolding total
+  same_total t = none_more (total begun t) (total c t) (unit_amount t child.holding) (total-with_unit c c.next_unit child t free) (nothing_held t)
+
+  -- if the unit limit isn't reached, forming a unit keeps an early campaign early,
+  -- in its month and with balanced books (`StepsWell`)
+  pub begun_well : is_unit_limit c ≡ false → StepsWell IsEarly nothing_remaining w c begun
+  begun_well limit = unbooked_well w c begun (early_begun limit) (same_month_by refl) refl same_total
+
+  -- each unit that was there is unchanged after another unit is formed
+  pub begun_stays : Every (λ n v. get begun.units n ≡ Some v) c.units
+  begun_stays = unit_stays
+
+-- ---- what is marked
+
+-- all that changes when a unit is formed is marked
+pub marks-begun : (c : MarkedCampaign) (u : Unit) → MarksChanges c (record { value = with_unit_begun c.value u; marks = mark_unit_begun c })
+marks-begun c u =
+    let n = c.value.next_unit in
+    let mid : MarkedCampaign = record { value = with_unit c.value n u; marks = mark_unit_added c n } in
+    let next : MarkedCampaign = record { value = with_unit_begun c.value u; marks = mark_unit_begun c } in
+    marks-trans c mid next
+    (marks-unit c (insert c.value.units n u) n (λ k apart. get-insert_other c.value.units n k u apart))
+    (part_by_part mid next
+    (λ p. elim p as (Stays mid.marks next.marks) [ Row ↦ λ k h. refl | _ ↦ λ k h. h ])
+    (λ p. elim p as (KeepsUnmarked next.marks mid.value next.value) [ Row ↦ λ k free. absurd (true≢false free) | _ ↦ λ k free. refl ]))
+
+-- ---- one order
 
 module _ (w : WorldValue) (c : CampaignValue) (early : IsEarly w c) where
   -- there is no unit under the next unit number

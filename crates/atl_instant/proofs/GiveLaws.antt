@@ -1,7 +1,6 @@
 -- Laws of GIVE and PAY: the campaign stays early, its books balanced, and no unit but the giver is worse off.
-use Rattle.std.proofs.Common.{◌≡◌, ◌≢◌, ◌==◌, ℕ, ◌+◌, ◌-◌, ◌≤◌, ◌<◌, Bool, true, false, cond, not, ◌&&◌, [], ◌∷◌, length, Option, Some, None, refl, sym, ap, subst, ◌∙◌, arith}
+use Rattle.std.proofs.Common.{◌≡◌, ◌≢◌, ◌==◌, ℕ, ◌+◌, ◌-◌, ◌≤◌, ◌<◌, Bool, true, false, cond, not, [], ◌∷◌, length, Option, Some, None, refl, sym, ap, subst, ◌∙◌, arith}
 use Rattle.std.specs.Prelude.{⊤, IfSome, nat_lt, if◌then◌else◌}
-use Rattle.std.proofs.lemmas.Bool.Decides.{nat_tests}
 use Rattle.std.specs.Ordering.{nat_cmp, eq_by_cmp}
 use Rattle.std.specs.FinMap.{get}
 use Rattle.atl_world.specs.Worlds.{WorldValue}
@@ -10,7 +9,6 @@ use Rattle.atl_orders.specs.Bounds.{AreOperandsOf}
 use Rattle.atl_orders.specs.Orders.{OperandsValue}
 use Rattle.atl_records.specs.declared.books.Thing.{Thing}
 use Rattle.atl_records.specs.declared.books.Thing.TheVariants as things
-use Rattle.atl_records.specs.declared.event.EventFault.{EventFault}
 use Rattle.atl_records.specs.declared.event.EventFault.TheVariants.{NoRoom, NotEnough, NotHere}
 use Rattle.atl_records.specs.declared.event.Outcome.TheVariants.{Done}
 use Rattle.atl_records.specs.declared.records.Unit.{Unit}
@@ -20,63 +18,40 @@ use Rattle.atl_campaign.specs.Lending.{with_held}
 use Rattle.atl_records.specs.Limits.{holding_limit}
 use Rattle.atl_campaign.specs.Campaign.{CampaignValue}
 use Rattle.atl_records.specs.Amounts.{unit_amount}
-use Rattle.atl_phase.specs.Month.{Aliases}
-use Rattle.atl_phase.specs.Outcomes.{unless}
 use Rattle.atl_phase.specs.NoWorse.{IsNoWorse}
-use Rattle.atl_phase.specs.PhaseOrders.{Task, unit_of}
-use Rattle.atl_phase.specs.OrderEffects.{IsOwnOrder, IsUnaffected}
-use Rattle.atl_phase.specs.Bounds.{IsOrderly, IsUnitOf, StepsWell}
-use Rattle.atl_phase.proofs.OutcomeLaws.{none_fits, not_apart, not_less, unless_itself}
-use Rattle.atl_phase.proofs.NoWorseLaws.{no_worse}
-use Rattle.atl_phase.proofs.OrderEffectLaws.{no_worse_spares, well_same}
+use Rattle.atl_phase.specs.PhaseOrders.{unit_of}
+use Rattle.atl_phase.specs.OrderEffects.{IsOwnOrder}
+use Rattle.atl_phase.specs.Bounds.{IsOrderly, nothing_remaining}
+use Rattle.atl_phase.specs.Unbooked.{moves_nothing}
+use Rattle.atl_phase.proofs.OutcomeLaws.{none_fits, not_less}
 use Rattle.atl_records.proofs.HoldingLaws.{alike, amount_within, every_amount, set_amount}
 use Rattle.atl_campaign.proofs.HavingLaws.{MayHave, may_have}
-use Rattle.atl_phase.proofs.UnbookedLaws.{other_unit}
-use Rattle.atl_instant.specs.Give.{after_gift, give, give_effect, give_fault, give_step, give_to, held_of, with_held_of}
+use Rattle.atl_instant.specs.Give.{give, give_effect, give_fault, give_step, give_to, held_of, with_held_of}
 use Rattle.atl_instant.specs.declared.give.Gift.{Gift}
 use Rattle.atl_instant.specs.declared.give.Gift.TheVariants.{Item, Money}
-use Rattle.atl_instant.proofs.MovingLaws.{early-moved, moved, receiver_still, spared-moved, steps-moved}
+use Rattle.atl_instant.proofs.EffectLaws.{Keeps, StepKeeps, keeps_all, moved_cases, orderly_by, others-moved, steps-moved}
 
--- the receiver is in the giver's region, the giver holds n of the gift, and the receiver has room for n more,
--- unless it is the giver itself: what holds where a gift has no fault
-pub record CanGive (gift : Gift) (n : ℕ) (itself : Bool) (u v : Unit) : Type 0 where
-  -- the receiver is in the giver's region
-  pub here : v.region ≡ u.region
+-- the giver holds n of the gift, and the receiver has room for n more: what holds where a gift to another unit has no
+-- fault
+record CanGive (gift : Gift) (n : ℕ) (u v : Unit) : Type 0 where
   -- the giver holds at least n of the gift
   pub enough : n ≤ held_of gift u.holding
-  -- a receiver other than the giver has room for n more of the gift
-  pub room : itself ≡ false → held_of gift v.holding + n ≤ holding_limit
+  -- the receiver has room for n more of the gift
+  pub room : held_of gift v.holding + n ≤ holding_limit
 
--- where a gift has no fault, both units are in one region, the giver holds enough, and the receiver has room for it
--- unless it is the giver itself (`CanGive`)
-pub can_give : (gift : Gift) (n : ℕ) (itself : Bool) (u v : Unit) → give_fault gift n itself u (Some v) ≡ None → CanGive gift n itself u v
-can_give gift n itself u v is =
+-- where a gift to another unit has no fault, the giver holds enough, and the receiver has room for it (`CanGive`)
+can_give : (gift : Gift) (n : ℕ) (u v : Unit) → give_fault gift n false u (Some v) ≡ None → CanGive gift n u v
+can_give gift n u v is =
     let little = nat_lt (held_of gift u.holding) n in
     let full = nat_lt holding_limit (held_of gift v.holding + n) in
-    let one = none_fits (not (v.region == u.region)) NotHere ((little, NotEnough) ∷ (not itself && full, NoRoom) ∷ []) is in
-    let two = none_fits little NotEnough ((not itself && full, NoRoom) ∷ []) one.1 in
-    let three = none_fits (not itself && full) NoRoom [] two.1 in
-    record {
-      here = not_apart v.region u.region one.0;
-      enough = not_less (held_of gift u.holding) n two.0;
-      room = λ other. not_less holding_limit (held_of gift v.holding + n) (unless_itself itself full three.0 other);
-    }
+    let one = none_fits (not (v.region == u.region)) NotHere ((little, NotEnough) ∷ (full, NoRoom) ∷ []) is in
+    let two = none_fits little NotEnough ((full, NoRoom) ∷ []) one.1 in
+    record { enough = not_less (held_of gift u.holding) n two.0; room = not_less holding_limit (held_of gift v.holding + n) (none_fits full NoRoom [] two.1).0 }
 
 -- a unit holds at most `holding_limit` (999,999,999) of the money or the item that is given
 pub held_within : (gift : Gift) (h : HoldingValue) → IsHolding h → held_of gift h ≤ holding_limit
 held_within Money h is = is.money
 held_within (Item i) h is = amount_within h i is
-
--- taking n of the gift from the giver and then adding n to another unit makes the campaign `after_gift`
-pub given_is : (c d e : CampaignValue) (from to : ℕ) (gift : Gift) (n left more : ℕ) (u v : Unit) → to ≢ from → get c.units from ≡ Some u → get c.units to ≡ Some v
-    → d ≡ with_held c from (with_held_of gift u.holding left) (Some u)
-    → ((x : Unit) → get d.units to ≡ Some x → e ≡ with_held d to (with_held_of gift x.holding more) (Some x))
-    → left ≡ held_of gift u.holding - n → more ≡ held_of gift v.holding + n
-    → e ≡ after_gift c from to gift n (Some u) (Some v)
-given_is c d e from to gift n left more u v apart giver receiver first second left_is more_is =
-    let other : (to == from) ≡ false = grind (arith, nat_tests) in
-    let still : get d.units to ≡ Some v = ap (λ (s : CampaignValue). get s.units to) first ∙ receiver_still c from to u v (with_held_of gift u.holding left) v.holding giver receiver apart in
-    rw (second v still, first, left_is, more_is, other) refl
 
 -- ---- what both hold
 
@@ -103,10 +78,10 @@ may_have_of w h (Item i) amount known most may = record {
   days = may.days;
 }
 
--- a unit with another amount of the gift has its guard flag set only if it was set before
-same_flag : (gift : Gift) (h : HoldingValue) (amount : ℕ) → (with_held_of gift h amount).guard ≡ true → h.guard ≡ true
-same_flag Money h amount g = g
-same_flag (Item i) h amount g = g
+-- a unit with another amount of the gift has the same guard flag and the same men
+same_rest : (gift : Gift) (h : HoldingValue) (amount : ℕ) → ((with_held_of gift h amount).guard ≡ h.guard) × ((with_held_of gift h amount).men ≡ h.men)
+same_rest Money h amount = (refl, refl)
+same_rest (Item i) h amount = (refl, refl)
 
 -- giver and receiver together hold as much of each thing after a gift as before
 pub both_hold : (gift : Gift) (n : ℕ) (h k : HoldingValue) → n ≤ held_of gift h → (t : Thing) → unit_amount t (with_held_of gift h (held_of gift h - n)) + unit_amount t (with_held_of gift k (held_of gift k + n)) ≡ unit_amount t h + unit_amount t k
@@ -151,80 +126,50 @@ better_off (Item i) n v = record { faction = refl; region = refl; structure = re
 
 -- ---- one order
 
--- the campaign after a gift from one unit to another, or to itself
-abbrev behind : CampaignValue → (from to : ℕ) → Gift → (n : ℕ) → Unit → Unit → (itself : Bool) → CampaignValue
-behind c from to gift n u v itself =
-    if itself then c
-    else with_held (with_held c from (with_held_of gift u.holding (held_of gift u.holding - n)) (Some u)) to (with_held_of gift v.holding (held_of gift v.holding + n)) (Some v)
+module _ {fit : Type 0} (w : WorldValue) (c : CampaignValue) (from to : ℕ) (gift : Gift) (n : ℕ) (u : Unit) (giver : get c.units from ≡ Some u) (known : fit → IsKnown w gift) where
+  -- a gift to another unit keeps what an order should (`Keeps`), if it has no fault
+  moved_kept : (v : Unit) → get c.units to ≡ Some v → to ≢ from → CanGive gift n u v
+      → Keeps IsEarly fit w c from u.faction (with_held (with_held c from (with_held_of gift u.holding (held_of gift u.holding - n)) (Some u)) to (with_held_of gift v.holding (held_of gift v.holding + n)) (Some v))
+  moved_kept v receiver apart can =
+      let left = held_of gift u.holding - n in
+      let more = held_of gift v.holding + n in
+      record {
+        well = λ early fits.
+            let least = held_within gift u.holding (early.steady.numbers.units from u giver).1 in
+            steps-moved c from to u v (with_held_of gift u.holding left) (with_held_of gift v.holding more) giver receiver apart w
+            (may_have_of w u.holding gift left (known fits) (omega (arith, least)) (may_have w c from u giver early.steady)) (λ g. sym (same_rest gift u.holding left).0 ∙ g)
+            (may_have_of w v.holding gift more (known fits) can.room (may_have w c to v receiver early.steady)) (λ g. sym (same_rest gift v.holding more).0 ∙ g)
+            (both_hold gift n u.holding v.holding can.enough) early;
+        others =
+            others-moved c from to u v (with_held_of gift u.holding left) (with_held_of gift v.holding more) giver receiver apart u.faction
+            (record { better = better_off gift n v; men = λ other. (same_rest gift v.holding more).1 });
+      }
 
--- P holds of the campaign after an order of GIVE or PAY, if P holds of the campaign before and of the one after a gift
--- to another unit
-pub give_cases : (P : CampaignValue → Type 0) (c : CampaignValue) (from to : ℕ) (gift : Gift) (n : ℕ) (u : Unit) (giver : get c.units from ≡ Some u) → P c
-    → ((v : Unit) (receiver : get c.units to ≡ Some v) (apart : to ≢ from) → CanGive gift n false u v
-    → P (moved c from to u v (with_held_of gift u.holding (held_of gift u.holding - n)) (with_held_of gift v.holding (held_of gift v.holding + n)) giver receiver apart))
-    → P (give from to gift n c u).0
-unfolding give
-give_cases P c from to gift n u giver same move = by_receiver (get c.units to) refl
-  where
-    -- P holds after a gift without a fault, whether the giver is itself the receiver or not
-    by_test : (v : Unit) → get c.units to ≡ Some v → (b : Bool) → (to == from) ≡ b → CanGive gift n b u v → P (behind c from to gift n u v b)
-    by_test v receiver true is can = same
-    by_test v receiver false is can = let apart : to ≢ from = grind (arith, nat_tests) in move v receiver apart can
-
-    -- P holds after an order for a receiver that is there, whether the gift has a fault or not
-    by_fault : (v : Unit) → get c.units to ≡ Some v → (f : Option EventFault) → give_fault gift n (to == from) u (Some v) ≡ f → P (unless c f (behind c from to gift n u v (to == from), Done n)).0
-    by_fault v receiver (Some fault) is = same
-    by_fault v receiver None is = by_test v receiver (to == from) refl (can_give gift n (to == from) u v is)
-
-    -- P holds after the order, whether the receiver is there or not
-    by_receiver : (o : Option Unit) → get c.units to ≡ o → P (give_to c from to gift n u o).0
-    by_receiver None is = same
-    by_receiver (Some v) receiver = by_fault v receiver (give_fault gift n (to == from) u (Some v)) refl
-
-module _ (w : WorldValue) (c : CampaignValue) (early : IsEarly w c) (from to : ℕ) (gift : Gift) (n : ℕ) (u : Unit) (giver : get c.units from ≡ Some u) where
-  -- an order of GIVE or PAY keeps an early campaign early, in its month and with balanced books (`StepsWell`),
-  -- if the gift is of the world
-  give_steps_well : IsKnown w gift → StepsWell IsEarly (λ d e t. 0) w c (give from to gift n c u).0
-  give_steps_well known =
-      give_cases (λ d. StepsWell IsEarly (λ d e t. 0) w c d) c from to gift n u giver (well_same w c early)
-      (λ v receiver apart can.
-      let less = with_held_of gift u.holding (held_of gift u.holding - n) in
-      let more = with_held_of gift v.holding (held_of gift v.holding + n) in
-      let least = held_within gift u.holding (early.steady.numbers.units from u giver).1 in
-      steps-moved c from to u v less more giver receiver apart w
-      (early-moved c from to u v less more giver receiver apart w
-      (may_have_of w u.holding gift (held_of gift u.holding - n) known (omega (arith, least)) (may_have w c from u giver early.steady)) (same_flag gift u.holding (held_of gift u.holding - n))
-      (may_have_of w v.holding gift (held_of gift v.holding + n) known (can.room refl) (may_have w c to v receiver early.steady)) (same_flag gift v.holding (held_of gift v.holding + n)) early)
-      (both_hold gift n u.holding v.holding can.enough))
-
-  -- an order of GIVE or PAY leaves each unit but the giver no worse off
-  give_spares : (k : ℕ) (x : Unit) → get c.units k ≡ Some x → k ≢ from → IsUnaffected IsNoWorse (give from to gift n c u).0 k x
-  give_spares k x there other =
-      give_cases (λ d. IsUnaffected IsNoWorse d k x) c from to gift n u giver (record { unit = x; there = there; spared = no_worse x })
-      (λ v receiver apart can.
-      spared-moved c from to u v (with_held_of gift u.holding (held_of gift u.holding - n)) (with_held_of gift v.holding (held_of gift v.holding + n)) giver receiver apart (better_off gift n v) k x there other)
+  -- an order of GIVE or PAY keeps what it should (`Keeps`), if the gift is of the world
+  gift_kept : Keeps IsEarly fit w c from u.faction (give from to gift n c u).0
+  unfolding give
+  gift_kept = by_receiver (get c.units to) refl
+    where
+      -- the order keeps what it should (`Keeps`), whether the receiver is there or not
+      by_receiver : (o : Option Unit) → get c.units to ≡ o → Keeps IsEarly fit w c from u.faction (give_to c from to gift n u o).0
+      by_receiver None is = keeps_all w c from u.faction
+      by_receiver (Some v) receiver =
+          moved_cases (Keeps IsEarly fit w c from u.faction) c from to u v (with_held_of gift u.holding (held_of gift u.holding - n)) (with_held_of gift v.holding (held_of gift v.holding + n))
+          (λ itself. give_fault gift n itself u (Some v)) (Done n) (keeps_all w c from u.faction) (λ apart none. moved_kept v receiver apart (can_give gift n u v none))
 
 -- ---- the phase
 
+-- each order of GIVE or PAY keeps what it should (`Keeps`)
+pub give_keeps : StepKeeps IsEarly give_step
+give_keeps w a c t x own = by_operands t.order_value.operands
+  where
+    -- an order with the operands o keeps what it should (`Keeps`)
+    by_operands : (o : OperandsValue) → IfSome (give_effect a t.faction t.unit o) (λ deed. Keeps IsEarly (AreOperandsOf w o) w c t.unit x.faction (deed c x).0)
+    by_operands (operands.UnitAndGoods to n item) = gift_kept w c t.unit (unit_of a t.faction to) (Item item) n x own.there (λ fit. fit.2)
+    by_operands (operands.UnitAndNumber to n) = gift_kept w c t.unit (unit_of a t.faction to) Money n x own.there (λ fit. tt)
+    by_operands other = tt
+
 -- GIVE and PAY keep an early campaign early and book nothing,
 -- and a unit without an own order of these is no worse off (`IsOrderly`)
-pub give_orderly : IsOrderly give_step IsEarly (λ c e t. 0) (λ e t. 0) IsOwnOrder IsNoWorse
-give_orderly = record {
-  well = λ w a c t x early fit own. well w a c t x early own t.order_value.operands fit;
-  sparing = no_worse_spares;
-  spared = λ w a c t x early own n u there other. spared w a c t x early own n u there (other_unit c t x n u own there other) t.order_value.operands;
-  bounded = λ w c early e t. omega arith;
-}
-  where
-    -- an order with the operands s keeps the campaign early and in balance (`StepsWell`)
-    well : (w : WorldValue) (a : Aliases) (c : CampaignValue) (t : Task) (x : Unit) → IsEarly w c → IsUnitOf c t x → (s : OperandsValue) → AreOperandsOf w s → IfSome (give_effect a t.faction t.unit s) (λ deed. StepsWell IsEarly (λ d e t. 0) w c (deed c x).0)
-    well w a c t x early own (operands.UnitAndGoods to n item) (ref, number, known) = give_steps_well w c early t.unit (unit_of a t.faction to) (Item item) n x own.there known
-    well w a c t x early own (operands.UnitAndNumber to n) fit = give_steps_well w c early t.unit (unit_of a t.faction to) Money n x own.there tt
-    well w a c t x early own other fit = tt
-
-    -- an order with the operands s leaves each unit but its own no worse off
-    spared : (w : WorldValue) (a : Aliases) (c : CampaignValue) (t : Task) (x : Unit) → IsEarly w c → IsUnitOf c t x → (n : ℕ) (u : Unit) → get c.units n ≡ Some u → n ≢ t.unit → (s : OperandsValue)
-        → IfSome (give_effect a t.faction t.unit s) (λ deed. IsUnaffected IsNoWorse (deed c x).0 n u)
-    spared w a c t x early own n u there apart (operands.UnitAndGoods to k item) = give_spares w c early t.unit (unit_of a t.faction to) (Item item) k x own.there n u there apart
-    spared w a c t x early own n u there apart (operands.UnitAndNumber to k) = give_spares w c early t.unit (unit_of a t.faction to) Money k x own.there n u there apart
-    spared w a c t x early own n u there apart other = tt
+pub give_orderly : IsOrderly give_step IsEarly nothing_remaining moves_nothing IsOwnOrder IsNoWorse
+give_orderly = orderly_by give_keeps (λ w a t n f own other. absurd (other own))

@@ -1,42 +1,42 @@
 -- Laws of GUARD 1: the campaign stays steady, and the guards of each region stay of one faction.
-use Rattle.std.proofs.Common.{◌≡◌, ◌≢◌, ◌==◌, ℕ, ◌+◌, Bool, true, false, not, ◌&&◌, ◌||◌, List, [], ◌∷◌, Option, Some, None, refl, sym, ap, subst, ◌∙◌, inl, inr, arith}
-use Rattle.std.specs.Prelude.{IfSome, pos}
+use Rattle.std.proofs.Common.{◌≡◌, ◌≢◌, ◌==◌, ℕ, ◌+◌, Bool, true, false, not, ◌&&◌, ◌||◌, List, [], ◌∷◌, Some, None, refl, sym, ap, subst, ◌∙◌, inl, inr, arith}
+use Rattle.std.specs.Prelude.{IfSome, IsTrue, nat_lt}
 use Rattle.std.specs.List.{list_any}
 use Rattle.std.proofs.lemmas.Bool.Decides.{nat_tests}
 use Rattle.std.specs.FinMap.{get, insert}
+use Rattle.atl_world.specs.Names.{name_ok}
 use Rattle.atl_world.specs.Worlds.{WorldValue}
 use Rattle.atl_orders.specs.declared.order.Operands.TheVariants as operands
+use Rattle.atl_orders.specs.Bounds.{AreOperandsOf}
 use Rattle.atl_orders.specs.Orders.{OperandsValue}
-use Rattle.atl_records.specs.Books.{amount_in}
 use Rattle.atl_campaign.specs.Covers.{MarksChanges}
 use Rattle.atl_records.specs.declared.books.Thing.{Thing}
 use Rattle.atl_records.specs.declared.books.Thing.TheVariants.{Item, Money, People}
-use Rattle.atl_records.specs.declared.event.EventFault.{EventFault}
 use Rattle.atl_records.specs.declared.event.EventFault.TheVariants.{Guarded, NoMen}
 use Rattle.atl_records.specs.declared.event.Outcome.TheVariants.{Done}
 use Rattle.atl_records.specs.declared.records.Unit.{Unit}
 use Rattle.atl_records.specs.Every.{Every}
 use Rattle.atl_campaign.specs.Good.{AreOfOneFaction, IsSteady, guards}
+use Rattle.atl_records.specs.Holdings.{HoldingValue}
+use Rattle.atl_campaign.specs.Lending.{with_held}
 use Rattle.atl_campaign.specs.Marking.{mark_unit_row}
 use Rattle.atl_campaign.specs.Campaign.{MarkedCampaign, CampaignValue, numbers_in, with_guard}
 use Rattle.atl_records.specs.Amounts.{unit_amount}
 use Rattle.atl_campaign.specs.Totals.{total}
-use Rattle.atl_records.proofs.EveryLaws.{every-insert, get-insert_other}
+use Rattle.atl_records.proofs.EveryLaws.{every-insert}
 use Rattle.atl_campaign.proofs.HoldingLaws.{marks-unit_row, total-unit_amount}
-use Rattle.atl_campaign.proofs.RegionLaws.{changed-known}
 use Rattle.atl_campaign.proofs.NumberListLaws.{IsListed, passing_listed}
-use Rattle.atl_phase.specs.Outcomes.{unless}
 use Rattle.atl_phase.specs.NoWorse.{IsNoWorse}
-use Rattle.atl_phase.specs.PhaseOrders.{Task}
-use Rattle.atl_phase.specs.OrderEffects.{IsUnaffected}
-use Rattle.atl_phase.specs.Bounds.{IsOrderly, IsUnitOf, StepsWell}
+use Rattle.atl_phase.specs.Bounds.{IsOrderly, StepsWell, nothing_remaining}
+use Rattle.atl_phase.specs.Unbooked.{moves_nothing}
 use Rattle.atl_phase.proofs.MeaningLaws.{same_month_by}
-use Rattle.atl_campaign.proofs.HavingLaws.{may_have, steady-having}
+use Rattle.atl_campaign.proofs.HavingLaws.{MayHave, may_have, steady-having}
 use Rattle.atl_phase.proofs.OutcomeLaws.{none_fits, not_apart}
-use Rattle.atl_phase.proofs.NoWorseLaws.{no_worse}
-use Rattle.atl_phase.proofs.OrderEffectLaws.{drawn_same, no_worse_spares, well_same}
-use Rattle.atl_phase.proofs.UnbookedLaws.{other_unit}
+use Rattle.atl_phase.proofs.ChangeLaws.{changed_held, others_held}
+use Rattle.atl_phase.proofs.MarkLaws.{marks_by}
+use Rattle.atl_phase.proofs.UnbookedLaws.{stays_well}
 use Rattle.atl_instant.specs.Guard.{guard, guard_concerns, guard_effect, guard_fault, guard_step, guards_against, is_guarded_against}
+use Rattle.atl_instant.proofs.EffectLaws.{Keeps, StepKeeps, keeps_others, keeps_unless, orderly_by}
 
 -- ---- other guards of the region
 
@@ -64,7 +64,45 @@ own_guards c region faction none m v there guarding here =
     second true b t e = e
     second false b t e = cc
 
+-- ---- a unit with another name and guard flag
+
+module _ (w : WorldValue) (c : CampaignValue) (n : ℕ) (u : Unit) (is : get c.units n ≡ Some u) (name : List ℕ) (flag : Bool) where
+  -- what the unit holds, with the other name and guard flag
+  abbrev pub labelled : HoldingValue
+  labelled = record u.holding { name = name; guard = flag }
+
+  -- in a steady campaign a unit may have another guard flag, and another name that follows the name rule (`MayHave`)
+  pub may_label : IsTrue (name_ok name) → IsSteady w c → MayHave w labelled
+  may_label ok steady =
+      let may = may_have w c n u is steady in
+      record { limits = record { men = may.limits.men; money = may.limits.money; items = may.limits.items }; name = ok; items = may.items; skills = may.skills; days = may.days }
+
+  -- the campaign's total of each thing stays the same with the unit's other name and guard flag
+  pub total-labelled : (t : Thing) → total (with_held c n labelled (Some u)) t ≡ total c t
+  total-labelled t = same (total (with_held c n labelled (Some u)) t) (total c t) (unit_amount t u.holding) (unit_amount t labelled) (total-unit_amount w c n u labelled is t) (held_same t)
+    where
+      -- the unit holds as much of each thing under its other name, and with its other flag
+      held_same : (s : Thing) → unit_amount s labelled ≡ unit_amount s u.holding
+      held_same Money = refl
+      held_same People = refl
+      held_same (Item i) = refl
+
+      -- if two sums are equal, and so are their second addends, their first addends are equal
+      same : (a b x y : ℕ) → a + x ≡ b + y → y ≡ x → a ≡ b
+      same a b x y e f = omega arith
+
 -- ---- the campaign after the flag is set
+
+-- if GUARD 1 has no fault for a unit, the unit has men, and no other faction guards its region
+pub can_guard : (c : CampaignValue) (u : Unit) → guard_fault c u ≡ None → (is_guarded_against c u.region u.faction ≡ false) × (nat_lt 0 u.holding.men ≡ true)
+can_guard c u none =
+    let one = none_fits (u.holding.men == 0) NoMen ((is_guarded_against c u.region u.faction, Guarded) ∷ []) none in
+    let two = none_fits (is_guarded_against c u.region u.faction) Guarded [] one.1 in
+    (two.0, has_men u.holding.men one.0)
+  where
+    -- a number that isn't 0 is above 0
+    has_men : (n : ℕ) → (n == 0) ≡ false → nat_lt 0 n ≡ true
+    has_men n some = grind (arith, nat_tests)
 
 module _ (c : CampaignValue) (n : ℕ) (u : Unit) (is : get c.units n ≡ Some u) where
   -- the unit with its guard flag set
@@ -89,98 +127,47 @@ module _ (c : CampaignValue) (n : ℕ) (u : Unit) (is : get c.units n ≡ Some u
 
   -- setting the guard flag of a unit that is there makes the campaign `flagged`
   pub flagged_is : with_guard c n true ≡ flagged
-  flagged_is = ap (λ m. record c { units = m }) (changed-known (λ (x : Unit). record x { holding = record x.holding { guard = true } }) c.units n u is)
+  flagged_is = changed_held (λ h. record h { guard = true }) c (with_guard c n true) n refl u is
 
-  -- each unit but n is no worse off when the guard flag of unit n is set
-  pub flag_spares : (k : ℕ) (x : Unit) → get c.units k ≡ Some x → k ≢ n → IsUnaffected IsNoWorse (with_guard c n true) k x
-  flag_spares k x there apart =
-      subst (λ d. IsUnaffected IsNoWorse d k x) (sym flagged_is) (record { unit = x; there = get-insert_other c.units n k guarding apart ∙ there; spared = no_worse x })
+  -- setting the guard flag keeps a steady campaign steady, in its month and with balanced books (`StepsWell`),
+  -- if no other faction guards the region
+  flag_steps_well : (w : WorldValue) → is_guarded_against c u.region u.faction ≡ false → IsSteady w c → StepsWell IsSteady nothing_remaining w c (with_guard c n true)
+  flag_steps_well w none steady =
+      let may = may_label w c n u is u.holding.name true (steady.names.units n u is) steady in
+      subst (StepsWell IsSteady nothing_remaining w c) (sym flagged_is)
+      (stays_well IsSteady w c flagged (steady-having w c n u guarding.holding is may (guards_kept none steady.guarded) steady) (same_month_by refl) refl (total-labelled w c n u is u.holding.name true))
 
-  module _ (w : WorldValue) where
-    -- a campaign stays steady when a unit begins to guard a region that no other faction guards
-    pub steady-flagged : is_guarded_against c u.region u.faction ≡ false → IsSteady w c → IsSteady w flagged
-    steady-flagged none steady =
-        let may = may_have w c n u is steady in
-        let limits = may.limits in
-        steady-having w c n u guarding.holding is
-        (record { limits = record { men = limits.men; money = limits.money; items = limits.items }; name = may.name; items = may.items; skills = may.skills; days = may.days })
-        (guards_kept none steady.guarded) steady
-
-    -- the unit holds as much of each thing with its guard flag set
-    held_same : (t : Thing) → unit_amount t (record u.holding { guard = true }) ≡ unit_amount t u.holding
-    held_same Money = refl
-    held_same People = refl
-    held_same (Item i) = refl
-
-    -- the campaign's total of each thing stays the same when the guard flag of the unit is set
-    total_same : (t : Thing) → total flagged t ≡ total c t
-    total_same t = same (total flagged t) (total c t) (unit_amount t u.holding) (unit_amount t (record u.holding { guard = true })) (total-unit_amount w c n u (record u.holding { guard = true }) is t) (held_same t)
-      where
-        -- if two sums are equal, and so are their second addends, their first addends are equal
-        same : (a b x y : ℕ) → a + x ≡ b + y → y ≡ x → a ≡ b
-        same a b x y e f = omega arith
-
-    -- setting the guard flag keeps a steady campaign steady, in its month and with balanced books (`StepsWell`),
-    -- if no other faction guards the region
-    pub flag_steps_well : is_guarded_against c u.region u.faction ≡ false → IsSteady w c → StepsWell IsSteady (λ d e t. 0) w c (with_guard c n true)
-    flag_steps_well none steady =
-        subst (λ d. StepsWell IsSteady (λ d e t. 0) w c d) (sym flagged_is) (record {
-          holds_still = steady-flagged none steady;
-          same_month = same_month_by refl;
-          balances = λ old t. ap pos (total_same t) ∙ old t;
-          drawn = λ e t. drawn_same 0 (amount_in c.books e t);
-        })
-
--- all that changes when the guard flag is set is marked
-pub flag_marks : (c d : MarkedCampaign) (n : ℕ) → d.value ≡ with_guard c.value n true → d.marks ≡ mark_unit_row c n → MarksChanges c d
-flag_marks c d n what marks =
-    let all = marks-unit_row (λ u. record u { holding = record u.holding { guard = true } }) (λ u. refl) c n in
-    rw (what, marks) (record { stay = all.stay; covers = all.covers })
+-- all that changes when the guard flag is set or cleared is marked
+pub flag_marks : (c d : MarkedCampaign) (n : ℕ) (flag : Bool) → d.value ≡ with_guard c.value n flag → d.marks ≡ mark_unit_row c n → MarksChanges c d
+flag_marks c d n flag what marks =
+    marks_by c d (record { value = with_guard c.value n flag; marks = mark_unit_row c n }) what marks (marks-unit_row (λ u. record u { holding = record u.holding { guard = flag } }) (λ u. refl) c n)
 
 -- ---- one order
 
--- P holds of the campaign after an order of GUARD 1, if P holds of the campaign before and of the one with the guard
--- flag set
-guard_cases : (P : CampaignValue → Type 0) (c : CampaignValue) (n : ℕ) (u : Unit) → P c → (is_guarded_against c u.region u.faction ≡ false → P (with_guard c n true)) → P (guard n c u).0
+-- GUARD 1 keeps what an order should (`Keeps`)
+guard_kept : {fit : Type 0} (w : WorldValue) (c : CampaignValue) (n : ℕ) (u : Unit) → get c.units n ≡ Some u → Keeps IsSteady fit w c n u.faction (guard n c u).0
 unfolding guard
-guard_cases P c n u same flag = by_fault (guard_fault c u) refl
-  where
-    -- P holds after the order, whether it has a fault or not
-    by_fault : (f : Option EventFault) → guard_fault c u ≡ f → P (unless c f (with_guard c n true, Done 0)).0
-    by_fault (Some fault) e = same
-    by_fault None e =
-        let one = none_fits (u.holding.men == 0) NoMen ((is_guarded_against c u.region u.faction, Guarded) ∷ []) e in
-        let two = none_fits (is_guarded_against c u.region u.faction) Guarded [] one.1 in
-        flag two.0
-
--- an order of GUARD 1 keeps a steady campaign steady, in its month and with balanced books (`StepsWell`)
-guard_steps_well : (w : WorldValue) (c : CampaignValue) (n : ℕ) (u : Unit) → get c.units n ≡ Some u → IsSteady w c → StepsWell IsSteady (λ d e t. 0) w c (guard n c u).0
-guard_steps_well w c n u is steady = guard_cases (λ d. StepsWell IsSteady (λ d e t. 0) w c d) c n u (well_same w c steady) (λ none. flag_steps_well c n u is w none steady)
-
--- an order of GUARD 1 leaves each other unit no worse off
-guard_spares : (w : WorldValue) (c : CampaignValue) (n : ℕ) (u : Unit) → get c.units n ≡ Some u → (k : ℕ) (x : Unit) → get c.units k ≡ Some x → k ≢ n → IsUnaffected IsNoWorse (guard n c u).0 k x
-guard_spares w c n u is k x there apart =
-    guard_cases (λ d. IsUnaffected IsNoWorse d k x) c n u (record { unit = x; there = there; spared = no_worse x }) (λ none. flag_spares c n u is k x there apart)
+guard_kept w c n u is =
+    keeps_unless w c n u.faction (guard_fault c u) (with_guard c n true) (Done 0) (λ none.
+    keeps_others w c n u.faction (with_guard c n true) (λ steady fits. flag_steps_well c n u is w (can_guard c u none).0 steady) (others_held (λ (x : Unit). record x { holding = record x.holding { guard = true } }) c n))
 
 -- ---- the phase
 
+-- each order of GUARD 1 keeps what it should (`Keeps`)
+pub guard_keeps : StepKeeps IsSteady guard_step
+guard_keeps w a c t x own = by_operands t.order_value.operands
+  where
+    -- an order with the operands o keeps what it should (`Keeps`)
+    by_operands : (o : OperandsValue) → IfSome (guard_effect t.unit o) (λ deed. Keeps IsSteady (AreOperandsOf w o) w c t.unit x.faction (deed c x).0)
+    by_operands (operands.Flag true) = guard_kept w c t.unit x own.there
+    by_operands other = tt
+
 -- GUARD 1 keeps a steady campaign steady and books nothing,
 -- and a unit without an own GUARD 1 is no worse off (`IsOrderly`)
-pub guard_orderly : IsOrderly guard_step IsSteady (λ c e t. 0) (λ e t. 0) guard_concerns IsNoWorse
-guard_orderly = record {
-  well = λ w a c t x steady fit own. well w c t x steady own t.order_value.operands;
-  sparing = no_worse_spares;
-  spared = λ w a c t x steady own n u there other. spared w c t x own n u there t.order_value.operands (λ sets. other_unit c t x n u own there (λ h. other (h, sets)));
-  bounded = λ w c steady e t. omega arith;
-}
+pub guard_orderly : IsOrderly guard_step IsSteady nothing_remaining moves_nothing guard_concerns IsNoWorse
+guard_orderly = orderly_by guard_keeps (λ w a t n f own other. passed t.unit t.order_value.operands (λ sets. other (own, sets)))
   where
-    -- an order of GUARD with the operands s keeps the campaign steady and in balance (`StepsWell`)
-    well : (w : WorldValue) (c : CampaignValue) (t : Task) (x : Unit) → IsSteady w c → IsUnitOf c t x → (s : OperandsValue) → IfSome (guard_effect t.unit s) (λ deed. StepsWell IsSteady (λ d e t. 0) w c (deed c x).0)
-    well w c t x steady own (operands.Flag true) = guard_steps_well w c t.unit x own.there steady
-    well w c t x steady own other = tt
-
-    -- an order of GUARD with the operands s leaves unit n no worse off, unless it is GUARD 1 for unit n
-    spared : (w : WorldValue) (c : CampaignValue) (t : Task) (x : Unit) → IsUnitOf c t x → (n : ℕ) (u : Unit) → get c.units n ≡ Some u → (s : OperandsValue) → (s ≡ operands.Flag true → n ≢ t.unit)
-        → IfSome (guard_effect t.unit s) (λ deed. IsUnaffected IsNoWorse (deed c x).0 n u)
-    spared w c t x own n u there (operands.Flag true) apart = guard_spares w c t.unit x own.there n u there (apart refl)
-    spared w c t x own n u there other apart = tt
+    -- the phase passes over each order but GUARD 1
+    passed : (n : ℕ) (o : OperandsValue) → (o ≡ operands.Flag true → ⊥) → guard_effect n o ≡ None
+    passed n (operands.Flag true) other = absurd (other refl)
+    passed n o other = refl

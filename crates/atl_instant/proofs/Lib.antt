@@ -1,5 +1,5 @@
 pub mod AmountsForLaws
-pub mod MovingLaws
+pub mod EffectLaws
 pub mod GiveLaws
 pub mod DaysLaws
 pub mod TransferLaws
@@ -8,8 +8,6 @@ pub mod RegionGuardLaws
 pub mod FactionLaws
 pub mod NameLaws
 pub mod PlaceLaws
-pub mod FormingLaws
 pub mod FormLaws
 pub mod QuitLaws
-pub mod QuittingLaws
 pub mod UnmailedStepLaws

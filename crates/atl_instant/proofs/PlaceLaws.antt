@@ -11,8 +11,8 @@ use Rattle.atl_orders.specs.declared.order.Operands.{Operands}
 use Rattle.atl_orders.specs.declared.order.Operands.TheVariants as operands
 use Rattle.atl_orders.specs.declared.order.Span.{Span}
 use Rattle.atl_orders.specs.declared.order.UnitRef.{UnitRef}
+use Rattle.atl_orders.specs.Bounds.{AreOperandsOf}
 use Rattle.atl_orders.specs.Orders.{OperandsValue, named}
-use Rattle.atl_records.specs.declared.event.EventFault.{EventFault}
 use Rattle.atl_records.specs.declared.event.EventFault.TheVariants.{AtSea, NotHere, NotInside, NotOwner}
 use Rattle.atl_records.specs.declared.event.Outcome.TheVariants.{Done}
 use Rattle.atl_records.specs.declared.records.Structure.{Structure}
@@ -23,7 +23,6 @@ use Rattle.atl_campaign.specs.Campaign.{CampaignValue, with_owner}
 use Rattle.atl_campaign.proofs.LeavingLaws.{owned_by}
 use Rattle.atl_phase.specs.Month.{Aliases}
 use Rattle.atl_phase.specs.Inside.{inside}
-use Rattle.atl_phase.specs.Outcomes.{first_fault, unless}
 use Rattle.atl_phase.specs.PhaseOrders.{unit_of}
 use Rattle.atl_phase.specs.NoWorse.{IsNoWorse}
 use Rattle.atl_phase.specs.OrderEffects.{IsOwnOrder}
@@ -33,9 +32,10 @@ use Rattle.atl_phase.proofs.MeaningLaws.{same_month_by}
 use Rattle.atl_phase.proofs.PlacingLaws.{place_stays, place_well}
 use Rattle.atl_phase.proofs.RefitLaws.{IsRelabelled, early-relabelled}
 use Rattle.atl_phase.proofs.StructureLaws.{at_number, get-changed, len-changed}
-use Rattle.atl_phase.proofs.OrderEffectLaws.{no_worse_spares, well_same}
-use Rattle.atl_phase.proofs.UnbookedLaws.{same_total_of, stays_spared, unbooked_well}
+use Rattle.atl_phase.proofs.OutcomeLaws.{none_fits, not_apart}
+use Rattle.atl_phase.proofs.UnbookedLaws.{same_total_of, unbooked_well}
 use Rattle.atl_instant.specs.Place.{enter, with_unit_inside, is_in, leave, leave_fault, enter_fault, place_effect, place_step, promote_fault, promote}
+use Rattle.atl_instant.proofs.EffectLaws.{Keeps, StepKeeps, keeps_all, keeps_others, keeps_unless, orderly_by}
 
 -- an order whose operands are neither none (LEAVE) nor a number (ENTER) nor a unit (PROMOTE) is passed over
 pub place_other : (w : WorldValue) (a : Aliases) (f n : ℕ) (text : List ℕ) (o : Operands Span) → (o ≡ operands.Nothing → ⊥) → ((s : ℕ) → o ≡ operands.Number s → ⊥) → ((to : UnitRef) → o ≡ operands.Unit to → ⊥)
@@ -45,146 +45,103 @@ place_other w a f n text (operands.Number s) l b d = absurd (b s refl)
 place_other w a f n text (operands.Unit to) l b d = absurd (d to refl)
 place_other w a f n text other l b d = refl
 
-module _ (w : WorldValue) (c : CampaignValue) (n : ℕ) (u : Unit) (is : get c.units n ≡ Some u) (early : IsEarly w c) where
-  -- campaign d, which an order makes of c, is early and in balance, its month is the same, and nothing is booked
-  -- (`StepsWell`)
-  abbrev Well : CampaignValue → Type 0
-  Well d = StepsWell IsEarly nothing_remaining w c d
-
-  -- an unchanged campaign stays early and in balance (`StepsWell`)
-  unchanged : Well c
-  unchanged = well_same w c early
+-- what an order of LEAVE, ENTER or PROMOTE for unit n keeps (`Keeps`)
+module _ (fit : Type 0) (w : WorldValue) (c : CampaignValue) (n : ℕ) (u : Unit) (is : get c.units n ≡ Some u) where
+  -- campaign d, which an order makes of c, keeps what it should (`Keeps`)
+  abbrev Kept : CampaignValue → Type 0
+  Kept d = Keeps IsEarly fit w c n u.faction d
 
   -- ---- LEAVE
 
-  -- a unit that leaves its structure on land keeps the campaign early and in balance (`StepsWell`)
-  left_place : (u.structure == 0) ≡ false → is_land_at w u.region ≡ true → Well (with_place c n u.region 0)
-  left_place some dry = place_well w c n u 0 is early (λ none. is_unequal u.structure 0 some none) (λ not_none. absurd (not_none refl)) (λ wet. absurd (true≢false (sym dry ∙ wet)))
-
-  -- LEAVE keeps the campaign early and in balance (`StepsWell`), whether it has the fault NotInside, AtSea or none
-  without_leaver : (a b : Bool) → (u.structure == 0) ≡ a → is_land_at w u.region ≡ b → Well (unless c (first_fault ((a, NotInside) ∷ (not b, AtSea) ∷ [])) (with_place c n u.region 0, Done 0)).0
-  without_leaver true b some dry = unchanged
-  without_leaver false false some dry = unchanged
-  without_leaver false true some dry = left_place some dry
-
-  -- an order of LEAVE keeps the campaign early and in balance (`StepsWell`)
-  left_well : Well (leave w n c u).0
+  -- an order of LEAVE keeps what it should (`Keeps`)
+  left : Kept (leave w n c u).0
   unfolding leave
-  left_well = without_leaver (u.structure == 0) (is_land_at w u.region) refl refl
+  left =
+      keeps_unless w c n u.faction (leave_fault w u) (with_place c n u.region 0) (Done 0) (λ none.
+      let some = none_fits (u.structure == 0) NotInside ((not (is_land_at w u.region), AtSea) ∷ []) none in
+      let dry = none_fits (not (is_land_at w u.region)) AtSea [] some.1 in
+      keeps_others w c n u.faction (with_place c n u.region 0)
+      (λ early fits. place_well w c n u 0 is early (λ out. is_unequal u.structure 0 some.0 out) (λ not_none. absurd (not_none refl)) (λ wet. absurd (true≢false (sym (ap not wet) ∙ dry.0))))
+      (λ k apart. place_stays c n u.region 0 k apart))
 
   -- ---- ENTER
 
-  module _ (s : ℕ) where
-    -- a unit that enters another structure of its region keeps the campaign early and in balance (`StepsWell`)
-    entered_place : (x : Structure) → get c.structures s ≡ Some x → (x.region == u.region) ≡ true → (u.structure == s) ≡ false → Well (with_place c n u.region s)
-    entered_place x there near other =
-        let here : x.region ≡ u.region = is_equal x.region u.region near in
-        place_well w c n u s is early (λ same. is_unequal u.structure s other same) (λ some. (x, there, here))
-        (λ wet. (x, there, (early.steady.water.structures s x there (ap (is_land_at w) here ∙ wet)).0))
+  -- ENTER without a fault keeps what it should (`Keeps`), whether the unit is inside the structure already or not
+  entered_by : (s : ℕ) (o : Option Structure) → get c.structures s ≡ o → (b : Bool) → (u.structure == s) ≡ b → not (is_in u.region o) ≡ false → Kept (if b then c else with_place c n u.region s)
+  entered_by s None there b same near = absurd (true≢false near)
+  entered_by s (Some x) there true same near = keeps_all w c n u.faction
+  entered_by s (Some x) there false same near =
+      let here = not_apart x.region u.region near in
+      keeps_others w c n u.faction (with_place c n u.region s)
+      (λ early fits. place_well w c n u s is early (λ inside. is_unequal u.structure s same inside) (λ some. (x, there, here)) (λ wet. (x, there, (early.steady.water.structures s x there (ap (is_land_at w) here ∙ wet)).0)))
+      (λ k apart. place_stays c n u.region s k apart)
 
-    -- ENTER of a structure that is there keeps the campaign early and in balance (`StepsWell`),
-    -- whether it is in the region, and whether the unit is inside already
-    entered_by : (x : Structure) → get c.structures s ≡ Some x → (a b : Bool) → (x.region == u.region) ≡ a → (u.structure == s) ≡ b
-        → Well (unless c (first_fault ((not a, NotHere) ∷ [])) (if b then c else with_place c n u.region s, Done 0)).0
-    entered_by x there false b near same = unchanged
-    entered_by x there true true near same = unchanged
-    entered_by x there true false near same = entered_place x there near same
-
-    -- ENTER keeps the campaign early and in balance (`StepsWell`), whether the structure is there or not
-    entered_at : (o : Option Structure) → get c.structures s ≡ o → Well (unless c (first_fault ((not (is_in u.region o), NotHere) ∷ [])) (with_unit_inside c n u.region u.structure s, Done 0)).0
-    entered_at None there = unchanged
-    entered_at (Some x) there = entered_by x there (x.region == u.region) (u.structure == s) refl refl
-
-    -- an order of ENTER keeps the campaign early and in balance (`StepsWell`)
-    entered_well : Well (enter n s c u).0
-    unfolding enter
-    entered_well = entered_at (get c.structures s) refl
+  -- an order of ENTER keeps what it should (`Keeps`)
+  entered : (s : ℕ) → Kept (enter n s c u).0
+  unfolding enter
+  entered s =
+      keeps_unless w c n u.faction (enter_fault c s u) (with_unit_inside c n u.region u.structure s) (Done 0) (λ none.
+      entered_by s (get c.structures s) refl (u.structure == s) refl (none_fits (not (is_in u.region (get c.structures s))) NotHere [] none).0)
 
   -- ---- PROMOTE
 
-  module _ (to : ℕ) where
-    -- if the structure that unit `to` is inside (0 where there is no such unit) is that of unit n, and isn't 0, unit
-    -- `to` is there, and inside the same structure
-    inside_to : (o : Option Unit) → get c.units to ≡ o → option_map_or (λ (x : Unit). x.structure) o 0 ≡ u.structure → u.structure ≢ 0 → (v : Unit) × (get c.units to ≡ Some v) × (v.structure ≡ u.structure)
-    inside_to None there same some = absurd (some (sym same))
-    inside_to (Some v) there same some = (v, there, same)
+  -- if the structure that unit `to` is inside (0 where there is no such unit) is that of unit n, and isn't 0, unit
+  -- `to` is there, and inside the same structure
+  inside_to : (to : ℕ) (o : Option Unit) → get c.units to ≡ o → option_map_or (λ (x : Unit). x.structure) o 0 ≡ u.structure → u.structure ≢ 0 → (v : Unit) × (get c.units to ≡ Some v) × (v.structure ≡ u.structure)
+  inside_to to None there same some = absurd (some (sym same))
+  inside_to to (Some v) there same some = (v, there, same)
 
-    -- making unit `to` the owner of the structure that it shares with unit n keeps the campaign early and in balance
-    -- (`StepsWell`)
-    new_owner : (u.structure == 0) ≡ false → (inside c to == u.structure) ≡ true → Well (with_owner c u.structure to)
-    new_owner some near =
-        unbooked_well w c (with_owner c u.structure to)
-        (early-relabelled w c n u is _ (at_number (owned_by to) c.structures u.structure) (get-changed (owned_by to) c.structures u.structure) (len-changed (owned_by to) c.structures u.structure)
-        (λ q y there. relabelled y (q == u.structure)) (λ q y there. owned q y (q == u.structure) refl (early.steady.owners q y there)) early)
-        (same_month_by refl) refl (same_total_of c (with_owner c u.structure to) refl refl)
-      where
-        -- each structure, with the new owner or not, keeps its kind, its region and how much of it is built, and its
-        -- name follows the rule (`IsRelabelled`)
-        relabelled : (y : Structure) (b : Bool) → IsRelabelled y (if b then owned_by to y else y)
-        relabelled y true = record { kind = refl; region = refl; done = refl; name = λ old. old }
-        relabelled y false = record { kind = refl; region = refl; done = refl; name = λ old. old }
+  -- making unit `to` the owner of the structure that it shares with unit n keeps the campaign early and in balance
+  -- (`StepsWell`)
+  owner_well : (to : ℕ) → u.structure ≢ 0 → inside c to ≡ u.structure → IsEarly w c → StepsWell IsEarly nothing_remaining w c (with_owner c u.structure to)
+  owner_well to some near early =
+      unbooked_well w c (with_owner c u.structure to)
+      (early-relabelled w c n u is _ (at_number (owned_by to) c.structures u.structure) (get-changed (owned_by to) c.structures u.structure) (len-changed (owned_by to) c.structures u.structure)
+      (λ q y there. relabelled y (q == u.structure)) (λ q y there. owned q y (q == u.structure) refl (early.steady.owners q y there)) early)
+      (same_month_by refl) refl (same_total_of c (with_owner c u.structure to) refl refl)
+    where
+      -- each structure, with the new owner or not, keeps its kind, its region and how much of it is built, and its
+      -- name follows the rule (`IsRelabelled`)
+      relabelled : (y : Structure) (b : Bool) → IsRelabelled y (if b then owned_by to y else y)
+      relabelled y true = record { kind = refl; region = refl; done = refl; name = λ old. old }
+      relabelled y false = record { kind = refl; region = refl; done = refl; name = λ old. old }
 
-        -- each structure has its right owner (`IsOwned`), whether it is the one that gets the new owner or not
-        owned : (q : ℕ) (y : Structure) (b : Bool) → (q == u.structure) ≡ b → IsOwned c q y → IsOwned c q (if b then owned_by to y else y)
-        owned q y true here old =
-            let (v, there, within) = inside_to (get c.units to) refl (is_equal (inside c to) u.structure near) (is_unequal u.structure 0 some) in
-            record {
-              owned = λ given. (v, there, within ∙ sym (is_equal q u.structure here));
-              ownerless = λ none. let least = (early.steady.numbers.units to v there).0 in absurd (omega (arith, none, least));
-            }
-        owned q y false here old = old
+      -- each structure has its right owner (`IsOwned`), whether it is the one that gets the new owner or not
+      owned : (q : ℕ) (y : Structure) (b : Bool) → (q == u.structure) ≡ b → IsOwned c q y → IsOwned c q (if b then owned_by to y else y)
+      owned q y true here old =
+          let (v, there, within) = inside_to to (get c.units to) refl near some in
+          record {
+            owned = λ given. (v, there, within ∙ sym (is_equal q u.structure here));
+            ownerless = λ none. let least = (early.steady.numbers.units to v there).0 in absurd (omega (arith, none, least));
+          }
+      owned q y false here old = old
 
-    -- PROMOTE keeps the campaign early and in balance (`StepsWell`), whichever of its faults applies, or none
-    promoted_by : (a b d : Bool) → (u.structure == 0) ≡ a → (inside c to == u.structure) ≡ d
-        → Well (unless c (first_fault ((a, NotInside) ∷ (not b, NotOwner) ∷ (not d, NotHere) ∷ [])) (with_owner c u.structure to, Done 0)).0
-    promoted_by true b d some near = unchanged
-    promoted_by false false d some near = unchanged
-    promoted_by false true false some near = unchanged
-    promoted_by false true true some near = new_owner some near
+  -- an order of PROMOTE keeps what it should (`Keeps`)
+  promoted : (to : ℕ) → Kept (promote n to c u).0
+  unfolding promote
+  promoted to =
+      let owns = is_owned_by (get c.structures u.structure) n in
+      let with_it = inside c to == u.structure in
+      keeps_unless w c n u.faction (promote_fault c n to u) (with_owner c u.structure to) (Done 0) (λ none.
+      let one = none_fits (u.structure == 0) NotInside ((not owns, NotOwner) ∷ (not with_it, NotHere) ∷ []) none in
+      let two = none_fits (not owns) NotOwner ((not with_it, NotHere) ∷ []) one.1 in
+      let near = not_apart (inside c to) u.structure (none_fits (not with_it) NotHere [] two.1).0 in
+      keeps_others w c n u.faction (with_owner c u.structure to) (λ early fits. owner_well to (is_unequal u.structure 0 one.0) near early) (λ k apart. refl))
 
-    -- an order of PROMOTE keeps the campaign early and in balance (`StepsWell`)
-    promoted_well : Well (promote n to c u).0
-    unfolding promote
-    promoted_well = promoted_by (u.structure == 0) (is_owned_by (get c.structures u.structure) n) (inside c to == u.structure) refl refl
+-- ---- the phase
 
-  -- an order of LEAVE, ENTER or PROMOTE keeps the campaign early and in balance (`StepsWell`)
-  order_well : (a : Aliases) (f : ℕ) (o : OperandsValue) → IfSome (place_effect w a f n o) (λ deed. Well (deed c u).0)
-  order_well a f operands.Nothing = left_well
-  order_well a f (operands.Number s) = entered_well s
-  order_well a f (operands.Unit to) = promoted_well (unit_of a f to)
-  order_well a f other = tt
-
--- ---- other units stay
-
-module _ (w : WorldValue) (a : Aliases) (c : CampaignValue) (f n : ℕ) (u : Unit) (k : ℕ) (apart : k ≢ n) where
-  -- unit k is the same in campaign d, which an order makes of c, as in c
-  abbrev Stays : CampaignValue → Type 0
-  Stays d = get d.units k ≡ get c.units k
-
-  -- if unit k is the same in d as in c, an order leaves it as it was, whether the order makes d or has a fault
-  unless_stays : (o : Option EventFault) (d : CampaignValue) → Stays d → Stays (unless c o (d, Done 0)).0
-  unless_stays (Some fault) d stay = refl
-  unless_stays None d stay = stay
-
-  -- ENTER leaves every other unit as it was, whether the unit is inside the structure already or not
-  entered_stays : (s : ℕ) (b : Bool) → Stays (if b then c else with_place c n u.region s)
-  entered_stays s true = refl
-  entered_stays s false = place_stays c n u.region s k apart
-
-  -- an order of LEAVE, ENTER or PROMOTE leaves every other unit as it was
-  order_stays : (o : OperandsValue) → IfSome (place_effect w a f n o) (λ deed. Stays (deed c u).0)
-  unfolding leave enter promote
-  order_stays operands.Nothing = unless_stays (leave_fault w u) (with_place c n u.region 0) (place_stays c n u.region 0 k apart)
-  order_stays (operands.Number s) = unless_stays (enter_fault c s u) (with_unit_inside c n u.region u.structure s) (entered_stays s (u.structure == s))
-  order_stays (operands.Unit to) = unless_stays (promote_fault c n (unit_of a f to) u) (with_owner c u.structure (unit_of a f to)) refl
-  order_stays other = tt
+-- each order of LEAVE, ENTER or PROMOTE keeps what it should (`Keeps`)
+pub place_keeps : StepKeeps IsEarly place_step
+place_keeps w a c t x own = by_operands t.order_value.operands
+  where
+    -- an order with the operands o keeps what it should (`Keeps`)
+    by_operands : (o : OperandsValue) → IfSome (place_effect w a t.faction t.unit o) (λ deed. Keeps IsEarly (AreOperandsOf w o) w c t.unit x.faction (deed c x).0)
+    by_operands operands.Nothing = left (AreOperandsOf w operands.Nothing) w c t.unit x own.there
+    by_operands (operands.Number s) = entered (AreOperandsOf w (operands.Number s)) w c t.unit x own.there s
+    by_operands (operands.Unit to) = promoted (AreOperandsOf w (operands.Unit to)) w c t.unit x own.there (unit_of a t.faction to)
+    by_operands other = tt
 
 -- LEAVE, ENTER and PROMOTE keep an early campaign early and book nothing,
 -- and units without an own order of these are no worse off (`IsOrderly`)
 pub place_orderly : IsOrderly place_step IsEarly nothing_remaining moves_nothing IsOwnOrder IsNoWorse
-place_orderly = record {
-  well = λ w a c t x early fit own. order_well w c t.unit x own.there early a t.faction t.order_value.operands;
-  sparing = no_worse_spares;
-  spared = λ w a c t x early own k v there apart. stays_spared (place_step w a t) c t x own k v there apart (λ j other. order_stays w a c t.faction t.unit x j other t.order_value.operands);
-  bounded = λ w c early e t. omega arith;
-}
+place_orderly = orderly_by place_keeps (λ w a t n f own other. absurd (other own))

@@ -1,4 +1,5 @@
--- Laws of QUIT: units leave, what they had is booked as gone, and nothing else changes; the campaign stays steady.
+-- Laws of QUIT: units leave, what they had is booked as gone, and nothing else changes; the campaign stays steady, and a
+-- unit is no worse off, unless its faction quits by an order for a unit that was its own as the phase began.
 use Rattle.std.proofs.Common.{◌≡◌, ◌≢◌, ◌==◌, ℕ, ◌+◌, ◌*◌, ◌≤◌, ◌<◌, not, Bool, true, false, cond, List, [], ◌∷◌, length, drop, get_or, Option, Some, None, refl, sym, ap, subst, ◌∙◌, inl, inr, arith}
 use Rattle.std.specs.Prelude.{ℤ, pos, neg_ℤ, ◌+ℤ◌, IfSome, fold, unwrap_or, if◌then◌else◌}
 use Rattle.std.proofs.lemmas.Int.{ints}
@@ -8,7 +9,7 @@ use Rattle.std.proofs.lemmas.List.{drop_more}
 use Rattle.std.specs.declared.cmp.Ordering.TheVariants.{Less, Equal, Greater}
 use Rattle.std.specs.Ordering.{nat_cmp, is_eq}
 use Rattle.std.specs.Cmp.{ranked}
-use Rattle.std.specs.FinMap.{FinMap, entries, find, get, get-entries, is_sorted, len, nat_cmp-IsAntisymmetric, remove}
+use Rattle.std.specs.FinMap.{FinMap, entries, find, get, get-entries, is_sorted, len, nat_cmp-IsAntisymmetric, remove, values}
 use Rattle.atl_world.specs.Worlds.{WorldValue}
 use Rattle.atl_world.specs.Sums.{sum_over}
 use Rattle.atl_orders.specs.declared.order.Operands.TheVariants as operands
@@ -40,22 +41,25 @@ use Rattle.atl_campaign.proofs.CoverLaws.{marks-amount}
 use Rattle.atl_records.proofs.EveryLaws.{same_number, each-from_every, not_below, sorted}
 use Rattle.atl_campaign.proofs.LeavingLaws.{only_reduced, steady-without, total-without}
 use Rattle.atl_campaign.proofs.RegionLaws.{steady-amount}
-use Rattle.atl_records.proofs.RemovedLaws.{get-remove_other, sum_over-remove}
+use Rattle.atl_records.proofs.RemovedLaws.{get-remove_other, sum_over-remove, every-remove}
 use Rattle.atl_campaign.proofs.NumberListLaws.{IsListed, listed_passing}
-use Rattle.atl_phase.specs.Meaning.{BookBound, IsNear, both_move, most_moved, moves_only}
+use Rattle.atl_phase.specs.Meaning.{BookBound, IsNear, both_move, most_moved, moves_only, Condition}
 use Rattle.atl_phase.specs.Bounds.{HasRoom, HaveRoom, IsOrderly, IsUnitOf, StepsWell, UsesBound, moving_items}
 use Rattle.atl_phase.specs.Outcomes.{unless}
-use Rattle.atl_phase.specs.PhaseOrders.{Task}
+use Rattle.atl_phase.specs.PhaseOrders.{Task, orders_of}
 use Rattle.atl_phase.specs.NoWorse.{IsNoWorse}
-use Rattle.atl_phase.specs.OrderEffects.{IsUnaffected}
+use Rattle.atl_phase.specs.OrderEffects.{IsUnaffected, is_of_faction, is_own, meaning_by_orders}
 use Rattle.atl_phase.proofs.HeldLaws.{all_held_within, sum_within}
 use Rattle.atl_phase.proofs.BookingLaws.{booked-near, booked-room, within-neg}
 use Rattle.atl_phase.proofs.MeaningLaws.{less_room, near_more, near_same, near_twice, room_less}
 use Rattle.atl_phase.proofs.OutcomeLaws.{none_fits, not_apart}
 use Rattle.atl_phase.proofs.NoWorseLaws.{no_worse}
-use Rattle.atl_phase.proofs.OrderEffectLaws.{drawn_near, no_worse_spares, well_same, well_twice}
-use Rattle.atl_phase.proofs.StructureLaws.{handed_is}
-use Rattle.atl_instant.specs.Quit.{after_leaving, loss_entry, loss_under, quit, quit_concerns, quit_effect, quit_fault, quit_moves, quit_reserve, quit_step, with_all_losses, with_item_loss, with_loss, without_leaver}
+use Rattle.atl_phase.proofs.OrderEffectLaws.{drawn_near, no_worse_spares, well_same, well_twice, orders_fit, orders_spare}
+use Rattle.atl_phase.proofs.StructureLaws.{handed_is, equal_passes}
+use Rattle.atl_instant.specs.Quit.{after_leaving, loss_entry, loss_under, quit, quit_concerns, quit_effect, quit_fault, quit_moves, quit_reserve, quit_step, with_all_losses, with_item_loss, with_loss, without_leaver, QuitsFrom, is_quitting, quit_keeps, quit_meaning}
+use Rattle.atl_phase.specs.Month.{MonthValue}
+use Rattle.atl_phase.specs.Fit.{AreFit}
+use Rattle.atl_phase.specs.declared.phase_order.Arrangement.TheVariants.{ByUnit}
 
 -- ---- things and entries
 
@@ -335,8 +339,8 @@ module _ (w : WorldValue) (c : CampaignValue) (n : ℕ) (u : Unit) (is : get c.u
   off = with_all_losses c u.holding
 
   -- the campaign after the unit left
-  abbrev behind : CampaignValue
-  behind = without_unit off n
+  abbrev after_leave : CampaignValue
+  after_leave = without_unit off n
 
   -- what is booked is all that the unit holds, and only the books differ (`BooksOff`)
   off_is : BooksOff w (owing u.holding) (held_moves u.holding) c off
@@ -347,15 +351,15 @@ module _ (w : WorldValue) (c : CampaignValue) (n : ℕ) (u : Unit) (is : get c.u
   there = ap (λ (s : CampaignValue). get s.units n) off_is.same ∙ is
 
   -- after one unit has left, the units are those before without unit n
-  pub units_left : behind.units ≡ remove c.units n
+  pub units_left : after_leave.units ≡ remove c.units n
   units_left = (only_reduced w off n u there).units ∙ ap (λ (s : CampaignValue). remove s.units n) off_is.same
 
   -- the books balance after the unit left, if they balanced before
-  balanced : Balances c → Balances behind
+  balanced : Balances c → Balances after_leave
   balanced old t =
       let only = only_reduced w off n u there in
       let totals : total off t ≡ total c t = ap (λ s. total s t) off_is.same ∙ total_books c off.books t in
-      rest (total behind t) (unit_amount t u.holding) (total off t) (total c t) (owing u.holding t) (booked c.books t) (booked off.books t) (total-without w off n u there t) totals (all_owed u.holding t) (old t) (off_is.owed t)
+      rest (total after_leave t) (unit_amount t u.holding) (total off t) (total c t) (owing u.holding t) (booked c.books t) (booked off.books t) (total-without w off n u there t) totals (all_owed u.holding t) (old t) (off_is.owed t)
       ∙ ap (λ (books : BooksValue). booked books t) (sym only.books)
     where
       -- the total a without the unit is what the books then have (y), since both fell by what the unit held
@@ -363,17 +367,17 @@ module _ (w : WorldValue) (c : CampaignValue) (n : ℕ) (u : Unit) (is : get c.u
       rest a h b d o z y e f g k l = omega (arith, ints, e, f, g, k, l)
 
   -- no amount of the books moves further than its remaining bound falls as the unit leaves
-  drawn : (e : Entry) (t : Thing) → UsesBound (quit_reserve c e t) (quit_reserve behind e t) (amount_in c.books e t) (amount_in behind.books e t)
+  drawn : (e : Entry) (t : Thing) → UsesBound (quit_reserve c e t) (quit_reserve after_leave e t) (amount_in c.books e t) (amount_in after_leave.books e t)
   drawn e t =
       let only = only_reduced w off n u there in
-      let reserves : quit_reserve behind e t + loss_under e t u.holding ≡ quit_reserve c e t =
+      let reserves : quit_reserve after_leave e t + loss_under e t u.holding ≡ quit_reserve c e t =
       ap (λ (m : FinMap nat_cmp Unit). sum_over (λ (x : Unit). loss_under e t x.holding) m + loss_under e t u.holding) units_left ∙ sum_over-remove c.units n (λ (x : Unit). loss_under e t x.holding) u is in
-      subst (λ (books : BooksValue). UsesBound (quit_reserve c e t) (quit_reserve behind e t) (amount_in c.books e t) (amount_in books e t)) (sym only.books)
-      (drawn_near (loss_under e t u.holding) (quit_reserve c e t) (quit_reserve behind e t) (amount_in c.books e t) (amount_in off.books e t) reserves
+      subst (λ (books : BooksValue). UsesBound (quit_reserve c e t) (quit_reserve after_leave e t) (amount_in c.books e t) (amount_in books e t)) (sym only.books)
+      (drawn_near (loss_under e t u.holding) (quit_reserve c e t) (quit_reserve after_leave e t) (amount_in c.books e t) (amount_in off.books e t) reserves
       (near_more (held_moves u.holding e t) (loss_under e t u.holding) (amount_in c.books e t) (amount_in off.books e t) (moves_what_leaves u.holding e t) (off_is.near e t)))
 
   -- the unit's leaving keeps a steady campaign steady, in its month and with balanced books (`StepsWell`)
-  leaving_well : StepsWell IsSteady quit_reserve w c behind
+  leaving_well : StepsWell IsSteady quit_reserve w c after_leave
   leaving_well =
       let only = only_reduced w off n u there in
       record {
@@ -455,11 +459,10 @@ quit_cases P c number u same leave = by_fault (quit_fault number u) refl
 pub quit_well : (w : WorldValue) (c : CampaignValue) (number : ℕ) (u : Unit) → IsSteady w c → StepsWell IsSteady quit_reserve w c (quit number c u).0
 quit_well w c number u steady = quit_cases (λ d. StepsWell IsSteady quit_reserve w c d) c number u (well_same w c steady) (λ own. all_left_well w c (numbers_of u.faction c.units) steady)
 
--- QUIT leaves a unit no worse off, if the unit isn't of the faction that quits
-quit_spares : (w : WorldValue) (c : CampaignValue) (number : ℕ) (u : Unit) (k : ℕ) (x : Unit) → IsSteady w c → get c.units k ≡ Some x → (number ≡ u.faction → u.faction ≢ x.faction) → IsUnaffected IsNoWorse (quit number c u).0 k x
-quit_spares w c number u k x steady here other =
-    quit_cases (λ d. IsUnaffected IsNoWorse d k x) c number u (record { unit = x; there = here; spared = no_worse x })
-    (λ own. record { unit = x; there = all_left_others c (numbers_of u.faction c.units) k (λ m listed. stays (other own) m listed) ∙ here; spared = no_worse x })
+-- QUIT leaves a unit unchanged, if the unit isn't of the faction that quits
+pub quit_stays : (c : CampaignValue) (number : ℕ) (u : Unit) (k : ℕ) (x : Unit) → get c.units k ≡ Some x → (number ≡ u.faction → u.faction ≢ x.faction) → get (quit number c u).0.units k ≡ Some x
+quit_stays c number u k x here other =
+    quit_cases (λ d. get d.units k ≡ Some x) c number u here (λ own. all_left_others c (numbers_of u.faction c.units) k (λ m listed. stays (other own) m listed) ∙ here)
   where
     -- unit k, which is of another faction, is none of the units of the faction that quits
     stays : u.faction ≢ x.faction → (m : ℕ) → IsListed m (numbers_of u.faction c.units) → k ≢ m
@@ -503,5 +506,83 @@ quit_orderly = record {
     spared : (w : WorldValue) (c : CampaignValue) (t : Task) (x : Unit) → IsSteady w c → IsUnitOf c t x → (n : ℕ) (u : Unit) → get c.units n ≡ Some u → (s : OperandsValue) → ((t.faction ≡ u.faction) × (s ≡ operands.Number u.faction) → ⊥)
         → IfSome (quit_effect s) (λ deed. IsUnaffected IsNoWorse (deed c x).0 n u)
     spared w c t x steady own n u here (operands.Number number) other =
-        quit_spares w c number x n u steady here (λ says same. other (sym own.faction ∙ same, ap operands.Number (says ∙ same)))
+        record { unit = u; there = quit_stays c number x n u here (λ says same. other (sym own.faction ∙ same, ap operands.Number (says ∙ same))); spared = no_worse u }
     spared w c t x steady own n u here said other = tt
+
+-- ---- no unit comes, and none changes
+
+-- campaign d has no units but unchanged ones of c
+abbrev HasSomeOf : CampaignValue → CampaignValue → Type 0
+HasSomeOf c d = Every (λ k u. get c.units k ≡ Some u) d.units
+
+-- after a unit left, each unit that is still there is unchanged (`HasSomeOf`), if the campaign was steady
+left_some : (w : WorldValue) (c : CampaignValue) (n : ℕ) → IsSteady w c → HasSomeOf c (after_leaving c n)
+unfolding after_leaving
+left_some w c n steady = by_unit (get c.units n) refl
+  where
+    -- each unit that is still there is unchanged (`HasSomeOf`), whether unit n was there or not
+    by_unit : (o : Option Unit) → get c.units n ≡ o → HasSomeOf c (without_leaver c n o)
+    by_unit None is = λ k u there. there
+    by_unit (Some x) is =
+        subst (λ (m : FinMap nat_cmp Unit). Every (λ k u. get c.units k ≡ Some u) m) (sym (units_left w c n x is steady)) (every-remove c.units n (λ k u. get c.units k ≡ Some u) (λ k u there. there))
+
+-- after units left, each unit that is still there is unchanged (`HasSomeOf`), if the campaign was steady
+all_left_some : (w : WorldValue) (c : CampaignValue) (ns : List ℕ) → IsSteady w c → HasSomeOf c (fold after_leaving c ns)
+all_left_some w c [] steady k u there = there
+all_left_some w c (n ∷ ns) steady k u there = left_some w c n steady k u (all_left_some w (after_leaving c n) ns (left_well w c n steady).holds_still k u there)
+
+-- after an order of QUIT, each unit that is still there is unchanged (`HasSomeOf`), if the campaign was steady
+quit_some : (w : WorldValue) (c : CampaignValue) (number : ℕ) (x : Unit) → IsSteady w c → HasSomeOf c (quit number c x).0
+quit_some w c number x steady = quit_cases (HasSomeOf c) c number x (λ k u there. there) (λ own. all_left_some w c (numbers_of x.faction c.units) steady)
+
+-- an order is for a unit of its own faction (`is_own`), if the unit is there and of the faction that wrote the order
+is_own_unit : (c : CampaignValue) (t : Task) (x : Unit) → IsUnitOf c t x → is_own c t ≡ true
+is_own_unit c t x own = ap (is_of_faction t.faction) own.there ∙ equal_passes x.faction t.faction own.faction
+
+-- if each unit of d is an unchanged unit of c, an order that is for a unit of its own faction in d (`is_own`) is so in
+-- c, too
+own_before : (c d : CampaignValue) (t : Task) → HasSomeOf c d → is_own d t ≡ true → is_own c t ≡ true
+own_before c d t some own = by_unit (get d.units t.unit) refl own
+  where
+    -- the order is for a unit of its own faction in c, too, whether d has the unit or not
+    by_unit : (o : Option Unit) → get d.units t.unit ≡ o → is_of_faction t.faction o ≡ true → is_own c t ≡ true
+    by_unit None is h = cc
+    by_unit (Some u) is h = ap (is_of_faction t.faction) (some t.unit u is) ∙ h
+
+-- ---- by the campaign as the phase begins
+
+-- The campaign is steady, and each order that now is for a unit of the faction that wrote it (`is_own`) was so as the
+-- phase began.
+abbrev OwnSince : CampaignValue → Condition
+OwnSince begun w c = IsSteady w c × ((t : Task) → is_own c t ≡ true → is_own begun t ≡ true)
+
+module _ (begun : CampaignValue) where
+  -- an order of QUIT keeps the campaign steady, the month and the balance of the books (`StepsWell`), and lets no order
+  -- come to be for a unit of its own faction (`OwnSince`)
+  since_well : (w : WorldValue) (c : CampaignValue) (x : Unit) → OwnSince begun w c → (s : OperandsValue) → IfSome (quit_effect s) (λ deed. StepsWell (OwnSince begun) quit_reserve w c (deed c x).0)
+  since_well w c x since (operands.Number number) =
+      let well = quit_well w c number x since.0 in
+      record {
+        holds_still = (well.holds_still, λ s mine. since.1 s (own_before c (quit number c x).0 s (quit_some w c number x since.0) mine));
+        same_month = well.same_month;
+        balances = well.balances;
+        drawn = well.drawn;
+      }
+  since_well w c x since other = tt
+
+  -- QUIT keeps what `OwnSince` says, and a unit is no worse off, unless its faction quits by an order for a unit that
+  -- was its own as the phase began (`IsOrderly`, `QuitsFrom`)
+  since_orderly : IsOrderly quit_step (OwnSince begun) quit_reserve quit_moves (QuitsFrom begun) IsNoWorse
+  since_orderly = record {
+    well = λ w a c t x since fit own. since_well w c x since t.order_value.operands;
+    sparing = no_worse_spares;
+    spared = λ w a c t x since own n u there other.
+        quit_orderly.spared w a c t x since.0 own n u there (λ quits. other (record { own = since.1 t (is_own_unit c t x own); faction = quits.0; said = quits.1 }));
+    bounded = λ w c since. quit_orderly.bounded w c since.0;
+  }
+
+-- a unit is no worse off after the phase, unless its faction quits (`quit_keeps`), if the campaign is steady
+pub quit_spares_others : (w : WorldValue) (c : CampaignValue) (m : MonthValue) → IsSteady w c → AreFit w m.readings → quit_keeps w m c (quit_meaning w c m).0
+unfolding meaning_by_orders
+quit_spares_others w c m steady fit =
+    orders_spare quit_step (since_orderly c) w c m (values (orders_of is_quitting ByUnit m.aliases m.readings)) (steady, λ t own. own) (orders_fit w m.aliases m.readings fit is_quitting)

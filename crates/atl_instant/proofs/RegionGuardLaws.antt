@@ -1,9 +1,8 @@
 -- Laws of the code's map of which faction guards each region: it is right when made, and when a unit begins to guard.
-use Rattle.std.proofs.Common.{◌≡◌, ◌==◌, ℕ, Bool, true, false, not, ◌&&◌, ◌||◌, List, [], ◌∷◌, Option, Some, None, refl, sym, ap, subst, ◌∙◌, inl, inr, arith}
+use Rattle.std.proofs.Common.{◌≡◌, ◌==◌, ℕ, Bool, true, false, not, ◌&&◌, ◌||◌, List, [], ◌∷◌, Option, Some, None, refl, sym, ap, subst, ◌∙◌, inl, inr}
 use Rattle.std.specs.Prelude.{if◌then◌else◌, nat_lt}
 use Rattle.std.specs.List.{list_any}
 use Rattle.std.proofs.lemmas.Bool.{cases_eq}
-use Rattle.std.proofs.lemmas.Bool.Decides.{nat_tests}
 use Rattle.std.proofs.lemmas.Option.{same_Some}
 use Rattle.std.specs.FinMap.{empty, entries, get, get-empty, insert}
 use Rattle.std.specs.Ordering.{nat_cmp}
@@ -17,7 +16,6 @@ use Rattle.atl_records.proofs.EveryLaws.{each-from_every, every-from_each, every
 use Rattle.atl_campaign.proofs.RegionLaws.{get-insert_same}
 use Rattle.atl_campaign.proofs.NumberListLaws.{IsListed, listed_passing, passing_listed}
 use Rattle.atl_phase.specs.Outcomes.{first_fault}
-use Rattle.atl_phase.proofs.OutcomeLaws.{none_fits}
 use Rattle.atl_instant.specs.Guard.{guard_fault, guards_against, is_guarded_against}
 use Rattle.atl_instant.specs.RegionGuards.{AreRegionGuards, GuardMap, IsGuardOf, guard_map_of, has_other_guard, with_guard_of, with_guards_of}
 use Rattle.atl_instant.proofs.GuardingLaws.{flagged, flagged_is, guarding, own_guards}
@@ -172,28 +170,13 @@ found_fault_is c m are u few held few_is held_is =
 
 -- ---- once a unit begins to guard
 
--- a number that isn't 0 is above 0
-has_men : (n : ℕ) → (n == 0) ≡ false → nat_lt 0 n ≡ true
-has_men n some = grind (arith, nat_tests)
-
--- if GUARD 1 has no fault for a unit, the unit has men, and no other faction guards its region
-pub can_guard : (c : CampaignValue) (u : Unit) → guard_fault c u ≡ None → (is_guarded_against c u.region u.faction ≡ false) × (nat_lt 0 u.holding.men ≡ true)
-can_guard c u none =
-    let one = none_fits (u.holding.men == 0) NoMen ((is_guarded_against c u.region u.faction, Guarded) ∷ []) none in
-    let two = none_fits (is_guarded_against c u.region u.faction) Guarded [] one.1 in
-    (two.0, has_men u.holding.men one.0)
-
 module _ (c : CampaignValue) (m : GuardMap) (n : ℕ) (u : Unit) (is : get c.units n ≡ Some u) (are : AreRegionGuards c m) where
   -- the map once the unit's faction is set for its region
   abbrev set_now : GuardMap
   set_now = insert m u.region u.faction
 
-  -- the campaign after the unit began to guard
-  abbrev behind : CampaignValue
-  behind = flagged c n u is
-
   -- each unit that guards has its faction in the map `set_now`, if no other faction guards the region
-  set_noted : is_guarded_against c u.region u.faction ≡ false → Every (λ k v. guards v ≡ true → get set_now v.region ≡ Some v.faction) behind.units
+  set_noted : is_guarded_against c u.region u.faction ≡ false → Every (λ k v. guards v ≡ true → get set_now v.region ≡ Some v.faction) (flagged c n u is).units
   set_noted none =
       every-insert (λ k v. guards v ≡ true → get set_now v.region ≡ Some v.faction) c.units n (guarding c n u is) (λ on. get-insert_same m u.region u.faction) (λ k v there on. by_region k v there on)
     where
@@ -206,7 +189,7 @@ module _ (c : CampaignValue) (m : GuardMap) (n : ℕ) (u : Unit) (is : get c.uni
           ]
 
   -- each faction in the map `set_now` guards its region, if the unit has men
-  set_held : nat_lt 0 u.holding.men ≡ true → (r f : ℕ) → get set_now r ≡ Some f → Held behind r f
+  set_held : nat_lt 0 u.holding.men ≡ true → (r f : ℕ) → get set_now r ≡ Some f → Held (flagged c n u is) r f
   set_held men r f at =
       elim (cases_eq r u.region) [
         | inl same ↦

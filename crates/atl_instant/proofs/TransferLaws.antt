@@ -1,5 +1,5 @@
 -- Laws of TRANSFER: the campaign stays early, its books balanced, and no unit but the sender is worse off.
-use Rattle.std.proofs.Common.{◌≡◌, ◌≢◌, ◌==◌, ℕ, ◌+◌, ◌-◌, ◌*◌, ◌/◌, ◌≤◌, ◌<◌, Bool, true, false, not, ◌&&◌, [], ◌∷◌, ◌++◌, ◌⊎◌, length, Option, Some, None, refl, sym, ap, subst, ◌∙◌, inl, inr, arith}
+use Rattle.std.proofs.Common.{◌≡◌, ◌≢◌, ◌==◌, ℕ, ◌+◌, ◌-◌, ◌*◌, ◌/◌, ◌≤◌, ◌<◌, Bool, true, false, not, ◌&&◌, [], ◌∷◌, ◌++◌, ◌⊎◌, length, Option, Some, None, refl, sym, subst, ◌∙◌, inl, inr, arith}
 use Rattle.std.specs.Prelude.{IfSome, nat_lt, unwrap_or, if◌then◌else◌}
 use Rattle.std.proofs.lemmas.Bool.Decides.{nat_tests}
 use Rattle.std.proofs.lemmas.Bool.{cases_lt}
@@ -9,10 +9,10 @@ use Rattle.std.specs.FinMap.{FinMap, get, keys}
 use Rattle.atl_world.specs.Worlds.{WorldValue}
 use Rattle.atl_world.proofs.GeneralLaws.{is_equal}
 use Rattle.atl_orders.specs.declared.order.Operands.TheVariants as operands
+use Rattle.atl_orders.specs.Bounds.{AreOperandsOf}
 use Rattle.atl_orders.specs.Orders.{OperandsValue}
 use Rattle.atl_records.specs.declared.books.Thing.{Thing}
 use Rattle.atl_records.specs.declared.books.Thing.TheVariants as things
-use Rattle.atl_records.specs.declared.event.EventFault.{EventFault}
 use Rattle.atl_records.specs.declared.event.EventFault.TheVariants.{NoRoom, NotEnough, NotHere, NotYours}
 use Rattle.atl_records.specs.declared.event.Outcome.TheVariants.{Done}
 use Rattle.atl_records.specs.declared.records.Unit.{Unit}
@@ -23,61 +23,43 @@ use Rattle.atl_campaign.specs.Lending.{with_held}
 use Rattle.atl_records.specs.Limits.{men_limit, most_days}
 use Rattle.atl_campaign.specs.Campaign.{CampaignValue}
 use Rattle.atl_records.specs.Amounts.{unit_amount}
-use Rattle.atl_phase.specs.Month.{Aliases}
-use Rattle.atl_phase.specs.Outcomes.{unless}
 use Rattle.atl_phase.specs.NoWorse.{IsNoWorse}
-use Rattle.atl_phase.specs.PhaseOrders.{Task, unit_of}
-use Rattle.atl_phase.specs.OrderEffects.{IsOwnOrder, IsUnaffected}
-use Rattle.atl_phase.specs.Bounds.{IsOrderly, IsUnitOf, StepsWell}
-use Rattle.atl_phase.proofs.OutcomeLaws.{none_fits, not_apart, not_less, unless_itself}
-use Rattle.atl_phase.proofs.NoWorseLaws.{no_worse}
-use Rattle.atl_phase.proofs.OrderEffectLaws.{no_worse_spares, well_same}
+use Rattle.atl_phase.specs.PhaseOrders.{unit_of}
+use Rattle.atl_phase.specs.OrderEffects.{IsOwnOrder}
+use Rattle.atl_phase.specs.Bounds.{IsOrderly, nothing_remaining}
+use Rattle.atl_phase.specs.Unbooked.{moves_nothing}
+use Rattle.atl_phase.proofs.OutcomeLaws.{none_fits, not_apart, not_less}
 use Rattle.atl_campaign.proofs.HavingLaws.{MayHave, may_have}
-use Rattle.atl_phase.proofs.UnbookedLaws.{other_unit}
-use Rattle.atl_instant.specs.Transfer.{after_transfer, days_going, going_of, raised_of, staying_of, transfer, transfer_effect, transfer_fault, transfer_step, transfer_to, with_fewer, with_more}
+use Rattle.atl_instant.specs.Transfer.{days_going, going_of, raised_of, staying_of, transfer, transfer_effect, transfer_fault, transfer_step, transfer_to, with_fewer, with_more}
 use Rattle.atl_instant.proofs.AmountsForLaws.{each_said}
 use Rattle.atl_instant.proofs.DaysLaws.{days_go_with_men, none_go}
-use Rattle.atl_instant.proofs.MovingLaws.{early-moved, moved, receiver_still, spared-moved, steps-moved}
+use Rattle.atl_instant.proofs.EffectLaws.{Keeps, StepKeeps, keeps_all, moved_cases, orderly_by, others-moved, steps-moved}
 
--- Sender and receiver are of one region and faction, the sender has n men, and the receiver has room for n more,
--- unless it is the sender itself: what holds if a transfer has no fault.
-pub record CanSend (n : ℕ) (itself : Bool) (u v : Unit) : Type 0 where
-  -- the receiver is in the sender's region
-  pub here : v.region ≡ u.region
+-- sender and receiver are of one faction, the sender has n men, and the receiver has room for n more:
+-- what holds where a transfer to another unit has no fault
+record CanSend (n : ℕ) (u v : Unit) : Type 0 where
   -- the receiver is of the sender's faction
   pub own : v.faction ≡ u.faction
   -- the sender has at least n men
   pub enough : n ≤ u.holding.men
-  -- a receiver other than the sender has room for n more men
-  pub room : itself ≡ false → v.holding.men + n ≤ men_limit
+  -- the receiver has room for n more men
+  pub room : v.holding.men + n ≤ men_limit
 
--- Where a transfer has no fault, both units are in one region and faction, the sender has enough men, and the receiver
--- has room for them unless it is the sender itself (`CanSend`).
-pub can_send : (n : ℕ) (itself : Bool) (u v : Unit) → transfer_fault n itself u (Some v) ≡ None → CanSend n itself u v
-can_send n itself u v is =
+-- where a transfer to another unit has no fault, both units are of one faction, the sender has enough men, and the
+-- receiver has room for them (`CanSend`)
+can_send : (n : ℕ) (u v : Unit) → transfer_fault n false u (Some v) ≡ None → CanSend n u v
+can_send n u v is =
     let other = not (v.faction == u.faction) in
     let little = nat_lt u.holding.men n in
     let full = nat_lt men_limit (v.holding.men + n) in
-    let one = none_fits (not (v.region == u.region)) NotHere ((other, NotYours) ∷ (little, NotEnough) ∷ (not itself && full, NoRoom) ∷ []) is in
-    let two = none_fits other NotYours ((little, NotEnough) ∷ (not itself && full, NoRoom) ∷ []) one.1 in
-    let three = none_fits little NotEnough ((not itself && full, NoRoom) ∷ []) two.1 in
-    let four = none_fits (not itself && full) NoRoom [] three.1 in
+    let one = none_fits (not (v.region == u.region)) NotHere ((other, NotYours) ∷ (little, NotEnough) ∷ (full, NoRoom) ∷ []) is in
+    let two = none_fits other NotYours ((little, NotEnough) ∷ (full, NoRoom) ∷ []) one.1 in
+    let three = none_fits little NotEnough ((full, NoRoom) ∷ []) two.1 in
     record {
-      here = not_apart v.region u.region one.0;
       own = not_apart v.faction u.faction two.0;
       enough = not_less u.holding.men n three.0;
-      room = λ apart. not_less men_limit (v.holding.men + n) (unless_itself itself full four.0 apart);
+      room = not_less men_limit (v.holding.men + n) (none_fits full NoRoom [] three.1).0;
     }
-
--- setting first what the sender holds and then what another unit, the receiver, holds makes `after_transfer`
-pub sent_is : (c d e : CampaignValue) (from to n : ℕ) (u v : Unit) (h k : HoldingValue) → to ≢ from → get c.units from ≡ Some u → get c.units to ≡ Some v
-    → h ≡ with_fewer n u.holding → k ≡ with_more n u.holding v.holding
-    → d ≡ with_held c from h (Some u) → (get d.units to ≡ Some v → e ≡ with_held d to k (Some v))
-    → e ≡ after_transfer c from to n (Some u) (Some v)
-sent_is c d e from to n u v h k apart sender receiver h_is k_is first second =
-    let other : (to == from) ≡ false = grind (arith, nat_tests) in
-    let still : get d.units to ≡ Some v = ap (λ (s : CampaignValue). get s.units to) first ∙ receiver_still c from to u v h k sender receiver apart in
-    rw (second still, first, h_is, k_is, other) refl
 
 -- ---- days
 
@@ -231,72 +213,43 @@ better_off n other v = record {
 
 -- ---- one order
 
--- the campaign after a transfer from one unit to another, or to itself
-abbrev behind : CampaignValue → (from to n : ℕ) → Unit → Unit → (itself : Bool) → CampaignValue
-behind c from to n u v itself = if itself then c else with_held (with_held c from (with_fewer n u.holding) (Some u)) to (with_more n u.holding v.holding) (Some v)
+module _ {fit : Type 0} (w : WorldValue) (c : CampaignValue) (from to n : ℕ) (u : Unit) (sender : get c.units from ≡ Some u) where
+  -- a transfer to another unit keeps what an order should (`Keeps`), if it has no fault
+  moved_kept : (v : Unit) → get c.units to ≡ Some v → to ≢ from → CanSend n u v
+      → Keeps IsEarly fit w c from u.faction (with_held (with_held c from (with_fewer n u.holding) (Some u)) to (with_more n u.holding v.holding) (Some v))
+  moved_kept v receiver apart can = record {
+    well = λ early fits.
+        let from_may = may_have w c from u sender early.steady in
+        steps-moved c from to u v (with_fewer n u.holding) (with_more n u.holding v.holding) sender receiver apart w (may_have_fewer w n u.holding can.enough from_may) (λ g. g)
+        (may_have_more w n u.holding v.holding can.room from_may (may_have w c to v receiver early.steady)) (λ g. g) (both_hold n u.holding v.holding can.enough) early;
+    others =
+        others-moved c from to u v (with_fewer n u.holding) (with_more n u.holding v.holding) sender receiver apart u.faction
+        (record { better = better_off n u.holding v; men = λ other. absurd (other (sym can.own)) });
+  }
 
--- P holds of the campaign after an order of TRANSFER, if P holds of the campaign before and of the one in which men
--- went to another unit
-pub transfer_cases : (P : CampaignValue → Type 0) (c : CampaignValue) (from to n : ℕ) (u : Unit) (sender : get c.units from ≡ Some u) → P c
-    → ((v : Unit) (receiver : get c.units to ≡ Some v) (apart : to ≢ from) → CanSend n false u v
-    → P (moved c from to u v (with_fewer n u.holding) (with_more n u.holding v.holding) sender receiver apart))
-    → P (transfer from to n c u).0
-unfolding transfer
-transfer_cases P c from to n u sender same move = by_receiver (get c.units to) refl
-  where
-    -- P holds after a transfer without a fault, whether the sender is itself the receiver or not
-    by_test : (v : Unit) → get c.units to ≡ Some v → (b : Bool) → (to == from) ≡ b → CanSend n b u v → P (behind c from to n u v b)
-    by_test v receiver true is can = same
-    by_test v receiver false is can = let apart : to ≢ from = grind (arith, nat_tests) in move v receiver apart can
-
-    -- P holds after an order for a receiver that is there, whether the transfer has a fault or not
-    by_fault : (v : Unit) → get c.units to ≡ Some v → (f : Option EventFault) → transfer_fault n (to == from) u (Some v) ≡ f → P (unless c f (behind c from to n u v (to == from), Done n)).0
-    by_fault v receiver (Some fault) is = same
-    by_fault v receiver None is = by_test v receiver (to == from) refl (can_send n (to == from) u v is)
-
-    -- P holds after the order, whether the receiver is there or not
-    by_receiver : (o : Option Unit) → get c.units to ≡ o → P (transfer_to c from to n u o).0
-    by_receiver None is = same
-    by_receiver (Some v) receiver = by_fault v receiver (transfer_fault n (to == from) u (Some v)) refl
-
-module _ (w : WorldValue) (c : CampaignValue) (early : IsEarly w c) (from to n : ℕ) (u : Unit) (sender : get c.units from ≡ Some u) where
-  -- an order of TRANSFER keeps an early campaign early, in its month and with balanced books (`StepsWell`)
-  transfer_steps_well : StepsWell IsEarly (λ d e t. 0) w c (transfer from to n c u).0
-  transfer_steps_well =
-      transfer_cases (λ d. StepsWell IsEarly (λ d e t. 0) w c d) c from to n u sender (well_same w c early)
-      (λ v receiver apart can.
-      let less = with_fewer n u.holding in
-      let more = with_more n u.holding v.holding in
-      let from_may = may_have w c from u sender early.steady in
-      steps-moved c from to u v less more sender receiver apart w
-      (early-moved c from to u v less more sender receiver apart w (may_have_fewer w n u.holding can.enough from_may) (λ g. g)
-      (may_have_more w n u.holding v.holding (can.room refl) from_may (may_have w c to v receiver early.steady)) (λ g. g) early)
-      (both_hold n u.holding v.holding can.enough))
-
-  -- an order of TRANSFER leaves each unit but the sender no worse off
-  transfer_spares : (k : ℕ) (x : Unit) → get c.units k ≡ Some x → k ≢ from → IsUnaffected IsNoWorse (transfer from to n c u).0 k x
-  transfer_spares k x there other =
-      transfer_cases (λ d. IsUnaffected IsNoWorse d k x) c from to n u sender (record { unit = x; there = there; spared = no_worse x })
-      (λ v receiver apart can. spared-moved c from to u v (with_fewer n u.holding) (with_more n u.holding v.holding) sender receiver apart (better_off n u.holding v) k x there other)
+  -- an order of TRANSFER keeps what it should (`Keeps`)
+  transfer_kept : Keeps IsEarly fit w c from u.faction (transfer from to n c u).0
+  unfolding transfer
+  transfer_kept = by_receiver (get c.units to) refl
+    where
+      -- the order keeps what it should (`Keeps`), whether the receiver is there or not
+      by_receiver : (o : Option Unit) → get c.units to ≡ o → Keeps IsEarly fit w c from u.faction (transfer_to c from to n u o).0
+      by_receiver None is = keeps_all w c from u.faction
+      by_receiver (Some v) receiver =
+          moved_cases (Keeps IsEarly fit w c from u.faction) c from to u v (with_fewer n u.holding) (with_more n u.holding v.holding)
+          (λ itself. transfer_fault n itself u (Some v)) (Done n) (keeps_all w c from u.faction) (λ apart none. moved_kept v receiver apart (can_send n u v none))
 
 -- ---- the phase
 
--- TRANSFER keeps an early campaign early and books nothing, and a unit without an own one is no worse off (`IsOrderly`)
-pub transfer_orderly : IsOrderly transfer_step IsEarly (λ c e t. 0) (λ e t. 0) IsOwnOrder IsNoWorse
-transfer_orderly = record {
-  well = λ w a c t x early fit own. well w a c t x early own t.order_value.operands;
-  sparing = no_worse_spares;
-  spared = λ w a c t x early own n u there other. spared w a c t x early own n u there (other_unit c t x n u own there other) t.order_value.operands;
-  bounded = λ w c early e t. omega arith;
-}
+-- each order of TRANSFER keeps what it should (`Keeps`)
+pub transfer_keeps : StepKeeps IsEarly transfer_step
+transfer_keeps w a c t x own = by_operands t.order_value.operands
   where
-    -- an order with the operands s keeps the campaign early and in balance (`StepsWell`)
-    well : (w : WorldValue) (a : Aliases) (c : CampaignValue) (t : Task) (x : Unit) → IsEarly w c → IsUnitOf c t x → (s : OperandsValue) → IfSome (transfer_effect a t.faction t.unit s) (λ deed. StepsWell IsEarly (λ d e t. 0) w c (deed c x).0)
-    well w a c t x early own (operands.UnitAndNumber to n) = transfer_steps_well w c early t.unit (unit_of a t.faction to) n x own.there
-    well w a c t x early own other = tt
+    -- an order with the operands o keeps what it should (`Keeps`)
+    by_operands : (o : OperandsValue) → IfSome (transfer_effect a t.faction t.unit o) (λ deed. Keeps IsEarly (AreOperandsOf w o) w c t.unit x.faction (deed c x).0)
+    by_operands (operands.UnitAndNumber to n) = transfer_kept w c t.unit (unit_of a t.faction to) n x own.there
+    by_operands other = tt
 
-    -- an order with the operands s leaves each unit but its own no worse off
-    spared : (w : WorldValue) (a : Aliases) (c : CampaignValue) (t : Task) (x : Unit) → IsEarly w c → IsUnitOf c t x → (n : ℕ) (u : Unit) → get c.units n ≡ Some u → n ≢ t.unit → (s : OperandsValue)
-        → IfSome (transfer_effect a t.faction t.unit s) (λ deed. IsUnaffected IsNoWorse (deed c x).0 n u)
-    spared w a c t x early own n u there apart (operands.UnitAndNumber to k) = transfer_spares w c early t.unit (unit_of a t.faction to) k x own.there n u there apart
-    spared w a c t x early own n u there apart other = tt
+-- TRANSFER keeps an early campaign early and books nothing, and a unit without an own one is no worse off (`IsOrderly`)
+pub transfer_orderly : IsOrderly transfer_step IsEarly nothing_remaining moves_nothing IsOwnOrder IsNoWorse
+transfer_orderly = orderly_by transfer_keeps (λ w a t n f own other. absurd (other own))

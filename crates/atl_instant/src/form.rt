@@ -40,12 +40,9 @@ fn form_fault(campaign: &Campaign, faction: u32, unit: u32) -> Option<EventFault
     ensures { result ≡ form_fault campaign.now.value faction unit }
 {
     if !is_of_faction(campaign, unit, faction) {
-        Some(EventFault::NotYours)
-    } else if is_unit_limit(campaign) {
-        Some(EventFault::UnitLimit)
-    } else {
-        None
+        return Some(EventFault::NotYours);
     }
+    is_unit_limit(campaign).then_some(EventFault::UnitLimit)
 }
 
 /// A new unit of a faction, in a region and a structure, named `Unit` and its number, without men,
@@ -88,34 +85,6 @@ fn begin(
     let structure = structure_of(campaign, parent);
     let unit = new_unit(alloc, number, faction, region, structure)?;
     campaign.begin_unit(unit)
-}
-
-/// Carries out an order of FORM: adds the new unit, and notes it under its alias, or changes
-/// nothing where the order has a fault. Returns the outcome.
-fn form(
-    alloc: Global,
-    campaign: &mut Campaign,
-    month: &mut Month,
-    faction: u32,
-    parent: u32,
-    alias: u32,
-) -> Result<Outcome, AllocError>
-    requires free { map.get campaign.old.value.units campaign.old.value.next_unit ≡ None }
-    ensures value { IfOk result
-        (λ outcome. (campaign.new.value, outcome) ≡ form_by campaign.old.value faction parent) }
-    ensures aliases { IfOk result
-        (λ outcome. month.new ≡ record month.old
-        { aliases = aliases_after month.old.aliases faction alias outcome }) }
-    ensures marks { OnOk result (MarksChanges campaign.old campaign.new) }
-{
-    match form_fault(campaign, faction, parent) {
-        Some(fault) => Ok(fault_outcome(fault)),
-        None => {
-            let number = begin(alloc, campaign, faction, parent)?;
-            month.set_alias(alloc, faction, alias, number)?;
-            Ok(Outcome::Done(u64::from(number)))
-        }
-    }
 }
 
 /// The alias that an order of FORM gives; 0 for operands of any other form.
@@ -166,6 +135,33 @@ fn formings(alloc: Global, month: &Month) -> Result<Vec<Forming>, AllocError>
     Ok(list)
 }
 
+/// Carries out an order of FORM: adds the new unit, and notes it under its alias, or changes
+/// nothing where the order has a fault. Returns the outcome.
+fn form(
+    alloc: Global,
+    campaign: &mut Campaign,
+    month: &mut Month,
+    order: Forming,
+) -> Result<Outcome, AllocError>
+    requires free { map.get campaign.old.value.units campaign.old.value.next_unit ≡ None }
+    ensures value { IfOk result
+        (λ outcome. (campaign.new.value, outcome)
+        ≡ form_by campaign.old.value order.faction order.unit) }
+    ensures aliases { IfOk result
+        (λ outcome. month.new ≡ record month.old
+        { aliases = aliases_after month.old.aliases order.faction order.alias outcome }) }
+    ensures marks { OnOk result (MarksChanges campaign.old campaign.new) }
+{
+    match form_fault(campaign, order.faction, order.unit) {
+        Some(fault) => Ok(fault_outcome(fault)),
+        None => {
+            let number = begin(alloc, campaign, order.faction, order.unit)?;
+            month.set_alias(alloc, order.faction, order.alias, number)?;
+            Ok(Outcome::Done(u64::from(number)))
+        }
+    }
+}
+
 /// Carries out one order of FORM, and adds its event to the month.
 fn form_one(
     alloc: Global,
@@ -178,14 +174,7 @@ fn form_one(
         ((campaign.new.value, month.new) ≡ form_apart (campaign.old.value, month.old) order) }
     ensures marks { OnOk result (MarksChanges campaign.old campaign.new) }
 {
-    let outcome = form(
-        alloc,
-        campaign,
-        month,
-        order.faction,
-        order.unit,
-        order.alias,
-    )?;
+    let outcome = form(alloc, campaign, month, order)?;
     month.add_event(Event {
         faction: order.faction,
         unit: order.unit,

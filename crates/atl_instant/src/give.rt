@@ -1,5 +1,5 @@
 //! GIVE and PAY: a unit gives items or money to another. See docs/RULES.md, "Giving".
-ghost use Rattle.std.specs.Prelude.{◌≡◌, ◌≢◌, ◌≤◌, ◌+◌, IfOk, OnOk, Some, nat_lt, true};
+ghost use Rattle.std.specs.Prelude.{◌≡◌, ◌≢◌, ◌≤◌, ◌+◌, IfOk, OnOk, Some, true};
 ghost use Rattle.std.specs.FinMap as map;
 ghost use Rattle.std.specs.Option.{option_copied};
 ghost use Rattle.atl_campaign.specs.Covers.{MarksChanges};
@@ -40,13 +40,6 @@ fn held_of(gift: Gift, holding: &Holding) -> u32
     }
 }
 
-/// Whether a unit that has this much money, or pieces of an item, can't hold this amount more.
-fn is_too_much(have: u32, amount: u32) -> bool
-    ensures { result ≡ nat_lt holding_limit (have + amount) }
-{
-    u64::from(have) + u64::from(amount) > u64::from(HOLDING_LIMIT)
-}
-
 /// The fault of giving this amount to a receiver: NotHere, NotEnough or NoRoom; None where it has
 /// none.
 fn give_fault(
@@ -67,10 +60,8 @@ fn give_fault(
     if held_of(gift, &giver.holding) < amount {
         return Some(EventFault::NotEnough);
     }
-    if !itself && is_too_much(held_of(gift, &receiver.holding), amount) {
-        return Some(EventFault::NoRoom);
-    }
-    None
+    let total = u64::from(held_of(gift, &receiver.holding)) + u64::from(amount);
+    (!itself && total > u64::from(HOLDING_LIMIT)).then_some(EventFault::NoRoom)
 }
 
 /// Sets how much money, or pieces of the item that is given, a unit holds; nothing changes where
@@ -172,13 +163,11 @@ impl OrderPhase for GivePhase {
         match &order.order.operands {
             Operands::UnitAndGoods { to, amount, item } => {
                 let receiver = month.unit(order.faction, *to);
-                let outcome = give(campaign, order, receiver, Gift::Item(*item), *amount)?;
-                Ok(Some(outcome))
+                Ok(Some(give(campaign, order, receiver, Gift::Item(*item), *amount)?))
             }
             Operands::UnitAndNumber { to, number } => {
                 let receiver = month.unit(order.faction, *to);
-                let outcome = give(campaign, order, receiver, Gift::Money, *number)?;
-                Ok(Some(outcome))
+                Ok(Some(give(campaign, order, receiver, Gift::Money, *number)?))
             }
             _ => Ok(None),
         }

@@ -1,9 +1,8 @@
 //! NAME and GUARD 0: units give names, and stop guarding. See docs/RULES.md, "Name".
-ghost use Rattle.std.specs.Prelude.{◌≡◌, IfOk, IsTrue, OnOk, false};
+ghost use Rattle.std.specs.Prelude.{◌≡◌, IfOk, IsTrue, OnOk};
 ghost use Rattle.std.specs.FinMap as map;
 ghost use Rattle.atl_world.specs.Names.{name_ok};
 ghost use Rattle.atl_orders.specs.Orders.{name_in};
-ghost use Rattle.atl_campaign.specs.Campaign.{with_faction_name, with_guard, with_unit_name};
 ghost use Rattle.atl_campaign.specs.Covers.{MarksChanges};
 ghost use Rattle.atl_campaign.specs.Good.{IsEarly};
 ghost use Rattle.atl_phase.specs.OrderEffects.{faction_effect};
@@ -30,31 +29,12 @@ fn name_of(alloc: Global, mailing: &Mailing, span: Span) -> Result<Text, AllocEr
     Ok(Text::from_string(letters))
 }
 
-/// Sets the name of a unit, if it is there.
-fn name_unit(campaign: &mut Campaign, unit: u32, name: Text)
-    ensures what { campaign.new.value ≡ with_unit_name campaign.old.value unit name }
-    ensures marks { MarksChanges campaign.old campaign.new }
-{
-    campaign.set_unit_name(unit, name);
-}
-
-/// Sets the name that a faction shows.
-fn name_faction(campaign: &mut Campaign, faction: u32, name: Text)
-    ensures what { campaign.new.value ≡ with_faction_name campaign.old.value faction name }
-    ensures marks { MarksChanges campaign.old campaign.new }
-{
-    campaign.set_faction_name(faction, name);
-}
-
 /// Whether a structure is a ship, where `ship` is true, and a building otherwise.
 fn is_of_kind(world: &World, ship: bool, structure: &Structure) -> bool
     ensures { result ≡ is_of_kind world.now ship structure.now }
 {
-    let is_ship = match world.kinds().get(usize::from(structure.kind)) {
-        Some(kind) => kind.ship,
-        None => false,
-    };
-    is_ship == ship
+    let kind = world.kinds().get(usize::from(structure.kind));
+    kind.is_some_and(|kind| kind.ship) == ship
 }
 
 /// Why a unit can't name the ship or building that it is inside: NotInside or NotOwner; None where
@@ -99,14 +79,6 @@ fn name_structure(
     }
 }
 
-/// Clears the guard flag of a unit.
-fn clear_guard(campaign: &mut Campaign, unit: u32)
-    ensures what { campaign.new.value ≡ with_guard campaign.old.value unit false }
-    ensures marks { MarksChanges campaign.old campaign.new }
-{
-    campaign.set_guard(unit, false);
-}
-
 /// Carries out GUARD 0: clears the guard flag of the order's unit, if that is the faction's own, or
 /// changes nothing, with NotYours.
 fn leave_guard(campaign: &mut Campaign, order: PhaseOrder<'_>) -> Outcome
@@ -118,7 +90,7 @@ fn leave_guard(campaign: &mut Campaign, order: PhaseOrder<'_>) -> Outcome
     if own_unit(campaign, order).is_none() {
         return fault_outcome(EventFault::NotYours);
     }
-    clear_guard(campaign, order.unit);
+    campaign.set_guard(order.unit, false);
     Outcome::Done(0)
 }
 
@@ -138,8 +110,8 @@ fn name(
     ensures marks { MarksChanges campaign.old campaign.new }
 {
     match what {
-        NameKind::Unit => name_unit(campaign, unit, name),
-        NameKind::Faction => name_faction(campaign, faction, name),
+        NameKind::Unit => campaign.set_unit_name(unit, name),
+        NameKind::Faction => campaign.set_faction_name(faction, name),
         NameKind::Building => return name_structure(world, campaign, unit, inside, false, name),
         NameKind::Ship => return name_structure(world, campaign, unit, inside, true, name),
     }

@@ -4,10 +4,9 @@ ghost use Rattle.std.specs.Prelude.{◌≡◌, IfOk, OnOk};
 ghost use Rattle.std.specs.FinMap as map;
 ghost use Rattle.atl_campaign.specs.Covers.{MarksChanges};
 ghost use Rattle.atl_campaign.specs.Good.{IsEarly};
-ghost use Rattle.atl_campaign.specs.Owners.{is_owned_by, with_place};
-ghost use Rattle.atl_campaign.specs.Campaign.{with_owner};
+ghost use Rattle.atl_campaign.specs.Owners.{is_owned_by};
 ghost use Rattle.atl_phase.specs.OrderEffects.{faction_effect};
-ghost use Rattle.atl_instant.specs.Place.{enter, is_in, is_placing, leave, leave_fault, place_step, promote, promote_fault, with_unit_inside};
+ghost use Rattle.atl_instant.specs.Place.{enter, is_in, is_placing, leave, leave_fault, place_step, promote, promote_fault};
 
 use atl_campaign::{Campaign, EventFault, Outcome, Unit};
 use atl_orders::{Operands, Verb};
@@ -26,35 +25,16 @@ pub struct PlacePhase;
 fn is_in(campaign: &Campaign, structure: u32, region: u32) -> bool
     ensures { result ≡ is_in region (map.get campaign.now.value.structures structure) }
 {
-    match campaign.structure(structure) {
-        Some(found) => found.region == region,
-        None => false,
-    }
+    let found = campaign.structure(structure);
+    found.is_some_and(|found| found.region == region)
 }
 
 /// Whether a structure exists, and a given unit owns it.
 fn is_owned_by(campaign: &Campaign, structure: u32, unit: u32) -> bool
     ensures { result ≡ is_owned_by (map.get campaign.now.value.structures structure) unit }
 {
-    match campaign.structure(structure) {
-        Some(found) => found.owner == unit,
-        None => false,
-    }
-}
-
-/// Puts a unit inside a structure of its region, or inside none where `structure` is 0. One that it
-/// owned and leaves gets its next owner; one that it enters and nobody owns becomes its own.
-fn put_inside(
-    campaign: &mut Campaign,
-    unit: u32,
-    region: u32,
-    structure: u32,
-) -> Result<(), AllocError>
-    ensures what { OnOk result
-        (campaign.new.value ≡ with_place campaign.old.value unit region structure) }
-    ensures marks { OnOk result (MarksChanges campaign.old campaign.new) }
-{
-    campaign.place(unit, region, structure)
+    let found = campaign.structure(structure);
+    found.is_some_and(|found| found.owner == unit)
 }
 
 /// Why a unit can't leave the structure that it is inside: NotInside or AtSea; None where it can.
@@ -62,12 +42,9 @@ fn leave_fault(world: &World, unit: &Unit) -> Option<EventFault>
     ensures { result ≡ leave_fault world.now unit.now }
 {
     if unit.structure == 0 {
-        Some(EventFault::NotInside)
-    } else if !world.is_land_at(unit.region) {
-        Some(EventFault::AtSea)
-    } else {
-        None
+        return Some(EventFault::NotInside);
     }
+    (!world.is_land_at(unit.region)).then_some(EventFault::AtSea)
 }
 
 /// Carries out LEAVE: the unit goes out of the structure that it is inside, or nothing changes
@@ -91,27 +68,8 @@ fn leave(
         return Ok(fault_outcome(fault));
     }
     let region = unit.region;
-    put_inside(campaign, order.unit, region, 0)?;
+    campaign.place(order.unit, region, 0)?;
     Ok(Outcome::Done(0))
-}
-
-/// Puts a unit inside a structure, unless it is inside that already.
-fn enter_other(
-    campaign: &mut Campaign,
-    unit: u32,
-    region: u32,
-    from: u32,
-    structure: u32,
-) -> Result<(), AllocError>
-    ensures what { OnOk result
-        (campaign.new.value ≡ with_unit_inside campaign.old.value unit region from structure) }
-    ensures marks { OnOk result (MarksChanges campaign.old campaign.new) }
-{
-    if from == structure {
-        Ok(())
-    } else {
-        put_inside(campaign, unit, region, structure)
-    }
 }
 
 /// Carries out ENTER: the unit enters a structure, or nothing changes where a fault applies.
@@ -133,8 +91,10 @@ fn enter(
     if !is_in(campaign, structure, unit.region) {
         return Ok(fault_outcome(EventFault::NotHere));
     }
-    let (region, from) = (unit.region, unit.structure);
-    enter_other(campaign, order.unit, region, from, structure)?;
+    if unit.structure != structure {
+        let region = unit.region;
+        campaign.place(order.unit, region, structure)?;
+    }
     Ok(Outcome::Done(0))
 }
 
@@ -144,22 +104,12 @@ fn promote_fault(campaign: &Campaign, number: u32, to: u32, unit: &Unit) -> Opti
     ensures { result ≡ promote_fault campaign.now.value number to unit.now }
 {
     if unit.structure == 0 {
-        Some(EventFault::NotInside)
-    } else if !is_owned_by(campaign, unit.structure, number) {
-        Some(EventFault::NotOwner)
-    } else if structure_of(campaign, to) != unit.structure {
-        Some(EventFault::NotHere)
-    } else {
-        None
+        return Some(EventFault::NotInside);
     }
-}
-
-/// Sets the owner of a structure.
-fn give_to(campaign: &mut Campaign, structure: u32, owner: u32)
-    ensures what { campaign.new.value ≡ with_owner campaign.old.value structure owner }
-    ensures marks { MarksChanges campaign.old campaign.new }
-{
-    campaign.set_owner(structure, owner);
+    if !is_owned_by(campaign, unit.structure, number) {
+        return Some(EventFault::NotOwner);
+    }
+    (structure_of(campaign, to) != unit.structure).then_some(EventFault::NotHere)
 }
 
 /// Carries out PROMOTE: another unit becomes the owner of the structure that both are inside, or
@@ -178,7 +128,7 @@ fn promote(campaign: &mut Campaign, order: PhaseOrder<'_>, to: u32) -> Outcome
         return fault_outcome(fault);
     }
     let inside = unit.structure;
-    give_to(campaign, inside, to);
+    campaign.set_owner(inside, to);
     Outcome::Done(0)
 }
 

@@ -11,9 +11,9 @@ ghost use Rattle.atl_records.specs.declared.books.Thing.TheVariants.{Money, Peop
 ghost use Rattle.atl_phase.specs.Meaning.{both_move, moves_only};
 ghost use Rattle.atl_phase.specs.Bounds.{HasRoom, HaveRoom, moving_items};
 ghost use Rattle.atl_phase.specs.OrderEffects.{faction_effect};
-ghost use Rattle.atl_instant.specs.Quit.{after_leaving, is_quitting, loss_entry, quit, quit_concerns, quit_fault, quit_keeps, quit_meaning, quit_moves, quit_reserve, quit_step, with_item_loss, with_loss};
+ghost use Rattle.atl_instant.specs.Quit.{after_leaving, is_quitting, loss_entry, quit, quit_concerns, quit_keeps, quit_meaning, quit_moves, quit_reserve, quit_step, with_item_loss, with_loss};
 
-use atl_campaign::{Campaign, Entry, EventFault, Outcome, Thing, Unit};
+use atl_campaign::{Campaign, Entry, EventFault, Outcome, Thing};
 use atl_orders::{Operands, Verb};
 use atl_phase::{
     Month, OrderPhase, Phase, PhaseOrder, PhaseResult, PhaseVerbs, book_taken, carry_out_orders,
@@ -120,18 +120,8 @@ fn leave_all(
     Ok(())
 }
 
-/// The fault of QUIT with this faction number: WrongNumber where the unit's faction has another
-/// one; None where it has this one.
-fn quit_fault(number: u32, unit: &Unit) -> Option<EventFault>
-    ensures { result ≡ quit_fault number unit.now }
-{
-    if number != unit.faction {
-        return Some(EventFault::WrongNumber);
-    }
-    None
-}
-
-/// Carries out QUIT: all units of the faction leave, or nothing changes where a fault applies.
+/// Carries out QUIT: all units of the faction leave, or nothing changes where a fault applies:
+/// NotYours, or WrongNumber where the order has not the number of the unit's faction.
 #[tactic(auto, unfolding(crate::specs::Quit::quit))]
 fn quit(
     alloc: Global,
@@ -150,8 +140,8 @@ fn quit(
     let Some(unit) = own_unit(campaign, order) else {
         return Ok(fault_outcome(EventFault::NotYours));
     };
-    if let Some(fault) = quit_fault(number, unit) {
-        return Ok(fault_outcome(fault));
+    if number != unit.faction {
+        return Ok(fault_outcome(EventFault::WrongNumber));
     }
     let numbers = Vec::from_slice(alloc, campaign.of_faction(unit.faction))?;
     leave_all(alloc, world, campaign, &numbers)?;

@@ -65,9 +65,7 @@ impl RegionGuards {
     pub(crate) fn has_other_guard(&self, region: u32, faction: u32) -> bool
         ensures { result ≡ has_other_guard faction (map.get self.now region) }
     {
-        match self.factions.get(region) {
-            Some(holder) => *holder != faction,
-            None => false,
-        }
+        let holder = self.factions.get(region);
+        holder.is_some_and(|holder| *holder != faction)
     }
 }

@@ -126,10 +126,8 @@ fn transfer_fault(
     if sender.holding.men() < going {
         return Some(EventFault::NotEnough);
     }
-    if !itself && u64::from(receiver.holding.men()) + u64::from(going) > u64::from(MEN_LIMIT) {
-        return Some(EventFault::NoRoom);
-    }
-    None
+    let total = u64::from(receiver.holding.men()) + u64::from(going);
+    (!itself && total > u64::from(MEN_LIMIT)).then_some(EventFault::NoRoom)
 }
 
 /// Carries out an order of TRANSFER, or changes nothing where it has a fault.

@@ -1,7 +1,7 @@
 use Rattle.atl_campaign.specs.Marking.{mark_unit_begun}
 use Rattle.atl_campaign.specs.Campaign.{with_unit_begun}
 use Rattle.atl_phase.proofs.MarkLaws.{marks_by, on_ok_both}
-use Rattle.atl_instant.proofs.FormingLaws.{marks-begun}
+use Rattle.atl_instant.proofs.FormLaws.{marks-begun}
 use Rattle.atl_instant.proofs.form.begin.Goals as goal
 
 -- all that changes when a new unit is added is marked

@@ -3,7 +3,8 @@ use Rattle.std.proofs.lemmas.Result.{on_ok_weaker}
 use Rattle.atl_campaign.proofs.CoverLaws.{marks-trans}
 use Rattle.atl_phase.proofs.ChangeLaws.{changed_held}
 use Rattle.atl_instant.specs.Give.{with_held_of}
-use Rattle.atl_instant.proofs.GiveLaws.{given_is, held_within}
+use Rattle.atl_instant.proofs.EffectLaws.{moved_is}
+use Rattle.atl_instant.proofs.GiveLaws.{held_within}
 use Rattle.atl_instant.proofs.give.hand_over.Goals as goal
 
 -- what the giver keeps is within the limit of a holding
@@ -32,9 +33,9 @@ returns c =
           rw (giver, receiver)
           (on_ok_weaker c.set_held-2.result
           (λ two.
-          given_is before.value between.value after.value c.args.from c.args.to c.args.gift c.args.amount left more u v c.requires.apart giver receiver
-          first (changed_held (λ h. with_held_of c.args.gift h more) between.value after.value c.args.to two.value)
-          (ap (λ x. x - c.args.amount) c.held_of.ensures) (ap (λ x. x + c.args.amount) c.held_of-2.ensures))
+          moved_is before.value c.args.from c.args.to u v _ _ giver receiver c.requires.apart between.value after.value (with_held_of c.args.gift u.holding left) (with_held_of c.args.gift v.holding more)
+          (ap (λ x. with_held_of c.args.gift u.holding (x - c.args.amount)) c.held_of.ensures) (ap (λ x. with_held_of c.args.gift v.holding (x + c.args.amount)) c.held_of-2.ensures)
+          first (changed_held (λ h. with_held_of c.args.gift h more) between.value after.value c.args.to two.value v))
           c.set_held-2.ensures);
       marks = on_ok_weaker c.set_held-2.result (λ two. marks-trans before between after one.marks two.marks) c.set_held-2.ensures;
     }

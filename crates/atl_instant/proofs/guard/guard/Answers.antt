@@ -1,6 +1,6 @@
-use Rattle.std.proofs.Common.{sym}
-use Rattle.atl_instant.proofs.GuardingLaws.{flag_marks}
-use Rattle.atl_instant.proofs.RegionGuardLaws.{can_guard, holders_set}
+use Rattle.std.proofs.Common.{true, sym}
+use Rattle.atl_instant.proofs.GuardingLaws.{can_guard, flag_marks}
+use Rattle.atl_instant.proofs.RegionGuardLaws.{holders_set}
 use Rattle.atl_instant.proofs.guard.guard.Goals as goal
 
 -- the map still has exactly the factions that guard (`AreRegionGuards`), after the unit began to guard
@@ -13,4 +13,4 @@ returns-clause-held c =
 
 -- all that changes when the unit begins to guard is marked
 pub returns-clause-marks : goal.returns-clause-marks
-returns-clause-marks c = flag_marks c.args.campaign.now c.set_guard.new.self c.args.order.unit c.set_guard.ensures.what c.set_guard.ensures.marks
+returns-clause-marks c = flag_marks c.args.campaign.now c.set_guard.new.self c.args.order.unit true c.set_guard.ensures.what c.set_guard.ensures.marks

@@ -9,7 +9,7 @@ use Rattle.atl_phase.specs.Holdings.{with_days}
 use Rattle.atl_phase.proofs.ChangeLaws.{changed_held}
 use Rattle.atl_instant.specs.Transfer.{with_fewer, with_more}
 use Rattle.atl_instant.proofs.DaysLaws.{fewer_is, more_is}
-use Rattle.atl_instant.proofs.TransferLaws.{sent_is}
+use Rattle.atl_instant.proofs.EffectLaws.{moved_is}
 use Rattle.atl_instant.proofs.transfer.send.Goals as goal
 
 -- the campaign after the men went is that of the definition (`after_transfer`), and all changes are marked
@@ -34,7 +34,7 @@ returns c =
           rw (sender, receiver)
           (on_ok_weaker c.set_people-2.result
           (λ two.
-          sent_is before.value between.value after.value c.args.from c.args.to c.args.going u v h k c.requires.apart sender receiver h_is k_is first
+          moved_is before.value c.args.from c.args.to u v _ _ sender receiver c.requires.apart between.value after.value h k h_is k_is first
           (changed_held (λ x. record x { men = k.men; days = with_days x.days c.deref-2.result.now }) between.value after.value c.args.to two.value v))
           c.set_people-2.ensures.what);
       marks = on_ok_weaker c.set_people-2.result (λ two. marks-trans before between after one.marks two.marks) c.set_people-2.ensures.what;

@@ -54,10 +54,10 @@ loop-order-preserved c =
 pub returns-clause-meaning : goal.returns-clause-meaning
 returns-clause-meaning c =
     let start : CampaignValue × MonthValue = (c.args.campaign.value, c.args.month) in
-    let behind : CampaignValue × MonthValue = (c.loop-order.campaign.value, c.loop-order.month) in
-    let same : ◌≡◌ {A = CampaignValue × MonthValue} (c.loop-order.campaign.value, c.gather.new.self) behind = ap (λ (m : MonthValue). (c.loop-order.campaign.value, m)) c.gather.ensures in
+    let after_loop : CampaignValue × MonthValue = (c.loop-order.campaign.value, c.loop-order.month) in
+    let same : ◌≡◌ {A = CampaignValue × MonthValue} (c.loop-order.campaign.value, c.gather.new.self) after_loop = ap (λ (m : MonthValue). (c.loop-order.campaign.value, m)) c.gather.ensures in
     same
-    ∙ fold_ended form_apart c.deref-order-items.result.now c.loop-order.order-index behind (omega (arith, c.loop-order-test.false)) c.loop-order.invariant.orders
+    ∙ fold_ended form_apart c.deref-order-items.result.now c.loop-order.order-index after_loop (omega (arith, c.loop-order-test.false)) c.loop-order.invariant.orders
     ∙ ap (fold form_apart start) (c.deref-order-items.ensures.value ∙ c.in_ok-orders.ensures)
     ∙ all_formed c.args._world.now c.args.campaign.value c.args.month
 

@@ -60,13 +60,13 @@ returns-clause-meaning c =
     let m = c.args.month in
     let old = c.args.campaign.value in
     let step = one_order guard_step w in
-    let behind : CampaignValue × MonthValue = (c.loop-order.campaign.value, with_events m c.loop-order.events.items) in
+    let after_loop : CampaignValue × MonthValue = (c.loop-order.campaign.value, with_events m c.loop-order.events.items) in
     let xs = c.deref-order-items.result.now in
     let start : CampaignValue × MonthValue = (old, with_events m []) in
     let none : start ≡ (old, m) = ap (λ es. (old, record m { events = es })) (append-nil m.events) in
     ap (λ n. (c.loop-order.campaign.value, n)) c.in_ok-add_events.ensures
     ∙ ap (λ es. (c.loop-order.campaign.value, with_events m es)) c.deref.ensures.value
-    ∙ fold_ended (λ p o. step p (task_of o)) xs c.loop-order.order-index behind (omega (arith, c.loop-order-test.false)) c.loop-order.invariant.orders
+    ∙ fold_ended (λ p o. step p (task_of o)) xs c.loop-order.order-index after_loop (omega (arith, c.loop-order-test.false)) c.loop-order.invariant.orders
     ∙ fold_mapped step task_of start xs
     ∙ ap (fold step start) (ap (map task_of) c.deref-order-items.ensures.value ∙ c.in_ok-orders.ensures)
     ∙ ap (λ p. fold step p (orders_by_unit is_guarding m)) none

@@ -1,6 +1,6 @@
 use Rattle.std.proofs.Common.{ap, subst, sym}
 use Rattle.atl_instant.specs.Quit.{quit_keeps}
-use Rattle.atl_instant.proofs.QuittingLaws.{quit_spares_others}
+use Rattle.atl_instant.proofs.QuitLaws.{quit_spares_others}
 use Rattle.atl_instant.proofs.quit.QuitPhasePhase.run.Goals as goal
 
 -- a unit is no worse off after the phase of QUIT, unless its faction quits (`quit_keeps`)

@@ -1,0 +1,173 @@
+-- Laws of the effect of one order that books nothing: what it keeps, above all where something goes from one unit to
+-- another; and what follows for a phase that carries out such orders one by one.
+use Rattle.std.proofs.Common.{◌≡◌, ◌≢◌, ◌==◌, ℕ, ◌+◌, Bool, true, false, Option, Some, None, refl, sym, ap, subst, ◌∙◌, inl, inr, arith}
+use Rattle.std.specs.Prelude.{IfSome, if◌then◌else◌}
+use Rattle.std.proofs.lemmas.Bool.{cases_eq}
+use Rattle.std.proofs.lemmas.Bool.Decides.{nat_tests}
+use Rattle.std.proofs.lemmas.Option.{IfSome_then}
+use Rattle.std.specs.FinMap.{get}
+use Rattle.atl_world.specs.Worlds.{WorldValue}
+use Rattle.atl_orders.specs.Bounds.{IsOrderOf}
+use Rattle.atl_records.specs.declared.books.Thing.{Thing}
+use Rattle.atl_records.specs.declared.event.EventFault.{EventFault}
+use Rattle.atl_records.specs.declared.event.Outcome.{Outcome}
+use Rattle.atl_records.specs.declared.records.Unit.{Unit}
+use Rattle.atl_campaign.specs.Good.{IsEarly}
+use Rattle.atl_records.specs.Holdings.{HoldingValue}
+use Rattle.atl_campaign.specs.Lending.{with_held}
+use Rattle.atl_campaign.specs.Campaign.{CampaignValue}
+use Rattle.atl_records.specs.Amounts.{unit_amount}
+use Rattle.atl_campaign.specs.Totals.{total}
+use Rattle.atl_records.proofs.EveryLaws.{get-insert_other}
+use Rattle.atl_campaign.proofs.HoldingLaws.{total-unit_amount}
+use Rattle.atl_campaign.proofs.RegionLaws.{get-insert_same}
+use Rattle.atl_phase.specs.Meaning.{Condition}
+use Rattle.atl_phase.specs.Month.{Aliases}
+use Rattle.atl_phase.specs.NoWorse.{IsNoWorse}
+use Rattle.atl_phase.specs.OrderEffects.{Affects, IsOwnOrder, IsUnaffected, OrderEffect, OrderMeaning}
+use Rattle.atl_phase.specs.Outcomes.{unless}
+use Rattle.atl_phase.specs.PhaseOrders.{Task}
+use Rattle.atl_phase.specs.Bounds.{IsOrderly, IsUnitOf, StepsWell, nothing_remaining}
+use Rattle.atl_phase.specs.Unbooked.{moves_nothing}
+use Rattle.atl_campaign.proofs.HavingLaws.{MayHave, early-having}
+use Rattle.atl_phase.proofs.MeaningLaws.{same_month_by}
+use Rattle.atl_phase.proofs.NoWorseLaws.{no_worse}
+use Rattle.atl_phase.proofs.OrderEffectLaws.{no_worse_spares, well_same}
+use Rattle.atl_phase.proofs.UnbookedLaws.{other_unit, unbooked_well}
+use Rattle.atl_phase.proofs.UnmailedLaws.{SparesMen}
+
+-- ---- what an order keeps
+
+-- a unit is no worse off after an order of faction f, and has exactly as many men as before if it isn't of that faction
+pub record IsSpared (f : ℕ) (before after : Unit) : Type 0 where
+  -- the unit is no worse off
+  pub better : IsNoWorse before after
+  -- a unit of another faction has exactly as many men as before
+  pub men : f ≢ before.faction → after.holding.men ≡ before.holding.men
+
+-- Campaign d, which an order of faction f for unit n makes of c, books nothing, and each unit but n is spared.
+-- Where `holds` is true of c and the order fits the world (`fit`), d is as good as c (`StepsWell`).
+pub record Keeps (holds : Condition) (fit : Type 0) (w : WorldValue) (c : CampaignValue) (n f : ℕ) (d : CampaignValue) : Type 0 where
+  -- the condition is still true; month and books are the same, and still balance if they did
+  pub well : holds w c → fit → StepsWell holds nothing_remaining w c d
+  -- each unit but n is no worse off, and has its men if it is of another faction
+  pub others : (k : ℕ) (v : Unit) → get c.units k ≡ Some v → k ≢ n → IsUnaffected (IsSpared f) d k v
+
+module _ {holds : Condition} {fit : Type 0} (w : WorldValue) (c : CampaignValue) (n f : ℕ) where
+  -- an order whose effect is good (`StepsWell`) keeps what it should (`Keeps`), if it changes no unit but n
+  pub keeps_others : (d : CampaignValue) → (holds w c → fit → StepsWell holds nothing_remaining w c d) → ((k : ℕ) → k ≢ n → get d.units k ≡ get c.units k) → Keeps holds fit w c n f d
+  keeps_others d well stay = record {
+    well = well;
+    others = λ k v there apart. record { unit = v; there = stay k apart ∙ there; spared = record { better = no_worse v; men = λ other. refl } };
+  }
+
+  -- an order that changes nothing keeps what it should (`Keeps`)
+  pub keeps_all : Keeps holds fit w c n f c
+  keeps_all = keeps_others c (λ h fits. well_same w c h) (λ k apart. refl)
+
+  -- an order keeps what it should (`Keeps`), whether it has a fault or not, if it does where it has none
+  pub keeps_unless : (fault : Option EventFault) (d : CampaignValue) (o : Outcome) → (fault ≡ None → Keeps holds fit w c n f d) → Keeps holds fit w c n f (unless c fault (d, o)).0
+  keeps_unless (Some fault) d o keeps = keeps_all
+  keeps_unless None d o keeps = keeps refl
+
+-- the effect of each order keeps what it should (`Keeps`), if the order is for a unit of the faction that wrote it
+abbrev pub StepKeeps : Condition → OrderMeaning → Type 0
+StepKeeps holds step = (w : WorldValue) (a : Aliases) (c : CampaignValue) (t : Task) (x : Unit) → IsUnitOf c t x → IfSome (step w a t) (λ deed. Keeps holds (IsOrderOf w t.order_value) w c t.unit x.faction (deed c x).0)
+
+-- a phase is orderly (`IsOrderly`), if the effect of each order keeps what it should (`Keeps`), and it passes over a
+-- unit's own order that doesn't concern the unit
+pub orderly_by : {holds : Condition} {step : OrderMeaning} {concerns : Affects} → StepKeeps holds step
+    → ((w : WorldValue) (a : Aliases) (t : Task) (n f : ℕ) → IsOwnOrder t n f → (concerns t n f → ⊥) → step w a t ≡ None) → IsOrderly step holds nothing_remaining moves_nothing concerns IsNoWorse
+orderly_by {holds} {step} keeps passed = record {
+  well = λ w a c t x h fit own. IfSome_then (step w a t) (keeps w a c t x own) (λ deed kept. kept.well h fit);
+  sparing = no_worse_spares;
+  spared = λ w a c t x h own n u there other. by_step w c t x own n u there (step w a t) (keeps w a c t x own) (λ mine. passed w a t n u.faction mine other);
+  bounded = λ w c h e t. omega arith;
+}
+  where
+    -- a unit that an order doesn't concern is no worse off after it, whether the order is passed over or not
+    by_step : (w : WorldValue) (c : CampaignValue) (t : Task) (x : Unit) → IsUnitOf c t x → (n : ℕ) (u : Unit) → get c.units n ≡ Some u
+        → (o : Option OrderEffect) → IfSome o (λ deed. Keeps holds (IsOrderOf w t.order_value) w c t.unit x.faction (deed c x).0) → (IsOwnOrder t n u.faction → o ≡ None) → IfSome o (λ deed. IsUnaffected IsNoWorse (deed c x).0 n u)
+    by_step w c t x own n u there None kept passes = tt
+    by_step w c t x own n u there (Some deed) kept passes =
+        let one = kept.others n u there (other_unit c t x n u own there (λ mine. let none : Some deed ≡ None = passes mine in cc)) in
+        record { unit = one.unit; there = one.there; spared = one.spared.better }
+
+-- the orders of a phase leave units of other factions their men (`SparesMen`), if each keeps what it should (`Keeps`)
+pub spares_men : (holds : Condition) (step : OrderMeaning) → StepKeeps holds step → SparesMen step
+spares_men holds step keeps w a c t x own =
+    IfSome_then (step w a t) (keeps w a c t x own) (λ deed kept k v there other.
+    let one = kept.others k v there (other_unit c t x k v own there (λ mine. other mine.faction)) in
+    record { unit = one.unit; there = one.there; spared = record { faction = one.spared.better.faction; men = one.spared.men (λ same. other (sym own.faction ∙ same)) } })
+
+-- ---- two units, of which one gives and the other gets
+
+module _ (c : CampaignValue) (from to : ℕ) (u v : Unit) (h k : HoldingValue) (giver : get c.units from ≡ Some u) (receiver : get c.units to ≡ Some v) (apart : to ≢ from) where
+  -- the campaign after the giver has given, and before the receiver has got
+  abbrev between : CampaignValue
+  between = with_held c from h (Some u)
+
+  -- the campaign in which the giver holds h and the receiver holds k
+  abbrev pub moved : CampaignValue
+  moved = with_held between to k (Some v)
+
+  -- the receiver is still there after the giver has given
+  receiver_still : get between.units to ≡ Some v
+  receiver_still = get-insert_other c.units from to (record u { holding = h }) apart ∙ receiver
+
+  -- setting first what the giver holds (x, which is h) and then what the receiver holds (y, which is k) makes the
+  -- campaign `moved`
+  pub moved_is : (d e : CampaignValue) (x y : HoldingValue) → x ≡ h → y ≡ k → d ≡ with_held c from x (Some u) → (get d.units to ≡ Some v → e ≡ with_held d to y (Some v)) → e ≡ (if to == from then c else moved)
+  moved_is d e x y x_is y_is first second =
+      let other : (to == from) ≡ false = grind (arith, nat_tests) in
+      let made : d ≡ between = first ∙ ap (λ z. with_held c from z (Some u)) x_is in
+      rw (second (ap (λ (s : CampaignValue). get s.units to) made ∙ receiver_still), y_is, made, other) refl
+
+  -- giver and receiver together hold as much of each thing after as before
+  abbrev pub BothHold : Type 0
+  BothHold = (t : Thing) → unit_amount t h + unit_amount t k ≡ unit_amount t u.holding + unit_amount t v.holding
+
+  -- the totals of the campaign stay the same, if both units together hold as much as before
+  total-moved : WorldValue → BothHold → (t : Thing) → total moved t ≡ total c t
+  total-moved w both t =
+      sum (total moved t) (total between t) (total c t) (unit_amount t u.holding) (unit_amount t v.holding) (unit_amount t h) (unit_amount t k) (total-unit_amount w between to v k receiver_still t) (total-unit_amount w c from u h giver t) (both t)
+    where
+      -- the total a after both changes is the total x before them, if giver and receiver together hold as much as
+      -- before
+      sum : (a b x p q r s : ℕ) → a + q ≡ b + s → b + p ≡ x + r → r + s ≡ p + q → a ≡ x
+      sum a b x p q r s e f g = omega arith
+
+  -- A move keeps the campaign early, its month and its balance (`StepsWell`), if both units may hold what they then
+  -- hold, neither has its guard flag newly set, and both hold as much together as before.
+  pub steps-moved : (w : WorldValue) → MayHave w h → (h.guard ≡ true → u.holding.guard ≡ true) → MayHave w k → (k.guard ≡ true → v.holding.guard ≡ true) → BothHold → IsEarly w c → StepsWell IsEarly nothing_remaining w c moved
+  steps-moved w less less_flag more more_flag both early =
+      unbooked_well w c moved (early-having w between to v k receiver_still more more_flag (early-having w c from u h giver less less_flag early))
+      (same_month_by refl) refl (total-moved w both)
+
+  -- a move leaves each unit but the giver spared (`IsSpared`), if it leaves the receiver so
+  pub others-moved : (f : ℕ) → IsSpared f v (record v { holding = k }) → (n : ℕ) (x : Unit) → get c.units n ≡ Some x → n ≢ from → IsUnaffected (IsSpared f) moved n x
+  others-moved f spared n x there other = elim (cases_eq n to) [
+    | inl same ↦
+        let one : Some v ≡ Some x = sym receiver ∙ ap (get c.units) (sym same) ∙ there in
+        let unit : v ≡ x = cc in
+        record { unit = record v { holding = k }; there = ap (get moved.units) same ∙ get-insert_same between.units to (record v { holding = k }); spared = subst (λ y. IsSpared f y (record v { holding = k })) unit spared }
+    | inr away ↦
+        record { unit = x; there = get-insert_other between.units to n (record v { holding = k }) away ∙ get-insert_other c.units from n (record u { holding = h }) other ∙ there; spared = record { better = no_worse x; men = λ apart. refl } }
+  ]
+
+-- P holds of the campaign after an order that moves something from unit `from` to unit `to`, if P holds of the campaign
+-- before, and of the one after the move where the units are two, and the order has no fault
+pub moved_cases : (P : CampaignValue → Type 0) (c : CampaignValue) (from to : ℕ) (u v : Unit) (h k : HoldingValue) (fault : Bool → Option EventFault) (o : Outcome) → P c
+    → (to ≢ from → fault false ≡ None → P (with_held (with_held c from h (Some u)) to k (Some v)))
+    → P (unless c (fault (to == from)) (if to == from then c else with_held (with_held c from h (Some u)) to k (Some v), o)).0
+moved_cases P c from to u v h k fault o same move = by_test (to == from) refl
+  where
+    -- P holds after the order, whether it has a fault or not, and whether the unit is itself the receiver (`b`) or not
+    by_fault : (b : Bool) → (to == from) ≡ b → (x : Option EventFault) → fault b ≡ x → P (unless c x (if b then c else with_held (with_held c from h (Some u)) to k (Some v), o)).0
+    by_fault b is (Some x) none = same
+    by_fault true is None none = same
+    by_fault false is None none = let apart : to ≢ from = grind (arith, nat_tests) in move apart none
+
+    -- P holds after the order, whether the unit is itself the receiver or not
+    by_test : (b : Bool) → (to == from) ≡ b → P (unless c (fault b) (if b then c else with_held (with_held c from h (Some u)) to k (Some v), o)).0
+    by_test b is = by_fault b is (fault b) refl
