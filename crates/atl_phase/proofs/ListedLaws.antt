@@ -60,11 +60,6 @@ module _ {K X : Type 0} {R : K → K → Ordering} (o : IsTotalOrder R) where
   keys_apart : (es : List (K × X)) → IsDistinct same_entry_key es → IsDistinct (eq_by_cmp R) (keys_of es)
   keys_apart es = IsDistinct-map (λ (e : K × X). e.0) (eq_by_cmp R) es
 
-  -- `find` finds the value of the first entry with an equal key
-  pub find_is : (q : K) (es : List (K × X)) → find R q es ≡ lookup (eq_by_cmp R q) es
-  find_is q [] = refl
-  find_is q (e ∷ es) = ap (cond (eq_by_cmp R q e.0) (Some e.1)) (find_is q es)
-
   module _ {A : Type 0} (entry : A → K × X) where
     -- an entry whose key is less than those of all elements is put in front
     put_first : (e : K × X) (xs : List A) → AllByRecursion (λ x. R e.0 (entry x).0 ≡ Less) xs → put R e.0 e.1 (map entry xs) ≡ e ∷ map entry xs
@@ -93,6 +88,11 @@ module _ {K X : Type 0} {R : K → K → Ordering} (o : IsTotalOrder R) where
   entries_rise m = rising (entries m) (is_true _ (entries_sorted m))
 
   module _ (exact : IsAntisymmetric R) where
+    -- `find` finds the value of the first entry with an equal key
+    pub find_is : (q : K) (es : List (K × X)) → find R q es ≡ lookup (eq_by_cmp R q) es
+    find_is q [] = refl
+    find_is q (e ∷ es) = ap (cond (eq_by_cmp R q e.0) (Some e.1)) (find_is q es)
+
     -- what is found by key in entries of which no two have the same key is found in them in another order
     found : (es fs : List (K × X)) → IsPermutation es fs → IsDistinct same_entry_key fs → (q : K) (v : X) → find R q es ≡ Some v → find R q fs ≡ Some v
     found es fs p apart q v h =

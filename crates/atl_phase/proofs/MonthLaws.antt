@@ -51,7 +51,7 @@ found_at ms f i d rise h tie =
     let long : length es ≡ length ms = length-map ms under_faction in
     let there : Contains es (under_faction m) = (i, omega arith, get_or-map under_faction ms i d (under_faction m) h) in
     let apart = IsDistinct-map under_faction (λ e f. eq_by_cmp nat_cmp e.0 f.0) ms (IsDistinct-from_sorted (λ (a b : Mailing). nat_cmp a.faction b.faction) ms rise) in
-    ap (λ (c : FinMap nat_cmp Reading). get c f) (by_faction_is ms) ∙ get-from_entries nat_cmp_total es f ∙ find_is nat_cmp_total f es
+    ap (λ (c : FinMap nat_cmp Reading). get c f) (by_faction_is ms) ∙ get-from_entries nat_cmp_total es f ∙ find_is nat_cmp_total nat_cmp-IsAntisymmetric f es
     ∙ ap (λ k. lookup (eq_by_cmp nat_cmp k) es) (sym (nat_cmp-IsAntisymmetric m.faction f tie))
     ∙ lookup-from_Contains (eq_by_cmp_equiv nat_cmp_total) m.faction (reading_of m) es (IsDistinct-map (λ (e : ℕ × Reading). e.0) (eq_by_cmp nat_cmp) es apart) there
 

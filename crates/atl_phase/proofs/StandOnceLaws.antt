@@ -1,5 +1,5 @@
--- Laws of slots: no two orders of a phase share a slot,
--- so for a unit at most one order of a slot counts in a faction's mailing.
+-- Laws of slots (a slot is a group of verbs of which a unit carries out one order a month): no two orders that a phase
+-- carries out are of one faction, for one unit and of one slot.
 use Rattle.std.proofs.Common.{◌≡◌, ◌==◌, ℕ, suc, zero, ◌<◌, Bool, true, false, List, [], ◌∷◌, slice_get, Option, Some, None, refl, sym, ap, ◌∙◌, arith}
 use Rattle.std.proofs.lemmas.Bool.{and_parts, false_from_ne_true, false≢true}
 use Rattle.std.proofs.lemmas.List.Elements.{All-from_recursion, recursion_from_All}
@@ -89,7 +89,8 @@ distinct_also P e f also (x ∷ xs) all apart = (
 )
 
 module _ (w : WorldValue) (is_of : Verb → Bool) (a : Arrangement) (aliases : Aliases) (readings : FinMap nat_cmp Reading) (fit : AreFit w readings) where
-  -- two orders that count in their mailings (`Counts`), and share a slot, are the same order
+  -- two orders that count in their mailings (`Counts`) are the same order, if they are of one faction, for one unit and
+  -- of one slot (`share_slot`)
   are_one : (t o : Task) → Counts is_of aliases readings t → Counts is_of aliases readings o → share_slot t o ≡ true → t ≡ o
   are_one t o one two share =
       let first = and_parts _ _ share in
@@ -114,13 +115,14 @@ module _ (w : WorldValue) (is_of : Verb → Bool) (a : Arrangement) (aliases : A
   abbrev one_key : List ℕ × Task → List ℕ × Task → Bool
   one_key e f = eq_by_cmp (slice_cmp nat_cmp) e.0 f.0
 
-  -- orders under different keys share no slot
+  -- two orders under different keys are not of one faction, for one unit and of one slot (`share_slot`)
   slots_apart : (e f : List ℕ × Task) → UnderKey e → UnderKey f → one_key e f ≡ false → share_slot e.1 f.1 ≡ false
   slots_apart e f one two apart = false_from_ne_true (share_slot e.1 f.1) (λ share.
       let same : f.0 ≡ e.0 = two.0 ∙ ap (key_of a) (sym (are_one e.1 f.1 one.1 two.1 share)) ∙ sym one.0 in
       false≢true (sym apart ∙ ap (eq_by_cmp (slice_cmp nat_cmp) e.0) same ∙ (eq_by_cmp_equiv nat_list_cmp_total).refl e.0))
 
--- no two orders of a phase share a slot, if the mailings can be read with the world
+-- no two orders that a phase carries out are of one faction, for one unit and of one slot, if the mailings can be read
+-- with the world
 pub one_order_stands : OneOrderStands
 one_order_stands w is_of a aliases readings fit =
     let es = entries (orders_of is_of a aliases readings) in

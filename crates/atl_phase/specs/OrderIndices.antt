@@ -13,7 +13,7 @@ use Rattle.atl_orders.specs.declared.order.UnitRef.TheVariants.{Number}
 use Rattle.atl_orders.specs.declared.verb.Slot.{Slot}
 use Rattle.atl_orders.specs.declared.verb.Verb.{Verb}
 use Rattle.atl_orders.specs.declared.verb.Verb.TheVariants.{Work}
-use Rattle.atl_orders.specs.Mailing.{Reading, reading_of}
+use Rattle.atl_orders.specs.Mailing.{reading_of}
 use Rattle.atl_orders.specs.Orders.{order_value}
 use Rattle.atl_phase.specs.declared.order_indices.OrderIndex.{OrderIndex}
 use Rattle.atl_phase.specs.declared.phase_order.Arrangement.{Arrangement}

@@ -59,6 +59,7 @@ impl Model for Month {
     ghost invariant = { λ a. IsSortedMonth a.aliases a.mailings.items a.standing };
 }
 
+/// Makes a month of its mailings, and reads its orders, aliases, dice words and events.
 impl Month {
     /// A month before its first phase, with these mailings, no two of one faction, and these words
     /// of the dice. It takes no memory.
@@ -176,11 +177,9 @@ impl Month {
     pub fn mailing(&self, faction: u32) -> Option<&Mailing>
         ensures { option_map reading_of (option_copied result) ≡ get self.now.readings faction }
     {
-        match self
-            .mailings
-            .binary_search_by_key(&faction, |mailing| mailing.faction)
-        {
-            Ok(place) => Some(&self.mailings[place]),
+        let mailings = self.mailings.as_slice();
+        match mailings.binary_search_by_key(&faction, |mailing| mailing.faction) {
+            Ok(place) => Some(&mailings[place]),
             Err(_) => None,
         }
     }

@@ -28,6 +28,7 @@ pub(crate) struct OrderIndex {
     pub place: usize,
 }
 
+/// Gives the key that an order is sorted by.
 impl OrderIndex {
     /// The numbers that the order is sorted by in this arrangement, from the most to the least
     /// significant; the last is its index in its mailing.

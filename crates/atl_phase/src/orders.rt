@@ -80,8 +80,8 @@ pub fn orders_are_in_mailings()
     ensures { OrdersAreInMailings }
 {}
 
-/// The law that of the verbs that share a slot, at most one order counts for a unit in a faction's
-/// mailing. Does nothing. See docs/RULES.md, "Orders of a month".
+/// The law that no two orders that a phase carries out are of one faction, for one unit and of
+/// verbs in one slot. Does nothing. See docs/RULES.md, "Orders of a month".
 pub fn one_order_stands()
     ensures { OneOrderStands }
 {}
