@@ -1,5 +1,5 @@
 -- Laws of a phase that carries out its orders one by one: what holds after it, and which units it spares.
-use Rattle.std.proofs.Common.{suc, zero, ◌≡◌, ◌==◌, ◌+◌, ℕ, ◌≤◌, Bool, true, false, List, [], ◌∷◌, Option, Some, None, refl, sym, ap, subst, ◌∙◌, arith}
+use Rattle.std.proofs.Common.{suc, zero, ◌≡◌, ◌==◌, ◌+◌, ℕ, ◌≤◌, Bool, true, false, List, [], ◌∷◌, Option, Some, None, refl, sym, ap, subst, arith}
 use Rattle.std.proofs.lemmas.Option.{same_Some}
 use Rattle.std.specs.Prelude.{ℤ, fold, IfSome, if◌then◌else◌}
 use Rattle.std.specs.List.{All, AllByRecursion, slice_get}

@@ -105,8 +105,8 @@ module _ (c : CampaignValue) (k from to : ℕ) where
     | inr apart ↦ else_by q apart (is_owned_by (get c.structures k) from) ∙ unmoved q apart (get c.structures q)
   ]
 
-  -- P holds of the campaign after a handover, if it holds of the campaign as it was, and of that in which structure k has
-  -- the owner `to`
+  -- P holds of the campaign after a handover, if it holds of the campaign as it was, and of that in which structure k
+  -- has the owner `to`
   handed_cases : (P : CampaignValue → Type 0) → P c → P (with_owner c k to) → P (after_handover c k from to)
   handed_cases P same handed = elim (is_owned_by (get c.structures k) from) as (λ b. P (after b)) [ true ↦ handed | false ↦ same ]
 
