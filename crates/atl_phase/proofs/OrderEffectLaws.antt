@@ -1,7 +1,7 @@
 -- Laws of a phase that carries out its orders one by one: what holds after it, and which units it spares.
-use Rattle.std.proofs.Common.{suc, zero, ◌≡◌, ◌==◌, ◌+◌, ℕ, ◌≤◌, Bool, true, false, List, [], ◌∷◌, Option, Some, None, refl, sym, ap, subst, ◌∙◌, arith}
+use Rattle.std.proofs.Common.{suc, zero, ◌≡◌, ◌==◌, ◌+◌, ℕ, ◌≤◌, Bool, true, false, List, [], ◌∷◌, Option, Some, None, refl, sym, ap, subst, arith}
 use Rattle.std.proofs.lemmas.Option.{same_Some}
-use Rattle.std.specs.Prelude.{ℤ, fold, IfSome, OnOk, Result, Ok, Err, if◌then◌else◌}
+use Rattle.std.specs.Prelude.{ℤ, fold, IfSome, if◌then◌else◌}
 use Rattle.std.specs.List.{All, AllByRecursion, slice_get}
 use Rattle.std.proofs.lemmas.List.Elements.{recursion_from_All}
 use Rattle.std.specs.FinMap.{FinMap, get, values}
@@ -27,7 +27,7 @@ use Rattle.atl_phase.specs.PhaseOrders.{IsInMailing, Task, orders_of}
 use Rattle.atl_phase.specs.NoWorse.{IsNoWorse}
 use Rattle.atl_phase.specs.OrderEffects.{AreUnaffected, Affects, IsUnaffected, OrderEffect, Unaffected, OrderMeaning, faction_effect, effect_on, of_faction, one_order, order_result, with_event_of}
 use Rattle.atl_phase.specs.declared.phase_order.Arrangement.TheVariants.{ByUnit}
-use Rattle.atl_phase.proofs.MeaningLaws.{less_room, same_month}
+use Rattle.atl_phase.proofs.MeaningLaws.{same_month, same_month_twice}
 use Rattle.atl_phase.proofs.NoWorseLaws.{no_worse, no_worse_twice}
 use Rattle.atl_phase.proofs.PhaseOrderLaws.{orders_are_in_mailings}
 
@@ -67,12 +67,7 @@ well_same {holds} {reserve} w c h = record { holds_still = h; same_month = same_
 pub well_twice : {holds : Condition} {reserve : RemainingBound} (w : WorldValue) (a b c : CampaignValue) → StepsWell holds reserve w a b → StepsWell holds reserve w b c → StepsWell holds reserve w a c
 well_twice {holds} {reserve} w a b c one two = record {
   holds_still = two.holds_still;
-  same_month = record {
-    month = two.same_month.month ∙ one.same_month.month;
-    reports = two.same_month.reports ∙ one.same_month.reports;
-    count = two.same_month.count ∙ one.same_month.count;
-    factions = λ n there. one.same_month.factions n (two.same_month.factions n there);
-  };
+  same_month = same_month_twice a b c one.same_month two.same_month;
   balances = λ h. two.balances (one.balances h);
   drawn = λ e t. drawn_twice (reserve a e t) (reserve b e t) (reserve c e t) (amount_in a.books e t) (amount_in b.books e t) (amount_in c.books e t) (one.drawn e t) (two.drawn e t);
 }
@@ -89,10 +84,6 @@ leaves_well {holds} {reserve} {moving} w a b l h = record {
   balances = h.balances;
   near = λ e t. near_drawn (reserve a e t) (reserve b e t) (moving e t) (amount_in a.books e t) (amount_in b.books e t) (l e t) (h.drawn e t);
 }
-
--- books with room for all that a phase may move have room for the remaining bound, if this is within the phase's bound
-pub room_reserved : (reserve : RemainingBound) (moving : BookBound) (c : CampaignValue) → ((e : Entry) (t : Thing) → reserve c e t ≤ moving e t) → HaveRoom moving c → HaveRoom (reserve c) c
-room_reserved reserve moving c l room e t = less_room (reserve c e t) (moving e t) (amount_in c.books e t) (l e t) (room e t)
 
 -- ---- what stays
 

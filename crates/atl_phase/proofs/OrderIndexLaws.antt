@@ -1,6 +1,7 @@
 -- Laws of the indices of orders that count: those of one mailing, order by order, and those of all mailings.
-use Rattle.std.proofs.Common.{◌≡◌, ◌==◌, ℕ, ◌+◌, ◌<◌, ◌≤◌, Bool, true, false, cond, Option, Some, None, List, [], ◌∷◌, ◌++◌, map, filter, drop, length, get_or, All, refl, sym, ap, subst, ◌∙◌}
-use Rattle.std.proofs.lemmas.List.{append-nil, append_assoc, drop_all, drop_more, map-append}
+use Rattle.std.proofs.Common.{◌≡◌, ◌==◌, ℕ, ◌+◌, ◌<◌, ◌≤◌, Bool, true, false, cond, Option, Some, None, List, [], ◌∷◌, ◌++◌, map, filter, drop, take, length, get_or, All, refl, sym, ap, ap₂, subst, ◌∙◌}
+use Rattle.std.proofs.lemmas.List.{append-nil, append_assoc, drop_all, drop_more, map-append, take_more}
+use Rattle.std.proofs.lemmas.List.Concat.{flat_map-append}
 use Rattle.std.proofs.lemmas.List.Elements.{All-push}
 use Rattle.atl_orders.specs.declared.mailing.Entry.{Entry}
 use Rattle.atl_orders.specs.declared.mailing.Mailing.{Mailing}
@@ -9,7 +10,7 @@ use Rattle.atl_orders.specs.Mailing.{entry_value, reading_of}
 use Rattle.atl_orders.specs.Verbs.{row_of}
 use Rattle.atl_phase.specs.declared.order_indices.OrderIndex.{OrderIndex}
 use Rattle.atl_phase.specs.Month.{Aliases}
-use Rattle.atl_phase.specs.PhaseOrders.{Task, stands, stands_in, tasks_for, tasks_from, unit_of}
+use Rattle.atl_phase.specs.PhaseOrders.{Task, stands, stands_in, tasks_for, tasks_from, tasks_of, unit_of}
 use Rattle.atl_phase.specs.OrderIndices.{AddsMailing, AreLastLines, IsThere, Lines, all_tasks, every_verb, mailing_at, no_entry, no_mailing, stands_by, task_at, tasks_at}
 
 -- an order counts by the greatest lines noted of its mailing exactly if it counts among the mailing's orders
@@ -108,20 +109,9 @@ module _ (aliases : Aliases) (ms : List Mailing) (at : ℕ) where
 
 -- ---- the orders that count, mailing by mailing
 
-module _ (aliases : Aliases) (ms : List Mailing) where
-  -- the orders of all mailings that count, from the mailing at index i on
-  abbrev pub all_from : ℕ → List Task
-  all_from i = all_tasks every_verb aliases (map reading_of (drop i ms))
-
-  -- if one more mailing's indices are added, the indices so far and the orders still to come name all orders that count
-  pub next_mailing : (old new : List OrderIndex) (i : ℕ) (ts : List Task) → i < length ms → AddsMailing aliases ms i old new → map (task_at ms) old ++ all_from i ≡ ts → map (task_at ms) new ++ all_from (i + 1) ≡ ts
-  next_mailing old new i ts h adds before =
-      ap (λ us. us ++ all_from (i + 1)) adds.tasks
-      ∙ append_assoc (map (task_at ms) old) (tasks_for every_verb (tasks_at aliases ms i)) (all_from (i + 1))
-      ∙ ap (λ ns. map (task_at ms) old ++ all_tasks every_verb aliases (map reading_of ns)) (sym (drop_more ms i no_mailing h)) ∙ before
-
-  -- past the last mailing the indices name all orders that count
-  pub last_mailing : (list : List OrderIndex) (i : ℕ) (ts : List Task) → length ms ≤ i → map (task_at ms) list ++ all_from i ≡ ts → map (task_at ms) list ≡ ts
-  last_mailing list i ts h before =
-      sym (append-nil (map (task_at ms) list))
-      ∙ ap (λ ns. map (task_at ms) list ++ all_tasks every_verb aliases (map reading_of ns)) (sym (drop_all i ms h)) ∙ before
+-- if indices name the orders that count of the mailings before index i, they name those of the mailings before i + 1
+-- once the indices of the mailing at i are added
+pub next_mailing : (aliases : Aliases) (ms : List Mailing) (i : ℕ) (old new : List OrderIndex) → i < length ms → AddsMailing aliases ms i old new → map (task_at ms) old ≡ all_tasks aliases (take i ms) → map (task_at ms) new ≡ all_tasks aliases (take (i + 1) ms)
+next_mailing aliases ms i old new h adds before =
+    adds.tasks ∙ ap₂ (λ us vs. us ++ vs) before (sym (append-nil (tasks_for every_verb (tasks_at aliases ms i))))
+    ∙ sym (ap (all_tasks aliases) (take_more ms i no_mailing h) ∙ flat_map-append (λ m. tasks_for every_verb (tasks_of aliases m.faction (reading_of m))) (take i ms) (mailing_at ms i ∷ []))

@@ -13,8 +13,8 @@ use Rattle.atl_records.specs.declared.records.Unit.{Unit}
 use Rattle.atl_records.specs.Every.{Every}
 use Rattle.atl_campaign.specs.Good.{IsEarly, IsOwned, IsSteady, is_ship}
 use Rattle.atl_records.specs.declared.books.Thing.{Thing}
-use Rattle.atl_campaign.specs.Owners.{after_handover, heir, is_owned_by, placed, with_place, with_place_at}
-use Rattle.atl_campaign.specs.Campaign.{CampaignValue, with_owner}
+use Rattle.atl_campaign.specs.Owners.{after_handover, heir, placed, with_place, with_place_at}
+use Rattle.atl_campaign.specs.Campaign.{CampaignValue}
 use Rattle.atl_campaign.specs.Totals.{total}
 use Rattle.atl_records.proofs.EveryLaws.{get-insert_other, other_number}
 use Rattle.atl_campaign.proofs.InsideLaws.{is_no_zero}
@@ -24,7 +24,7 @@ use Rattle.atl_phase.specs.Bounds.{StepsWell, nothing_remaining}
 use Rattle.atl_phase.proofs.MeaningLaws.{same_month_by}
 use Rattle.atl_phase.proofs.OwnerLaws.{heir_owns, owner_stays}
 use Rattle.atl_phase.proofs.RefitLaws.{IsRefit, IsRelabelled, early-refitted, refitted, steady-refitted, total-refitted}
-use Rattle.atl_phase.proofs.StructureLaws.{changed_else, equal_passes, get-after_handover, handed_is, handed_on, len-after_handover}
+use Rattle.atl_phase.proofs.StructureLaws.{changed_else, equal_passes, get-after_handover, handed_is, handed_on, len-after_handover, placed_cases}
 use Rattle.atl_phase.proofs.UnbookedLaws.{unbooked_well}
 
 -- to map what a look-up found by g and then by f is to map it by both at once
@@ -68,12 +68,12 @@ module _ (w : WorldValue) (c : CampaignValue) (n : ℕ) (u : Unit) (s : ℕ) (is
   begun = placed c n u.region s
 
   -- the campaign with unit n inside structure s, after a handover of the structure that the unit left to its next owner
-  abbrev gone_out : CampaignValue
-  gone_out = after_handover begun old_place n next
+  abbrev after_leaving : CampaignValue
+  after_leaving = after_handover begun old_place n next
 
   -- the campaign after unit n went: what it left has its next owner, and what it entered is its own if nobody owned it
-  abbrev gone_in : CampaignValue
-  gone_in = after_handover gone_out s 0 n
+  abbrev after_entering : CampaignValue
+  after_entering = after_handover after_leaving s 0 n
 
   -- structure q after unit n went, with its owner after both handovers: of the structure that it left, and of the one
   -- that it entered
@@ -82,28 +82,28 @@ module _ (w : WorldValue) (c : CampaignValue) (n : ℕ) (u : Unit) (s : ℕ) (is
 
   -- the campaign after unit n went, as a refit: unit n inside structure s, and each structure with its owner then
   abbrev pub behind : CampaignValue
-  behind = refitted w c n u s is gone_in.structures owner_behind
+  behind = refitted w c n u s is after_entering.structures owner_behind
 
   -- putting unit n inside structure s (`with_place`) makes the campaign in which both structures have their owners
-  -- (`gone_in`)
-  placed_is : with_place c n u.region s ≡ gone_in
+  -- (`after_entering`)
+  placed_is : with_place c n u.region s ≡ after_entering
   unfolding with_place
-  placed_is = ap (with_place_at c n u.region s) is ∙ ap (λ b. if b then begun else gone_in) (other_number old_place s apart)
+  placed_is = ap (with_place_at c n u.region s) is ∙ ap (λ b. if b then begun else after_entering) (other_number old_place s apart)
 
-  -- the campaign that the two handovers make (`gone_in`) is `behind`, the same campaign given as a refit
-  behind_is : gone_in ≡ behind
+  -- the campaign that the two handovers make (`after_entering`) is `behind`, the same campaign given as a refit
+  behind_is : after_entering ≡ behind
   behind_is =
-      handed_is gone_out s 0 n ∙ ap (λ (d : CampaignValue). record d { structures = gone_in.structures }) (handed_is begun old_place n next)
-      ∙ ap (λ m. record c { units = m; structures = gone_in.structures }) (changed-known (λ (x : Unit). record x { region = u.region; structure = s }) c.units n u is)
+      handed_is after_leaving s 0 n ∙ ap (λ (d : CampaignValue). record d { structures = after_entering.structures }) (handed_is begun old_place n next)
+      ∙ ap (λ m. record c { units = m; structures = after_entering.structures }) (changed-known (λ (x : Unit). record x { region = u.region; structure = s }) c.units n u is)
 
   -- putting unit n inside structure s (`with_place`) makes the campaign `behind`, which is given as a refit
   pub place_is : with_place c n u.region s ≡ behind
   place_is = placed_is ∙ behind_is
 
   -- a look-up of a structure after both handovers finds what was there before, with its owner after both
-  at : (q : ℕ) → get gone_in.structures q ≡ option_map (λ y. handed_on s 0 n q (handed_on old_place n next q y)) (get c.structures q)
+  at : (q : ℕ) → get after_entering.structures q ≡ option_map (λ y. handed_on s 0 n q (handed_on old_place n next q y)) (get c.structures q)
   at q =
-      get-after_handover gone_out s 0 n q ∙ ap (option_map (handed_on s 0 n q)) (get-after_handover begun old_place n next q)
+      get-after_handover after_leaving s 0 n q ∙ ap (option_map (handed_on s 0 n q)) (get-after_handover begun old_place n next q)
       ∙ mapped_twice (handed_on s 0 n q) (handed_on old_place n next q) (get c.structures q)
 
   -- a structure is the same but for its owner after both handovers
@@ -160,10 +160,10 @@ module _ (w : WorldValue) (c : CampaignValue) (n : ℕ) (u : Unit) (s : ℕ) (is
 
   module _ (inside : s ≢ 0 → (x : Structure) × (get c.structures s ≡ Some x) × (x.region ≡ u.region)) (afloat : is_land_at w u.region ≡ false → (x : Structure) × (get c.structures s ≡ Some x) × (is_ship w x ≡ true)) where
     -- the campaign `behind` is a refit (`IsRefit`)
-    refit : IsRefit w c n u s is gone_in.structures owner_behind
+    refit : IsRefit w c n u s is after_entering.structures owner_behind
     refit = record {
       at = at;
-      count = len-after_handover gone_out s 0 n ∙ len-after_handover begun old_place n next;
+      count = len-after_handover after_leaving s 0 n ∙ len-after_handover begun old_place n next;
       same = λ q y there. same q y;
       owned = λ q y there. by_tests q y there (q == old_place) (y.owner == n) (q == s) refl refl refl;
       inside = inside;
@@ -172,15 +172,15 @@ module _ (w : WorldValue) (c : CampaignValue) (n : ℕ) (u : Unit) (s : ℕ) (is
 
     -- a steady campaign stays steady, if the unit's new structure is in its region, and on water is a ship
     pub placed_steady : IsSteady w behind
-    placed_steady = steady-refitted w c n u s is gone_in.structures owner_behind refit steady
+    placed_steady = steady-refitted w c n u s is after_entering.structures owner_behind refit steady
 
     -- an early campaign stays early, if the unit's new structure is in its region, and on water is a ship
     pub placed_early : IsEarly w c → IsEarly w behind
-    placed_early early = early-refitted w c n u s is gone_in.structures owner_behind refit early
+    placed_early early = early-refitted w c n u s is after_entering.structures owner_behind refit early
 
     -- the campaign's total of each thing stays the same when the unit goes to another structure
     pub placed_total : (t : Thing) → total behind t ≡ total c t
-    placed_total = total-refitted w c n u s is gone_in.structures owner_behind
+    placed_total = total-refitted w c n u s is after_entering.structures owner_behind
 
 module _ (w : WorldValue) (c : CampaignValue) (n : ℕ) (u : Unit) (s : ℕ) (is : get c.units n ≡ Some u) (early : IsEarly w c) (apart : u.structure ≢ s) where
   -- A move to another structure of the region, or on land to none, keeps an early campaign early and in balance
@@ -194,31 +194,8 @@ module _ (w : WorldValue) (c : CampaignValue) (n : ℕ) (u : Unit) (s : ℕ) (is
 
 -- ---- other units stay
 
--- a handover of a structure changes no unit
-handed_units : (c : CampaignValue) (k from to : ℕ) → (after_handover c k from to).units ≡ c.units
-handed_units c k from to = by_test (is_owned_by (get c.structures k) from)
-  where
-    -- a handover changes no unit, whether structure k gets another owner (`b`) or not
-    by_test : (b : Bool) → (if b then with_owner c k to else c).units ≡ c.units
-    by_test true = refl
-    by_test false = refl
-
 -- every unit but n stays as it was when unit n is put in region r and structure s
 pub place_stays : (c : CampaignValue) (n r s k : ℕ) → k ≢ n → get (with_place c n r s).units k ≡ get c.units k
-unfolding with_place
-place_stays c n r s k apart = by_unit (get c.units n)
-  where
-    -- unit k stays as it was when unit n is put in region r and structure s, while no structure changes its owner
-    one_placed : get (placed c n r s).units k ≡ get c.units k
-    one_placed = changed_else (λ (x : Unit). record x { region = r; structure = s }) c.units n k apart (get c.units n)
-
-    -- unit k stays as it was, whether structures keep their owners when unit n is put there (`b`) or not
-    by_test : (u : Unit) (b : Bool) → get (if b then placed c n r s else after_handover (after_handover (placed c n r s) u.structure n (heir c u.structure n)) s 0 n).units k ≡ get c.units k
-    by_test u true = one_placed
-    by_test u false =
-        ap (λ m. get m k) (handed_units (after_handover (placed c n r s) u.structure n (heir c u.structure n)) s 0 n ∙ handed_units (placed c n r s) u.structure n (heir c u.structure n)) ∙ one_placed
-
-    -- unit k stays as it was when unit n is put in a region and a structure, whether unit n is there or not
-    by_unit : (o : Option Unit) → get (with_place_at c n r s o).units k ≡ get c.units k
-    by_unit None = refl
-    by_unit (Some u) = by_test u (u.structure == s)
+place_stays c n r s k apart =
+    placed_cases (λ d. get d.units k ≡ get c.units k) c n r s refl (changed_else (λ (x : Unit). record x { region = r; structure = s }) c.units n k apart (get c.units n))
+    (λ d q from to h. ap (λ (e : CampaignValue). get e.units k) (handed_is d q from to) ∙ h)

@@ -7,7 +7,8 @@ use Rattle.std.proofs.lemmas.Bool.{cases_eq}
 use Rattle.std.proofs.lemmas.Bool.Decides.{nat_tests}
 use Rattle.atl_world.specs.Sums.{changed, changed_at}
 use Rattle.atl_records.specs.declared.records.Structure.{Structure}
-use Rattle.atl_campaign.specs.Owners.{after_handover, is_owned_by}
+use Rattle.atl_records.specs.declared.records.Unit.{Unit}
+use Rattle.atl_campaign.specs.Owners.{after_handover, heir, is_owned_by, placed, with_place, with_place_at}
 use Rattle.atl_campaign.specs.Campaign.{CampaignValue, with_owner}
 use Rattle.atl_records.proofs.EveryLaws.{get-insert_other, other_number}
 use Rattle.atl_campaign.proofs.LeavingLaws.{owned_by}
@@ -104,20 +105,31 @@ module _ (c : CampaignValue) (k from to : ℕ) where
     | inr apart ↦ else_by q apart (is_owned_by (get c.structures k) from) ∙ unmoved q apart (get c.structures q)
   ]
 
+  -- P holds of the campaign after a handover, if it holds of the campaign as it was, and of that in which structure k
+  -- has the owner `to`
+  handed_cases : (P : CampaignValue → Type 0) → P c → P (with_owner c k to) → P (after_handover c k from to)
+  handed_cases P same handed = elim (is_owned_by (get c.structures k) from) as (λ b. P (after b)) [ true ↦ handed | false ↦ same ]
+
   -- a handover leaves the number of structures as it is
   pub len-after_handover : len (after_handover c k from to).structures ≡ len c.structures
-  len-after_handover = by_test (is_owned_by (get c.structures k) from)
-    where
-      -- the number of structures stays, whether structure k gets the owner `to` (`b`) or not
-      by_test : (b : Bool) → len (after b).structures ≡ len c.structures
-      by_test true = len-changed (owned_by to) c.structures k
-      by_test false = refl
+  len-after_handover = handed_cases (λ d. len d.structures ≡ len c.structures) refl (len-changed (owned_by to) c.structures k)
 
   -- a handover changes nothing but the structures
   pub handed_is : after_handover c k from to ≡ record c { structures = (after_handover c k from to).structures }
-  handed_is = by_test (is_owned_by (get c.structures k) from)
-    where
-      -- nothing but the structures changes, whether structure k gets the owner `to` (`b`) or not
-      by_test : (b : Bool) → after b ≡ record c { structures = (after b).structures }
-      by_test true = refl
-      by_test false = refl
+  handed_is = handed_cases (λ d. d ≡ record c { structures = d.structures }) refl refl
+
+-- P holds of the campaign after unit n is put in region r and structure s, if it holds of the campaign as it was and of
+-- that with the unit there, and if each handover of a structure keeps it
+pub placed_cases : (P : CampaignValue → Type 0) (c : CampaignValue) (n r s : ℕ) → P c → P (placed c n r s) → ((d : CampaignValue) (k from to : ℕ) → P d → P (after_handover d k from to)) → P (with_place c n r s)
+unfolding with_place
+placed_cases P c n r s same put handed = by_unit (get c.units n)
+  where
+    -- P holds after unit n is put there, whether the unit is there or not
+    by_unit : (o : Option Unit) → P (with_place_at c n r s o)
+    by_unit None = same
+    by_unit (Some u) =
+        let out = after_handover (placed c n r s) u.structure n (heir c u.structure n) in
+        elim (u.structure == s) as (λ b. P (if b then placed c n r s else after_handover out s 0 n)) [
+          | true ↦ put
+          | false ↦ handed out s 0 n (handed (placed c n r s) u.structure n (heir c u.structure n) put)
+        ]

@@ -20,7 +20,7 @@ use Rattle.atl_records.specs.declared.records.Unit.{Unit}
 use Rattle.atl_records.specs.Every.{Every}
 use Rattle.atl_records.specs.Holdings.{amount_of}
 use Rattle.atl_campaign.specs.Campaign.{CampaignValue, with_guard}
-use Rattle.atl_campaign.specs.Owners.{after_handover, heir, placed, with_place, with_place_at}
+use Rattle.atl_campaign.specs.Owners.{after_handover, placed, with_place}
 use Rattle.atl_records.proofs.EveryLaws.{get-insert_other, none_some}
 use Rattle.atl_campaign.proofs.RegionLaws.{get-insert_same}
 use Rattle.atl_phase.specs.Month.{Aliases, MonthValue}
@@ -34,7 +34,7 @@ use Rattle.atl_phase.specs.Unmailed.{IsLeft, IsLessBy, men_starved_by, starved_i
 use Rattle.atl_phase.specs.declared.phase_order.Arrangement.{Arrangement}
 use Rattle.atl_phase.specs.declared.phase_order.Arrangement.TheVariants.{ByUnit}
 use Rattle.atl_phase.proofs.OrderEffectLaws.{order_readings, ordered_cases}
-use Rattle.atl_phase.proofs.StructureLaws.{at_number, get-changed, handed_is}
+use Rattle.atl_phase.proofs.StructureLaws.{at_number, get-changed, handed_is, placed_cases}
 use Rattle.atl_phase.proofs.PhaseOrderLaws.{orders_are_in_mailings}
 
 -- ---- phases one after the other
@@ -177,34 +177,12 @@ flag_men flag u = record { faction = refl; men = refl }
 pub guard_men : (c : CampaignValue) (n : ℕ) (flag : Bool) → HaveTheirMen c (with_guard c n flag)
 guard_men c n flag = men_changed (λ u. record u { holding = record u.holding { guard = flag } }) (flag_men flag) c (with_guard c n flag) n refl
 
--- a handover of a structure leaves all units their men
-handed_men : (c : CampaignValue) (s from to : ℕ) → HaveTheirMen c (after_handover c s from to)
-handed_men c s from to = men_same c (after_handover c s from to) (ap (λ (d : CampaignValue). d.units) (handed_is c s from to))
-
 -- all units keep their men when unit n goes to another region or structure
 pub place_men : (c : CampaignValue) (n r s : ℕ) → HaveTheirMen c (with_place c n r s)
-unfolding with_place
-place_men c n r s = by_unit (get c.units n)
-  where
-    -- the campaign in which unit n is in region r and structure s, while no structure has changed its owner
-    there : CampaignValue
-    there = placed c n r s
-
-    -- all units have their men in the campaign `there`, in which unit n is in its new place
-    put : HaveTheirMen c there
-    put = men_changed (λ u. record u { region = r; structure = s }) (λ u. record { faction = refl; men = refl }) c there n refl
-
-    -- all units have their men, whether structures keep their owners when unit n goes (`b`) or not
-    by_test : (u : Unit) (b : Bool) → HaveTheirMen c (if b then placed c n r s else after_handover (after_handover (placed c n r s) u.structure n (heir c u.structure n)) s 0 n)
-    by_test u true = put
-    by_test u false =
-        let out = after_handover there u.structure n (heir c u.structure n) in
-        men_twice c there (after_handover out s 0 n) put (men_twice there out (after_handover out s 0 n) (handed_men there u.structure n (heir c u.structure n)) (handed_men out s 0 n))
-
-    -- all units have their men when unit n is put in a region and a structure, whether unit n is there or not
-    by_unit : (o : Option Unit) → HaveTheirMen c (with_place_at c n r s o)
-    by_unit None = men_stay c
-    by_unit (Some u) = by_test u (u.structure == s)
+place_men c n r s =
+    let there : Unit → Unit = λ u. record u { region = r; structure = s } in
+    placed_cases (HaveTheirMen c) c n r s (men_stay c) (men_changed there (λ u. record { faction = refl; men = refl }) c (placed c n r s) n refl)
+    (λ d k from to h. men_twice c d (after_handover d k from to) h (men_same d (after_handover d k from to) (ap (λ (e : CampaignValue). e.units) (handed_is d k from to))))
 
 -- The unit has after a change the same name, and no less of any item than before.
 pub record HasItsItems (before after : Unit) : Type 0 where

@@ -13,7 +13,7 @@ use Rattle.atl_orders.specs.declared.order.UnitRef.TheVariants.{Number}
 use Rattle.atl_orders.specs.declared.verb.Slot.{Slot}
 use Rattle.atl_orders.specs.declared.verb.Verb.{Verb}
 use Rattle.atl_orders.specs.declared.verb.Verb.TheVariants.{Work}
-use Rattle.atl_orders.specs.Mailing.{Reading, reading_of}
+use Rattle.atl_orders.specs.Mailing.{reading_of}
 use Rattle.atl_orders.specs.Orders.{order_value}
 use Rattle.atl_phase.specs.declared.order_indices.OrderIndex.{OrderIndex}
 use Rattle.atl_phase.specs.declared.phase_order.Arrangement.{Arrangement}
@@ -23,7 +23,7 @@ use Rattle.atl_phase.specs.PhaseOrders.{Task, orders_of, tasks_of, tasks_for, la
 
 -- the mailings are sorted by faction, and no two are of one faction
 abbrev pub AreByFaction : List Mailing → Type 0
-AreByFaction mailings = IsStrictlySortedBy nat_cmp (map (λ m. m.faction) mailings)
+AreByFaction mailings = IsStrictlySortedBy (λ m n. nat_cmp m.faction n.faction) mailings
 
 -- the greatest line of a mailing's orders in each slot for each unit, by the number of the slot and then by unit
 abbrev pub Lines : Type 0
@@ -46,15 +46,15 @@ abbrev pub stands_by : Lines → (unit line : ℕ) → Option Slot → Bool
 stands_by lines unit line None = true
 stands_by lines unit line (Some slot) = line == line_in lines (slot_number slot) unit
 
--- the orders of all mailings that count and have the verbs of a phase
-abbrev pub all_tasks : (Verb → Bool) → Aliases → List Reading → List Task
-all_tasks is_of aliases readings = flat_map (λ r. tasks_for is_of (tasks_of aliases r.faction r)) readings
-
 -- ---- all verbs, and those of a phase
 
 -- a test that every verb passes, for a phase that takes all orders
 abbrev pub every_verb : Verb → Bool
 every_verb verb = true
+
+-- the orders of all mailings that count
+abbrev pub all_tasks : Aliases → List Mailing → List Task
+all_tasks aliases mailings = flat_map (λ m. tasks_for every_verb (tasks_of aliases m.faction (reading_of m))) mailings
 
 -- whether an order has a verb of the phase
 abbrev pub has_verb : (Verb → Bool) → Task → Bool
@@ -120,7 +120,7 @@ AddsMailing aliases mailings place = Adds mailings (tasks_for every_verb (tasks_
 
 -- the indices name the orders of all mailings that count, mailing by mailing
 abbrev pub AreIndicesByMailing : Aliases → List Mailing → List OrderIndex → Type 0
-AreIndicesByMailing aliases mailings = AreAt mailings (all_tasks every_verb aliases (map reading_of mailings))
+AreIndicesByMailing aliases mailings = AreAt mailings (all_tasks aliases mailings)
 
 -- the indices name the orders of all mailings that count, sorted as the arrangement says
 abbrev pub AreOrderIndices : Arrangement → Aliases → List Mailing → List OrderIndex → Type 0

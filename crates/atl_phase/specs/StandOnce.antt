@@ -1,4 +1,5 @@
--- A law: of the verbs that share a slot, at most one order counts for a unit in a faction's mailing.
+-- A law of slots (a slot is a group of verbs of which a unit carries out one order a month, as all month-long verbs):
+-- at most one order of a slot counts for a unit in a faction's mailing.
 -- See docs/RULES.md, "Orders of a month".
 use Rattle.std.specs.Prelude.{Bool, false, ◌&&◌, ◌==◌, Option, Some, None}
 use Rattle.std.specs.List.{IsDistinct}
@@ -14,16 +15,17 @@ use Rattle.atl_phase.specs.Month.{Aliases}
 use Rattle.atl_phase.specs.Fit.{AreFit}
 use Rattle.atl_phase.specs.PhaseOrders.{Task, is_same_slot, orders_of}
 
--- whether both slots are there (`Some`), and are the same
+-- whether two verbs both have a slot (`Some`), and the same one
 abbrev pub are_same_slot : Option Slot → Option Slot → Bool
 are_same_slot None other = false
 are_same_slot (Some slot) other = is_same_slot slot other
 
--- whether two orders are of one faction, for one unit and in one slot
+-- whether two orders are of one faction, are for one unit, and have verbs of one slot
 abbrev pub share_slot : Task → Task → Bool
 share_slot t o = t.unit == o.unit && (t.faction == o.faction && are_same_slot (row_of t.order_value.verb).slot (row_of o.order_value.verb).slot)
 
--- no two orders that a phase carries out share a slot, where the mailings can be read with the world
+-- A law: no two orders that a phase carries out are of one faction, for one unit and of one slot (`share_slot`), where
+-- the mailings can be read with the world.
 abbrev pub OneOrderStands : Type 0
 OneOrderStands =
     (w : WorldValue) (is_of : Verb → Bool) (arrangement : Arrangement) (aliases : Aliases) (readings : FinMap nat_cmp Reading) → AreFit w readings →

@@ -6,19 +6,6 @@ ghost use Rattle.atl_phase.specs.Holdings.{ChangesHolding, with_days};
 use atl_campaign::Campaign;
 use std::alloc::AllocError;
 
-/// Sets the days of study of each listed skill that all men of a unit have together.
-fn set_each(campaign: &mut Campaign, unit: u32, list: &[(u32, u32)]) -> Result<(), AllocError>
-    ensures what { OnOk result
-        (ChangesHolding campaign.old campaign.new unit
-        (λ h. record h { days = with_days h.days list.now })) }
-    ensures items { OnOk result (campaign.new.marks.items ≡ campaign.old.marks.items) }
-{
-    for (skill, days) in list.iter() {
-        campaign.set_days(unit, *skill, *days)?;
-    }
-    Ok(())
-}
-
 /// Sets the number of men of a unit, at most MEN_LIMIT, and its days of the listed skills. The days
 /// are over all men, each skill by its number. It marks the unit's row and these skills, and none
 /// of its items. Where the unit isn't there nothing changes. AllocError without memory; the
@@ -36,5 +23,8 @@ pub fn set_people(
     ensures items { OnOk result (campaign.new.marks.items ≡ campaign.old.marks.items) }
 {
     campaign.set_men(unit, men);
-    set_each(campaign, unit, days)
+    for (skill, of_skill) in days.iter() {
+        campaign.set_days(unit, *skill, *of_skill)?;
+    }
+    Ok(())
 }

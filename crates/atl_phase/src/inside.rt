@@ -8,18 +8,12 @@ use atl_campaign::Campaign;
 pub fn structure_of(campaign: &Campaign, unit: u32) -> u32
     ensures { result ≡ inside campaign.now.value unit }
 {
-    match campaign.unit(unit) {
-        Some(found) => found.structure,
-        None => 0,
-    }
+    campaign.unit(unit).map_or(0, |found| found.structure)
 }
 
 /// The number of the region that a unit is in; 0 where there is no such unit. It takes no memory.
 pub fn region_of(campaign: &Campaign, unit: u32) -> u32
     ensures { result ≡ region_of campaign.now.value unit }
 {
-    match campaign.unit(unit) {
-        Some(found) => found.region,
-        None => 0,
-    }
+    campaign.unit(unit).map_or(0, |found| found.region)
 }

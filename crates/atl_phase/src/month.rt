@@ -4,10 +4,9 @@ ghost use Rattle.std.specs.FinMap.{empty, get, values};
 ghost use Rattle.atl_orders.specs.Mailing.{reading_of};
 ghost use Rattle.atl_phase.specs.Month.{HaveOwnFactions, HaveNoOrder, alias_unit, by_faction, with_alias, with_events};
 ghost use Rattle.atl_phase.specs.PhaseOrders.{orders_of, task_of, unit_of};
-ghost use Rattle.atl_phase.specs.OrderIndices.{AreByFaction};
 
 use crate::order_indices::{OrderIndex, order_indices};
-use crate::orders::{PhaseVerbs, orders_of};
+use crate::orders::{PhaseVerbs, phase_orders_at};
 use crate::phase_order::{Arrangement, PhaseOrder};
 use crate::standing::unit_of;
 use atl_campaign::Event;
@@ -60,6 +59,7 @@ impl Model for Month {
     ghost invariant = { λ a. IsSortedMonth a.aliases a.mailings.items a.standing };
 }
 
+/// Makes a month of its mailings, and reads its orders, aliases, dice words and events.
 impl Month {
     /// A month before its first phase, with these mailings, no two of one faction, and these words
     /// of the dice. It takes no memory.
@@ -73,7 +73,7 @@ impl Month {
           events = [];
         } }
     {
-        sort(&mut mailings);
+        mailings.sort_unstable_by_key(|mailing| mailing.faction);
         Month {
             mailings,
             aliases: Numbered::new(alloc),
@@ -162,21 +162,26 @@ impl Month {
         ensures { IfOk result (λ list. map task_of list.items
             ≡ values (orders_of P.is_of arrangement self.now.aliases self.now.readings)) }
     {
-        orders_of(
-            alloc,
-            phase,
-            arrangement,
-            &self.aliases,
-            &self.mailings,
-            &self.standing,
-        )
+        match (arrangement, &self.standing) {
+            (Arrangement::ByUnit, Some(places)) => {
+                phase_orders_at(alloc, phase, &self.mailings, places)
+            }
+            _ => {
+                let places = order_indices(alloc, arrangement, &self.aliases, &self.mailings)?;
+                phase_orders_at(alloc, phase, &self.mailings, &places)
+            }
+        }
     }
 
-    /// The mailing of a faction; None where it sent none.
+    /// The mailing of a faction, by binary search; None where it sent none.
     pub fn mailing(&self, faction: u32) -> Option<&Mailing>
         ensures { option_map reading_of (option_copied result) ≡ get self.now.readings faction }
     {
-        mailing_of(&self.mailings, faction)
+        let mailings = self.mailings.as_slice();
+        match mailings.binary_search_by_key(&faction, |mailing| mailing.faction) {
+            Ok(place) => Some(&mailings[place]),
+            Err(_) => None,
+        }
     }
 
     /// The number of the unit that a faction's order names; 0 for an alias under which no unit was
@@ -203,28 +208,6 @@ pub fn add_events(month: &mut Month, events: &[Event]) -> Result<(), AllocError>
         month.add_event(*event)?;
     }
     Ok(())
-}
-
-/// Sorts mailings by their factions.
-fn sort(mailings: &mut Vec<Mailing>)
-    requires { HaveOwnFactions mailings.old.items }
-    ensures sorted { AreByFaction mailings.new.items }
-    ensures same { by_faction (map reading_of mailings.new.items)
-        ≡ by_faction (map reading_of mailings.old.items) }
-{
-    mailings.sort_unstable_by_key(|mailing| mailing.faction);
-}
-
-/// The mailing of a faction, by binary search in mailings sorted by faction; None if it has none.
-fn mailing_of(mailings: &[Mailing], faction: u32) -> Option<&Mailing>
-    requires { AreByFaction mailings.now }
-    ensures { option_map reading_of (option_copied result)
-        ≡ get (by_faction (map reading_of mailings.now)) faction }
-{
-    match mailings.binary_search_by_key(&faction, |mailing| mailing.faction) {
-        Ok(place) => Some(&mailings[place]),
-        Err(_) => None,
-    }
 }
 
 /// The number of the unit that a faction's FORM made under an alias; None where there is none.

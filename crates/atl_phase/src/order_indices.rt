@@ -28,6 +28,7 @@ pub(crate) struct OrderIndex {
     pub place: usize,
 }
 
+/// Gives the key that an order is sorted by.
 impl OrderIndex {
     /// The numbers that the order is sorted by in this arrangement, from the most to the least
     /// significant; the last is its index in its mailing.
@@ -75,22 +76,6 @@ fn add_standing(
     Ok(())
 }
 
-/// Finds the greatest line of each slot and unit in one mailing, and adds to the list the indices
-/// of the mailing's orders that count.
-fn add_mailing(
-    alloc: Global,
-    aliases: &Numbered<Numbered<u32>>,
-    mailings: &[Mailing],
-    at: usize,
-    list: &mut Vec<OrderIndex>,
-) -> Result<(), AllocError>
-    requires { at < length mailings.now }
-    ensures { OnOk result (AddsMailing aliases.now mailings.now at list.old.items list.new.items) }
-{
-    let lines = last_lines(alloc, aliases, &mailings[at])?;
-    add_standing(aliases, mailings, at, &lines, list)
-}
-
 /// The indices of the orders of all mailings that count, mailing by mailing.
 fn indices_by_mailing(
     alloc: Global,
@@ -101,7 +86,8 @@ fn indices_by_mailing(
 {
     let mut list = Vec::new(alloc);
     for at in 0..mailings.len() {
-        add_mailing(alloc, aliases, mailings, at, &mut list)?;
+        let lines = last_lines(alloc, aliases, &mailings[at])?;
+        add_standing(aliases, mailings, at, &lines, &mut list)?;
     }
     Ok(list)
 }

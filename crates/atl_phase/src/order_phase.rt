@@ -75,10 +75,9 @@ pub trait OrderPhase: PhaseVerbs {
 pub fn is_of_faction(campaign: &Campaign, unit: u32, faction: u32) -> bool
     ensures { result ≡ is_of_faction faction (get campaign.now.value.units unit) }
 {
-    match campaign.unit(unit) {
-        Some(found) => found.faction == faction,
-        None => false,
-    }
+    campaign
+        .unit(unit)
+        .is_some_and(|found| found.faction == faction)
 }
 
 /// The unit that an order is for; None where it isn't there, or is another faction's.

@@ -1,19 +1,15 @@
 //! The orders that a phase carries out, in their order. See docs/RULES.md, "Orders of a month".
 ghost use Rattle.std.specs.Prelude.{◌≡◌, map, IfOk, Bool};
 ghost use Rattle.std.specs.List.{All};
-ghost use Rattle.std.specs.FinMap.{values};
 ghost use Rattle.atl_orders.specs.declared.verb.Verb.{Verb};
-ghost use Rattle.atl_orders.specs.Mailing.{reading_of};
-ghost use Rattle.atl_phase.specs.Month.{by_faction};
-ghost use Rattle.atl_phase.specs.PhaseOrders.{OrdersAreInMailings, is_month_long, task_of, orders_of};
+ghost use Rattle.atl_phase.specs.PhaseOrders.{OrdersAreInMailings, is_month_long, task_of};
 ghost use Rattle.atl_phase.specs.StandOnce.{OneOrderStands};
-ghost use Rattle.atl_phase.specs.OrderIndices.{IsSortedMonth, IsThere, task_at, tasks_picked};
+ghost use Rattle.atl_phase.specs.OrderIndices.{IsThere, task_at, tasks_picked};
 
-use crate::order_indices::{OrderIndex, order_indices};
-use crate::phase_order::{Arrangement, PhaseOrder};
+use crate::order_indices::OrderIndex;
+use crate::phase_order::PhaseOrder;
 use crate::standing::is_same_slot;
 use atl_orders::{Mailing, Slot, Verb};
-use atl_world::Numbered;
 use std::alloc::{AllocError, Global};
 
 /// The verbs of the orders that a phase carries out.
@@ -58,7 +54,7 @@ fn order_at<'m>(mailings: &'m [Mailing], placed: &OrderIndex) -> PhaseOrder<'m>
 
 /// The orders that some indices name and that have a verb of the phase, in the order of the
 /// indices.
-fn phase_orders_at<'m, P: PhaseVerbs>(
+pub(crate) fn phase_orders_at<'m, P: PhaseVerbs>(
     alloc: Global,
     phase: &P,
     mailings: &'m [Mailing],
@@ -78,39 +74,14 @@ fn phase_orders_at<'m, P: PhaseVerbs>(
     Ok(list)
 }
 
-/// The orders that count and have a verb of the phase, in the order of the arrangement. The
-/// mailings are sorted by faction, no two of one faction. By unit the orders are picked from the
-/// gathered indices, if there are any. Otherwise all orders are gathered for this call alone.
-pub(crate) fn orders_of<'m, P: PhaseVerbs>(
-    alloc: Global,
-    phase: &P,
-    arrangement: Arrangement,
-    aliases: &Numbered<Numbered<u32>>,
-    mailings: &'m [Mailing],
-    standing: &Option<Vec<OrderIndex>>,
-) -> Result<Vec<PhaseOrder<'m>>, AllocError>
-    requires { IsSortedMonth aliases.now mailings.now standing.now }
-    ensures { IfOk result (λ list. map task_of list.items
-        ≡ values (orders_of P.is_of arrangement aliases.now
-        (by_faction (map reading_of mailings.now)))) }
-{
-    match (arrangement, standing) {
-        (Arrangement::ByUnit, Some(places)) => phase_orders_at(alloc, phase, mailings, places),
-        _ => {
-            let places = order_indices(alloc, arrangement, aliases, mailings)?;
-            phase_orders_at(alloc, phase, mailings, &places)
-        }
-    }
-}
-
 /// The law that each order of a phase is an entry of the mailing of its faction, at its index
 /// there. Does nothing.
 pub fn orders_are_in_mailings()
     ensures { OrdersAreInMailings }
 {}
 
-/// The law that of the verbs that share a slot, at most one order counts for a unit in a faction's
-/// mailing. Does nothing. See docs/RULES.md, "Orders of a month".
+/// The law that no two orders that a phase carries out are of one faction, for one unit and of
+/// verbs in one slot. Does nothing. See docs/RULES.md, "Orders of a month".
 pub fn one_order_stands()
     ensures { OneOrderStands }
 {}

@@ -32,6 +32,7 @@ pub struct PhaseOrder<'m> {
     pub order: &'m Order,
 }
 
+/// Makes the event that reports an order.
 impl<'m> PhaseOrder<'m> {
     /// The event of the order with this outcome.
     pub fn event(self, outcome: Outcome) -> Event

@@ -52,10 +52,7 @@ pub(crate) type LastLines = Numbered<Numbered<u32>>;
 fn line_in(lines: &LastLines, slot: Slot, unit: u32) -> u32
     ensures { result ≡ line_in lines.now (slot_number slot) unit }
 {
-    match lines.get_under(number_of(slot), unit) {
-        Some(line) => *line,
-        None => 0,
-    }
+    lines.get_under(number_of(slot), unit).copied().unwrap_or(0)
 }
 
 /// Notes a line of a slot and a unit, unless a greater one is noted for them already.

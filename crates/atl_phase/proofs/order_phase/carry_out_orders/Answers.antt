@@ -10,7 +10,8 @@ use Rattle.atl_phase.specs.declared.phase_order.PhaseOrder.{PhaseOrder}
 use Rattle.atl_phase.specs.OrderEffects.{AreUnaffected, meaning_by_orders, one_order}
 use Rattle.atl_phase.specs.Bounds.{StepsWell}
 use Rattle.atl_phase.proofs.FoldLaws.{each_mapped, fold_behind, fold_ended, fold_mapped}
-use Rattle.atl_phase.proofs.OrderEffectLaws.{leaves_well, order_well, orders_fit, orders_spare, room_left, room_reserved, well_same, well_twice}
+use Rattle.atl_phase.proofs.MeaningLaws.{room_less}
+use Rattle.atl_phase.proofs.OrderEffectLaws.{leaves_well, order_well, orders_fit, orders_spare, room_left, well_same, well_twice}
 use Rattle.atl_phase.proofs.order_phase.carry_out_orders.Goals as goal
 
 -- the invariant of the loop over orders holds before the first one
@@ -24,16 +25,12 @@ loop-order-init g c =
       marks = marks-refl c.args.campaign.now;
     }
 
--- the phase's condition (`holds`) is true of the campaign before the next order
-pub carry_one-requires-clause-holds : goal.carry_one-requires-clause-holds
-carry_one-requires-clause-holds g c = c.loop-order.invariant.well.holds_still
-
 -- the books have room for all that the orders may still book, before the next order
 pub carry_one-requires-clause-room : goal.carry_one-requires-clause-room
 carry_one-requires-clause-room g c =
     let P = g.P.OrderPhase in
     room_left c.args.world.now c.args.campaign.now.value c.loop-order.campaign.value c.loop-order.invariant.well
-    (room_reserved P.reserve P.moving c.args.campaign.now.value (c.is_orderly.ensures.bounded c.args.world.now c.args.campaign.now.value c.requires.holds) c.requires.room)
+    (room_less (P.reserve c.args.campaign.now.value) P.moving c.args.campaign.now.value (c.is_orderly.ensures.bounded c.args.world.now c.args.campaign.now.value c.requires.holds) c.requires.room)
 
 -- the next order can be read with the world
 pub carry_one-requires-clause-fit : goal.carry_one-requires-clause-fit
@@ -107,7 +104,3 @@ returns-clause-keeps g c =
     let ts = orders_by_unit g.P.PhaseVerbs.is_of m in
     subst (λ d. AreUnaffected P.concerns P.spares ts c.args.campaign.now.value d) (sym (ap (λ p. p.0) (returns-clause-meaning g c)))
     (orders_spare (P.step c.args.phase.now) c.is_orderly.ensures w c.args.campaign.now.value m ts c.requires.holds (orders_fit w m.aliases m.readings c.requires.read g.P.PhaseVerbs.is_of))
-
--- all that the orders change is marked
-pub returns-clause-marks : goal.returns-clause-marks
-returns-clause-marks g c = c.loop-order.invariant.marks

@@ -2,15 +2,15 @@ use Rattle.std.proofs.Common.{◌≡◌, drop}
 use Rattle.atl_campaign.specs.Campaign.{unit_changed}
 use Rattle.atl_campaign.specs.Covers.{MarksChanges}
 use Rattle.atl_phase.specs.Holdings.{with_days}
-use Rattle.atl_phase.proofs.holdings.set_each.Given as goal
+use Rattle.atl_phase.proofs.holdings.set_people.Given as goal
 
 -- before each skill: setting the days of the skills still to come makes what setting all of them makes; what changed so
 -- far is marked, without marks of goods as a whole or of items
 abbrev pub invariant-loop-skill : goal.invariant-loop-skill
 invariant-loop-skill l = record {
   value :
-      unit_changed (λ u. record u { holding = record u.holding { days = with_days u.holding.days (drop l.skill-index l.list) } }) l.campaign.value l.unit
-      ≡ unit_changed (λ u. record u { holding = record u.holding { days = with_days u.holding.days l.list } }) l.initial.campaign.value l.unit;
+      unit_changed (λ u. record u { holding = record u.holding { days = with_days u.holding.days (drop l.skill-index l.days) } }) l.campaign.value l.unit
+      ≡ unit_changed (λ u. record u { holding = record u.holding { days = with_days u.holding.days l.days } }) l.initial.campaign.value l.unit;
   marks : MarksChanges l.initial.campaign l.campaign;
   goods : l.campaign.marks.goods ≡ l.initial.campaign.marks.goods;
   items : l.campaign.marks.items ≡ l.initial.campaign.marks.items;
