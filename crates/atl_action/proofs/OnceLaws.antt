@@ -20,13 +20,7 @@ use Rattle.atl_action.specs.Teach.{AreTaughtOnce, NobodyIsTaughtTwice, TaughtMen
 module _ (c : CampaignValue) where
   -- if of no unit more men were taught than it has, this is also true after one more lesson
   once_lesson : (taught : TaughtMen) (places : ℕ) (ns : List ℕ) → AreTaughtOnce c taught → AreTaughtOnce c (lesson c taught places ns).0
-  once_lesson taught places ns old n =
-      few (list_any (λ k. n == k) ns) (men_at c n) (taught n) places (sum_by (untaught_men c taught) (before_first (λ k. n == k) ns)) (old n)
-    where
-      -- the men of a unit who were taught before the lesson (`had`) and in it are together at most its men
-      few : (b : Bool) (men had places before : ℕ) → had ≤ men → had + (if b then amount_in_turn places before (men - had) else 0) ≤ men
-      few true men had places before l = omega (arith, l)
-      few false men had places before l = omega (arith, l)
+  once_lesson taught places ns old n = let few = old n in grind arith
 
   -- if of no unit more men were taught than it has, this is also true after an order of TEACH
   once_taught : (aliases : Aliases) (learning : Learning) (taught : TaughtMen) (t : Task) → AreTaughtOnce c taught → AreTaughtOnce c (teach c aliases learning taught t).0
