@@ -1,5 +1,5 @@
 -- Laws of `first_mentions`: the numbers without repetitions are those that a pass with a set of seen numbers keeps.
-use Rattle.std.proofs.Common.{◌≡◌, ◌==◌, ℕ, ◌&&◌, not, Bool, true, false, cond, List, [], ◌∷◌, filter, Some, refl, sym, ap, ◌∙◌, arith, rules}
+use Rattle.std.proofs.Common.{◌≡◌, ◌==◌, ℕ, ◌&&◌, not, Bool, true, false, cond, List, [], ◌∷◌, filter, refl, ap, ◌∙◌, arith, rules}
 use Rattle.std.specs.Prelude.{is_some}
 use Rattle.std.specs.Ordering.{nat_cmp}
 use Rattle.std.specs.Cmp.{nat_cmp_total, unsigned_ties}

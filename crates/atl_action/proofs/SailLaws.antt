@@ -1,5 +1,5 @@
 -- Laws of SAIL: a ship goes with all units inside, no other unit changes, and the campaign stays steady.
-use Rattle.std.proofs.Common.{◌≡◌, ◌≢◌, ◌==◌, ◌&&◌, ◌||◌, ◌+◌, ℕ, Bool, true, false, not, List, [], ◌∷◌, sum_by, Option, Some, None, refl, sym, ap, subst, ◌∙◌, inl, inr, arith, rules}
+use Rattle.std.proofs.Common.{◌≡◌, ◌≢◌, ◌==◌, ◌&&◌, ◌||◌, ℕ, Bool, true, false, not, List, [], ◌∷◌, sum_by, Option, Some, None, refl, sym, ap, subst, ◌∙◌, inl, inr, arith, rules}
 use Rattle.std.specs.Prelude.{fold, is_some, nat_lt, option_map, unwrap_or, if◌then◌else◌}
 use Rattle.std.specs.List.{AllByRecursion, list_any}
 use Rattle.std.specs.Option.{option_map_or}
@@ -38,7 +38,7 @@ use Rattle.atl_campaign.proofs.NumberListLaws.{IsListed}
 use Rattle.atl_phase.specs.declared.phase_order.Arrangement.TheVariants.{ByUnit}
 use Rattle.atl_phase.specs.Month.{MonthValue}
 use Rattle.atl_phase.specs.Inside.{inside}
-use Rattle.atl_phase.specs.Outcomes.{first_fault, unless}
+use Rattle.atl_phase.specs.Outcomes.{unless}
 use Rattle.atl_phase.specs.PhaseOrders.{Task, orders_of}
 use Rattle.atl_phase.specs.OrderEffects.{IsUnaffected, effect_on, faction_effect, meaning_by_orders, of_faction, one_order, order_result, spares_others}
 use Rattle.atl_phase.specs.Bounds.{IsOrderly, IsUnaffectedRelation, StepsWell, nothing_remaining}
@@ -468,10 +468,7 @@ module _ (w : WorldValue) (begun : CampaignValue) (number faction : ℕ) where
     -- an order of SAIL for a unit inside the structure of unit `number` has the
     -- fault that it would have had as the phase began
     fault_same : (n : ℕ) (u : Unit) (to : Option ℕ) → u.structure ≡ s → sail_fault w c n u (get c.structures u.structure) to ≡ sail_fault w begun n u (get begun.structures u.structure) to
-    fault_same n u to here =
-        ap (λ ship. first_fault (faults w n u to ship (sum_inside (crew_of w) c u.structure) (sum_inside (load_of w) c u.structure))) (subst (λ q. get c.structures q ≡ get begun.structures q) (sym here) same.structure)
-        ∙ ap (λ crew. first_fault (faults w n u to (get begun.structures u.structure) crew (sum_inside (load_of w) c u.structure))) (subst (λ q. sum_inside (crew_of w) c q ≡ sum_inside (crew_of w) begun q) (sym here) (sum_inside_same (crew_of w)))
-        ∙ ap (λ load. first_fault (faults w n u to (get begun.structures u.structure) (sum_inside (crew_of w) begun u.structure) load)) (subst (λ q. sum_inside (load_of w) c q ≡ sum_inside (load_of w) begun q) (sym here) (sum_inside_same (load_of w)))
+    fault_same n u to here = rw (here, same.structure, sum_inside_same (crew_of w), sum_inside_same (load_of w)) refl
 
     -- an order for a unit inside the structure of unit `number` has the
     -- outcome that it would have had as the phase began

@@ -1,6 +1,6 @@
 -- Laws of STUDY: the campaign stays steady, the fee is booked, and a unit without an own order of STUDY is unchanged.
-use Rattle.std.proofs.Common.{◌≡◌, ◌≢◌, ◌==◌, ℕ, ◌+◌, ◌-◌, ◌*◌, ◌≤◌, ◌<◌, Bool, true, false, cond, [], ◌∷◌, length, Option, Some, None, refl, sym, ap, subst, ◌∙◌, arith}
-use Rattle.std.specs.Prelude.{pos, neg_ℤ, ◌+ℤ◌, IfSome, nat_lt, if◌then◌else◌}
+use Rattle.std.proofs.Common.{◌≡◌, ◌≢◌, ◌==◌, ℕ, ◌+◌, ◌-◌, ◌*◌, ◌≤◌, ◌<◌, Bool, false, cond, [], ◌∷◌, length, Option, Some, None, refl, sym, ap, subst, ◌∙◌, arith}
+use Rattle.std.specs.Prelude.{pos, neg_ℤ, ◌+ℤ◌, IfSome, nat_lt}
 use Rattle.std.specs.FinMap.{get}
 use Rattle.std.proofs.lemmas.Int.{ints}
 use Rattle.std.proofs.lemmas.Bool.Decides.{nat_tests}
@@ -11,7 +11,7 @@ use Rattle.atl_world.specs.ByNumber.{fee_of}
 use Rattle.atl_orders.specs.Bounds.{AreOperandsOf}
 use Rattle.atl_orders.specs.declared.order.Operands.TheVariants as operands
 use Rattle.atl_orders.specs.Orders.{OperandsValue}
-use Rattle.atl_records.specs.Books.{amount_in, thing_index, amount_number}
+use Rattle.atl_records.specs.Books.{amount_in, thing_index}
 use Rattle.atl_records.specs.declared.books.Entry.{Entry}
 use Rattle.atl_records.specs.declared.books.Entry.TheVariants.{Study}
 use Rattle.atl_records.specs.declared.books.Thing.{Thing}

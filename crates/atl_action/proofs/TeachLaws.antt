@@ -1,7 +1,7 @@
 -- Laws of a lesson of TEACH: a lesson to a list of units is the first unit's part, and then a lesson to the others.
-use Rattle.std.proofs.Common.{◌≡◌, ◌≢◌, ◌==◌, ◌≤◌, ◌||◌, ℕ, ◌+◌, ◌-◌, min, not, Bool, true, false, cond, List, [], ◌∷◌, filter, take, sum_by, refl, sym, ap, subst, ◌∙◌, inl, inr, arith, rules}
+use Rattle.std.proofs.Common.{◌≡◌, ◌≢◌, ◌==◌, ◌≤◌, ℕ, ◌+◌, ◌-◌, min, not, Bool, false, List, [], ◌∷◌, filter, sum_by, refl, sym, ap, subst, ◌∙◌, inl, inr, arith, rules}
 use Rattle.std.specs.Prelude.{nat_eq, if◌then◌else◌}
-use Rattle.std.specs.List.{AllByRecursion, IsDistinct, before_first, list_any, position_or_len}
+use Rattle.std.specs.List.{AllByRecursion, IsDistinct, before_first, position_or_len}
 use Rattle.std.proofs.lemmas.Bool.{cases_eq, cond_both, not-true}
 use Rattle.std.proofs.lemmas.List.Elements.{All-filter, All-from_recursion, All-take, filter_passes, recursion_from_All}
 use Rattle.std.proofs.lemmas.List.Folds.{list_any_none}
@@ -9,7 +9,6 @@ use Rattle.std.proofs.lemmas.List.Sums.{sum_by-cons}
 use Rattle.atl_world.proofs.GeneralLaws.{equal_itself, equal_turned, is_unequal}
 use Rattle.atl_records.proofs.EveryLaws.{other_number}
 use Rattle.atl_campaign.specs.Campaign.{CampaignValue}
-use Rattle.atl_phase.specs.InTurn.{amount_in_turn}
 use Rattle.atl_action.specs.Teach.{TaughtMen, first_mentions, taught_in_lesson, untaught_men}
 
 -- ---- lists of units

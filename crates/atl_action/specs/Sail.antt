@@ -1,5 +1,5 @@
 -- SAIL: ships go to a neighbouring region with all units inside. See docs/RULES.md, "Sailing".
-use Rattle.std.specs.Prelude.{◌≡◌, ◌≤◌, ℕ, ◌*◌, ◌==◌, ◌&&◌, nat_lt, Bool, true, false, not, [], ◌∷◌, fold, is_some, sum_by, unwrap_or, Option, Some, None}
+use Rattle.std.specs.Prelude.{◌≡◌, ◌≤◌, ℕ, ◌*◌, ◌==◌, ◌&&◌, nat_lt, Bool, true, false, not, [], ◌∷◌, fold, is_some, sum_by, unwrap_or, Option, Some}
 use Rattle.std.specs.List.{slice_get}
 use Rattle.std.specs.Option.{option_map_or}
 use Rattle.std.specs.FinMap.{get}
