@@ -1,5 +1,5 @@
 -- Laws of `first_mentions`: the numbers without repetitions are those that a pass with a set of seen numbers keeps.
-use Rattle.std.proofs.Common.{◌≡◌, ◌==◌, ℕ, ◌&&◌, not, Bool, true, false, cond, List, [], ◌∷◌, filter, refl, ap, ◌∙◌, arith, rules}
+use Rattle.std.proofs.Common.{◌≡◌, ◌==◌, ℕ, ◌&&◌, not, Bool, true, false, List, [], ◌∷◌, filter, refl, arith, rules}
 use Rattle.std.specs.Prelude.{is_some}
 use Rattle.std.specs.Ordering.{nat_cmp}
 use Rattle.std.specs.Cmp.{nat_cmp_total, unsigned_ties}
@@ -28,21 +28,11 @@ new_before seen n there k = grind (arith, nat_tests)
 -- In the rest a number is new if it is new once n is noted.
 pub mention : (seen : FinMap nat_cmp ℕ) (n : ℕ) (ns : List ℕ) → is_some (get seen n) ≡ false →
     filter (is_new seen) (first_mentions (n ∷ ns)) ≡ n ∷ filter (is_new (insert seen n n)) (first_mentions ns)
-mention seen n ns new =
-    ap (λ b. cond (not b) (n ∷ rest) rest) new ∙ ap (λ l. n ∷ l) (both_filters (is_new seen) (λ k. not (k == n)) (is_new (insert seen n n)) (new_behind seen n) (first_mentions ns))
-  where
-    -- the new numbers of ns without repetitions and without n
-    rest : List ℕ
-    rest = filter (is_new seen) (filter (λ k. not (k == n)) (first_mentions ns))
+mention seen n ns new = grind (rules, new, both_filters (is_new seen) (λ k. not (k == n)) (is_new (insert seen n n)) (new_behind seen n) (first_mentions ns))
 
 -- if n was seen before, the new numbers without repetitions of a list that begins with n are those of the rest
 pub mentioned : (seen : FinMap nat_cmp ℕ) (n : ℕ) (ns : List ℕ) → is_some (get seen n) ≡ true → filter (is_new seen) (first_mentions (n ∷ ns)) ≡ filter (is_new seen) (first_mentions ns)
-mentioned seen n ns there =
-    ap (λ b. cond (not b) (n ∷ rest) rest) there ∙ both_filters (is_new seen) (λ k. not (k == n)) (is_new seen) (new_before seen n there) (first_mentions ns)
-  where
-    -- the new numbers of ns without repetitions and without n
-    rest : List ℕ
-    rest = filter (is_new seen) (filter (λ k. not (k == n)) (first_mentions ns))
+mentioned seen n ns there = grind (rules, there, both_filters (is_new seen) (λ k. not (k == n)) (is_new seen) (new_before seen n there) (first_mentions ns))
 
 -- if no number was seen yet, all numbers of a list are new
 pub all_new : (ns : List ℕ) → filter (is_new empty) ns ≡ ns

@@ -18,7 +18,7 @@ loop-unit-preserved c =
       marks = marks-trans c.args.campaign.now so_far.campaign _ so_far.invariant.marks c.in_ok-put_unit.ensures.marks;
     }
 
--- after the loop all units inside went along, and then the ship goes
+-- after the loop, and once the ship goes too, the campaign is the one that `after_sailing` gives
 pub returns-clause-what : goal.returns-clause-what
 unfolding after_sailing
 returns-clause-what c =
