@@ -1,16 +1,15 @@
 -- Laws of `learners`: exactly the units are listed that learn by an order of STUDY that counts.
-use Rattle.std.proofs.Common.{◌≡◌, ℕ, Bool, true, false, cond, List, [], ◌∷◌, Option, Some, None, refl, sym, ap, subst, ◌∙◌}
+use Rattle.std.proofs.Common.{◌≡◌, ℕ, true, List, [], ◌∷◌, Option, Some, None, refl, sym, subst}
 use Rattle.std.specs.Prelude.{fold, if◌then◌else◌}
 use Rattle.std.specs.List.{AllByRecursion, Contains}
 use Rattle.std.specs.Option.{option_map_or}
-use Rattle.std.specs.Ordering.{nat_cmp, eq_by_cmp}
-use Rattle.std.specs.Cmp.{nat_cmp_total}
-use Rattle.std.specs.FinMap.{empty, get, get-insert, insert}
+use Rattle.std.specs.FinMap.{empty, get, insert}
+use Rattle.std.proofs.lemmas.Bool.{cond_both}
 use Rattle.std.proofs.lemmas.List.Elements.{All-contains, All-contains_itself, All-from_recursion, recursion_from_All}
 use Rattle.atl_world.specs.Worlds.{WorldValue}
 use Rattle.atl_records.specs.Every.{Every, IsThere}
 use Rattle.atl_campaign.specs.Campaign.{CampaignValue}
-use Rattle.atl_records.proofs.EveryLaws.{every-empty, every-insert}
+use Rattle.atl_records.proofs.EveryLaws.{every-empty, every-insert, there-insert}
 use Rattle.atl_campaign.proofs.RegionLaws.{get-insert_same}
 use Rattle.atl_phase.specs.Month.{MonthValue}
 use Rattle.atl_phase.specs.PhaseOrders.{Task}
@@ -26,53 +25,27 @@ module _ (w : WorldValue) (c : CampaignValue) where
   abbrev with_skill : Learning → Task → Option ℕ → Learning
   with_skill learning t skill = option_map_or (λ s. if learns w s t.faction (get c.units t.unit) then insert learning t.unit s else learning) skill learning
 
-  -- if P holds of all units that are learning, and of the one that learns by an order, it holds of all with that added
-  only_one : (P : ℕ → ℕ → Type 0) (t : Task) (learning : Learning) → IfLearns P t → Every P learning → Every P (with_learner w c learning t)
-  only_one P t learning so old = by_skill (skill_of t.order_value.operands) refl
+  -- Q holds of the map after an order of STUDY, if it holds of the map before, and of that with the order's unit under
+  -- a skill that the unit learns by the order
+  learner_cases : (Q : Learning → Type 0) (t : Task) (learning : Learning) → Q learning → IfLearns (λ n s. Q (insert learning n s)) t → Q (with_learner w c learning t)
+  learner_cases Q t learning same added = by_skill (skill_of t.order_value.operands) refl
     where
-      -- P holds of all units that are learning after the order, whether its unit learns skill s or not
-      by_test : (s : ℕ) → skill_of t.order_value.operands ≡ Some s → (b : Bool) → learns w s t.faction (get c.units t.unit) ≡ b → Every P (if b then insert learning t.unit s else learning)
-      by_test s says true can = every-insert P learning t.unit s (so s says can) old
-      by_test s says false can = old
-
-      -- P holds of all units that are learning after the order, whether it names a skill or not
-      by_skill : (o : Option ℕ) → skill_of t.order_value.operands ≡ o → Every P (with_skill learning t o)
-      by_skill None says = old
-      by_skill (Some s) says = by_test s says (learns w s t.faction (get c.units t.unit)) refl
+      -- Q holds of the map after the order, whether the order names a skill or not
+      by_skill : (o : Option ℕ) → skill_of t.order_value.operands ≡ o → Q (with_skill learning t o)
+      by_skill None says = same
+      by_skill (Some s) says = cond_both (learns w s t.faction (get c.units t.unit)) (insert learning t.unit s) learning Q (added s says) (λ _. same)
 
   -- if P holds of all units that are learning, and of each that learns by one of some orders, it holds of all with
   -- these added
   only_all : (P : ℕ → ℕ → Type 0) (ts : List Task) (learning : Learning) → AllByRecursion (IfLearns P) ts → Every P learning → Every P (fold (with_learner w c) learning ts)
   only_all P [] learning so old = old
-  only_all P (t ∷ ts) learning so old = only_all P ts (with_learner w c learning t) so.1 (only_one P t learning so.0 old)
-
-  -- a unit that is in the map of those that learn is still in it once a unit is added
-  there-insert : (learning : Learning) (k s n : ℕ) → IsThere learning n → IsThere (insert learning k s) n
-  there-insert learning k s n (x, there) = by_test (eq_by_cmp nat_cmp n k) refl
-    where
-      -- unit n is in the map once k is put in, whether n is k or not
-      by_test : (b : Bool) → eq_by_cmp nat_cmp n k ≡ b → IsThere (insert learning k s) n
-      by_test true is = (s, get-insert nat_cmp_total learning k s n ∙ ap (λ b. cond b (Some s) (get learning n)) is)
-      by_test false is = (x, get-insert nat_cmp_total learning k s n ∙ ap (λ b. cond b (Some s) (get learning n)) is ∙ there)
-
-  -- a unit that is in the map of those that learn is still in it once the unit of an order of STUDY is added
-  kept_one : (t : Task) (learning : Learning) (n : ℕ) → IsThere learning n → IsThere (with_learner w c learning t) n
-  kept_one t learning n there = by_skill (skill_of t.order_value.operands)
-    where
-      -- unit n is in the map after the order, whether the order's unit learns skill s or not
-      by_test : (s : ℕ) (b : Bool) → IsThere (if b then insert learning t.unit s else learning) n
-      by_test s true = there-insert learning t.unit s n there
-      by_test s false = there
-
-      -- unit n is in the map after the order, whether it names a skill or not
-      by_skill : (o : Option ℕ) → IsThere (with_skill learning t o) n
-      by_skill None = there
-      by_skill (Some s) = by_test s (learns w s t.faction (get c.units t.unit))
+  only_all P (t ∷ ts) learning so old =
+      only_all P ts (with_learner w c learning t) so.1 (learner_cases (Every P) t learning old (λ s says can. every-insert P learning t.unit s (so.0 s says can) old))
 
   -- a unit that is in the map of those that learn is still in it once the units of some orders of STUDY are added
   kept : (ts : List Task) (learning : Learning) (n : ℕ) → IsThere learning n → IsThere (fold (with_learner w c) learning ts) n
   kept [] learning n there = there
-  kept (t ∷ ts) learning n there = kept ts (with_learner w c learning t) n (kept_one t learning n there)
+  kept (t ∷ ts) learning n there = kept ts (with_learner w c learning t) n (learner_cases (λ l. IsThere l n) t learning there (λ s says can. there-insert learning t.unit n s there))
 
   -- the unit of an order of STUDY is learning after the order, if the unit learns by the order
   added : (t : Task) (learning : Learning) → IfLearns (λ n s. IsThere (with_learner w c learning t) n) t

@@ -1,10 +1,10 @@
 -- Laws of `first_mentions`: the numbers without repetitions are those that a pass with a set of seen numbers keeps.
-use Rattle.std.proofs.Common.{◌≡◌, ◌==◌, ℕ, ◌&&◌, not, Bool, true, false, cond, List, [], ◌∷◌, filter, Some, refl, sym, ap, ◌∙◌}
+use Rattle.std.proofs.Common.{◌≡◌, ◌==◌, ℕ, ◌&&◌, not, Bool, true, false, List, [], ◌∷◌, filter, refl, arith, rules}
 use Rattle.std.specs.Prelude.{is_some}
 use Rattle.std.specs.Ordering.{nat_cmp}
 use Rattle.std.specs.Cmp.{nat_cmp_total, unsigned_ties}
 use Rattle.std.specs.FinMap.{FinMap, empty, get, get-empty, get-insert, insert}
-use Rattle.atl_world.proofs.GeneralLaws.{is_equal}
+use Rattle.std.proofs.lemmas.Bool.Decides.{nat_tests}
 use Rattle.atl_action.specs.Teach.{first_mentions}
 
 -- whether a number isn't among those seen so far
@@ -14,52 +14,27 @@ is_new seen k = not (is_some (get seen k))
 -- two filters in turn are one filter by a test that is true exactly where both of their tests are
 both_filters : (p q r : ℕ → Bool) → ((k : ℕ) → (q k && p k) ≡ r k) → (ns : List ℕ) → filter p (filter q ns) ≡ filter r ns
 both_filters p q r same [] = refl
-both_filters p q r same (n ∷ ns) = by_test (q n) (same n) (both_filters p q r same ns)
-  where
-    -- the two filters in turn keep of n ∷ ns what the one filter keeps, whether n passes q or not
-    by_test : (b : Bool) → (b && p n) ≡ r n → filter p (filter q ns) ≡ filter r ns → filter p (cond b (n ∷ filter q ns) (filter q ns)) ≡ cond (r n) (n ∷ filter r ns) (filter r ns)
-    by_test true is rest = ap (λ l. cond (p n) (n ∷ l) l) rest ∙ ap (λ b. cond b (n ∷ filter r ns) (filter r ns)) is
-    by_test false is rest = rest ∙ ap (λ b. cond b (n ∷ filter r ns) (filter r ns)) is
+both_filters p q r same (n ∷ ns) = grind (rules, same n, both_filters p q r same ns)
 
 -- once n is among the numbers seen, a number is new exactly if it isn't n, and was new before
 new_behind : (seen : FinMap nat_cmp ℕ) (n k : ℕ) → (not (k == n) && is_new seen k) ≡ is_new (insert seen n n) k
-new_behind seen n k = by_test (k == n) ∙ sym (ap (λ o. not (is_some o)) (get-insert nat_cmp_total seen n n k ∙ ap (λ b. cond b (Some n) (get seen k)) (sym (unsigned_ties k n))))
-  where
-    -- k passes the test before n is seen, and isn't n, exactly if it passes once n is seen, whether k is n (b) or not
-    by_test : (b : Bool) → (not b && is_new seen k) ≡ not (is_some (cond b (Some n) (get seen k)))
-    by_test true = refl
-    by_test false = refl
+new_behind seen n k = grind (rules, get-insert nat_cmp_total seen n n k, unsigned_ties k n)
 
 -- if n was seen before, a number is new exactly if it is new and isn't n
 new_before : (seen : FinMap nat_cmp ℕ) (n : ℕ) → is_some (get seen n) ≡ true → (k : ℕ) → (not (k == n) && is_new seen k) ≡ is_new seen k
-new_before seen n there k = by_test (k == n) refl
-  where
-    -- k is new exactly if it is new and isn't n, which was seen before, whether k is n or not
-    by_test : (b : Bool) → (k == n) ≡ b → (not b && is_new seen k) ≡ is_new seen k
-    by_test true is = sym (ap (λ j. is_new seen j) (is_equal k n is) ∙ ap not there)
-    by_test false is = refl
+new_before seen n there k = grind (arith, nat_tests)
 
 -- The new numbers without repetitions of a list are its first number n, if n is new, and then those of the rest.
 -- In the rest a number is new if it is new once n is noted.
 pub mention : (seen : FinMap nat_cmp ℕ) (n : ℕ) (ns : List ℕ) → is_some (get seen n) ≡ false →
     filter (is_new seen) (first_mentions (n ∷ ns)) ≡ n ∷ filter (is_new (insert seen n n)) (first_mentions ns)
-mention seen n ns new =
-    ap (λ b. cond (not b) (n ∷ rest) rest) new ∙ ap (λ l. n ∷ l) (both_filters (is_new seen) (λ k. not (k == n)) (is_new (insert seen n n)) (new_behind seen n) (first_mentions ns))
-  where
-    -- the new numbers of ns without repetitions and without n
-    rest : List ℕ
-    rest = filter (is_new seen) (filter (λ k. not (k == n)) (first_mentions ns))
+mention seen n ns new = grind (rules, new, both_filters (is_new seen) (λ k. not (k == n)) (is_new (insert seen n n)) (new_behind seen n) (first_mentions ns))
 
 -- if n was seen before, the new numbers without repetitions of a list that begins with n are those of the rest
 pub mentioned : (seen : FinMap nat_cmp ℕ) (n : ℕ) (ns : List ℕ) → is_some (get seen n) ≡ true → filter (is_new seen) (first_mentions (n ∷ ns)) ≡ filter (is_new seen) (first_mentions ns)
-mentioned seen n ns there =
-    ap (λ b. cond (not b) (n ∷ rest) rest) there ∙ both_filters (is_new seen) (λ k. not (k == n)) (is_new seen) (new_before seen n there) (first_mentions ns)
-  where
-    -- the new numbers of ns without repetitions and without n
-    rest : List ℕ
-    rest = filter (is_new seen) (filter (λ k. not (k == n)) (first_mentions ns))
+mentioned seen n ns there = grind (rules, there, both_filters (is_new seen) (λ k. not (k == n)) (is_new seen) (new_before seen n there) (first_mentions ns))
 
 -- if no number was seen yet, all numbers of a list are new
 pub all_new : (ns : List ℕ) → filter (is_new empty) ns ≡ ns
 all_new [] = refl
-all_new (n ∷ ns) = ap (λ o. cond (not (is_some o)) (n ∷ filter (is_new empty) ns) (filter (is_new empty) ns)) (get-empty nat_cmp n) ∙ ap (λ l. n ∷ l) (all_new ns)
+all_new (n ∷ ns) = grind (rules, get-empty {X = ℕ} nat_cmp n, all_new ns)

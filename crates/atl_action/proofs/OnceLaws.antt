@@ -1,7 +1,6 @@
 -- Laws of TEACH: of no unit more men are taught in a month than it has.
-use Rattle.std.proofs.Common.{ℕ, ◌+◌, ◌-◌, ◌*◌, ◌==◌, ◌≤◌, Bool, true, false, List, [], ◌∷◌, Option, Some, None, filter, map, sum_by, arith}
-use Rattle.std.specs.Prelude.{fold, if◌then◌else◌}
-use Rattle.std.specs.List.{before_first, list_any}
+use Rattle.std.proofs.Common.{ℕ, ◌*◌, List, [], ◌∷◌, Option, Some, None, filter, map, arith}
+use Rattle.std.specs.Prelude.{fold}
 use Rattle.std.specs.Option.{option_map_or}
 use Rattle.std.specs.FinMap.{values}
 use Rattle.atl_records.specs.declared.event.EventFault.{EventFault}
@@ -12,21 +11,14 @@ use Rattle.atl_phase.specs.Month.{Aliases, MonthValue}
 use Rattle.atl_phase.specs.Inside.{region_of}
 use Rattle.atl_phase.specs.PhaseOrders.{Task, orders_of, unit_of}
 use Rattle.atl_phase.specs.declared.phase_order.Arrangement.TheVariants.{ByUnit}
-use Rattle.atl_phase.specs.InTurn.{amount_in_turn}
 use Rattle.atl_action.specs.Learners.{Learning}
 use Rattle.atl_action.specs.Limits.{pupils_per_teacher}
-use Rattle.atl_action.specs.Teach.{AreTaughtOnce, NobodyIsTaughtTwice, TaughtMen, after_lessons, first_mentions, is_below, is_pupil, is_teaching, lesson, listed_units, men_at, teach, teach_fault, teach_order, untaught_men}
+use Rattle.atl_action.specs.Teach.{AreTaughtOnce, NobodyIsTaughtTwice, TaughtMen, after_lessons, first_mentions, is_below, is_pupil, is_teaching, lesson, listed_units, men_at, teach, teach_fault, teach_order}
 
 module _ (c : CampaignValue) where
   -- if of no unit more men were taught than it has, this is also true after one more lesson
   once_lesson : (taught : TaughtMen) (places : ℕ) (ns : List ℕ) → AreTaughtOnce c taught → AreTaughtOnce c (lesson c taught places ns).0
-  once_lesson taught places ns old n =
-      few (list_any (λ k. n == k) ns) (men_at c n) (taught n) places (sum_by (untaught_men c taught) (before_first (λ k. n == k) ns)) (old n)
-    where
-      -- the men of a unit who were taught before the lesson (`had`) and in it are together at most its men
-      few : (b : Bool) (men had places before : ℕ) → had ≤ men → had + (if b then amount_in_turn places before (men - had) else 0) ≤ men
-      few true men had places before l = omega (arith, l)
-      few false men had places before l = omega (arith, l)
+  once_lesson taught places ns old n = let few = old n in grind arith
 
   -- if of no unit more men were taught than it has, this is also true after an order of TEACH
   once_taught : (aliases : Aliases) (learning : Learning) (taught : TaughtMen) (t : Task) → AreTaughtOnce c taught → AreTaughtOnce c (teach c aliases learning taught t).0

@@ -1,7 +1,7 @@
 -- Laws of units that change only region, structure and guard flag:
 -- their number, their factions and what they hold together stay the same.
 use Rattle.std.proofs.Common.{◌≡◌, ◌==◌, ℕ, ◌+◌, Bool, true, false, Option, Some, None, refl, sym, ap, ◌∙◌, arith}
-use Rattle.std.specs.Prelude.{option_map, if◌then◌else◌}
+use Rattle.std.specs.Prelude.{if◌then◌else◌}
 use Rattle.std.specs.Ordering.{nat_cmp}
 use Rattle.std.specs.FinMap.{FinMap, get, insert, len}
 use Rattle.atl_world.specs.Sums.{changed, changed_at, sum_over}
@@ -12,13 +12,14 @@ use Rattle.atl_records.specs.declared.records.Region.{Region}
 use Rattle.atl_records.specs.declared.records.Unit.{Unit}
 use Rattle.atl_campaign.specs.Good.{guards}
 use Rattle.atl_records.specs.Holdings.{amount_of}
-use Rattle.atl_campaign.specs.Campaign.{CampaignValue, numbers_inside, numbers_of}
+use Rattle.atl_campaign.specs.Campaign.{CampaignValue, numbers_inside, numbers_of, with_guard}
+use Rattle.atl_campaign.specs.Owners.{placed}
 use Rattle.atl_records.specs.Amounts.{region_amount, unit_amount}
 use Rattle.atl_campaign.specs.Totals.{total}
 use Rattle.atl_campaign.proofs.InsideLaws.{inside_as_before}
 use Rattle.atl_campaign.proofs.RegionLaws.{same_len}
 use Rattle.atl_phase.proofs.OutcomeLaws.{false_true}
-use Rattle.atl_phase.proofs.StructureLaws.{at_number, get-changed}
+use Rattle.atl_phase.proofs.ChangeLaws.{changed_twice}
 use Rattle.atl_action.proofs.TravelLaws.{IsSameUnit}
 
 -- Before and after there are as many units, each faction has the same unit numbers,
@@ -69,17 +70,9 @@ module _ (f : Unit → Unit) (same : (u : Unit) → IsSameUnit u (f u)) (m : Fin
 -- ---- units that are put elsewhere, with their flags cleared
 
 module _ (structure to : ℕ) where
-  -- the unit in region `to`, inside structure `structure`
-  abbrev put_there : Unit → Unit
-  put_there x = record x { region = to; structure = structure }
-
-  -- the unit with its guard flag cleared
-  abbrev flag_off : Unit → Unit
-  flag_off x = record x { holding = record x.holding { guard = false } }
-
   -- the unit in region `to`, inside structure `structure`, with its guard flag cleared
   abbrev pub gone : Unit → Unit
-  gone x = flag_off (put_there x)
+  gone x = record x { region = to; structure = structure; holding = record x.holding { guard = false } }
 
   -- the unit, put into region `to` with its flag cleared (`gone`) if b is true, and otherwise as it was
   abbrev pub gone_if : Bool → Unit → Unit
@@ -87,38 +80,11 @@ module _ (structure to : ℕ) where
 
   -- the units, of which unit n is in region `to`, inside structure `structure`, and has its guard flag cleared
   abbrev pub elsewhere : FinMap nat_cmp Unit → ℕ → FinMap nat_cmp Unit
-  elsewhere m n = changed flag_off (changed put_there m n) n
+  elsewhere m n = changed gone m n
 
-  -- the units are the same people (`AreSamePeople`) after unit n went elsewhere and its flag was cleared
-  pub elsewhere_people : (m : FinMap nat_cmp Unit) (n : ℕ) → AreSamePeople m (elsewhere m n)
-  elsewhere_people m n =
-      people_twice m (changed put_there m n) (elsewhere m n)
-      (people_changed put_there (λ x. record { faction = refl; name = refl; men = refl; money = refl; items = refl; days = refl }) m n)
-      (people_changed flag_off (λ x. record { faction = refl; name = refl; men = refl; money = refl; items = refl; days = refl }) (changed put_there m n) n)
-
-  -- to put unit n elsewhere and then clear its flag changes what a look-up of k found by `gone` if k is n, and else not
-  elsewhere_by : (m : FinMap nat_cmp Unit) (n k : ℕ) (b : Bool) → (k == n) ≡ b → (o : Option Unit) → option_map (at_number flag_off (changed put_there m n) n k) (option_map (at_number put_there m n k) o) ≡ option_map (gone_if (k == n)) o
-  elsewhere_by m n k b t None = refl
-  elsewhere_by m n k true t (Some x) = rw t refl
-  elsewhere_by m n k false t (Some x) = rw t refl
-
-  -- after unit n went elsewhere, a look-up finds unit n in its new region and structure with its flag cleared, and
-  -- every other unit as it was
-  pub elsewhere_at : (m : FinMap nat_cmp Unit) (n k : ℕ) → get (elsewhere m n) k ≡ option_map (gone_if (k == n)) (get m k)
-  elsewhere_at m n k =
-      get-changed flag_off (changed put_there m n) n k ∙ ap (option_map (at_number flag_off (changed put_there m n) n k)) (get-changed put_there m n k)
-      ∙ elsewhere_by m n k (k == n) refl (get m k)
-
-  -- each structure has the same units inside after a change of a unit that leaves it inside the same structure
-  inside_changed : (f : Unit → Unit) (m : FinMap nat_cmp Unit) (n q : ℕ) (v : Unit) → get m n ≡ Some v → (v.structure == q) ≡ ((f v).structure == q) → numbers_inside q (changed f m n) ≡ numbers_inside q m
-  inside_changed f m n q v is same = ap (λ o. numbers_inside q (changed_at f m n o)) is ∙ inside_as_before q m (insert m n (f v)) (numbers_where-insert_known (λ (x : Unit). x.structure == q) m n v (f v) is same)
-
-  -- each structure has the same units inside after unit n went elsewhere,
-  -- if unit n was inside structure `structure` already
-  pub elsewhere_inside : (m : FinMap nat_cmp Unit) (n q : ℕ) (v : Unit) → get m n ≡ Some v → v.structure ≡ structure → numbers_inside q (elsewhere m n) ≡ numbers_inside q m
-  elsewhere_inside m n q v is here =
-      inside_changed flag_off (changed put_there m n) n q (at_number put_there m n n v) (get-changed put_there m n n ∙ ap (option_map (at_number put_there m n n)) is) refl
-      ∙ inside_changed put_there m n q v is (ap (λ s. s == q) here)
+  -- the campaign in which unit n was put elsewhere, and then its flag cleared, has other units and is otherwise the same
+  pub elsewhere_is : (c : CampaignValue) (n : ℕ) → with_guard (placed c n to structure) n false ≡ record c { units = elsewhere c.units n }
+  elsewhere_is c n = changed_twice (λ x. record x { region = to; structure = structure }) (λ x. record x { holding = record x.holding { guard = false } }) c n
 
   -- a unit that went elsewhere, or didn't, is the same but for its region, structure and guard flag
   pub gone_same : (b : Bool) (x : Unit) → IsSameUnit x (gone_if b x)
@@ -129,6 +95,17 @@ module _ (structure to : ℕ) where
   pub guards_stay : (b : Bool) (x : Unit) → guards (gone_if b x) ≡ true → gone_if b x ≡ x
   guards_stay true x g = false_true g
   guards_stay false x g = refl
+
+  -- the units are the same people (`AreSamePeople`) after unit n went elsewhere and its flag was cleared
+  pub elsewhere_people : (m : FinMap nat_cmp Unit) (n : ℕ) → AreSamePeople m (elsewhere m n)
+  elsewhere_people m n = people_changed gone (gone_same true) m n
+
+  -- each structure has the same units inside after unit n went elsewhere,
+  -- if unit n was inside structure `structure` already
+  pub elsewhere_inside : (m : FinMap nat_cmp Unit) (n q : ℕ) (v : Unit) → get m n ≡ Some v → v.structure ≡ structure → numbers_inside q (elsewhere m n) ≡ numbers_inside q m
+  elsewhere_inside m n q v is here =
+      ap (λ o. numbers_inside q (changed_at gone m n o)) is
+      ∙ inside_as_before q m (insert m n (gone v)) (numbers_where-insert_known (λ (x : Unit). x.structure == q) m n v (gone v) is (ap (λ s. s == q) here))
 
 -- ---- the totals
 

@@ -1,11 +1,14 @@
 -- Laws of SAIL: a ship goes with all units inside, no other unit changes, and the campaign stays steady.
-use Rattle.std.proofs.Common.{◌≡◌, ◌≢◌, ◌==◌, ◌&&◌, ◌||◌, ◌+◌, ℕ, Bool, true, false, not, List, [], ◌∷◌, sum_by, Option, Some, None, refl, sym, ap, subst, ◌∙◌, inl, inr, arith}
-use Rattle.std.specs.Prelude.{IfSome, fold, nat_lt, option_map, unwrap_or, if◌then◌else◌}
+use Rattle.std.proofs.Common.{◌≡◌, ◌≢◌, ◌==◌, ◌&&◌, ◌||◌, ℕ, Bool, true, false, not, List, [], ◌∷◌, sum_by, Option, Some, None, refl, sym, ap, subst, ◌∙◌, inl, inr, arith, rules}
+use Rattle.std.specs.Prelude.{fold, is_some, nat_lt, option_map, unwrap_or, if◌then◌else◌}
 use Rattle.std.specs.List.{AllByRecursion, list_any}
 use Rattle.std.specs.Option.{option_map_or}
+use Rattle.std.proofs.Math.Bool.{or-true}
+use Rattle.std.proofs.lemmas.Iterator.Adapters.{option_map_id}
+use Rattle.std.proofs.lemmas.Option.{same_Some}
 use Rattle.std.specs.Ordering.{nat_cmp}
 use Rattle.std.specs.FinMap.{FinMap, get, values}
-use Rattle.std.proofs.lemmas.Bool.{and_parts, not-false}
+use Rattle.std.proofs.lemmas.Bool.{and_parts, cases_eq, cond_both, false_from_ne_true, not-false}
 use Rattle.std.proofs.lemmas.List.Elements.{recursion_from_All}
 use Rattle.std.proofs.lemmas.List.Sums.{sum_by-cons}
 use Rattle.atl_world.specs.Worlds.{WorldValue}
@@ -24,32 +27,33 @@ use Rattle.atl_records.specs.declared.records.Structure.{Structure}
 use Rattle.atl_records.specs.declared.records.Unit.{Unit}
 use Rattle.atl_records.specs.Events.{event_fault_number}
 use Rattle.atl_records.specs.Every.{Every, IsThere}
-use Rattle.atl_campaign.specs.Good.{IsOwned, IsSteady, is_ship}
+use Rattle.atl_campaign.specs.Good.{IsAboard, IsOwned, IsSteady, is_ship}
 use Rattle.atl_records.specs.Holdings.{HoldingValue}
 use Rattle.atl_records.specs.Levels.{load_of}
 use Rattle.atl_campaign.specs.Owners.{after_handover, heir, is_owned_by, placed, with_place, with_place_at}
 use Rattle.atl_campaign.specs.Campaign.{CampaignValue, numbers_inside, with_guard, with_structure_region}
-use Rattle.atl_records.proofs.EveryLaws.{none_some, other_number}
+use Rattle.atl_records.proofs.EveryLaws.{other_number}
 use Rattle.atl_campaign.proofs.InsideLaws.{inside_is_listed, is_no_zero, listed_is_inside}
 use Rattle.atl_campaign.proofs.NumberListLaws.{IsListed}
 use Rattle.atl_phase.specs.declared.phase_order.Arrangement.TheVariants.{ByUnit}
 use Rattle.atl_phase.specs.Month.{MonthValue}
 use Rattle.atl_phase.specs.Inside.{inside}
-use Rattle.atl_phase.specs.Outcomes.{first_fault, unless}
+use Rattle.atl_phase.specs.Outcomes.{unless}
 use Rattle.atl_phase.specs.PhaseOrders.{Task, orders_of}
 use Rattle.atl_phase.specs.OrderEffects.{IsUnaffected, effect_on, faction_effect, meaning_by_orders, of_faction, one_order, order_result, spares_others}
 use Rattle.atl_phase.specs.Bounds.{IsOrderly, IsUnaffectedRelation, StepsWell, nothing_remaining}
 use Rattle.atl_phase.specs.Unbooked.{moves_nothing}
 use Rattle.atl_phase.proofs.MeaningLaws.{same_month_by}
-use Rattle.atl_phase.proofs.OutcomeLaws.{false_true, none_fits}
+use Rattle.atl_phase.proofs.OutcomeLaws.{false_true}
 use Rattle.atl_phase.proofs.RefitLaws.{under}
 use Rattle.atl_phase.proofs.StructureLaws.{at_number, changed_else, equal_passes, get-changed, len-changed}
 use Rattle.atl_phase.proofs.OrderEffectLaws.{carried_cases, well_same}
 use Rattle.atl_phase.specs.NoWorse.{IsUnchanged}
 use Rattle.atl_phase.proofs.UnbookedLaws.{stays_well}
-use Rattle.atl_action.specs.Sail.{AreAtMostMoved, IsAtMostMoved, SailsWith, after_sailing, capacity, concerns_nobody, crew_needed, crew_of, is_complete_ship, is_sailing, is_way, sail, sail_effect, sail_fault, sail_spec, sail_step, sum_inside, with_unit_aboard}
-use Rattle.atl_action.specs.Regions.{is_region}
-use Rattle.atl_action.proofs.PeopleLaws.{AreSamePeople, elsewhere, elsewhere_at, elsewhere_inside, elsewhere_people, gone_if, gone_same, guards_stay, people_same, people_twice, total_people}
+use Rattle.atl_action.specs.Sail.{AreAtMostMoved, IsAtMostMoved, SailsWith, after_sailing, capacity, concerns_nobody, crew_needed, crew_of, is_complete_ship, is_sailing, is_way, sail, sail_fault, sail_spec, sail_step, sum_inside}
+use Rattle.atl_action.specs.Walk.{by_direction, with_unit_moved}
+use Rattle.atl_action.proofs.PeopleLaws.{AreSamePeople, elsewhere, elsewhere_inside, elsewhere_is, elsewhere_people, gone, gone_if, gone_same, guards_stay, people_same, people_twice, total_people}
+use Rattle.atl_action.proofs.WalkLaws.{in_each_direction, none_fit}
 use Rattle.atl_action.proofs.TravelLaws.{AreTravelled, IsPut, IsSameStructure, steady-travelled, travelled}
 
 -- the structure that a unit is inside; 0 where it isn't there
@@ -66,22 +70,13 @@ of_unit f o = option_map_or (λ (x : Unit). f x.holding) o 0
 any_listed : (k : ℕ) (ns : List ℕ) → IsListed k ns → list_any (λ n. k == n) ns ≡ true
 any_listed k [] listed = absurd listed
 any_listed k (n ∷ ns) (inl same) = ap (λ b. b || list_any (λ n. k == n) ns) (equal_passes k n same)
-any_listed k (n ∷ ns) (inr listed) = ap (λ b. (k == n) || b) (any_listed k ns listed) ∙ or_true (k == n)
-  where
-    -- "b or true" is true
-    or_true : (b : Bool) → (b || true) ≡ true
-    or_true true = refl
-    or_true false = refl
+any_listed k (n ∷ ns) (inr listed) = ap (λ b. (k == n) || b) (any_listed k ns listed) ∙ or-true (k == n)
 
 -- if the test whether a list has a number (`list_any`) is true, the number is listed
 listed_any : (k : ℕ) (ns : List ℕ) → list_any (λ n. k == n) ns ≡ true → IsListed k ns
 listed_any k [] e = false_true e
-listed_any k (n ∷ ns) e = by_test (k == n) refl e (λ rest. listed_any k ns rest)
-  where
-    -- k is listed in n ∷ ns if the test is true of n ∷ ns, whether k is n or not
-    by_test : (b : Bool) → (k == n) ≡ b → (b || list_any (λ n. k == n) ns) ≡ true → (list_any (λ n. k == n) ns ≡ true → IsListed k ns) → IsListed k (n ∷ ns)
-    by_test true t e rest = inl (is_equal k n t)
-    by_test false t e rest = inr (rest e)
+listed_any k (n ∷ ns) e =
+    elim (cases_eq k n) [ inl same ↦ inl same | inr apart ↦ inr (listed_any k ns (ap (λ b. b || list_any (λ n. k == n) ns) (sym (other_number k n apart)) ∙ e)) ]
 
 -- P holds of all numbers of a list (`AllByRecursion`), if it holds of each number that is listed (`IsListed`)
 all_listed : (P : ℕ → Type 0) (ns : List ℕ) → ((k : ℕ) → IsListed k ns → P k) → AllByRecursion P ns
@@ -98,22 +93,14 @@ module _ (ship to : ℕ) where
 
   -- to go along by one test and then by another is to go along if either test passes
   mapped_both : (a b : Bool) (o : Option Unit) → option_map (gone_if ship to b) (option_map (gone_if ship to a) o) ≡ option_map (gone_if ship to (a || b)) o
-  mapped_both a b None = refl
-  mapped_both true true (Some x) = refl
-  mapped_both true false (Some x) = refl
-  mapped_both false b (Some x) = refl
-
-  -- a unit that doesn't go along with the ship is as it was
-  mapped_none : (o : Option Unit) → o ≡ option_map (gone_if ship to false) o
-  mapped_none None = refl
-  mapped_none (Some x) = refl
+  mapped_both a b o = grind rules
 
   -- after the units of a list went along with the ship, a look-up finds a unit gone with it if it is listed, and else
   -- unchanged
   all_at : (m : FinMap nat_cmp Unit) (ns : List ℕ) (k : ℕ) → get (fold (elsewhere ship to) m ns) k ≡ option_map (gone_if ship to (list_any (λ n. k == n) ns)) (get m k)
-  all_at m [] k = mapped_none (get m k)
+  all_at m [] k = sym (option_map_id (get m k))
   all_at m (n ∷ ns) k =
-      all_at (elsewhere ship to m n) ns k ∙ ap (option_map (gone_if ship to (list_any (λ n. k == n) ns))) (elsewhere_at ship to m n k)
+      all_at (elsewhere ship to m n) ns k ∙ ap (option_map (gone_if ship to (list_any (λ n. k == n) ns))) (get-changed (gone ship to) m n k)
       ∙ mapped_both (k == n) (list_any (λ n. k == n) ns) (get m k)
 
   -- the unit of this number is there, and is inside the ship
@@ -121,15 +108,16 @@ module _ (ship to : ℕ) where
   IsInside m n = (v : Unit) × (get m n ≡ Some v) × (v.structure ≡ ship)
 
   -- taking along a unit that is inside the ship changes nothing of the campaign but the units (`elsewhere`)
-  one_is : (d : CampaignValue) (n : ℕ) (v : Unit) → get d.units n ≡ Some v → v.structure ≡ ship → with_unit_aboard ship to d n ≡ record d { units = elsewhere ship to d.units n }
+  one_is : (d : CampaignValue) (n : ℕ) (v : Unit) → get d.units n ≡ Some v → v.structure ≡ ship → with_unit_moved ship to d n ≡ record d { units = elsewhere ship to d.units n }
   unfolding with_place
   one_is d n v is here =
       ap (λ o. with_guard (with_place_at d n to ship o) n false) is
       ∙ ap (λ b. with_guard (if b then placed d n to ship else after_handover (after_handover (placed d n to ship) v.structure n (heir d v.structure n)) ship 0 n) n false) (equal_passes v.structure ship here)
+      ∙ elsewhere_is ship to d n
 
   -- a unit inside the ship is still inside after a unit went along with the ship
   still_inside : (m : FinMap nat_cmp Unit) (n k : ℕ) → IsInside m k → IsInside (elsewhere ship to m n) k
-  still_inside m n k (v, there, here) = (gone_if ship to (k == n) v, elsewhere_at ship to m n k ∙ ap (option_map (gone_if ship to (k == n))) there, by_test (k == n))
+  still_inside m n k (v, there, here) = (gone_if ship to (k == n) v, get-changed (gone ship to) m n k ∙ ap (option_map (gone_if ship to (k == n))) there, by_test (k == n))
     where
       -- unit k is inside the ship, whether it is the unit that went along or not
       by_test : (b : Bool) → (gone_if ship to b v).structure ≡ ship
@@ -142,11 +130,11 @@ module _ (ship to : ℕ) where
   still_all m n (k ∷ ns) all = (still_inside m n k all.0, still_all m n ns all.1)
 
   -- taking along a list of units that are inside the ship changes nothing of the campaign but the units (`elsewhere`)
-  all_is : (d : CampaignValue) (ns : List ℕ) → AllByRecursion (IsInside d.units) ns → fold (with_unit_aboard ship to) d ns ≡ record d { units = fold (elsewhere ship to) d.units ns }
+  all_is : (d : CampaignValue) (ns : List ℕ) → AllByRecursion (IsInside d.units) ns → fold (with_unit_moved ship to) d ns ≡ record d { units = fold (elsewhere ship to) d.units ns }
   all_is d [] all = refl
   all_is d (n ∷ ns) all =
       let (v, there, here) = all.0 in
-      ap (λ e. fold (with_unit_aboard ship to) e ns) (one_is d n v there here) ∙ all_is (record d { units = elsewhere ship to d.units n }) ns (still_all d.units n ns all.1)
+      ap (λ e. fold (with_unit_moved ship to) e ns) (one_is d n v there here) ∙ all_is (record d { units = elsewhere ship to d.units n }) ns (still_all d.units n ns all.1)
 
   -- each structure has the same units inside after those of a list went along, if all of the list are inside the ship
   all_inside : (q : ℕ) (m : FinMap nat_cmp Unit) (ns : List ℕ) → AllByRecursion (IsInside m) ns → numbers_inside q (fold (elsewhere ship to) m ns) ≡ numbers_inside q m
@@ -156,6 +144,10 @@ module _ (ship to : ℕ) where
       all_inside q (elsewhere ship to m n) ns (still_all m n ns all.1) ∙ elsewhere_inside ship to m n q v there here
 
 -- ---- a ship that goes
+
+-- an unchanged unit at most went along with its structure (`IsAtMostMoved`)
+carried_same : (v : Unit) → IsAtMostMoved v v
+carried_same v = record { faction = refl; structure = refl; region = λ none. refl; name = refl; guard = λ none. refl; no_flag = λ off. off; men = omega arith; money = omega arith; items = λ i. omega arith; days = λ s. omega arith }
 
 module _ (w : WorldValue) (c : CampaignValue) (ship to : ℕ) (steady : IsSteady w c) (x : Structure) (is : get c.structures ship ≡ Some x) where
   -- the numbers of the units inside the ship
@@ -186,47 +178,53 @@ module _ (w : WorldValue) (c : CampaignValue) (ship to : ℕ) (steady : IsSteady
   abbrev behind : CampaignValue
   behind = travelled w c units structures f g
 
-  -- each unit listed as inside the ship is inside it
-  is_inside : (k : ℕ) → IsListed k ns → IsInside ship to c.units k
-  is_inside k listed = listed_is_inside ship c.units k listed
-
   -- `after_sailing` makes the campaign `behind`
   sailed_is : after_sailing c ship to ≡ behind
   unfolding after_sailing
-  sailed_is = ap (λ d. with_structure_region d ship to) (all_is ship to c ns (all_listed (IsInside ship to c.units) ns is_inside))
+  sailed_is = ap (λ d. with_structure_region d ship to) (all_is ship to c ns (all_listed (IsInside ship to c.units) ns (listed_is_inside ship c.units)))
 
   -- the ship's number isn't 0
   some_ship : ship ≢ 0
   some_ship = is_no_zero c.structures c.next_structure steady.next.structures ship x is
 
   -- unit k, which is there, is in the list of the units inside the ship exactly if it is inside the ship
-  member_by : (k : ℕ) (v : Unit) → get c.units k ≡ Some v → (a b : Bool) → (v.structure == ship) ≡ a → list_any (λ n. k == n) ns ≡ b → b ≡ a
-  member_by k v there true true t e = refl
-  member_by k v there false false t e = refl
-  member_by k v there true false t e = sym e ∙ any_listed k ns (inside_is_listed ship c.units some_ship k v there (is_equal v.structure ship t))
-  member_by k v there false true t e =
-      let (u, at, inside) = listed_is_inside ship c.units k (listed_any k ns e) in
-      let one : Some u ≡ Some v = sym at ∙ there in
-      let unit : u ≡ v = cc in
-      sym (equal_passes u.structure ship inside) ∙ ap (λ (y : Unit). y.structure == ship) unit ∙ t
+  member : (k : ℕ) (v : Unit) → get c.units k ≡ Some v → list_any (λ n. k == n) ns ≡ (v.structure == ship)
+  member k v there = elim (cases_eq v.structure ship) [
+    | inl here ↦ any_listed k ns (inside_is_listed ship c.units some_ship k v there here) ∙ sym (equal_passes v.structure ship here)
+    | inr apart ↦
+        let unlisted = false_from_ne_true (list_any (λ n. k == n) ns) (λ t.
+        let (u, at, inside) = listed_is_inside ship c.units k (listed_any k ns t) in
+        apart (ap (λ (y : Unit). y.structure) (same_Some v u (sym there ∙ at)) ∙ inside)) in
+        unlisted ∙ sym (other_number v.structure ship apart)
+  ]
 
   -- unit k goes along by the list of the units inside the ship exactly if it is inside the ship
   units_by : (k : ℕ) (o : Option Unit) → get c.units k ≡ o → option_map (gone_if ship to (list_any (λ n. k == n) ns)) o ≡ option_map (f k) o
   units_by k None there = refl
-  units_by k (Some v) there = ap (λ b. Some (gone_if ship to b v)) (member_by k v there (v.structure == ship) (list_any (λ n. k == n) ns) refl refl)
+  units_by k (Some v) there = ap (λ b. Some (gone_if ship to b v)) (member k v there)
 
   -- after the ship went, a look-up finds a unit gone along with it, if it was inside, and otherwise as it was
   units_at : (k : ℕ) → get units k ≡ option_map (f k) (get c.units k)
   units_at k = all_at ship to c.units ns k ∙ units_by k (get c.units k) refl
 
-  -- a unit that goes along with the ship exactly if it is inside is inside the same structure as before
-  inside_by : (v : Unit) (b : Bool) → (v.structure == ship) ≡ b → (gone_if ship to b v).structure ≡ v.structure
-  inside_by v true t = sym (is_equal v.structure ship t)
-  inside_by v false t = refl
-
-  -- a unit is inside the same structure after the ship sailed
-  inside_same : (k : ℕ) (v : Unit) → (f k v).structure ≡ v.structure
-  inside_same k v = inside_by v (v.structure == ship) refl
+  -- a unit inside the ship goes along, and any other stays; so each at most goes with its structure (`IsAtMostMoved`)
+  carried : (k : ℕ) (v : Unit) → IsAtMostMoved v (f k v)
+  carried k v = cond_both (v.structure == ship) (gone ship to v) v (IsAtMostMoved v) (λ t. along (is_equal v.structure ship t)) (λ _. carried_same v)
+    where
+      -- a unit inside the ship at most goes with its structure as it goes along
+      along : v.structure ≡ ship → IsAtMostMoved v (gone ship to v)
+      along here = record {
+        faction = refl;
+        structure = sym here;
+        region = λ none. absurd (some_ship (sym here ∙ none));
+        name = refl;
+        guard = λ none. absurd (some_ship (sym here ∙ none));
+        no_flag = λ off. refl;
+        men = omega arith;
+        money = omega arith;
+        items = λ i. omega arith;
+        days = λ s. omega arith;
+      }
 
   -- after the ship went, it is found in region `to`, and is otherwise as it was
   at_ship : get structures ship ≡ Some (shifted x)
@@ -236,66 +234,46 @@ module _ (w : WorldValue) (c : CampaignValue) (ship to : ℕ) (steady : IsSteady
   at_other : (q : ℕ) → q ≢ ship → get structures q ≡ get c.structures q
   at_other q apart = changed_else shifted c.structures ship q apart (get c.structures ship)
 
-  -- a structure is the same but for its region after the ship sailed
-  ship_same : (q : ℕ) (y : Structure) (b : Bool) → IsSameStructure y (if b then shifted y else y)
-  ship_same q y true = record { kind = refl; done = refl; name = refl }
-  ship_same q y false = record { kind = refl; done = refl; name = refl }
-
   -- each structure has its right owner after the ship sailed
-  ship_owned : (q : ℕ) (y : Structure) → get c.structures q ≡ Some y → (b : Bool) → IsOwned behind q (if b then shifted y else y)
-  ship_owned q y there b = by_test b
+  ship_owned : (q : ℕ) (y : Structure) → get c.structures q ≡ Some y → IsOwned behind q (g q y)
+  ship_owned q y there = cond_both (q == ship) (shifted y) y (IsOwned behind q) (λ _. record { owned = owned; ownerless = ownerless }) (λ _. record { owned = owned; ownerless = ownerless })
     where
       -- the owner of the structure, if there is one, is still inside it after the ship sailed
       owned : y.owner ≢ 0 → (v : Unit) × (get units y.owner ≡ Some v) × (v.structure ≡ q)
       owned some =
           let (v, here, inside) = (steady.owners q y there).owned some in
-          (f y.owner v, units_at y.owner ∙ ap (option_map (f y.owner)) here, inside_same y.owner v ∙ inside)
+          (f y.owner v, units_at y.owner ∙ ap (option_map (f y.owner)) here, (carried y.owner v).structure ∙ inside)
 
       -- a structure without an owner has no unit inside after the ship sailed
       ownerless : y.owner ≡ 0 → Every (λ m v. v.structure ≢ q) units
       ownerless none m v at inside =
           let (u, was, same) = under (f m) (get c.units m) v (sym (units_at m) ∙ at) in
-          (steady.owners q y there).ownerless none m u was (sym (inside_same m u) ∙ ap (λ (z : Unit). z.structure) same ∙ inside)
-
-      -- the structure has its right owner, whether it is the ship or not
-      by_test : (b : Bool) → IsOwned behind q (if b then shifted y else y)
-      by_test true = record { owned = owned; ownerless = ownerless }
-      by_test false = record { owned = owned; ownerless = ownerless }
-
-  -- the ship's number isn't 0
-  ship_some : ship ≢ 0
-  ship_some zero = none_some x (sym steady.next.structures.first ∙ ap (get c.structures) (sym zero) ∙ is)
+          (steady.owners q y there).ownerless none m u was (sym (carried m u).structure ∙ ap (λ (z : Unit). z.structure) same ∙ inside)
 
   module _ (floats : is_ship w x ≡ true) (whole : x.done ≡ size_of w x.kind) (there_to : IsThere c.regions to) where
     -- each unit is in a region that is there, and in a structure of that region, after the ship sailed (`IsPut`)
-    put_by : (k : ℕ) (v : Unit) → get c.units k ≡ Some v → (b : Bool) → (v.structure == ship) ≡ b → IsPut w c units structures f g (gone_if ship to b v)
-    put_by k v there true t = record { region = there_to; structure = λ some. (shifted x, at_ship, refl) }
-    put_by k v there false t =
+    put : (k : ℕ) (v : Unit) → get c.units k ≡ Some v → IsPut w c units structures f g (f k v)
+    put k v there =
+        cond_both (v.structure == ship) (gone ship to v) v (IsPut w c units structures f g) (λ _. record { region = there_to; structure = λ some. (shifted x, at_ship, refl) })
+        (λ t.
         let p = steady.known.units k v there in
-        record { region = p.region; structure = λ some. let (s, was, near) = p.structure some in (s, at_other v.structure (is_unequal v.structure ship t) ∙ was, near) }
-
-    -- each structure is in a region that is there after the ship sailed
-    built_by : (q : ℕ) (y : Structure) → get c.structures q ≡ Some y → (b : Bool) → IsThere c.regions (if b then shifted y else y).region
-    built_by q y there true = there_to
-    built_by q y there false = (steady.known.structures q y there).region
+        record { region = p.region; structure = λ some. let (s, was, near) = p.structure some in (s, at_other v.structure (is_unequal v.structure ship t) ∙ was, near) })
 
     -- each unit on water is inside a ship after the ship sailed
-    aboard_by : (k : ℕ) (v : Unit) → get c.units k ≡ Some v → (b : Bool) → (v.structure == ship) ≡ b → is_land_at w (gone_if ship to b v).region ≡ false
-        → (s : Structure) × (get structures (gone_if ship to b v).structure ≡ Some s) × (is_ship w s ≡ true)
-    aboard_by k v there true t wet = (shifted x, at_ship, floats)
-    aboard_by k v there false t wet =
-        let (s, was, afloat) = steady.water.units k v there wet in
-        (s, at_other v.structure (is_unequal v.structure ship t) ∙ was, afloat)
+    aboard : (k : ℕ) (v : Unit) → get c.units k ≡ Some v → is_land_at w (f k v).region ≡ false → IsAboard w behind (f k v)
+    aboard k v there =
+        cond_both (v.structure == ship) (gone ship to v) v (λ u. is_land_at w u.region ≡ false → IsAboard w behind u) (λ _ wet. (shifted x, at_ship, floats))
+        (λ t wet. let (s, was, afloat) = steady.water.units k v there wet in (s, at_other v.structure (is_unequal v.structure ship t) ∙ was, afloat))
 
     -- each structure on water is a complete ship after the ship sailed
-    afloat_by : (q : ℕ) (y : Structure) → get c.structures q ≡ Some y → (b : Bool) → (q == ship) ≡ b → is_land_at w (if b then shifted y else y).region ≡ false → (is_ship w y ≡ true) × (y.done ≡ size_of w y.kind)
-    afloat_by q y there true t wet =
-        let one : Some x ≡ Some y = sym is ∙ ap (get c.structures) (sym (is_equal q ship t)) ∙ there in
-        let same : x ≡ y = cc in
-        (subst (λ z. is_ship w z ≡ true) same floats, subst (λ z. z.done ≡ size_of w z.kind) same whole)
-    afloat_by q y there false t wet = steady.water.structures q y there wet
+    afloat : (q : ℕ) (y : Structure) → get c.structures q ≡ Some y → is_land_at w (g q y).region ≡ false → (is_ship w y ≡ true) × (y.done ≡ size_of w y.kind)
+    afloat q y there =
+        cond_both (q == ship) (shifted y) y (λ (z : Structure). is_land_at w z.region ≡ false → (is_ship w y ≡ true) × (y.done ≡ size_of w y.kind))
+        (λ t wet. subst (λ z. (is_ship w z ≡ true) × (z.done ≡ size_of w z.kind)) (same_Some x y (sym is ∙ ap (get c.structures) (sym (is_equal q ship t)) ∙ there)) (floats, whole))
+        (λ _. steady.water.structures q y there)
 
-    -- units and structures after the ship sailed are all that a steady campaign needs (`AreTravelled`)
+    -- the units and structures of the campaign after the ship sailed meet the conditions under which it is steady
+    -- (`AreTravelled`)
     are : AreTravelled w c units structures f g
     are = record {
       units_at = units_at;
@@ -304,12 +282,12 @@ module _ (w : WorldValue) (c : CampaignValue) (ship to : ℕ) (steady : IsSteady
       structure_count = len-changed shifted c.structures ship;
       of_factions = (all_people ship to c.units ns).of_factions;
       same_units = λ k v there. gone_same ship to (v.structure == ship) v;
-      same_structures = λ q y there. ship_same q y (q == ship);
-      put = λ k v there. put_by k v there (v.structure == ship) refl;
-      built = λ q y there. built_by q y there (q == ship);
-      owned = λ q y there. ship_owned q y there (q == ship);
-      aboard = λ k v there. aboard_by k v there (v.structure == ship) refl;
-      afloat = λ q y there. afloat_by q y there (q == ship) refl;
+      same_structures = λ q y there. cond_both (q == ship) (shifted y) y (IsSameStructure y) (λ _. record { kind = refl; done = refl; name = refl }) (λ _. record { kind = refl; done = refl; name = refl });
+      put = put;
+      built = λ q y there. cond_both (q == ship) (shifted y) y (λ (z : Structure). IsThere c.regions z.region) (λ _. there_to) (λ _. (steady.known.structures q y there).region);
+      owned = ship_owned;
+      aboard = aboard;
+      afloat = afloat;
       guarding = λ k v there. guards_stay ship to (v.structure == ship) v;
     }
 
@@ -323,29 +301,11 @@ module _ (w : WorldValue) (c : CampaignValue) (ship to : ℕ) (steady : IsSteady
 
   -- ---- what stays of each unit
 
-  -- a unit inside the ship goes along, and any other stays; so each at most goes with its structure (`IsAtMostMoved`)
-  carried_by : (v : Unit) (b : Bool) → (v.structure == ship) ≡ b → IsAtMostMoved v (gone_if ship to b v)
-  carried_by v true t =
-      let here : v.structure ≡ ship = is_equal v.structure ship t in
-      record {
-        faction = refl;
-        structure = sym here;
-        region = λ none. absurd (ship_some (sym here ∙ none));
-        name = refl;
-        guard = λ none. absurd (ship_some (sym here ∙ none));
-        no_flag = λ off. refl;
-        men = omega arith;
-        money = omega arith;
-        items = λ i. omega arith;
-        days = λ s. omega arith;
-      }
-  carried_by v false t = record { faction = refl; structure = refl; region = λ none. refl; name = refl; guard = λ none. refl; no_flag = λ off. off; men = omega arith; money = omega arith; items = λ i. omega arith; days = λ s. omega arith }
-
   -- after sailing each unit is still there, and at most went along with its structure (`IsAtMostMoved`)
   pub sailed_spares : (k : ℕ) (v : Unit) → get c.units k ≡ Some v → IsUnaffected IsAtMostMoved (after_sailing c ship to) k v
   sailed_spares k v there =
       subst (λ d. IsUnaffected IsAtMostMoved d k v) (sym sailed_is)
-      (record { unit = f k v; there = units_at k ∙ ap (option_map (f k)) there; spared = carried_by v (v.structure == ship) refl })
+      (record { unit = f k v; there = units_at k ∙ ap (option_map (f k)) there; spared = carried k v })
 
   -- after sailing each unit is inside the structure that it was inside before
   pub sailed_inside : (k : ℕ) → inside (after_sailing c ship to) k ≡ inside c k
@@ -354,7 +314,7 @@ module _ (w : WorldValue) (c : CampaignValue) (ship to : ℕ) (steady : IsSteady
       -- unit k is inside the same structure as before, whether it is there or not
       by_unit : (o : Option Unit) → structure_in (option_map (f k) o) ≡ structure_in o
       by_unit None = refl
-      by_unit (Some v) = inside_same k v
+      by_unit (Some v) = (carried k v).structure
 
   -- a unit that isn't inside the ship stays as it was when the ship sails
   sailed_same : (k : ℕ) → inside c k ≢ ship → get (after_sailing c ship to).units k ≡ get c.units k
@@ -371,13 +331,9 @@ module _ (w : WorldValue) (c : CampaignValue) (ship to : ℕ) (steady : IsSteady
 
   -- each structure has the same units inside when the ship sails
   sailed_list : (q : ℕ) → numbers_inside q (after_sailing c ship to).units ≡ numbers_inside q c.units
-  sailed_list q = ap (λ d. numbers_inside q d.units) sailed_is ∙ all_inside ship to q c.units ns (all_listed (IsInside ship to c.units) ns is_inside)
+  sailed_list q = ap (λ d. numbers_inside q d.units) sailed_is ∙ all_inside ship to q c.units ns (all_listed (IsInside ship to c.units) ns (listed_is_inside ship c.units))
 
 -- ---- an order
-
--- an unchanged unit at most went along with its structure (`IsAtMostMoved`)
-carried_same : (v : Unit) → IsAtMostMoved v v
-carried_same v = record { faction = refl; structure = refl; region = λ none. refl; name = refl; guard = λ none. refl; no_flag = λ off. off; men = omega arith; money = omega arith; items = λ i. omega arith; days = λ s. omega arith }
 
 -- a unit that at most went along in each of two changes at most went along in both together (`IsAtMostMoved`)
 carried_twice : (u v x : Unit) → IsAtMostMoved u v → IsAtMostMoved v x → IsAtMostMoved u x
@@ -398,19 +354,27 @@ carried_twice u v x one two = record {
 carried_spares : IsUnaffectedRelation IsAtMostMoved
 carried_spares = record { same = carried_same; again = carried_twice; faction = λ u v h. h.faction }
 
--- if `is_region` is true of a number, the world has a region of this number (`IsThere`)
-region_there : (w : WorldValue) (r : ℕ) → is_region w r ≡ true → IsThere w.regions r
-region_there w r is = by_plan (get w.regions r) refl is
-  where
-    -- the world has region r, since a look-up of r finds a region
-    by_plan : (o : Option RegionPlan) → get w.regions r ≡ o → option_map_or (λ (p : RegionPlan). true) o false ≡ true → IsThere w.regions r
-    by_plan None there t = false_true t
-    by_plan (Some p) there t = (p, there)
-
 -- if a way to a region isn't refused (`is_way`), that region is one of the world
 way_there : (w : WorldValue) (from : ℕ) (to : Option ℕ) → not (is_way w from to) ≡ false → IsThere w.regions (unwrap_or to 0)
 way_there w from None t = false_true (sym t)
-way_there w from (Some r) t = region_there w r (and_parts (is_region w r) (not (is_land_at w from && is_land_at w r)) (not-false (is_way w from (Some r)) t)).0
+way_there w from (Some r) t = by_plan (get w.regions r) refl (and_parts (is_some (get w.regions r)) (not (is_land_at w from && is_land_at w r)) (not-false (is_way w from (Some r)) t)).0
+  where
+    -- the world has region r, if a look-up of r finds a region
+    by_plan : (o : Option RegionPlan) → get w.regions r ≡ o → is_some o ≡ true → IsThere w.regions r
+    by_plan None there t = false_true t
+    by_plan (Some p) there t = (p, there)
+
+-- the faults of SAIL with their tests, from the unit, its structure, and the crew and load of all units inside
+abbrev faults : WorldValue → (n : ℕ) → Unit → (to : Option ℕ) → Option Structure → (crew load : ℕ) → List (Bool × EventFault)
+faults w n u to ship crew load =
+    (u.holding.men == 0, NoMen)
+    ∷ (u.structure == 0, NotInside)
+    ∷ (not (is_owned_by ship n), NotOwner)
+    ∷ (not (is_complete_ship w ship), NotComplete)
+    ∷ (not (is_way w u.region to), NoWay)
+    ∷ (nat_lt crew (crew_needed w ship), NoCrew)
+    ∷ (nat_lt (capacity w ship) load, TooHeavy)
+    ∷ []
 
 -- P holds of the result of an order of SAIL, if it holds of each outcome without a change, and after each sailing.
 -- A ship that sails is complete, and sails to a region of the world.
@@ -432,17 +396,8 @@ sail_cases P w c n u direction same gone_off =
     by_fault to (Some fault) e = same (Fault (event_fault_number fault))
     by_fault to None e =
         let ship = get c.structures u.structure in
-        let heavy = (nat_lt (capacity w ship) (sum_inside (load_of w) c u.structure), TooHeavy) ∷ [] in
-        let crew = (nat_lt (sum_inside (crew_of w) c u.structure) (crew_needed w ship), NoCrew) ∷ heavy in
-        let way = (not (is_way w u.region to), NoWay) ∷ crew in
-        let whole = (not (is_complete_ship w ship), NotComplete) ∷ way in
-        let owner = (not (is_owned_by ship n), NotOwner) ∷ whole in
-        let one = none_fits (u.holding.men == 0) NoMen ((u.structure == 0, NotInside) ∷ owner) e in
-        let two = none_fits (u.structure == 0) NotInside owner one.1 in
-        let three = none_fits (not (is_owned_by ship n)) NotOwner whole two.1 in
-        let four = none_fits (not (is_complete_ship w ship)) NotComplete way three.1 in
-        let five = none_fits (not (is_way w u.region to)) NoWay crew four.1 in
-        by_ship to ship refl four.0 five.0
+        let fine = none_fit (faults w n u to ship (sum_inside (crew_of w) c u.structure) (sum_inside (load_of w) c u.structure)) e in
+        by_ship to ship refl fine.1.1.1.0 fine.1.1.1.1.0
 
 -- an order of SAIL keeps a steady campaign steady, in its month and with balanced books (`StepsWell`)
 sail_well : (w : WorldValue) (c : CampaignValue) (n : ℕ) (u : Unit) (direction : Direction) → IsSteady w c → StepsWell IsSteady nothing_remaining w c (sail w n direction c u).0
@@ -459,21 +414,11 @@ sail_spares w c n u direction steady k v there =
 -- SAIL keeps a steady campaign steady, books nothing, and at most moves each unit with its structure (`IsOrderly`)
 pub sail_orderly : IsOrderly sail_step IsSteady nothing_remaining moves_nothing concerns_nobody IsAtMostMoved
 sail_orderly = record {
-  well = λ w a c t x steady fit own. well w c t.unit x steady t.order_value.operands;
+  well = λ w a c t x steady fit own. in_each_direction (λ deed. StepsWell IsSteady nothing_remaining w c (deed c x).0) (sail w t.unit) t.order_value.operands (λ direction. sail_well w c t.unit x direction steady);
   sparing = carried_spares;
-  spared = λ w a c t x steady own k v there apart. spared w c t.unit x steady k v there t.order_value.operands;
+  spared = λ w a c t x steady own k v there apart. in_each_direction (λ deed. IsUnaffected IsAtMostMoved (deed c x).0 k v) (sail w t.unit) t.order_value.operands (λ direction. sail_spares w c t.unit x direction steady k v there);
   bounded = λ w c steady e t. omega arith;
 }
-  where
-    -- an order with any operands keeps a steady campaign steady, in its month and with balanced books (`StepsWell`)
-    well : (w : WorldValue) (c : CampaignValue) (n : ℕ) (x : Unit) → IsSteady w c → (s : OperandsValue) → IfSome (sail_effect w n s) (λ deed. StepsWell IsSteady nothing_remaining w c (deed c x).0)
-    well w c n x steady (operands.Direction direction) = sail_well w c n x direction steady
-    well w c n x steady other = tt
-
-    -- an order with any operands at most takes unit k along with its structure (`IsAtMostMoved`)
-    spared : (w : WorldValue) (c : CampaignValue) (n : ℕ) (x : Unit) → IsSteady w c → (k : ℕ) (v : Unit) → get c.units k ≡ Some v → (s : OperandsValue) → IfSome (sail_effect w n s) (λ deed. IsUnaffected IsAtMostMoved (deed c x).0 k v)
-    spared w c n x steady k v there (operands.Direction direction) = sail_spares w c n x direction steady k v there
-    spared w c n x steady k v there other = tt
 
 -- each unit at most went along (`IsAtMostMoved`), if each that no order concerns did, as no order of SAIL concerns one
 pub all_carried : (w : WorldValue) (m : MonthValue) (c d : CampaignValue) → spares_others concerns_nobody IsAtMostMoved is_sailing w m c d → AreAtMostMoved c d
@@ -484,26 +429,11 @@ all_carried w m c d keeps n u there = keeps n u there (λ k d l nobody. nobody)
 -- the sum of g over a list of numbers is that of h, if g and h are equal for each number listed
 sum_same : (g h : ℕ → ℕ) (ns : List ℕ) → ((k : ℕ) → IsListed k ns → g k ≡ h k) → sum_by g ns ≡ sum_by h ns
 sum_same g h [] same = refl
-sum_same g h (n ∷ ns) same =
-    sum_by-cons g n ns ∙ ap (λ a. a + sum_by g ns) (same n (inl refl)) ∙ ap (λ r. h n + r) (sum_same g h ns (λ k l. same k (inr l)))
-    ∙ sym (sum_by-cons h n ns)
-
--- the fault of SAIL, from the unit, its structure, and the crew and load of all units inside
-abbrev fault_with : WorldValue → (n : ℕ) → Unit → (to : Option ℕ) → Option Structure → (crew load : ℕ) → Option EventFault
-fault_with w n u to ship crew load = first_fault (
-    (u.holding.men == 0, NoMen)
-    ∷ (u.structure == 0, NotInside)
-    ∷ (not (is_owned_by ship n), NotOwner)
-    ∷ (not (is_complete_ship w ship), NotComplete)
-    ∷ (not (is_way w u.region to), NoWay)
-    ∷ (nat_lt crew (crew_needed w ship), NoCrew)
-    ∷ (nat_lt (capacity w ship) load, TooHeavy)
-    ∷ [])
+sum_same g h (n ∷ ns) same = grind (arith, sum_by-cons g n ns, sum_by-cons h n ns, same n (inl refl), sum_same g h ns (λ k l. same k (inr l)))
 
 -- an order has the same outcome in two campaigns, whatever it makes of them, if it has the same fault, or none, in both
 same_outcome_unless : (c d x y : CampaignValue) (o : Option EventFault) → (unless c o (x, Done 0)).1 ≡ (unless d o (y, Done 0)).1
-same_outcome_unless c d x y None = refl
-same_outcome_unless c d x y (Some fault) = refl
+same_outcome_unless c d x y o = grind rules
 
 module _ (w : WorldValue) (begun : CampaignValue) (number faction : ℕ) where
   -- the number of the structure that unit `number` is inside as the phase begins
@@ -538,10 +468,7 @@ module _ (w : WorldValue) (begun : CampaignValue) (number faction : ℕ) where
     -- an order of SAIL for a unit inside the structure of unit `number` has the
     -- fault that it would have had as the phase began
     fault_same : (n : ℕ) (u : Unit) (to : Option ℕ) → u.structure ≡ s → sail_fault w c n u (get c.structures u.structure) to ≡ sail_fault w begun n u (get begun.structures u.structure) to
-    fault_same n u to here =
-        ap (λ ship. fault_with w n u to ship (sum_inside (crew_of w) c u.structure) (sum_inside (load_of w) c u.structure)) (subst (λ q. get c.structures q ≡ get begun.structures q) (sym here) same.structure)
-        ∙ ap (λ crew. fault_with w n u to (get begun.structures u.structure) crew (sum_inside (load_of w) c u.structure)) (subst (λ q. sum_inside (crew_of w) c q ≡ sum_inside (crew_of w) begun q) (sym here) (sum_inside_same (crew_of w)))
-        ∙ ap (fault_with w n u to (get begun.structures u.structure) (sum_inside (crew_of w) begun u.structure)) (subst (λ q. sum_inside (load_of w) c q ≡ sum_inside (load_of w) begun q) (sym here) (sum_inside_same (load_of w)))
+    fault_same n u to here = rw (here, same.structure, sum_inside_same (crew_of w), sum_inside_same (load_of w)) refl
 
     -- an order for a unit inside the structure of unit `number` has the
     -- outcome that it would have had as the phase began
@@ -580,7 +507,7 @@ module _ (w : WorldValue) (begun : CampaignValue) (number faction : ℕ) where
 
     -- after a faction's order for unit n with these operands, by which the structure of unit `number` doesn't sail,
     -- this structure and all inside are still as the phase began (`IsAsBegun`)
-    order_stays : (f n : ℕ) (o : OperandsValue) → (inside begun n ≡ s → (order_result (sail_effect w n o) begun f n).1 ≡ Some (Done 0) → ⊥) → IsAsBegun (order_result (sail_effect w n o) c f n).0
+    order_stays : (f n : ℕ) (o : OperandsValue) → (inside begun n ≡ s → (order_result (by_direction (sail w n) o) begun f n).1 ≡ Some (Done 0) → ⊥) → IsAsBegun (order_result (by_direction (sail w n) o) c f n).0
     order_stays f n (operands.Direction direction) apart =
         carried_cases (λ p. (inside begun n ≡ s → p.1 ≡ Done 0 → ⊥) → IsAsBegun p.0) (sail w n direction) c f n (λ apart. same)
         (λ u is own. sail_cases (λ p. (inside begun n ≡ s → p.1 ≡ Done 0 → ⊥) → IsAsBegun p.0) w c n u direction (λ outcome apart. same)

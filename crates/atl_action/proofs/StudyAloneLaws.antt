@@ -1,7 +1,6 @@
 -- Laws of STUDY: after the phase a unit is as its own order of STUDY alone makes it.
-use Rattle.std.proofs.Common.{◌≡◌, ◌==◌, ℕ, suc, zero, ◌-◌, ◌*◌, ◌<◌, Bool, true, false, ◌&&◌, List, [], ◌∷◌, length, Option, Some, None, refl, sym, ap, subst, ◌∙◌, inl, inr, arith}
-use Rattle.std.specs.Prelude.{IfSome, fold, if◌then◌else◌}
-use Rattle.std.proofs.lemmas.Bool.{cases_eq}
+use Rattle.std.proofs.Common.{◌≡◌, ◌≢◌, ◌==◌, ℕ, suc, zero, ◌-◌, ◌*◌, ◌<◌, true, false, List, [], ◌∷◌, length, Option, Some, None, refl, sym, ap, subst, ◌∙◌, arith, rules}
+use Rattle.std.specs.Prelude.{fold, if◌then◌else◌}
 use Rattle.std.proofs.lemmas.Option.{same_Some}
 use Rattle.std.specs.List.{AllByRecursion, IsDistinct, slice_index_or}
 use Rattle.std.proofs.lemmas.List.Elements.{All-contains, All-from_recursion}
@@ -12,8 +11,7 @@ use Rattle.atl_world.proofs.GeneralLaws.{equal_itself}
 use Rattle.atl_orders.specs.declared.order.Operands.TheVariants as operands
 use Rattle.atl_orders.specs.declared.verb.Verb.{Verb}
 use Rattle.atl_orders.specs.declared.verb.Verb.TheVariants as verbs
-use Rattle.atl_orders.specs.Orders.{OperandsValue, OrderValue, order_of}
-use Rattle.atl_orders.specs.Verbs.{row_of}
+use Rattle.atl_orders.specs.Orders.{OrderValue, order_of}
 use Rattle.atl_records.specs.declared.event.EventFault.{EventFault}
 use Rattle.atl_records.specs.declared.event.Outcome.{Outcome}
 use Rattle.atl_records.specs.declared.event.Outcome.TheVariants.{Done}
@@ -25,9 +23,8 @@ use Rattle.atl_campaign.proofs.RegionLaws.{get-insert_same}
 use Rattle.atl_phase.specs.Month.{MonthValue}
 use Rattle.atl_phase.specs.Outcomes.{unless}
 use Rattle.atl_phase.specs.PhaseOrders.{Task, orders_of}
-use Rattle.atl_phase.specs.StandOnce.{are_same_slot, share_slot}
+use Rattle.atl_phase.specs.StandOnce.{share_slot}
 use Rattle.atl_phase.specs.OrderEffects.{OrderEffect, effect_on, faction_effect, meaning_by_orders, of_faction, one_order, order_result}
-use Rattle.atl_phase.specs.Bounds.{IsUnitOf}
 use Rattle.atl_phase.specs.declared.phase_order.Arrangement.TheVariants.{ByUnit}
 use Rattle.atl_phase.proofs.StandOnceLaws.{one_order_stands}
 use Rattle.atl_phase.proofs.OrderEffectLaws.{ordered_cases}
@@ -36,7 +33,7 @@ use Rattle.atl_action.specs.Learners.{is_studying, learners, study_tasks}
 use Rattle.atl_action.specs.Study.{after_study, days_after, is_helpful, study, study_effect, study_fault, study_step, with_study}
 use Rattle.atl_action.specs.StudyAlone.{UnitsStudyAsBegun}
 use Rattle.atl_action.specs.Teach.{TaughtMen, after_lessons}
-use Rattle.atl_action.proofs.StudyLaws.{study_cases, study_stays}
+use Rattle.atl_action.proofs.StudyLaws.{of_each_skill, study_cases, study_stays}
 use Rattle.atl_action.proofs.UnmailedLearnLaws.{all_lessons_add_no_starved}
 
 -- ---- an order reads its own unit and the structures
@@ -83,16 +80,7 @@ is_study verb is = cc
 -- it can't be that two orders of STUDY for one unit from one faction share no slot
 both_own : (t o : Task) → share_slot t o ≡ false → Studies t → Studies o → t.unit ≡ o.unit → t.faction ≡ o.faction → ⊥
 both_own t o never t_studies o_studies unit faction =
-    all_three (t.unit == o.unit) (t.faction == o.faction) (are_same_slot (row_of t.order_value.verb).slot (row_of o.order_value.verb).slot)
-    (ap (λ j. j == o.unit) unit ∙ equal_itself o.unit) (ap (λ j. j == o.faction) faction ∙ equal_itself o.faction)
-    (ap (λ v. are_same_slot (row_of v).slot (row_of o.order_value.verb).slot) (is_study t.order_value.verb t_studies) ∙ ap (λ v. are_same_slot (row_of verbs.Study).slot (row_of v).slot) (is_study o.order_value.verb o_studies)) never
-  where
-    -- three truth values are not all true if their conjunction is false
-    all_three : (a b d : Bool) → a ≡ true → b ≡ true → d ≡ true → (a && (b && d)) ≡ false → ⊥
-    all_three true true true p q r never = cc
-    all_three true true false p q r never = cc
-    all_three true false d p q r never = cc
-    all_three false b d p q r never = cc
+    grind (rules, never, ap (λ j. j == o.unit) unit ∙ equal_itself o.unit, ap (λ j. j == o.faction) faction ∙ equal_itself o.faction, is_study t.order_value.verb t_studies, is_study o.order_value.verb o_studies)
 
 module _ (w : WorldValue) (taught : TaughtMen) (n : ℕ) (u : Unit) where
   -- the campaign and the month after one order of STUDY
@@ -105,27 +93,18 @@ module _ (w : WorldValue) (taught : TaughtMen) (n : ℕ) (u : Unit) where
 
   -- an order of STUDY changes no structure
   structures_stay : (d : CampaignValue) (l : MonthValue) (t : Task) → (step (d, l) t).0.structures ≡ d.structures
-  structures_stay d l t = ordered_cases (λ b. b.structures ≡ d.structures) (study_step taught w l.aliases t) d t refl (λ x own. by_said t.order_value.operands x)
-    where
-      -- the order changes no structure, whatever its operands are
-      by_said : (o : OperandsValue) (x : Unit) → IfSome (study_effect w taught t.unit o) (λ deed. (deed d x).0.structures ≡ d.structures)
-      by_said (operands.Skill s) x = study_cases (λ b. b.structures ≡ d.structures) w (taught t.unit) d t.unit s x refl (λ days payable most. refl)
-      by_said other x = tt
+  structures_stay d l t =
+      ordered_cases (λ b. b.structures ≡ d.structures) (study_step taught w l.aliases t) d t refl
+      (λ x own. of_each_skill (λ deed. (deed d x).0.structures ≡ d.structures) w taught t.unit t.order_value.operands
+      (λ s says. study_cases (λ b. b.structures ≡ d.structures) w (taught t.unit) d t.unit s x refl (λ days payable most. refl)))
 
   -- an order of STUDY leaves unit n as it was, if it isn't for unit n or not from the faction of unit n
   one_stays : (d : CampaignValue) (l : MonthValue) (t : Task) (v : Unit) → get d.units n ≡ Some v → v.faction ≡ u.faction → IsOther t → get (step (d, l) t).0.units n ≡ Some v
-  one_stays d l t v there own other = ordered_cases (λ b. get b.units n ≡ Some v) (study_step taught w l.aliases t) d t there (λ x its. by_said t.order_value.operands x its)
-    where
-      -- the order leaves unit n as it was, whatever its operands are
-      by_said : (o : OperandsValue) (x : Unit) → IsUnitOf d t x → IfSome (study_effect w taught t.unit o) (λ deed. get (deed d x).0.units n ≡ Some v)
-      by_said (operands.Skill s) x its =
-          elim (cases_eq n t.unit) [
-            | inl same ↦
-                let unit : x ≡ v = same_Some x v (sym its.there ∙ ap (get d.units) (sym same) ∙ there) in
-                absurd (other (sym same) (sym its.faction ∙ ap (λ (y : Unit). y.faction) unit ∙ own))
-            | inr apart ↦ study_stays w (taught t.unit) d t.unit s x n apart ∙ there
-          ]
-      by_said o x its = tt
+  one_stays d l t v there own other =
+      ordered_cases (λ b. get b.units n ≡ Some v) (study_step taught w l.aliases t) d t there
+      (λ x its. of_each_skill (λ deed. get (deed d x).0.units n ≡ Some v) w taught t.unit t.order_value.operands (λ s says.
+      let apart : n ≢ t.unit = (λ same. other (sym same) (sym its.faction ∙ ap (λ (y : Unit). y.faction) (same_Some x v (sym its.there ∙ ap (get d.units) (sym same) ∙ there)) ∙ own)) in
+      study_stays w (taught t.unit) d t.unit s x n apart ∙ there))
 
   -- if none of some orders of STUDY is for unit n and from its faction, they leave unit n as it was
   all_stay : (ts : List Task) (p : CampaignValue × MonthValue) (v : Unit) → get p.0.units n ≡ Some v → v.faction ≡ u.faction → AllByRecursion IsOther ts → get (fold step p ts).0.units n ≡ Some v

@@ -1,6 +1,6 @@
 -- Laws of STUDY: the campaign stays steady, the fee is booked, and a unit without an own order of STUDY is unchanged.
-use Rattle.std.proofs.Common.{◌≡◌, ◌≢◌, ◌==◌, ℕ, ◌+◌, ◌-◌, ◌*◌, ◌≤◌, ◌<◌, Bool, true, false, cond, [], ◌∷◌, length, Option, Some, None, refl, sym, ap, ◌∙◌, arith}
-use Rattle.std.specs.Prelude.{pos, neg_ℤ, ◌+ℤ◌, IfSome, nat_lt, if◌then◌else◌}
+use Rattle.std.proofs.Common.{◌≡◌, ◌≢◌, ◌==◌, ℕ, ◌+◌, ◌-◌, ◌*◌, ◌≤◌, ◌<◌, Bool, false, cond, [], ◌∷◌, length, Option, Some, None, refl, sym, ap, subst, ◌∙◌, arith}
+use Rattle.std.specs.Prelude.{pos, neg_ℤ, ◌+ℤ◌, IfSome, nat_lt}
 use Rattle.std.specs.FinMap.{get}
 use Rattle.std.proofs.lemmas.Int.{ints}
 use Rattle.std.proofs.lemmas.Bool.Decides.{nat_tests}
@@ -11,7 +11,7 @@ use Rattle.atl_world.specs.ByNumber.{fee_of}
 use Rattle.atl_orders.specs.Bounds.{AreOperandsOf}
 use Rattle.atl_orders.specs.declared.order.Operands.TheVariants as operands
 use Rattle.atl_orders.specs.Orders.{OperandsValue}
-use Rattle.atl_records.specs.Books.{amount_in, thing_index, amount_number}
+use Rattle.atl_records.specs.Books.{amount_in, thing_index}
 use Rattle.atl_records.specs.declared.books.Entry.{Entry}
 use Rattle.atl_records.specs.declared.books.Entry.TheVariants.{Study}
 use Rattle.atl_records.specs.declared.books.Thing.{Thing}
@@ -35,7 +35,7 @@ use Rattle.atl_campaign.proofs.RegionLaws.{steady-amount, total-amount}
 use Rattle.atl_phase.specs.Meaning.{moves_only}
 use Rattle.atl_phase.specs.Bounds.{HasRoom, HaveRoom, IsOrderly, IsUnaffectedRelation, StepsWell, UsesBound}
 use Rattle.atl_phase.specs.Outcomes.{unless}
-use Rattle.atl_phase.specs.OrderEffects.{IsOwnOrder, IsUnaffected}
+use Rattle.atl_phase.specs.OrderEffects.{IsOwnOrder, IsUnaffected, OrderEffect}
 use Rattle.atl_records.proofs.HoldingLaws.{every_amount}
 use Rattle.atl_phase.proofs.MeaningLaws.{same_month_by}
 use Rattle.atl_phase.proofs.BookingLaws.{booked-near, within-neg}
@@ -86,12 +86,7 @@ module _ (w : WorldValue) (c : CampaignValue) (n : ℕ) (u : Unit) (s cost days 
   owed : (t : Thing) (a b : ℕ) → a + unit_amount t u.holding ≡ b + unit_amount t learned → pos a ≡ pos b +ℤ cond (thing_index t == 0) (neg_ℤ (pos cost)) (pos 0)
   owed Money a b e = omega (arith, ints, e, payable)
   owed People a b e = omega (arith, ints, e)
-  owed (Item i) a b e = nothing (2 + i == 0) (let other : (2 + i == 0) ≡ false = grind (arith, nat_tests) in other)
-    where
-      -- the total of an item stays, since the booking is of money and not of the item (q is false)
-      nothing : (q : Bool) → q ≡ false → pos a ≡ pos b +ℤ cond q (neg_ℤ (pos cost)) (pos 0)
-      nothing true off = cc
-      nothing false off = omega (arith, ints, e)
+  owed (Item i) a b e = let other : (2 + i == 0) ≡ false = grind (arith, nat_tests) in grind (arith, ints)
 
   -- the books balance after a unit paid and learned, if they balanced before
   balanced : Balances c → Balances behind
@@ -121,13 +116,8 @@ module _ (w : WorldValue) (c : CampaignValue) (n : ℕ) (u : Unit) (s cost days 
   drawn : (e : Entry) (t : Thing) → UsesBound (study_reserve c e t) (study_reserve behind e t) (amount_in c.books e t) (amount_in behind.books e t)
   drawn e t =
       drawn_near (moves_only cost Study Money e t) (study_reserve c e t) (study_reserve behind e t) (amount_in c.books e t) (amount_in behind.books e t)
-      (by_amount (amount_number e t == amount_number Study Money) _ _ less)
+      (let fallen = less in grind arith)
       (booked-near c.books Study Money (neg_ℤ (pos cost)) cost (within-neg cost cost (omega arith)) e t)
-    where
-      -- the remaining bound falls by the cost for the amount that is booked (q), and is 0 for every other amount
-      by_amount : (q : Bool) (a b : ℕ) → a + cost ≡ b → (if q then a else 0) + (if q then cost else 0) ≡ (if q then b else 0)
-      by_amount true a b e = e
-      by_amount false a b e = omega arith
 
   -- if a unit pays and reaches at most 450 days for each man, the campaign stays steady,
   -- in its month and with balanced books (`StepsWell`)
@@ -181,6 +171,11 @@ study_stays w taught c n s u k apart =
     study_cases (λ d. get d.units k ≡ get c.units k) w taught c n s u refl
     (λ days payable most. get-insert_other c.units n k (record u { holding = with_study u.holding s (fee_of w s * u.holding.men) days }) apart)
 
+-- P holds of the effect of an order of STUDY with any operands, if it holds for each skill that they may name
+pub of_each_skill : (P : OrderEffect → Type 0) (w : WorldValue) (taught : TaughtMen) (n : ℕ) (o : OperandsValue) → ((s : ℕ) → o ≡ operands.Skill s → P (study w (taught n) n s)) → IfSome (study_effect w taught n o) P
+of_each_skill P w taught n (operands.Skill s) each = each s refl
+of_each_skill P w taught n other each = tt
+
 -- ---- the phase
 
 -- to be unchanged (`IsUnchanged`) is reflexive and transitive, and keeps the faction
@@ -189,28 +184,17 @@ unchanged = record { same = λ u. refl; again = λ u v x one two. two ∙ one; f
 
 -- in a steady campaign all money of the units (`study_reserve`) is within the bound of the phase (`study_moves`)
 money_most : (w : WorldValue) (c : CampaignValue) → IsSteady w c → (e : Entry) (t : Thing) → study_reserve c e t ≤ study_moves e t
-money_most w c steady e t = by_amount (amount_number e t == amount_number Study Money) _ _ (all_held_within w c steady Money)
-  where
-    -- the bound holds of the money under the entry study (q), and of every other amount, which is 0
-    by_amount : (q : Bool) (a b : ℕ) → a ≤ b → (if q then a else 0) ≤ (if q then b else 0)
-    by_amount true a b l = l
-    by_amount false a b l = omega arith
+money_most w c steady e t = let most = all_held_within w c steady Money in grind arith
 
 -- STUDY keeps a steady campaign steady and books the fee, and a unit without an own STUDY is unchanged (`IsOrderly`)
 pub study_orderly : (taught : TaughtMen) → IsOrderly (study_step taught) IsSteady study_reserve study_moves IsOwnOrder IsUnchanged
 study_orderly taught = record {
-  well = λ w a c t x steady fit own. well w c t.unit x own.there steady t.order_value.operands fit;
+  well = λ w a c t x steady fit own.
+      of_each_skill (λ deed. StepsWell IsSteady study_reserve w c (deed c x).0) w taught t.unit t.order_value.operands
+      (λ s is. study_well w (taught t.unit) c t.unit s x own.there steady (subst (AreOperandsOf w) is fit));
   sparing = unchanged;
-  spared = λ w a c t x steady own k v there apart. spared w c t.unit x k v there (other_unit c t x k v own there apart) t.order_value.operands;
+  spared = λ w a c t x steady own k v there apart.
+      of_each_skill (λ deed. IsUnaffected IsUnchanged (deed c x).0 k v) w taught t.unit t.order_value.operands
+      (λ s is. record { unit = v; there = study_stays w (taught t.unit) c t.unit s x k (other_unit c t x k v own there apart) ∙ there; spared = refl });
   bounded = money_most;
 }
-  where
-    -- an order with any operands keeps a steady campaign steady, in its month and with balanced books (`StepsWell`)
-    well : (w : WorldValue) (c : CampaignValue) (n : ℕ) (x : Unit) → get c.units n ≡ Some x → IsSteady w c → (s : OperandsValue) → AreOperandsOf w s → IfSome (study_effect w taught n s) (λ deed. StepsWell IsSteady study_reserve w c (deed c x).0)
-    well w c n x is steady (operands.Skill s) fit = study_well w (taught n) c n s x is steady fit
-    well w c n x is steady other fit = tt
-
-    -- an order with any operands for unit n leaves every other unit k unchanged
-    spared : (w : WorldValue) (c : CampaignValue) (n : ℕ) (x : Unit) (k : ℕ) (v : Unit) → get c.units k ≡ Some v → k ≢ n → (s : OperandsValue) → IfSome (study_effect w taught n s) (λ deed. IsUnaffected IsUnchanged (deed c x).0 k v)
-    spared w c n x k v there apart (operands.Skill s) = record { unit = v; there = study_stays w (taught n) c n s x k apart ∙ there; spared = refl }
-    spared w c n x k v there apart other = tt

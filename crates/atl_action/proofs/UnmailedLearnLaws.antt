@@ -1,11 +1,9 @@
 -- Laws of TEACH and STUDY: the units of a faction that sent no mailing keep their men, names and items.
 use Rattle.std.proofs.Common.{◌≡◌, ◌∷◌, [], List, ◌-◌, ◌*◌, ℕ, Some, None, refl, ap, subst, ◌∙◌, arith}
-use Rattle.std.specs.Prelude.{IfSome, fold}
+use Rattle.std.specs.Prelude.{fold}
 use Rattle.std.specs.FinMap.{get, values}
 use Rattle.atl_world.specs.Worlds.{WorldValue}
 use Rattle.atl_world.specs.ByNumber.{fee_of}
-use Rattle.atl_orders.specs.declared.order.Operands.TheVariants as operands
-use Rattle.atl_orders.specs.Orders.{OperandsValue}
 use Rattle.atl_records.specs.declared.event.Outcome.TheVariants.{Done}
 use Rattle.atl_records.specs.declared.records.Unit.{Unit}
 use Rattle.atl_records.specs.Holdings.{amount_of}
@@ -18,7 +16,8 @@ use Rattle.atl_phase.specs.declared.phase_order.Arrangement.TheVariants.{ByUnit}
 use Rattle.atl_phase.proofs.UnmailedLaws.{HasItsItems, HaveTheirMen, LeavesUnmailed, OthersHaveMen, SparesMen, carried_leaves, men_put, men_unless, others_men, own_faction, told_of_order, unmailed_spared}
 use Rattle.atl_phase.specs.NoWorse.{IsUnchanged}
 use Rattle.atl_action.specs.Learners.{Learning, is_studying, learners}
-use Rattle.atl_action.specs.Study.{after_study, days_after, is_helpful, learn_keeps, learn_meaning, study, study_effect, study_fault, study_step, with_study}
+use Rattle.atl_action.specs.Study.{after_study, days_after, is_helpful, learn_keeps, learn_meaning, study, study_fault, study_step, with_study}
+use Rattle.atl_action.proofs.StudyLaws.{of_each_skill}
 use Rattle.atl_action.specs.Teach.{TaughtMen, after_lessons, is_teaching, teach, teach_order}
 
 -- ---- TEACH adds its events and changes nothing else of the month
@@ -65,14 +64,11 @@ study_men w taught c n s u is =
     men_unless c (after_study c n u s cost days) (Done (days - old)) (study_fault u.holding cost)
     (men_put c (after_study c n u s cost days) n u (record u { holding = with_study u.holding s cost days }) is (record { faction = refl; men = refl }) refl)
 
--- an order of STUDY leaves units of other factions their men
-studied_men : (w : WorldValue) (taught : TaughtMen) (c : CampaignValue) (f n : ℕ) (x : Unit) → get c.units n ≡ Some x → (o : OperandsValue) → IfSome (study_effect w taught n o) (λ deed. OthersHaveMen f c (deed c x).0)
-studied_men w taught c f n x is (operands.Skill s) = others_men f c (study w (taught n) n s c x).0 (study_men w (taught n) c n s x is)
-studied_men w taught c f n x is other = tt
-
 -- each step of STUDY leaves units of other factions than the order's their men
 study_spares : (taught : TaughtMen) → SparesMen (study_step taught)
-study_spares taught w a c t x own = studied_men w taught c t.faction t.unit x own.there t.order_value.operands
+study_spares taught w a c t x own =
+    of_each_skill (λ deed. OthersHaveMen t.faction c (deed c x).0) w taught t.unit t.order_value.operands
+    (λ s is. others_men t.faction c (study w (taught t.unit) t.unit s c x).0 (study_men w (taught t.unit) c t.unit s x own.there))
 
 -- a unit that is unchanged has its name, and no less of any item (`HasItsItems`)
 items_of_unchanged : (u v : Unit) → IsUnchanged u v → HasItsItems u v

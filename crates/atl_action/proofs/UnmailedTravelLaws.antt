@@ -1,18 +1,17 @@
 -- Laws of MOVE and SAIL: the units of a faction that sent no mailing keep their men, names and items.
 use Rattle.std.proofs.Common.{ℕ, false, refl}
-use Rattle.std.specs.Prelude.{IfSome, fold, unwrap_or}
+use Rattle.std.specs.Prelude.{fold, unwrap_or}
 use Rattle.std.specs.FinMap.{get}
 use Rattle.atl_world.specs.Worlds.{WorldValue}
 use Rattle.atl_world.specs.declared.direction.Direction.{Direction}
 use Rattle.atl_world.specs.ByNumber.{neighbour}
-use Rattle.atl_orders.specs.declared.order.Operands.TheVariants as operands
-use Rattle.atl_orders.specs.Orders.{OperandsValue}
 use Rattle.atl_records.specs.declared.event.Outcome.TheVariants.{Done}
 use Rattle.atl_records.specs.declared.records.Unit.{Unit}
 use Rattle.atl_campaign.specs.Owners.{with_place}
 use Rattle.atl_campaign.specs.Campaign.{CampaignValue, numbers_inside, with_guard, with_structure_region}
-use Rattle.atl_action.specs.Sail.{IsAtMostMoved, after_sailing, is_sailing, sail, sail_effect, sail_fault, sail_spec, sail_step, with_unit_aboard}
-use Rattle.atl_action.specs.Walk.{after_walk, is_walking, walk, walk_effect, walk_fault, walk_spec, walk_step}
+use Rattle.atl_action.specs.Sail.{IsAtMostMoved, after_sailing, is_sailing, sail, sail_fault, sail_spec, sail_step}
+use Rattle.atl_action.specs.Walk.{is_walking, walk, walk_fault, walk_spec, walk_step, with_unit_moved}
+use Rattle.atl_action.proofs.WalkLaws.{in_each_direction}
 use Rattle.atl_phase.proofs.PhaseSpecLaws.{PhaseLeavesUnmailed}
 use Rattle.atl_phase.proofs.UnmailedLaws.{HasItsItems, HaveTheirMen, OthersHaveMen, SparesMen, carried_leaves, guard_men, items_of_no_worse, men_in_turn, men_same, men_twice, men_unless, others_men, own_faction, place_men, unmailed_spared}
 
@@ -27,16 +26,12 @@ walk_men : (w : WorldValue) (c : CampaignValue) (n : ℕ) (u : Unit) (direction 
 unfolding walk
 walk_men w c n u direction =
     let to = neighbour w u.region direction in
-    men_unless c (after_walk c n (unwrap_or to 0)) (Done 0) (walk_fault w u to) (gone_men c n (unwrap_or to 0) 0)
-
--- an order of MOVE leaves units of other factions their men
-walked_men : (w : WorldValue) (c : CampaignValue) (f n : ℕ) (x : Unit) (o : OperandsValue) → IfSome (walk_effect w n o) (λ deed. OthersHaveMen f c (deed c x).0)
-walked_men w c f n x (operands.Direction direction) = others_men f c (walk w n direction c x).0 (walk_men w c n x direction)
-walked_men w c f n x other = tt
+    men_unless c (with_unit_moved 0 (unwrap_or to 0) c n) (Done 0) (walk_fault w u to) (gone_men c n (unwrap_or to 0) 0)
 
 -- each step of MOVE leaves units of other factions than the order's their men
 walk_spares : SparesMen walk_step
-walk_spares w a c t x own = walked_men w c t.faction t.unit x t.order_value.operands
+walk_spares w a c t x own =
+    in_each_direction (λ deed. OthersHaveMen t.faction c (deed c x).0) (walk w t.unit) t.order_value.operands (λ direction. others_men t.faction c (walk w t.unit direction c x).0 (walk_men w c t.unit x direction))
 
 -- the phase of MOVE leaves units of factions without a mailing their men and items (`LeavesUnmailed`)
 pub walk_leaves : PhaseLeavesUnmailed walk_spec
@@ -49,8 +44,8 @@ sailed_men : (c : CampaignValue) (ship to : ℕ) → HaveTheirMen c (after_saili
 unfolding after_sailing
 sailed_men c ship to =
     let ns = numbers_inside ship c.units in
-    let gone = fold (with_unit_aboard ship to) c ns in
-    men_twice c gone (with_structure_region gone ship to) (men_in_turn (with_unit_aboard ship to) (λ d n. gone_men d n to ship) c ns) (men_same gone (with_structure_region gone ship to) refl)
+    let gone = fold (with_unit_moved ship to) c ns in
+    men_twice c gone (with_structure_region gone ship to) (men_in_turn (with_unit_moved ship to) (λ d n. gone_men d n to ship) c ns) (men_same gone (with_structure_region gone ship to) refl)
 
 -- an order of SAIL leaves all units their men
 sail_men : (w : WorldValue) (c : CampaignValue) (n : ℕ) (u : Unit) (direction : Direction) → HaveTheirMen c (sail w n direction c u).0
@@ -59,14 +54,10 @@ sail_men w c n u direction =
     let to = neighbour w u.region direction in
     men_unless c (after_sailing c u.structure (unwrap_or to 0)) (Done 0) (sail_fault w c n u (get c.structures u.structure) to) (sailed_men c u.structure (unwrap_or to 0))
 
--- an order of SAIL leaves units of other factions their men
-sailing_men : (w : WorldValue) (c : CampaignValue) (f n : ℕ) (x : Unit) (o : OperandsValue) → IfSome (sail_effect w n o) (λ deed. OthersHaveMen f c (deed c x).0)
-sailing_men w c f n x (operands.Direction direction) = others_men f c (sail w n direction c x).0 (sail_men w c n x direction)
-sailing_men w c f n x other = tt
-
 -- each step of SAIL leaves units of other factions than the order's their men
 sail_spares : SparesMen sail_step
-sail_spares w a c t x own = sailing_men w c t.faction t.unit x t.order_value.operands
+sail_spares w a c t x own =
+    in_each_direction (λ deed. OthersHaveMen t.faction c (deed c x).0) (sail w t.unit) t.order_value.operands (λ direction. others_men t.faction c (sail w t.unit direction c x).0 (sail_men w c t.unit x direction))
 
 -- a unit that at most went along with its structure (`IsAtMostMoved`) has its name, and no less of any item
 items_of_carried : (u v : Unit) → IsAtMostMoved u v → HasItsItems u v

@@ -1,7 +1,9 @@
 -- Laws of MOVE: a campaign stays steady, and a unit without an own order of MOVE is no worse off.
-use Rattle.std.proofs.Common.{◌≡◌, ◌≢◌, ◌==◌, ◌&&◌, ℕ, ◌≤◌, Bool, true, false, not, [], ◌∷◌, Option, Some, None, refl, sym, ap, subst, ◌∙◌, arith}
+use Rattle.std.proofs.Common.{◌≡◌, ◌≢◌, ◌==◌, ◌&&◌, ℕ, ◌≤◌, Bool, true, false, not, List, [], ◌∷◌, Option, Some, None, refl, sym, ap, subst, ◌∙◌, arith}
 use Rattle.std.specs.Prelude.{IfSome, nat_lt, option_map, unwrap_or, if◌then◌else◌}
+use Rattle.std.specs.List.{AllByRecursion}
 use Rattle.std.specs.Option.{option_map_or}
+use Rattle.std.proofs.lemmas.Iterator.Adapters.{option_map_id}
 use Rattle.std.specs.Ordering.{nat_cmp}
 use Rattle.std.specs.FinMap.{FinMap, get, len}
 use Rattle.std.proofs.lemmas.Bool.{not-false, true≢false}
@@ -25,26 +27,21 @@ use Rattle.atl_campaign.specs.Owners.{after_handover, heir, placed, with_place, 
 use Rattle.atl_campaign.specs.Campaign.{CampaignValue, with_guard}
 use Rattle.atl_records.proofs.EveryLaws.{none_some, other_number}
 use Rattle.atl_campaign.proofs.LeavingLaws.{owned_by}
-use Rattle.atl_phase.specs.Outcomes.{unless}
+use Rattle.atl_phase.specs.Outcomes.{first_fault, unless}
 use Rattle.atl_phase.specs.NoWorse.{IsNoWorse}
-use Rattle.atl_phase.specs.OrderEffects.{IsOwnOrder}
+use Rattle.atl_phase.specs.OrderEffects.{IsOwnOrder, OrderEffect}
 use Rattle.atl_phase.specs.Bounds.{IsOrderly, StepsWell, nothing_remaining}
 use Rattle.atl_phase.specs.Unbooked.{moves_nothing}
 use Rattle.atl_phase.proofs.MeaningLaws.{same_month_by}
 use Rattle.atl_phase.proofs.OutcomeLaws.{false_true, none_fits}
 use Rattle.atl_phase.proofs.OwnerLaws.{heir_owns, owner_stays}
 use Rattle.atl_phase.proofs.PlacingLaws.{mapped_twice, owns_no_other, place_stays}
-use Rattle.atl_phase.proofs.StructureLaws.{changed_else, equal_passes, get-after_handover, handed_is, handed_on, len-after_handover}
+use Rattle.atl_phase.proofs.StructureLaws.{changed_else, equal_passes, get-after_handover, get-changed, handed_is, handed_on, len-after_handover}
 use Rattle.atl_phase.proofs.OrderEffectLaws.{no_worse_spares, well_same}
 use Rattle.atl_phase.proofs.UnbookedLaws.{stays_spared, stays_well}
-use Rattle.atl_action.specs.Walk.{after_walk, is_land_there, walk, walk_effect, walk_fault, walk_step}
-use Rattle.atl_action.proofs.PeopleLaws.{AreSamePeople, elsewhere, elsewhere_at, elsewhere_people, gone, gone_if, gone_same, guards_stay, total_people}
+use Rattle.atl_action.specs.Walk.{by_direction, is_land_there, walk, walk_fault, walk_step, with_unit_moved}
+use Rattle.atl_action.proofs.PeopleLaws.{AreSamePeople, elsewhere, elsewhere_is, elsewhere_people, gone, gone_if, gone_same, guards_stay, total_people}
 use Rattle.atl_action.proofs.TravelLaws.{AreTravelled, IsPut, IsSameStructure, steady-travelled, travelled}
-
--- what a look-up found stays the same when it is mapped by the function that changes nothing
-mapped_itself : {A : Type 0} (o : Option A) → o ≡ option_map (λ y. y) o
-mapped_itself None = refl
-mapped_itself (Some y) = refl
 
 -- a region with land is one of the world
 pub land_is_there : (w : WorldValue) (r : ℕ) → is_land_at w r ≡ true → IsThere w.regions r
@@ -80,7 +77,7 @@ module _ (w : WorldValue) (c : CampaignValue) (n : ℕ) (u : Unit) (to : ℕ) (i
 
   -- after unit n walked, a look-up finds unit n where it went with its flag cleared, and every other unit as it was
   units_at : (k : ℕ) → get units k ≡ option_map (f k) (get c.units k)
-  units_at = elsewhere_at 0 to c.units n
+  units_at = get-changed (gone 0 to) c.units n
 
   -- after the walk unit n is in region `to`, inside no structure, with its flag cleared
   here : get units n ≡ Some (gone 0 to u)
@@ -88,7 +85,7 @@ module _ (w : WorldValue) (c : CampaignValue) (n : ℕ) (u : Unit) (to : ℕ) (i
 
   -- after the walk every unit but n is as it was
   away : (k : ℕ) → k ≢ n → get units k ≡ get c.units k
-  away k apart = units_at k ∙ ap (λ b. option_map (gone_if 0 to b) (get c.units k)) (other_number k n apart) ∙ sym (mapped_itself (get c.units k))
+  away k apart = units_at k ∙ ap (λ b. option_map (gone_if 0 to b) (get c.units k)) (other_number k n apart) ∙ option_map_id (get c.units k)
 
   -- after the walk unit n is inside no structure
   outside : (v : Unit) → get units n ≡ Some v → v.structure ≡ 0
@@ -139,7 +136,8 @@ module _ (w : WorldValue) (c : CampaignValue) (n : ℕ) (u : Unit) (to : ℕ) (i
           let (s, was, ship) = steady.water.units k x there wet in
           (g x.structure s, forth x.structure s was, rw (same x.structure s was).0.kind ship)
 
-      -- units and structures after the walk are all that a steady campaign needs (`AreTravelled`)
+      -- the units and structures of the campaign after the walk meet the conditions under which it is steady
+      -- (`AreTravelled`)
       are : AreTravelled w c units structures f g
       are = record {
         units_at = units_at;
@@ -172,7 +170,7 @@ module _ (w : WorldValue) (c : CampaignValue) (n : ℕ) (u : Unit) (to : ℕ) (i
   -- the campaign stays steady, in its month and with balanced books (`StepsWell`), if the unit was inside no structure
   outside_well : old_place ≡ 0 → StepsWell IsSteady nothing_remaining w c (behind c.structures)
   outside_well outside =
-      behind_well c.structures (λ q y. y) (λ k. mapped_itself (get c.structures k)) refl
+      behind_well c.structures (λ q y. y) (λ k. sym (option_map_id (get c.structures k))) refl
       (λ q y there. (record { kind = refl; done = refl; name = refl }, refl)) (unowned outside)
 
   -- ---- a unit that leaves a structure
@@ -228,16 +226,28 @@ module _ (w : WorldValue) (c : CampaignValue) (n : ℕ) (u : Unit) (to : ℕ) (i
   -- the campaign after the walk stays steady, in its month and with balanced books (`StepsWell`),
   -- whether the unit was inside a structure or not
   by_place : (b : Bool) → (old_place == 0) ≡ b → StepsWell IsSteady nothing_remaining w c (with_guard (if b then begun else gone_off) n false)
-  by_place true t = outside_well (is_equal old_place 0 t)
-  by_place false t = subst (λ d. StepsWell IsSteady nothing_remaining w c (with_guard d n false)) (sym off_is) (inside_well (is_unequal old_place 0 t))
+  by_place true t = subst (StepsWell IsSteady nothing_remaining w c) (sym (elsewhere_is 0 to c n)) (outside_well (is_equal old_place 0 t))
+  by_place false t =
+      subst (λ d. StepsWell IsSteady nothing_remaining w c (with_guard d n false)) (sym off_is)
+      (subst (λ (d : CampaignValue). StepsWell IsSteady nothing_remaining w c (record d { structures = gone_off.structures })) (sym (elsewhere_is 0 to c n)) (inside_well (is_unequal old_place 0 t)))
 
   -- if a unit walks to a region with land, the campaign stays steady,
   -- in its month and with balanced books (`StepsWell`)
-  pub walked_well : StepsWell IsSteady nothing_remaining w c (after_walk c n to)
+  pub walked_well : StepsWell IsSteady nothing_remaining w c (with_unit_moved 0 to c n)
   unfolding with_place
   walked_well = subst (λ o. StepsWell IsSteady nothing_remaining w c (with_guard (with_place_at c n to 0 o) n false)) (sym is) (by_place (old_place == 0) refl)
 
 -- ---- an order
+
+-- if no fault of a list applies, each of their tests is false
+pub none_fit : (faults : List (Bool × EventFault)) → first_fault faults ≡ None → AllByRecursion (λ fault. fault.0 ≡ false) faults
+none_fit [] is = tt
+none_fit ((fits, fault) ∷ more) is = let (none, others) = none_fits fits fault more is in (none, none_fit more others)
+
+-- P holds of the effect of an order with any operands (`by_direction`), if it holds of the effect in each direction
+pub in_each_direction : (P : OrderEffect → Type 0) (effect : Direction → OrderEffect) (o : OperandsValue) → ((direction : Direction) → P (effect direction)) → IfSome (by_direction effect o) P
+in_each_direction P effect (operands.Direction direction) each = each direction
+in_each_direction P effect other each = tt
 
 -- if the test for a neighbour with land (`is_land_there`) holds, the region that the unit walks to has land
 land_to : (w : WorldValue) (to : Option ℕ) → not (is_land_there w to) ≡ false → is_land_at w (unwrap_or to 0) ≡ true
@@ -245,20 +255,17 @@ land_to w None dry = false_true (sym dry)
 land_to w (Some r) dry = not-false (is_land_at w r) dry
 
 -- P holds of the campaign after an order of MOVE, if it holds without a change and after the unit walked
-walk_cases : (P : CampaignValue → Type 0) (w : WorldValue) (c : CampaignValue) (n : ℕ) (u : Unit) (direction : Direction) → P c → ((to : ℕ) → is_land_at w to ≡ true → P (after_walk c n to)) → P (walk w n direction c u).0
+walk_cases : (P : CampaignValue → Type 0) (w : WorldValue) (c : CampaignValue) (n : ℕ) (u : Unit) (direction : Direction) → P c → ((to : ℕ) → is_land_at w to ≡ true → P (with_unit_moved 0 to c n)) → P (walk w n direction c u).0
 unfolding walk
 walk_cases P w c n u direction same gone = by_fault (neighbour w u.region direction) (walk_fault w u (neighbour w u.region direction)) refl
   where
     -- P holds of the campaign after the order, whether the order has a fault or not
-    by_fault : (to : Option ℕ) (o : Option EventFault) → walk_fault w u to ≡ o → P (unless c o (after_walk c n (unwrap_or to 0), Done 0)).0
+    by_fault : (to : Option ℕ) (o : Option EventFault) → walk_fault w u to ≡ o → P (unless c o (with_unit_moved 0 (unwrap_or to 0) c n, Done 0)).0
     by_fault to (Some fault) e = same
     by_fault to None e =
-        let heavy = (nat_lt (carried_by w u.holding) (goods_of w u.holding), TooHeavy) ∷ [] in
-        let no_way = (not (is_land_there w to), NoWay) ∷ heavy in
-        let one = none_fits (u.holding.men == 0) NoMen ((not (is_land_at w u.region), AtSea) ∷ no_way) e in
-        let two = none_fits (not (is_land_at w u.region)) AtSea no_way one.1 in
-        let three = none_fits (not (is_land_there w to)) NoWay heavy two.1 in
-        gone (unwrap_or to 0) (land_to w to three.0)
+        let no_way = (not (is_land_there w to), NoWay) ∷ (nat_lt (carried_by w u.holding) (goods_of w u.holding), TooHeavy) ∷ [] in
+        let fine = none_fit ((u.holding.men == 0, NoMen) ∷ (not (is_land_at w u.region), AtSea) ∷ no_way) e in
+        gone (unwrap_or to 0) (land_to w to fine.1.1.0)
 
 -- an order of MOVE keeps a steady campaign steady, in its month and with balanced books (`StepsWell`)
 walk_well : (w : WorldValue) (c : CampaignValue) (n : ℕ) (u : Unit) → get c.units n ≡ Some u → (direction : Direction) → IsSteady w c → StepsWell IsSteady nothing_remaining w c (walk w n direction c u).0
@@ -275,18 +282,10 @@ walk_stays w c n u direction k apart =
 -- MOVE keeps a steady campaign steady and books nothing, and a unit without an own MOVE is no worse off (`IsOrderly`)
 pub walk_orderly : IsOrderly walk_step IsSteady nothing_remaining moves_nothing IsOwnOrder IsNoWorse
 walk_orderly = record {
-  well = λ w a c t x steady fit own. well w c t.unit x own.there steady t.order_value.operands;
+  well = λ w a c t x steady fit own. in_each_direction (λ deed. StepsWell IsSteady nothing_remaining w c (deed c x).0) (walk w t.unit) t.order_value.operands (λ direction. walk_well w c t.unit x own.there direction steady);
   sparing = no_worse_spares;
-  spared = λ w a c t x steady own k v there apart. stays_spared (walk_step w a t) c t x own k v there apart (λ j other. stays w c t.unit x j other t.order_value.operands);
+  spared = λ w a c t x steady own k v there apart.
+      stays_spared (walk_step w a t) c t x own k v there apart
+      (λ j other. in_each_direction (λ deed. get (deed c x).0.units j ≡ get c.units j) (walk w t.unit) t.order_value.operands (λ direction. walk_stays w c t.unit x direction j other));
   bounded = λ w c steady e t. omega arith;
 }
-  where
-    -- an order with any operands keeps a steady campaign steady, in its month and with balanced books (`StepsWell`)
-    well : (w : WorldValue) (c : CampaignValue) (n : ℕ) (x : Unit) → get c.units n ≡ Some x → IsSteady w c → (s : OperandsValue) → IfSome (walk_effect w n s) (λ deed. StepsWell IsSteady nothing_remaining w c (deed c x).0)
-    well w c n x is steady (operands.Direction direction) = walk_well w c n x is direction steady
-    well w c n x is steady other = tt
-
-    -- an order with any operands for unit n leaves every other unit j as it was
-    stays : (w : WorldValue) (c : CampaignValue) (n : ℕ) (x : Unit) (j : ℕ) → j ≢ n → (s : OperandsValue) → IfSome (walk_effect w n s) (λ deed. get (deed c x).0.units j ≡ get c.units j)
-    stays w c n x j apart (operands.Direction direction) = walk_stays w c n x direction j apart
-    stays w c n x j apart other = tt

@@ -1,5 +1,4 @@
 pub mod Limits
-pub mod Regions
 pub mod Walk
 pub mod Sail
 pub mod Learners

@@ -1,5 +1,5 @@
 -- SAIL: ships go to a neighbouring region with all units inside. See docs/RULES.md, "Sailing".
-use Rattle.std.specs.Prelude.{◌≡◌, ◌≤◌, ℕ, ◌*◌, ◌==◌, ◌&&◌, nat_lt, Bool, true, false, not, [], ◌∷◌, fold, sum_by, unwrap_or, Option, Some, None}
+use Rattle.std.specs.Prelude.{◌≡◌, ◌≤◌, ℕ, ◌*◌, ◌==◌, ◌&&◌, nat_lt, Bool, true, false, not, [], ◌∷◌, fold, is_some, sum_by, unwrap_or, Option, Some}
 use Rattle.std.specs.List.{slice_get}
 use Rattle.std.specs.Option.{option_map_or}
 use Rattle.std.specs.FinMap.{get}
@@ -7,10 +7,8 @@ use Rattle.atl_world.specs.Worlds.{WorldValue}
 use Rattle.atl_world.specs.declared.direction.Direction.{Direction}
 use Rattle.atl_world.specs.declared.world.Kind.{Kind}
 use Rattle.atl_world.specs.ByNumber.{is_land_at, neighbour, size_of}
-use Rattle.atl_orders.specs.declared.order.Operands.TheVariants as operands
 use Rattle.atl_orders.specs.declared.verb.Verb.{Verb}
 use Rattle.atl_orders.specs.declared.verb.Verb.TheVariants as verbs
-use Rattle.atl_orders.specs.Orders.{OperandsValue}
 use Rattle.atl_records.specs.declared.event.EventFault.{EventFault}
 use Rattle.atl_records.specs.declared.event.EventFault.TheVariants.{NoCrew, NoMen, NotComplete, NotInside, NotOwner, NoWay, TooHeavy}
 use Rattle.atl_records.specs.declared.event.Outcome.TheVariants.{Done}
@@ -20,15 +18,15 @@ use Rattle.atl_records.specs.Every.{Every}
 use Rattle.atl_campaign.specs.Good.{is_ship}
 use Rattle.atl_records.specs.Holdings.{HoldingValue, amount_of}
 use Rattle.atl_records.specs.Levels.{level_in_any, load_of}
-use Rattle.atl_campaign.specs.Owners.{is_owned_by, with_place}
-use Rattle.atl_campaign.specs.Campaign.{CampaignValue, numbers_inside, with_guard, with_structure_region}
+use Rattle.atl_campaign.specs.Owners.{is_owned_by}
+use Rattle.atl_campaign.specs.Campaign.{CampaignValue, numbers_inside, with_structure_region}
 use Rattle.atl_phase.specs.Inside.{inside}
 use Rattle.atl_phase.specs.Meaning.{Frame}
 use Rattle.atl_phase.specs.Outcomes.{first_fault, unless}
 use Rattle.atl_phase.specs.PhaseOrders.{Task}
 use Rattle.atl_phase.specs.OrderEffects.{Affects, IsUnaffected, OrderEffect, OrderMeaning, meaning_by_orders, order_result, spares_others}
 use Rattle.atl_phase.specs.NoWorse.{IsUnchanged}
-use Rattle.atl_action.specs.Regions.{is_region}
+use Rattle.atl_action.specs.Walk.{by_direction, with_unit_moved}
 use Rattle.atl_phase.specs.PhaseSpecs.{PhaseSpec, spec_without_books}
 
 -- ---- which orders are of the phase
@@ -68,7 +66,7 @@ sum_inside f c s = sum_by (λ n. option_map_or (λ u. f u.holding) (get c.units 
 
 -- whether ships sail from a region to its neighbour: the world has that region, and the two aren't both land
 abbrev pub is_way : WorldValue → (from : ℕ) → (neighbour : Option ℕ) → Bool
-is_way w from neighbour = option_map_or (λ to. is_region w to && not (is_land_at w from && is_land_at w to)) neighbour false
+is_way w from neighbour = option_map_or (λ to. is_some (get w.regions to) && not (is_land_at w from && is_land_at w to)) neighbour false
 
 -- why unit n can't sail the ship that it is inside to region `to`, None where it can.
 -- The fault is NoMen, NotInside, NotOwner, NotComplete, NoWay, NoCrew or TooHeavy.
@@ -83,13 +81,9 @@ sail_fault w c n u ship to = first_fault (
     ∷ (nat_lt (capacity w ship) (sum_inside (load_of w) c u.structure), TooHeavy)
     ∷ [])
 
--- the campaign with unit n in region `to` and inside the ship, and its guard flag cleared
-abbrev pub with_unit_aboard : (ship to : ℕ) → CampaignValue → (n : ℕ) → CampaignValue
-with_unit_aboard ship to c n = with_guard (with_place c n to ship) n false
-
 -- the campaign with the ship in region `to`, and all units inside it too, their guard flags cleared
 unfoldable pub after_sailing : CampaignValue → (ship to : ℕ) → CampaignValue
-after_sailing c ship to = with_structure_region (fold (with_unit_aboard ship to) c (numbers_inside ship c.units)) ship to
+after_sailing c ship to = with_structure_region (fold (with_unit_moved ship to) c (numbers_inside ship c.units)) ship to
 
 -- the effect of SAIL: the ship goes in this direction with all units inside, unless the order has a fault
 unfoldable pub sail : WorldValue → (n : ℕ) → Direction → OrderEffect
@@ -97,14 +91,9 @@ sail w n direction c u =
     let to = neighbour w u.region direction in
     unless c (sail_fault w c n u (get c.structures u.structure) to) (after_sailing c u.structure (unwrap_or to 0), Done 0)
 
--- the effect of an order of SAIL, by its operands; None for operands of any other form
-abbrev pub sail_effect : WorldValue → (n : ℕ) → OperandsValue → Option OrderEffect
-sail_effect w n (operands.Direction direction) = Some (sail w n direction)
-sail_effect w n other = None
-
 -- the step of the phase of SAIL: the effect of an order, by its unit and its operands
 abbrev pub sail_step : OrderMeaning
-sail_step w aliases t = sail_effect w t.unit t.order_value.operands
+sail_step w aliases t = by_direction (sail w t.unit) t.order_value.operands
 
 -- ---- the phase
 
@@ -146,7 +135,7 @@ pub record SailsWith (w : WorldValue) (begun : CampaignValue) (t : Task) (n f : 
   -- the order is for a unit inside the same structure as unit n
   pub together : inside begun t.unit ≡ inside begun n
   -- the order has no fault as the phase begins
-  pub done : (order_result (sail_effect w t.unit t.order_value.operands) begun t.faction t.unit).1 ≡ Some (Done 0)
+  pub done : (order_result (by_direction (sail w t.unit) t.order_value.operands) begun t.faction t.unit).1 ≡ Some (Done 0)
 
 -- what SAIL keeps: each unit at most goes with its structure, and one whose structure doesn't sail is unchanged
 abbrev pub sail_keeps : Frame

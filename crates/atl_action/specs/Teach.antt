@@ -48,6 +48,10 @@ level_at c n s = option_map_or (λ u. level_in u.holding s) (get c.units n) 0
 abbrev pub is_pupil : CampaignValue → Learning → (region n : ℕ) → Bool
 is_pupil c learning region n = is_some (get learning n) && region_of c n == region
 
+-- the units that an order of TEACH lists and that are learning in the teacher's region, in the order of the list
+abbrev pub pupils_of : CampaignValue → Aliases → Learning → Task → List ℕ
+pupils_of c aliases learning t = filter (is_pupil c learning (region_of c t.unit)) (map (unit_of aliases t.faction) (listed_units t.order_value.operands))
+
 -- whether unit n's level in the skill that it learns is lower than the teacher's
 abbrev pub is_below : CampaignValue → Learning → (teacher n : ℕ) → Bool
 is_below c learning teacher n = option_map_or (λ s. nat_lt (level_at c n s) (level_at c teacher s)) (get learning n) false
@@ -91,7 +95,7 @@ teach_fault c t pupils below = first_fault (
 -- how many men of each unit were taught so far after an order of TEACH, which teaches none with a fault; its outcome
 unfoldable pub teach : CampaignValue → Aliases → Learning → TaughtMen → Task → TaughtMen × Outcome
 teach c aliases learning taught t =
-    let pupils = filter (is_pupil c learning (region_of c t.unit)) (map (unit_of aliases t.faction) (listed_units t.order_value.operands)) in
+    let pupils = pupils_of c aliases learning t in
     let below = filter (is_below c learning t.unit) pupils in
     option_map_or (λ fault. (taught, Fault (event_fault_number fault))) (teach_fault c t pupils below)
     (lesson c taught (pupils_per_teacher * men_at c t.unit) (first_mentions below))

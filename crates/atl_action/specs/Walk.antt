@@ -42,24 +42,24 @@ walk_fault w u to = first_fault (
     ∷ (nat_lt (carried_by w u.holding) (goods_of w u.holding), TooHeavy)
     ∷ [])
 
--- the campaign with unit n in region `to`, inside no structure, and its guard flag cleared
-abbrev pub after_walk : CampaignValue → (n to : ℕ) → CampaignValue
-after_walk c n to = with_guard (with_place c n to 0) n false
+-- the campaign with unit n in region `to` and inside this structure there, or none for 0, and its guard flag cleared
+abbrev pub with_unit_moved : (structure to : ℕ) → CampaignValue → (n : ℕ) → CampaignValue
+with_unit_moved structure to c n = with_guard (with_place c n to structure) n false
 
 -- the effect of MOVE: unit n walks to the region in this direction, unless the order has a fault
 unfoldable pub walk : WorldValue → (n : ℕ) → Direction → OrderEffect
 walk w n direction c u =
     let to = neighbour w u.region direction in
-    unless c (walk_fault w u to) (after_walk c n (unwrap_or to 0), Done 0)
+    unless c (walk_fault w u to) (with_unit_moved 0 (unwrap_or to 0) c n, Done 0)
 
--- the effect of an order of MOVE, by its operands; None for operands of any other form
-abbrev pub walk_effect : WorldValue → (n : ℕ) → OperandsValue → Option OrderEffect
-walk_effect w n (operands.Direction direction) = Some (walk w n direction)
-walk_effect w n other = None
+-- the effect of an order by its operands, if they name a direction; None for operands of any other form
+abbrev pub by_direction : (Direction → OrderEffect) → OperandsValue → Option OrderEffect
+by_direction effect (operands.Direction direction) = Some (effect direction)
+by_direction effect other = None
 
 -- the step of the phase of MOVE: the effect of an order, by its unit and its operands
 abbrev pub walk_step : OrderMeaning
-walk_step w aliases t = walk_effect w t.unit t.order_value.operands
+walk_step w aliases t = by_direction (walk w t.unit) t.order_value.operands
 
 -- ---- the phase
 

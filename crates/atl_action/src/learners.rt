@@ -1,15 +1,14 @@
 //! Finds the units that are learning, each with its skill, as the phase of TEACH and STUDY begins.
 //! See docs/RULES.md, "Learning".
 ghost use Rattle.std.specs.Prelude.{◌≡◌, ◌*◌, IfOk, List, OnOk, ℕ};
-ghost use Rattle.std.specs.FinMap as map;
 ghost use Rattle.atl_orders.specs.Orders.{named};
 ghost use Rattle.atl_phase.specs.PhaseOrders.{task_of};
-ghost use Rattle.atl_action.specs.Learners.{UnitsLearnByOrders, can_learn, is_studying, learners, learns, skill_of, with_learner};
+ghost use Rattle.atl_action.specs.Learners.{UnitsLearnByOrders, can_learn, is_studying, learners, skill_of, with_learner};
 ghost use Rattle.atl_world.specs.ByNumber.{fee_of};
 
 use atl_campaign::{Campaign, Holding};
 use atl_orders::{Operands, Verb};
-use atl_phase::{Arrangement, Month, PhaseOrder, PhaseVerbs};
+use atl_phase::{Arrangement, Month, PhaseOrder, PhaseVerbs, own_unit};
 use atl_world::{Numbered, World};
 use std::alloc::{AllocError, Global};
 
@@ -50,16 +49,6 @@ fn can_learn(world: &World, skill: u16, holding: &Holding) -> bool
     0 < men && cost_of(world, skill, men) <= u64::from(holding.money())
 }
 
-/// Whether a unit is there, is of the faction that gives the order, and can learn the skill.
-fn learns(world: &World, campaign: &Campaign, skill: u16, faction: u32, unit: u32) -> bool
-    ensures { result ≡ learns world.now skill faction (map.get campaign.now.value.units unit) }
-{
-    match campaign.unit(unit) {
-        Some(found) => found.faction == faction && can_learn(world, skill, &found.holding),
-        None => false,
-    }
-}
-
 /// Adds the unit of an order of STUDY, with its skill, to those that are learning, if it learns by
 /// the order.
 fn add_learner(
@@ -72,7 +61,8 @@ fn add_learner(
         ≡ with_learner world.now campaign.now.value learning.old (task_of order.entry)) }
 {
     if let Some(skill) = skill_of(&order.order.operands)
-        && learns(world, campaign, skill, order.faction, order.unit)
+        && let Some(unit) = own_unit(campaign, order)
+        && can_learn(world, skill, &unit.holding)
     {
         learning.insert(order.unit, u32::from(skill))?;
     }

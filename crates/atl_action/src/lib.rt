@@ -4,7 +4,6 @@
 mod learn;
 mod learners;
 mod limits;
-mod regions;
 mod sail;
 mod study;
 mod teach;

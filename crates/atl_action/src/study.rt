@@ -28,9 +28,10 @@ use atl_phase::{Month, OrderPhase, PhaseOrder, PhaseVerbs, book_taken, fault_out
 use atl_world::{Numbered, World};
 use std::alloc::{AllocError, Global};
 
-/// The orders of STUDY as a phase of their own, with the number of men of each unit taught before.
+/// All orders of STUDY of a month, as a phase of their own that follows TEACH.
 #[derive(Drop)]
 pub(crate) struct StudyPhase {
+    /// How many men of each unit were taught before in this month, by the units' numbers.
     pub(crate) taught: Numbered<u32>,
 }
 
@@ -38,18 +39,13 @@ pub(crate) struct StudyPhase {
 fn is_helpful(world: &World, skill: u16, structure: Option<&Structure>) -> bool
     ensures { result ≡ is_helpful world.now skill (option_copied structure.entry) }
 {
-    let Some(building) = structure else {
-        return false;
-    };
-    if building.done != world.size_of(building.kind) {
-        return false;
-    }
-    match world.kinds().get(usize::from(building.kind)) {
-        Some(kind) => match kind.helps {
-            Some(helped) => helped == skill,
-            None => false,
-        },
-        None => false,
+    if let Some(building) = structure
+        && let Some(kind) = world.kind(building.kind)
+        && let Some(helped) = kind.helps
+    {
+        building.done == kind.size && helped == skill
+    } else {
+        false
     }
 }
 

@@ -1,19 +1,19 @@
 //! TEACH: people teach units that are learning. See docs/RULES.md, "Learning".
-ghost use Rattle.std.specs.Prelude.{◌≡◌, ◌≤◌, ◌+◌, IfOk, List, OnOk, filter, map, nat_eq, ℕ};
+ghost use Rattle.std.specs.Prelude.{◌≡◌, ◌≤◌, ◌+◌, IfOk, List, OnOk, filter, nat_eq, ℕ};
 ghost use Rattle.std.specs.List.{IsDistinct};
 ghost use Rattle.atl_orders.specs.Orders.{named};
 ghost use Rattle.atl_records.specs.Holdings.{amount_of};
 ghost use Rattle.atl_records.specs.Limits.{men_limit};
-ghost use Rattle.atl_action.specs.Teach.{NobodyIsTaughtTwice, after_lessons, first_mentions, is_below, is_pupil, is_teaching, lesson, level_at, listed_units, men_at, teach, teach_fault, teach_order, untaught_men};
-ghost use Rattle.atl_phase.specs.Month.{with_events};
-ghost use Rattle.atl_phase.specs.PhaseOrders.{task_of, unit_of};
-ghost use Rattle.atl_phase.specs.OrderEffects.{is_own};
+ghost use Rattle.atl_action.specs.Teach.{NobodyIsTaughtTwice, after_lessons, first_mentions, is_below, is_pupil, is_teaching, lesson, level_at, listed_units, men_at, pupils_of, teach, teach_fault, untaught_men};
+ghost use Rattle.atl_phase.specs.PhaseOrders.{task_of};
 ghost use Rattle.atl_records.specs.declared.event.Outcome.TheVariants.{Done};
 
 use crate::limits::PUPILS_PER_TEACHER;
 use atl_campaign::{Campaign, Event, EventFault, Outcome, level};
 use atl_orders::{Operands, UnitRef, Verb};
-use atl_phase::{Arrangement, Month, PhaseOrder, PhaseVerbs, add_events, fault_outcome, region_of};
+use atl_phase::{
+    Arrangement, Month, PhaseOrder, PhaseVerbs, add_events, fault_outcome, is_of_faction, region_of,
+};
 use atl_world::Numbered;
 use std::alloc::{AllocError, Global};
 
@@ -60,29 +60,27 @@ fn is_pupil(campaign: &Campaign, learning: &Numbered<u32>, region: u32, unit: u3
 fn is_below(campaign: &Campaign, learning: &Numbered<u32>, teacher: u32, unit: u32) -> bool
     ensures { result ≡ is_below campaign.now.value learning.now teacher unit }
 {
-    match learning.get(unit) {
-        Some(skill) => level_at(campaign, unit, *skill) < level_at(campaign, teacher, *skill),
-        None => false,
-    }
+    matches!(learning.get(unit), Some(skill)
+        if level_at(campaign, unit, *skill) < level_at(campaign, teacher, *skill))
 }
 
-/// The listed units that are learning in this region, in the order of the list.
+/// The units that an order of TEACH lists and that are learning in the teacher's region, in the
+/// order of the list.
 fn pupils_of(
     alloc: Global,
     campaign: &Campaign,
     month: &Month,
     learning: &Numbered<u32>,
-    region: u32,
-    faction: u32,
-    refs: &[UnitRef],
+    order: PhaseOrder<'_>,
 ) -> Result<Vec<u32>, AllocError>
     ensures { IfOk result (λ list.
-        list.items ≡ filter (is_pupil campaign.now.value learning.now region)
-        (map (unit_of month.now.aliases faction) refs.now)) }
+        list.items ≡ pupils_of campaign.now.value month.now.aliases learning.now
+        (task_of order.entry)) }
 {
+    let region = region_of(campaign, order.unit);
     let mut list = Vec::new(alloc);
-    for target in refs {
-        let unit = month.unit(faction, *target);
+    for target in listed_units(&order.order.operands) {
+        let unit = month.unit(order.faction, *target);
         if is_pupil(campaign, learning, region, unit) {
             list.push(unit)?;
         }
@@ -130,10 +128,7 @@ fn first_mentions(alloc: Global, numbers: &[u32]) -> Result<Vec<u32>, AllocError
 pub(crate) fn taught_at(taught: &Numbered<u32>, unit: u32) -> u32
     ensures { result ≡ amount_of taught.now unit }
 {
-    match taught.get(unit) {
-        Some(men) => *men,
-        None => 0,
-    }
+    taught.get(unit).copied().unwrap_or(0)
 }
 
 /// How many men a unit has; 0 where it isn't there.
@@ -196,16 +191,6 @@ fn give_lesson(
     Ok(Outcome::Done(u64::from(men)))
 }
 
-/// Whether the unit of an order is there, and of the faction that wrote the order.
-fn is_own(campaign: &Campaign, order: PhaseOrder<'_>) -> bool
-    ensures { result ≡ is_own campaign.now.value (task_of order.entry) }
-{
-    match campaign.unit(order.unit) {
-        Some(unit) => unit.faction == order.faction,
-        None => false,
-    }
-}
-
 /// Why the unit of an order can't teach: NotYours, NoMen, NotLearning or CannotTeach; None where it
 /// can.
 fn teach_fault(
@@ -216,7 +201,7 @@ fn teach_fault(
 ) -> Option<EventFault>
     ensures { result ≡ teach_fault campaign.now.value (task_of order.entry) pupils.now below.now }
 {
-    if !is_own(campaign, order) {
+    if !is_of_faction(campaign, order.unit, order.faction) {
         Some(EventFault::NotYours)
     } else if men_at(campaign, order.unit) == 0 {
         Some(EventFault::NoMen)
@@ -245,44 +230,13 @@ fn teach(
         ≡ teach campaign.now.value month.now.aliases learning.now (amount_of taught.old)
         (task_of order.entry)) }
 {
-    let teacher = order.unit;
-    let region = region_of(campaign, teacher);
-    let refs = listed_units(&order.order.operands);
-    let pupils = pupils_of(
-        alloc,
-        campaign,
-        month,
-        learning,
-        region,
-        order.faction,
-        refs,
-    )?;
-    let below = below_of(alloc, campaign, learning, teacher, &pupils)?;
+    let pupils = pupils_of(alloc, campaign, month, learning, order)?;
+    let below = below_of(alloc, campaign, learning, order.unit, &pupils)?;
     if let Some(fault) = teach_fault(campaign, order, &pupils, &below) {
         return Ok(fault_outcome(fault));
     }
-    let places = PUPILS_PER_TEACHER * men_at(campaign, teacher);
+    let places = PUPILS_PER_TEACHER * men_at(campaign, order.unit);
     give_lesson(alloc, campaign, taught, places, &below)
-}
-
-/// Carries out an order of TEACH, and adds its event to those of earlier orders.
-fn teach_one(
-    alloc: Global,
-    campaign: &Campaign,
-    month: &Month,
-    learning: &Numbered<u32>,
-    taught: &mut Numbered<u32>,
-    order: PhaseOrder<'_>,
-    events: &mut Vec<Event>,
-) -> Result<(), AllocError>
-    ensures { OnOk result (
-        (amount_of taught.new, with_events month.now events.new.items)
-        ≡ teach_order campaign.now.value learning.now
-        (amount_of taught.old, with_events month.now events.old.items) (task_of order.entry)) }
-{
-    let outcome = teach(alloc, campaign, month, learning, taught, order)?;
-    events.push(order.event(outcome))?;
-    Ok(())
 }
 
 /// Carries out all orders of TEACH, and adds their events to the month.
@@ -302,15 +256,8 @@ pub(crate) fn teach_all(
     let mut taught = Numbered::new(alloc);
     let mut events = Vec::new(alloc);
     for order in &orders {
-        teach_one(
-            alloc,
-            campaign,
-            month,
-            learning,
-            &mut taught,
-            *order,
-            &mut events,
-        )?;
+        let outcome = teach(alloc, campaign, month, learning, &mut taught, *order)?;
+        events.push(order.event(outcome))?;
     }
     drop(orders);
     add_events(month, &events)?;

@@ -3,7 +3,7 @@ ghost use Rattle.std.specs.Prelude.{◌≡◌, IfOk, OnOk};
 ghost use Rattle.atl_campaign.specs.Covers.{MarksChanges};
 ghost use Rattle.atl_campaign.specs.Good.{IsSteady};
 ghost use Rattle.atl_phase.specs.OrderEffects.{faction_effect};
-ghost use Rattle.atl_action.specs.Walk.{after_walk, is_land_there, is_walking, walk, walk_fault, walk_step};
+ghost use Rattle.atl_action.specs.Walk.{is_land_there, is_walking, walk, walk_fault, walk_step, with_unit_moved};
 
 use atl_campaign::{Campaign, EventFault, Outcome, Unit, carry, goods};
 use atl_orders::{Direction, Operands, Verb};
@@ -20,10 +20,7 @@ pub struct MovePhase;
 fn is_land_there(world: &World, to: Option<u32>) -> bool
     ensures { result ≡ is_land_there world.now to }
 {
-    match to {
-        Some(region) => world.is_land_at(region),
-        None => false,
-    }
+    matches!(to, Some(region) if world.is_land_at(region))
 }
 
 /// Why a unit can't walk to a neighbouring region: NoMen, AtSea, NoWay or TooHeavy; None where it
@@ -44,12 +41,19 @@ fn walk_fault(world: &World, unit: &Unit, to: Option<u32>) -> Option<EventFault>
     }
 }
 
-/// Puts a unit into another region, inside no structure, and clears its guard flag.
-fn put_there(campaign: &mut Campaign, unit: u32, to: u32) -> Result<(), AllocError>
-    ensures what { OnOk result (campaign.new.value ≡ after_walk campaign.old.value unit to) }
+/// Puts a unit into a region, and inside a structure there, or inside none for 0. Clears its guard
+/// flag.
+pub(crate) fn put_unit(
+    campaign: &mut Campaign,
+    unit: u32,
+    to: u32,
+    structure: u32,
+) -> Result<(), AllocError>
+    ensures what { OnOk result
+        (campaign.new.value ≡ with_unit_moved structure to campaign.old.value unit) }
     ensures marks { OnOk result (MarksChanges campaign.old campaign.new) }
 {
-    campaign.place(unit, to, 0)?;
+    campaign.place(unit, to, structure)?;
     campaign.set_guard(unit, false);
     Ok(())
 }
@@ -75,7 +79,7 @@ fn walk(
     if let Some(fault) = walk_fault(world, unit, to) {
         return Ok(fault_outcome(fault));
     }
-    put_there(campaign, order.unit, to.unwrap_or(0))?;
+    put_unit(campaign, order.unit, to.unwrap_or(0), 0)?;
     Ok(Outcome::Done(0))
 }
 

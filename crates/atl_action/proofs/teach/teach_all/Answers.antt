@@ -1,4 +1,4 @@
-use Rattle.std.proofs.Common.{◌≡◌, ℕ, [], Option, ap, ◌∙◌, map, arith}
+use Rattle.std.proofs.Common.{◌≡◌, ℕ, [], Option, ap, ◌∙◌, map, arith, append_assoc, rules}
 use Rattle.std.proofs.Math.Path.{fun_ext}
 use Rattle.std.proofs.lemmas.List.{append-nil}
 use Rattle.std.specs.Prelude.{fold, unwrap_or}
@@ -31,7 +31,8 @@ loop-order-preserved c =
     let step = teach_order c.args.campaign.now.value c.args.learning.now in
     let before : TaughtMen × MonthValue = (amount_of c.loop-order.taught, with_events c.args.month.now c.loop-order.events.items) in
     let one = λ (p : TaughtMen × MonthValue) (x : PhaseOrder). step p (task_of x) in
-    fold_behind one c.deref-order-items.result.now c.loop-order.order-index c.order-item.result before c.loop-order-test.true (c.in_ok-teach_one.ensures ∙ ap (one before) c.order-item.is) c.loop-order.invariant
+    let now : (amount_of c.teach.new.taught, with_events c.args.month.now c.push.new.self.items) ≡ one before c.order-item.result = search (rules, append_assoc) in
+    fold_behind one c.deref-order-items.result.now c.loop-order.order-index c.order-item.result before c.loop-order-test.true (now ∙ ap (one before) c.order-item.is) c.loop-order.invariant
 
 -- after the loop the men taught and the month are those that `after_lessons` gives
 pub returns-clause-meaning : goal.returns-clause-meaning
