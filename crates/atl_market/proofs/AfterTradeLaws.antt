@@ -23,7 +23,7 @@ use Rattle.atl_campaign.proofs.RegionLaws.{changed-known, get-insert_same}
 use Rattle.atl_campaign.proofs.StockLaws.{restocked}
 use Rattle.atl_phase.specs.PhaseOrders.{Task}
 use Rattle.atl_phase.proofs.StructureLaws.{changed_else}
-use Rattle.atl_market.specs.AtOnce.{HasNewStocks, UnitChange, paid_unit, stands_in}
+use Rattle.atl_market.specs.AtOnce.{HasNewStocks, UnitChange, paid_unit, is_in_region}
 use Rattle.atl_market.specs.ItemPots.{is_for}
 use Rattle.atl_market.specs.AfterPots.{TradesAtOnce, stock_after, trader_of, with_trade}
 use Rattle.atl_market.specs.PotPhase.{after_sharing, count_in, given_by, item_in, items_by}
@@ -130,7 +130,7 @@ module _ (trade : Trade) (items : FinMap nat_cmp ℕ) (w : WorldValue) (units : 
 
     -- the unit draws from the pot of its own region and item alone
     draws : (r i : ℕ) → draws_item units items (r, i) e.0 ≡ (u.region == r && m.item == i)
-    draws r i = ap (λ o. stands_in r o && is_for i (get items e.0)) there ∙ ap (λ o. u.region == r && is_for i o) told
+    draws r i = ap (λ o. is_in_region r o && is_for i (get items e.0)) there ∙ ap (λ o. u.region == r && is_for i o) told
 
     -- a pot from which the unit doesn't draw stays as it is
     undrawn : (r i stock : ℕ) → draws_item units items (r, i) e.0 ≡ false → stock ≡ stock_after trade stock (drawn_here r i)

@@ -14,9 +14,9 @@ use Rattle.atl_campaign.specs.Campaign.{CampaignValue}
 use Rattle.atl_campaign.proofs.ReadBackLaws.{Rise, entries_rise}
 use Rattle.atl_records.proofs.EveryLaws.{each-from_every, first, other_number, same_number}
 use Rattle.atl_phase.specs.PhaseOrders.{Task}
-use Rattle.atl_market.specs.AtOnce.{PaysAtOnce, RegionChange, UnitChange, paid_unit, stands_in}
+use Rattle.atl_market.specs.AtOnce.{PaysAtOnce, RegionChange, UnitChange, paid_unit, is_in_region}
 use Rattle.atl_market.specs.PotPhase.{PotMeaning, after_sharing, given_by, items_by}
-use Rattle.atl_market.proofs.DrawLaws.{AreUntouched, Drawers, all_pairs, drawn, still, untouched, who_stand}
+use Rattle.atl_market.proofs.DrawLaws.{AreUntouched, Drawers, all_pairs, drawn, still, untouched, draws_region}
 use Rattle.atl_market.proofs.PotLaws.{found_other}
 
 -- 0 plus a number is the number
@@ -110,7 +110,7 @@ module _ {needs : Bool} {step : CampaignValue → ℕ × ℕ → CampaignValue} 
         ]
 
     -- after payments in the order of unit numbers each region has changed by what its units got together
-    regions_drained : (d : CampaignValue) (es : List (ℕ × ℕ)) → AreReady d es → (r : ℕ) (q : Region) → get d.regions r ≡ Some q → get (fold step d es).regions r ≡ Some (gives q (drawn (who_stand c.units r) es))
+    regions_drained : (d : CampaignValue) (es : List (ℕ × ℕ)) → AreReady d es → (r : ℕ) (q : Region) → get d.regions r ≡ Some q → get (fold step d es).regions r ≡ Some (gives q (drawn (draws_region c.units r) es))
     regions_drained d [] ready r q is = is ∙ ap Some (sym (pays.nothing q))
     regions_drained d (e ∷ es) ready r q is =
         let (v, there, here) = ready.payable.0 in
@@ -118,14 +118,14 @@ module _ {needs : Bool} {step : CampaignValue → ℕ × ℕ → CampaignValue} 
         let rest = ready_still d e es v now here ready in
         elim (cases_eq r v.region) [
           | inl same ↦
-              let mine : who_stand c.units r e.0 ≡ true = ap (stands_in r) there ∙ ap (λ k. v.region == k) same ∙ same_number v.region in
+              let mine : draws_region c.units r e.0 ≡ true = ap (is_in_region r) there ∙ ap (λ k. v.region == k) same ∙ same_number v.region in
               let after : get (step d e).regions r ≡ Some (gives q e.1) = ap (get (step d e).regions) same ∙ pays.region d e v q now (ap (get d.regions) (sym same) ∙ is) in
-              regions_drained (step d e) es rest r (gives q e.1) after ∙ ap Some (pays.twice q e.1 (drawn (who_stand c.units r) es))
-              ∙ sym (ap (λ b. Some (gives q (cond b e.1 0 + drawn (who_stand c.units r) es))) mine)
+              regions_drained (step d e) es rest r (gives q e.1) after ∙ ap Some (pays.twice q e.1 (drawn (draws_region c.units r) es))
+              ∙ sym (ap (λ b. Some (gives q (cond b e.1 0 + drawn (draws_region c.units r) es))) mine)
           | inr apart ↦
-              let other : who_stand c.units r e.0 ≡ false = ap (stands_in r) there ∙ other_number v.region r (λ same. apart (sym same)) in
-              regions_drained (step d e) es rest r q (pays.regions d e v now here r apart ∙ is) ∙ ap (λ k. Some (gives q k)) (sym (no_more (drawn (who_stand c.units r) es)))
-              ∙ sym (ap (λ b. Some (gives q (cond b e.1 0 + drawn (who_stand c.units r) es))) other)
+              let other : draws_region c.units r e.0 ≡ false = ap (is_in_region r) there ∙ other_number v.region r (λ same. apart (sym same)) in
+              regions_drained (step d e) es rest r q (pays.regions d e v now here r apart ∙ is) ∙ ap (λ k. Some (gives q k)) (sym (no_more (drawn (draws_region c.units r) es)))
+              ∙ sym (ap (λ b. Some (gives q (cond b e.1 0 + drawn (draws_region c.units r) es))) other)
         ]
 
 -- what is drawn from a pot is the sum of what the units that draw from it got
@@ -156,5 +156,5 @@ all_at_once {needs} p w gets gives c os pays gives_them =
     } in
     record {
       units = λ n u is. units_paid pays c c (entries given) ready n u is ∙ ap (λ o. Some (paid_unit (gets n) u o)) (sym (get-entries given n));
-      regions = λ r q is. regions_drained pays c c (entries given) ready r q is ∙ ap (λ k. Some (gives q k)) (drawn_is (who_stand c.units r) (entries given));
+      regions = λ r q is. regions_drained pays c c (entries given) ready r q is ∙ ap (λ k. Some (gives q k)) (drawn_is (draws_region c.units r) (entries given));
     }

@@ -1,10 +1,8 @@
 -- Laws that each pot has enough for all shares that units draw from it, one unit after the other.
-use Rattle.std.proofs.Common.{◌≡◌, ◌≢◌, ℕ, ◌+◌, ◌<◌, ◌≤◌, ◌==◌, ◌⊎◌, zero, suc, Bool, true, false, cond, List, [], ◌∷◌, length, get_or, map, sum, Some, refl, sym, ap, subst, ◌∙◌, inl, inr, arith}
+use Rattle.std.proofs.Common.{◌≡◌, ◌≢◌, ℕ, ◌+◌, ◌<◌, ◌≤◌, ◌==◌, Bool, true, false, cond, List, [], ◌∷◌, map, sum, Some, refl, sym, ap, subst, ◌∙◌, inl, inr, arith}
 use Rattle.std.specs.Prelude.{min, unwrap_or}
-use Rattle.std.specs.declared.cmp.Ordering.TheVariants.{Less}
 use Rattle.std.specs.List.{AllByRecursion}
 use Rattle.std.specs.Ordering.{nat_cmp}
-use Rattle.std.specs.Cmp.{ranked}
 use Rattle.std.specs.FinMap.{FinMap, entries, get, insert}
 use Rattle.std.proofs.lemmas.Bool.{cases_eq, eqb-true}
 use Rattle.std.proofs.lemmas.List.Sums.{sum_by-cons}
@@ -17,35 +15,23 @@ use Rattle.atl_campaign.specs.Campaign.{CampaignValue, region_changed}
 use Rattle.atl_campaign.proofs.ReadBackLaws.{Rise, entries_rise}
 use Rattle.atl_records.proofs.EveryLaws.{each-from_every, get-insert_other, other_number, same_number}
 use Rattle.atl_campaign.proofs.RegionLaws.{changed-known, get-insert_same}
-use Rattle.atl_market.specs.AtOnce.{stands_in}
+use Rattle.atl_market.specs.AtOnce.{is_in_region}
 use Rattle.atl_market.specs.Pots.{amount_given, pot_shares, takers_in, wants_in}
-use Rattle.atl_market.proofs.PotLaws.{IsRisen, gives_each_pot, only_takers_get, taker_index, takers_risen}
+use Rattle.atl_market.proofs.PotLaws.{IsRisen, gives_each_pot, only_takers_get, taker_listed, takers_risen}
+use Rattle.atl_campaign.proofs.NumberListLaws.{IsListed}
 
--- a number is one of a list
-abbrev IsIn : ℕ → List ℕ → Type 0
-IsIn n [] = ⊥
-IsIn n (k ∷ ks) = (n ≡ k) ⊎ IsIn n ks
-
--- the number at an index of a list is one of the list
-in_by_index : (ns : List ℕ) (n i : ℕ) → i < length ns → get_or ns i 0 ≡ n → IsIn n ns
-in_by_index [] n i low at = absurd (omega arith)
-in_by_index (k ∷ ns) n zero low at = inl (sym at)
-in_by_index (k ∷ ns) n (suc i) low at = inr (in_by_index ns n i (omega arith) at)
-
--- each number of a list is above `n`, if `n` compares as less than each of them
-risen_above : (n : ℕ) (ns : List ℕ) → AllByRecursion (λ k. nat_cmp n k ≡ Less) ns → (k : ℕ) → IsIn k ns → n < k
+-- each number of a list is above `n`, if `n` is less than each of them
+risen_above : (n : ℕ) (ns : List ℕ) → AllByRecursion (λ k. n < k) ns → (k : ℕ) → IsListed k ns → n < k
 risen_above n [] h k is = absurd is
-risen_above n (m ∷ ns) h k is = elim is [
-  | inl same ↦ let low = ranked n m Less (sym h.0) in omega (arith, low, same)
-  | inr rest ↦ risen_above n ns h.1 k rest
-]
+risen_above n (m ∷ ns) h k (inl same) = subst (λ j. n < j) (sym same) h.0
+risen_above n (m ∷ ns) h k (inr rest) = risen_above n ns h.1 k rest
 
 -- a number of the list `n ∷ ns` that is above `n` is one of `ns`
-another : (k n : ℕ) (ns : List ℕ) → n < k → IsIn k (n ∷ ns) → IsIn k ns
+another : (k n : ℕ) (ns : List ℕ) → n < k → IsListed k (n ∷ ns) → IsListed k ns
 another k n ns above is = elim is [ inl same ↦ absurd (omega (arith, above, same)) | inr rest ↦ rest ]
 
 -- a number of the list `n ∷ ns` that isn't `n` is one of `ns`
-not_this : (k n : ℕ) (ns : List ℕ) → k ≢ n → IsIn k (n ∷ ns) → IsIn k ns
+not_this : (k n : ℕ) (ns : List ℕ) → k ≢ n → IsListed k (n ∷ ns) → IsListed k ns
 not_this k n ns apart is = elim is [ inl same ↦ absurd (apart same) | inr rest ↦ rest ]
 
 -- what holds of each number and its share holds of them as pairs
@@ -66,9 +52,9 @@ module _ (draws : Drawers) where
   drawn (e ∷ es) = cond (draws e.0) e.1 0 + drawn es
 
   module _ (amount : ℕ → ℕ) where
-    -- an entry's unit, if it draws from the pot, is one of a list, and its share is its amount
+    -- if the unit of an entry (unit, share) draws from the pot, it is on a list, and its share is its `amount`
     abbrev pub Listed : List ℕ → ℕ × ℕ → Type 0
-    Listed ns e = draws e.0 ≡ true → IsIn e.0 ns × (amount e.0 ≡ e.1)
+    Listed ns e = draws e.0 ≡ true → IsListed e.0 ns × (amount e.0 ≡ e.1)
 
     -- shares that are `Listed` for the numbers `n ∷ ns`, all of units above `n`, are `Listed` for `ns`
     narrowed : (n : ℕ) (ns : List ℕ) (es : List (ℕ × ℕ)) → AllByRecursion (λ f. n < f.0) es → AllByRecursion (Listed (n ∷ ns)) es → AllByRecursion (Listed ns) es
@@ -210,26 +196,26 @@ module _ {K : Type 0} (pots : DrawnPots K) where
 
 -- ---- the pots of regions: the units of the region draw from them
 
--- which units draw from a region's pot: those that are in the region
-abbrev pub who_stand : FinMap nat_cmp Unit → ℕ → Drawers
-who_stand units r n = stands_in r (get units n)
+-- which units, by their numbers, draw from the pot of a region: those that are in the region
+abbrev pub draws_region : FinMap nat_cmp Unit → ℕ → Drawers
+draws_region units r n = is_in_region r (get units n)
 
 module _ (units : FinMap nat_cmp Unit) (left : Region → ℕ) where
   -- the pots of regions, by region: `left` gives what is left in each
   abbrev pub region_pots : DrawnPots ℕ
-  region_pots = record { pot_region = λ r. r; draws = who_stand units; left = λ r q. left q }
+  region_pots = record { pot_region = λ r. r; draws = draws_region units; left = λ r q. left q }
 
   module _ (d : CampaignValue) (e : ℕ × ℕ) (u : Unit) (q : Region) (there : get units e.0 ≡ Some u) (around : get d.regions u.region ≡ Some q) where
     -- the pots of regions lose what they should (`Drains`) if the unit's own region changes, and has its share less
     pub one_drains : (after : CampaignValue) (f : Region → Region) → after.regions ≡ (region_changed f d u.region).regions → left (f q) + e.1 ≡ left q → Drains region_pots d e after
     one_drains after f changed less =
         region_drains region_pots d e after u.region q around f changed
-        (λ k same. subst (λ b. left (f q) + cond b e.1 0 ≡ left q) (sym (ap (stands_in k) there ∙ ap (λ r. u.region == r) same ∙ same_number u.region)) less)
-        (λ k apart. ap (stands_in k) there ∙ other_number u.region k (λ is. apart (sym is)))
+        (λ k same. subst (λ b. left (f q) + cond b e.1 0 ≡ left q) (sym (ap (is_in_region k) there ∙ ap (λ r. u.region == r) same ∙ same_number u.region)) less)
+        (λ k apart. ap (is_in_region k) there ∙ other_number u.region k (λ is. apart (sym is)))
 
     -- a unit's region has enough for the unit's share, if the pots have enough for all shares
     pub one_draws : (es : List (ℕ × ℕ)) → HaveEnough region_pots d (e ∷ es) → e.1 ≤ left q
-    one_draws es enough = first_draws region_pots d e es enough u.region q around (ap (stands_in u.region) there ∙ same_number u.region)
+    one_draws es enough = first_draws region_pots d e es enough u.region q around (ap (is_in_region u.region) there ∙ same_number u.region)
 
 -- The pot of a region is enough for all who draw from it: they get shares of it, which are together at most the pot.
 module _ (pot_of : ℕ → ℕ) (wants : FinMap nat_cmp ℕ) (c : CampaignValue) (r : ℕ) (draws : Drawers) (given : FinMap nat_cmp ℕ) where
@@ -243,17 +229,15 @@ module _ (pot_of : ℕ → ℕ) (wants : FinMap nat_cmp ℕ) (c : CampaignValue)
 
   -- each unit that draws from the pot of region `r` is there, and its share is one of that pot
   abbrev pub DrawShares : Type 0
-  DrawShares = (n share : ℕ) → get given n ≡ Some share → draws n ≡ true → (get (pot_shares pot_of wants c) n ≡ Some share) × (stands_in r (get c.units n) ≡ true)
+  DrawShares = (n share : ℕ) → get given n ≡ Some share → draws n ≡ true → (get (pot_shares pot_of wants c) n ≡ Some share) × (is_in_region r (get c.units n) ≡ true)
 
   -- each unit with a share that draws from the pot is one of the region's units with a want, and gets its amount
   listed : DrawShares → (n share : ℕ) → get given n ≡ Some share → Listed draws amount takers (n, share)
   listed shared n share found drawing =
       let (is, stands) = shared n share found drawing in
       let (want, u, wanted, low, at, region) = only_takers_get pot_of wants c n share is in
-      let here : u.region ≡ r = eqb-true u.region r (ap (stands_in r) (sym at) ∙ stands) in
-      let (i, less, found) = taker_index wants c.units n want u wanted at in
-      let among : IsIn n (takers_in wants c.units u.region) = in_by_index (takers_in wants c.units u.region) n i less found in
-      (subst (λ k. IsIn n (takers_in wants c.units k)) here among, ap (λ o. unwrap_or o 0) is)
+      let here : u.region ≡ r = eqb-true u.region r (ap (is_in_region r) (sym at) ∙ stands) in
+      (subst (λ k. IsListed n (takers_in wants c.units k)) here (taker_listed wants c.units n want u wanted at), ap (λ o. unwrap_or o 0) is)
 
   -- what is at most the lesser of a pot and a sum is at most the pot
   least : (drawing pot all : ℕ) → drawing ≤ min pot all → drawing ≤ pot
@@ -268,8 +252,8 @@ module _ (pot_of : ℕ → ℕ) (wants : FinMap nat_cmp ℕ) (c : CampaignValue)
       least drawing (pot_of r) (sum (wants_in wants c.units r)) (subst (λ s. drawing ≤ s) (gives_each_pot pot_of wants c r there) few)
 
 -- the pot of a region of the campaign is enough for the shares of all units in the region
-pub pot_is_enough : (pot_of : ℕ → ℕ) (wants : FinMap nat_cmp ℕ) (c : CampaignValue) (r : ℕ) → IsThere c.regions r → drawn (who_stand c.units r) (entries (pot_shares pot_of wants c)) ≤ pot_of r
-pot_is_enough pot_of wants c r there = shares_are_enough pot_of wants c r (who_stand c.units r) (pot_shares pot_of wants c) (λ n share is stands. (is, stands)) there
+pub pot_is_enough : (pot_of : ℕ → ℕ) (wants : FinMap nat_cmp ℕ) (c : CampaignValue) (r : ℕ) → IsThere c.regions r → drawn (draws_region c.units r) (entries (pot_shares pot_of wants c)) ≤ pot_of r
+pot_is_enough pot_of wants c r there = shares_are_enough pot_of wants c r (draws_region c.units r) (pot_shares pot_of wants c) (λ n share is stands. (is, stands)) there
 
 -- ---- units that have not been paid yet are as they were
 

@@ -1,11 +1,11 @@
 -- Laws of pots of items: the shares that the code puts in region by region and item by item are those of the
 -- definition.
-use Rattle.std.proofs.Common.{◌≡◌, ℕ, ◌≤◌, ◌==◌, ◌||◌, ◌&&◌, Bool, true, false, cond, List, [], ◌∷◌, ◌++◌, map, filter, Option, Some, None, is_some, T, refl, sym, ap, subst, ◌∙◌, inl, inr}
+use Rattle.std.proofs.Common.{◌≡◌, ℕ, ◌<◌, ◌≤◌, ◌==◌, ◌&&◌, Bool, true, false, cond, List, [], ◌∷◌, ◌++◌, map, filter, Option, Some, None, is_some, T, refl, sym, ap, subst, ◌∙◌, inl, inr, arith}
 use Rattle.std.specs.Prelude.{fold, option_and_then, option_map, unwrap_or}
-use Rattle.std.specs.List.{AllByRecursion, cons_option, filter_map, flat_map, list_any, zip}
-use Rattle.std.specs.Ordering.{nat_cmp, eq_by_cmp, is_eq, is_lt}
-use Rattle.std.specs.Cmp.{nat_cmp_total}
-use Rattle.std.specs.declared.cmp.Ordering.TheVariants.{Less, Equal, Greater}
+use Rattle.std.specs.List.{AllByRecursion, cons_option, filter_map, flat_map, zip}
+use Rattle.std.specs.Ordering.{nat_cmp, is_lt}
+use Rattle.std.specs.Cmp.{nat_cmp_is, nat_cmp_total}
+use Rattle.std.specs.declared.cmp.Ordering.TheVariants.{Less}
 use Rattle.std.specs.FinMap.Entries.{below_all}
 use Rattle.std.specs.FinMap.{FinMap, contains_key-keys, empty, entries, entries-from_sorted, find, from_sorted, get, get-empty, get-entries, get-from_entries, get-from_sorted, get-retain_keys, insert, is_sorted, keys, nat_cmp-IsAntisymmetric, same_map}
 use Rattle.std.proofs.lemmas.Bool.{cases_eq, eqb-true, false≢true}
@@ -13,9 +13,7 @@ use Rattle.atl_world.specs.Groups.{group_of}
 use Rattle.atl_records.specs.Every.{EachOf, IsThere}
 use Rattle.atl_campaign.specs.Campaign.{CampaignValue, numbers_in}
 use Rattle.atl_records.specs.declared.records.Region.{Region}
-use Rattle.atl_campaign.proofs.ReadBackLaws.{append_each}
-use Rattle.atl_records.proofs.EveryLaws.{each-from_every, first, found_of, get-insert_other, none_some, other_number, same_number}
-use Rattle.atl_campaign.proofs.OrderLaws.{each_so}
+use Rattle.atl_records.proofs.EveryLaws.{each-from_every, first, get-insert_other, none_some, other_number, same_number}
 use Rattle.atl_campaign.proofs.RegionLaws.{get-insert_same}
 use Rattle.atl_phase.proofs.MappedLaws.{no_entries}
 use Rattle.atl_market.specs.ItemGroups.{Groups, item_shares_in, region_shares, with_item_want, with_want}
@@ -23,91 +21,19 @@ use Rattle.atl_market.specs.ItemPots.{is_for, item_share, item_shares, wants_for
 use Rattle.atl_market.specs.Pots.{share_of, shares_in, takers_in, want_of}
 use Rattle.atl_market.specs.Puts.{with_each}
 use Rattle.atl_shares.specs.Share.{shares}
-use Rattle.atl_market.proofs.PotLaws.{Entries, IsApart, IsRisen, as_pairs, found_first, found_head, found_is, found_later, found_other, found_put, found_tail, given_apart, given_is, given_takes, left, pots_give, somewhere, takers_risen}
-
--- ---- entries that agree with a function, put into a map in turn
-
-module _ (g : ℕ → Option ℕ) where
-  -- each entry's value is the one that the function `g` has for the entry's number
-  abbrev AgreeWith : Entries → Type 0
-  AgreeWith es = AllByRecursion (λ e. g e.0 ≡ Some e.1) es
-
-  -- an entry that agrees with the function `g`, put into a map, gives its number the value that `g` has for it
-  put_here : (m : FinMap nat_cmp ℕ) (e : ℕ × ℕ) (n s : ℕ) → n ≡ e.0 → g e.0 ≡ Some e.1 → g n ≡ Some s → get (insert m e.0 e.1) n ≡ Some s
-  put_here m e n s same tells is = ap (get (insert m e.0 e.1)) same ∙ get-insert_same m e.0 e.1 ∙ sym tells ∙ ap g (sym same) ∙ is
-
-  -- a value that the function `g` has, once in the map, stays when entries that agree with `g` are put in
-  agreeing_stays : (m : FinMap nat_cmp ℕ) (es : Entries) (n s : ℕ) → AgreeWith es → g n ≡ Some s → get m n ≡ Some s → get (with_each m es) n ≡ Some s
-  agreeing_stays m [] n s tells is at = at
-  agreeing_stays m (e ∷ es) n s tells is at =
-      agreeing_stays (insert m e.0 e.1) es n s tells.1 is (elim (cases_eq n e.0) [
-        | inl same ↦ put_here m e n s same tells.0 is
-        | inr apart ↦ get-insert_other m e.0 n e.1 apart ∙ at
-      ])
-
-  -- entries that agree with the function `g`, put into a map, give each of their numbers the value that `g` has for it
-  agreeing_comes : (m : FinMap nat_cmp ℕ) (es : Entries) (n s : ℕ) → AgreeWith es → g n ≡ Some s → is_some (find nat_cmp n es) ≡ true → get (with_each m es) n ≡ Some s
-  agreeing_comes m [] n s tells is some = absurd (false≢true some)
-  agreeing_comes m (e ∷ es) n s tells is some = elim (cases_eq n e.0) [
-    | inl same ↦ agreeing_stays (insert m e.0 e.1) es n s tells.1 is (put_here m e n s same tells.0 is)
-    | inr apart ↦ agreeing_comes (insert m e.0 e.1) es n s tells.1 is (ap is_some (sym (found_other e es n apart)) ∙ some)
-  ]
-
-  -- entries that agree with the function `g` and have all its numbers, put into the empty map, make a map of `g`
-  pub agreeing_put : (es : Entries) → AgreeWith es → ((n s : ℕ) → g n ≡ Some s → is_some (find nat_cmp n es) ≡ true) → (n : ℕ) → get (with_each empty es) n ≡ g n
-  agreeing_put es tells whole n = by_find (find nat_cmp n es) refl
-    where
-      -- the function has no value for a number that isn't among the entries
-      nothing : find nat_cmp n es ≡ None → (o : Option ℕ) → g n ≡ o → o ≡ None
-      nothing none None is = refl
-      nothing none (Some s) is = absurd (false≢true (ap is_some (sym none) ∙ whole n s is))
-
-      -- the map has the function's value for `n`, whether `n` is among the entries or not
-      by_find : (o : Option ℕ) → find nat_cmp n es ≡ o → get (with_each empty es) n ≡ g n
-      by_find None is = left empty es n is ∙ get-empty nat_cmp n ∙ sym (nothing is (g n) refl)
-      by_find (Some s) is =
-          let at : g n ≡ Some s = found_of (λ k t. g k ≡ Some t) es n s (as_pairs (λ k t. g k ≡ Some t) es tells) is in
-          agreeing_comes empty es n s tells at (ap is_some is) ∙ sym at
+use Rattle.atl_market.proofs.PotLaws.{AgreeWith, Entries, IsApart, IsRisen, agreeing_put, each_flat, each_found, each_region, found_among, found_is, found_other, found_put, given_apart, given_is, given_takes, pots_give, somewhere, takers_risen}
 
 -- a choice between two equal options is that option
 either : (b : Bool) (o : Option ℕ) → cond b o o ≡ o
 either true o = refl
 either false o = refl
 
--- a number found among the entries of one element of a list is found among those of all
-found_among : {A : Type 0} (f : A → Entries) (n : ℕ) (e : A → A → Bool) → ((x y : A) → e x y ≡ true → x ≡ y) → (xs : List A) (x : A)
-    → list_any (e x) xs ≡ true → is_some (find nat_cmp n (f x)) ≡ true → is_some (find nat_cmp n (flat_map f xs)) ≡ true
-found_among f n e exact [] x among some = absurd (false≢true among)
-found_among f n e exact (y ∷ xs) x among some = by_first (λ h. found_among f n e exact xs x h some) (find nat_cmp n (f y)) refl (e x y) refl among
-  where
-    -- a number is found among all entries, whether the entries of the first element have it or those of later ones
-    by_first : (list_any (e x) xs ≡ true → is_some (find nat_cmp n (flat_map f xs)) ≡ true)
-        → (o : Option ℕ) → find nat_cmp n (f y) ≡ o → (b : Bool) → e x y ≡ b → (b || list_any (e x) xs) ≡ true → is_some (find nat_cmp n (flat_map f (y ∷ xs))) ≡ true
-    by_first rest (Some s) is b at h = ap is_some (found_first n (f y) (flat_map f xs) s is)
-    by_first rest None is true at h = absurd (false≢true (sym (ap is_some is) ∙ ap (λ z. is_some (find nat_cmp n (f z))) (sym (exact x y at)) ∙ some))
-    by_first rest None is false at h = ap is_some (found_later n (f y) (flat_map f xs) is) ∙ rest h
-
--- what holds of all entries of each element of a list holds of all entries together
-each_flat : {A : Type 0} (P : ℕ × ℕ → Type 0) (f : A → Entries) (xs : List A) → AllByRecursion (λ x. AllByRecursion P (f x)) xs → AllByRecursion P (flat_map f xs)
-each_flat P f [] h = tt
-each_flat P f (x ∷ xs) h = append_each P (f x) (flat_map f xs) h.0 (each_flat P f xs h.1)
-
--- keys that compare as equal are equal
-tied : (a b : ℕ) → eq_by_cmp nat_cmp a b ≡ true → a ≡ b
-tied a b h = by_order (nat_cmp a b) refl h
-  where
-    -- `a` and `b` are equal if their comparison `o` is Equal
-    by_order : (o : _) → nat_cmp a b ≡ o → is_eq o ≡ true → a ≡ b
-    by_order Less is h = absurd (false≢true h)
-    by_order Equal is h = nat_cmp-IsAntisymmetric a b is
-    by_order Greater is h = absurd (false≢true h)
-
 -- ---- entries whose numbers rise, put into a map in turn
 
 -- a number below those of all entries isn't found
-none_above : (k : ℕ) (es : Entries) → AllByRecursion (λ n. nat_cmp k n ≡ Less) (map (λ e. e.0) es) → find nat_cmp k es ≡ None
+none_above : (k : ℕ) (es : Entries) → AllByRecursion (λ n. k < n) (map (λ e. e.0) es) → find nat_cmp k es ≡ None
 none_above k [] h = refl
-none_above k (e ∷ es) h = ap (λ o. cond (is_eq o) (Some e.1) (find nat_cmp k es)) h.0 ∙ none_above k es h.1
+none_above k (e ∷ es) h = found_other e es k (λ same. absurd (omega (arith, same, h.0))) ∙ none_above k es h.1
 
 -- no two of the entries have the same number, if their numbers are sorted
 risen_apart : (es : Entries) → IsRisen (map (λ e. e.0) es) → IsApart es
@@ -115,9 +41,9 @@ risen_apart [] up = tt
 risen_apart (e ∷ es) up = (none_above e.0 es up.0, risen_apart es up.1)
 
 -- a number below the number of each entry passes the test `below_all` for these entries
-all_below : (k : ℕ) (es : Entries) → AllByRecursion (λ n. nat_cmp k n ≡ Less) (map (λ e. e.0) es) → below_all nat_cmp k es ≡ true
+all_below : (k : ℕ) (es : Entries) → AllByRecursion (λ n. k < n) (map (λ e. e.0) es) → below_all nat_cmp k es ≡ true
 all_below k [] h = refl
-all_below k (e ∷ es) h = ap (λ o. is_lt o && below_all nat_cmp k es) h.0 ∙ all_below k es h.1
+all_below k (e ∷ es) h = ap (λ o. is_lt o && below_all nat_cmp k es) (sym (nat_cmp_is k e.0 Less h.0)) ∙ all_below k es h.1
 
 -- entries with sorted numbers are sorted as entries of a map
 risen_sorted : (es : Entries) → IsRisen (map (λ e. e.0) es) → is_sorted nat_cmp es ≡ true
@@ -230,11 +156,6 @@ filtered_map p f g same (n ∷ ns) = by_test (p n) refl (filtered_map p f g same
     by_test true is rest = λ i. same n is i ∷ rest i
     by_test false is rest = rest
 
--- each entry of a list in which no two have one number is found by its number
-found_all : (es : Entries) → IsApart es → AllByRecursion (λ e. find nat_cmp e.0 es ≡ Some e.1) es
-found_all [] apart = tt
-found_all (e ∷ es) apart = (found_head e es, each_so (λ f. find nat_cmp f.0 es ≡ Some f.1) (λ f. find nat_cmp f.0 (e ∷ es) ≡ Some f.1) (λ f is. found_tail e es f.0 f.1 apart is) es (found_all es apart.1))
-
 -- what holds of all values holds of each element of a list
 so_each : {A : Type 0} (P : A → Type 0) → ((x : A) → P x) → (xs : List A) → AllByRecursion P xs
 so_each P h [] = tt
@@ -293,17 +214,15 @@ module _ (item_of : ℕ → Option ℕ) (pot_of : (item region : ℕ) → ℕ) (
       where
         -- each share of item `i` in the region is its unit's share by the definition
         one : (i : ℕ) → AgreeWith gets (of_item i)
-        one i =
-            each_so (λ e. find nat_cmp e.0 (of_item i) ≡ Some e.1) (λ e. gets e.0 ≡ Some e.1)
-            (λ e is.
-            let (at, (want, wanted)) = given_takes (pot_of i) (mine item_of wants i) c.units r e.0 e.1 is in
-            ap (share_for e.0) (asks item_of wants i e.0 want wanted) ∙ given_is (pot_of i) (mine item_of wants i) c r e.0 e.1 there is) (of_item i) (found_all (of_item i) (given_apart (pot_of i) (mine item_of wants i) c.units r))
+        one i = each_found (λ e. gets e.0 ≡ Some e.1) (of_item i) (given_apart (pot_of i) (mine item_of wants i) c.units r) (λ n s is.
+            let (at, (want, wanted)) = given_takes (pot_of i) (mine item_of wants i) c.units r n s is in
+            ap (share_for n) (asks item_of wants i n want wanted) ∙ given_is (pot_of i) (mine item_of wants i) c r n s there is)
 
     -- a unit that has a share of an item in the region is among the region's shares
     region_whole : (i n s : ℕ) → find nat_cmp n (of_item i) ≡ Some s → is_some (find nat_cmp n (region_shares item_of pot_of wants c r)) ≡ true
     region_whole i n s is =
         subst (λ (es : Entries). is_some (find nat_cmp n es) ≡ true) (sym region_is)
-        (found_among of_item n (eq_by_cmp nat_cmp) tied (keys groups) i (sym (contains_key-keys groups i) ∙ by_group (get groups i) refl) (ap is_some is))
+        (found_among of_item n (keys groups) i (sym (contains_key-keys groups i) ∙ by_group (get groups i) refl) (ap is_some is))
       where
         -- an item of which some unit of the region has a share has a group
         by_group : (o : Option (FinMap nat_cmp ℕ)) → get groups i ≡ o → is_some o ≡ true
@@ -372,12 +291,7 @@ module _ (item_of : ℕ → Option ℕ) (pot_of : (item region : ℕ) → ℕ) (
 
   -- each share that the code puts in is the unit's share by the definition
   all_shares_agree : AgreeWith gets all_shares
-  all_shares_agree = each_flat (λ e. gets e.0 ≡ Some e.1) (region_shares item_of pot_of wants c) (keys c.regions) (by_region (entries c.regions) (each-from_every (λ r q. get c.regions r ≡ Some q) c.regions (λ r q is. is)))
-    where
-      -- in each of some regions of the campaign, the shares that the code puts in are those of the definition
-      by_region : (es : List (ℕ × Region)) → EachOf (λ r q. get c.regions r ≡ Some q) es → AllByRecursion (λ r. AgreeWith gets (region_shares item_of pot_of wants c r)) (map (λ e. e.0) es)
-      by_region [] h = tt
-      by_region (e ∷ es) h = (region_agrees e.0 (e.1, h.0), by_region es h.1)
+  all_shares_agree = each_flat (λ e. gets e.0 ≡ Some e.1) (region_shares item_of pot_of wants c) (keys c.regions) (each_region (λ r. AgreeWith gets (region_shares item_of pot_of wants c r)) c region_agrees)
 
   -- each unit that has a share by the definition is among the shares that the code puts in
   none_missing : (n s : ℕ) → gets n ≡ Some s → is_some (find nat_cmp n all_shares) ≡ true
@@ -388,7 +302,7 @@ module _ (item_of : ℕ → Option ℕ) (pot_of : (item region : ℕ) → ℕ) (
       by_item None is = none_some s is
       by_item (Some i) is =
           let (r, among, found) = somewhere (of_item_in i) n s (keys c.regions) (sym (found_is (pot_of i) (mine item_of wants i) c n) ∙ is) in
-          found_among (region_shares item_of pot_of wants c) n (eq_by_cmp nat_cmp) tied (keys c.regions) r among (region_whole r i n s found)
+          found_among (region_shares item_of pot_of wants c) n (keys c.regions) r among (region_whole r i n s found)
         where
           -- the shares of item `i` in region `r`, by unit
           of_item_in : ℕ → ℕ → Entries

@@ -1,27 +1,23 @@
 -- Laws of what units get of the pots of their regions.
-use Rattle.std.proofs.Common.{◌≡◌, ◌≢◌, ℕ, ◌<◌, ◌≤◌, ◌==◌, ◌||◌, zero, suc, Bool, true, false, cond, List, [], ◌∷◌, ◌++◌, length, get_or, map, filter, sum, Option, Some, None, is_some, refl, sym, ap, subst, ◌∙◌, arith}
+use Rattle.std.proofs.Common.{◌≡◌, ◌≢◌, ℕ, ◌<◌, ◌≤◌, ◌==◌, ◌||◌, suc, Bool, true, false, cond, List, [], ◌∷◌, ◌++◌, length, get_or, map, filter, sum, Option, Some, None, is_some, refl, sym, ap, subst, ◌∙◌, inl, inr, arith}
 use Rattle.std.specs.Prelude.{⊤, reverse, unwrap_or}
-use Rattle.std.specs.declared.cmp.Ordering.{Ordering}
-use Rattle.std.specs.declared.cmp.Ordering.TheVariants.{Less, Equal, Greater}
 use Rattle.std.specs.List.{AllByRecursion, flat_map, list_any, zip}
 use Rattle.std.specs.Ordering.{nat_cmp, is_eq, eq_by_cmp}
-use Rattle.std.specs.Cmp.{nat_cmp_total, ranked}
-use Rattle.std.specs.FinMap.Entries.{below_all}
-use Rattle.std.specs.FinMap.{FinMap, get, insert, find, empty, entries, keys, from_entries, contains_key-keys, is_sorted, get-entries, get-empty, get-insert, get-from_entries, same_map, nat_cmp-IsAntisymmetric}
-use Rattle.std.proofs.lemmas.Bool.{and_parts, eqb-true, false≢true}
-use Rattle.std.proofs.lemmas.List.{reverse-append, get_or-map, length-map}
+use Rattle.std.specs.declared.cmp.Ordering.TheVariants.{Less, Equal, Greater}
+use Rattle.std.specs.Cmp.{nat_cmp_total, unsigned_ties}
+use Rattle.std.specs.FinMap.{FinMap, get, insert, find, empty, entries, keys, from_entries, contains_key-keys, get-empty, get-insert, get-from_entries, same_map, nat_cmp-IsAntisymmetric}
+use Rattle.std.proofs.lemmas.Bool.{cases_eq, eqb-true, false≢true, or_left, or_right}
+use Rattle.std.proofs.lemmas.List.{reverse-append, length-map}
 use Rattle.std.proofs.lemmas.List.Sums.{fold-append}
-use Rattle.atl_world.specs.Sums.{numbers_among}
-use Rattle.atl_world.proofs.MappedLaws.{is_less}
-use Rattle.atl_world.proofs.SumLaws.{chosen-cons}
 use Rattle.atl_records.specs.Every.{IsThere, EachOf}
 use Rattle.atl_campaign.specs.Campaign.{CampaignValue, numbers_in}
 use Rattle.atl_records.specs.declared.records.Region.{Region}
 use Rattle.atl_records.specs.declared.records.Unit.{Unit}
-use Rattle.atl_campaign.proofs.ReadBackLaws.{Rise}
-use Rattle.atl_records.proofs.EveryLaws.{every-from_each, none_some, first, later, sorted, same_number}
+use Rattle.atl_campaign.proofs.GroupLaws.{filter_each}
+use Rattle.atl_campaign.proofs.NumberListLaws.{IsListed, listed_passing, passing_listed}
+use Rattle.atl_campaign.proofs.ReadBackLaws.{InOrder, Rise, append_each, entries_rise}
+use Rattle.atl_records.proofs.EveryLaws.{each-from_every, every-from_each, first, found_of, get-insert_other, none_some, other_number, same_number}
 use Rattle.atl_campaign.proofs.RegionLaws.{get-insert_same}
-use Rattle.atl_campaign.proofs.OrderLaws.{each_so}
 use Rattle.atl_market.specs.RegionsWithWants.{region_at, regions_with_wants}
 use Rattle.atl_shares.specs.Share.{shares}
 use Rattle.atl_market.specs.Pots.{want_of, takers_in, wants_in, shares_in, pot_shares, share_of, OnlyTakersGet, EachTakerGets, SharesEachPot, GivesEachPot, OtherRegionsDoNotCount}
@@ -32,38 +28,10 @@ use Rattle.atl_shares.proofs.ShareLaws.{all_is_given, share_at_most, length-shar
 abbrev pub Entries : Type 0
 Entries = List (ℕ × ℕ)
 
--- an option that holds nothing is None
+-- an option that can't be Some is None
 refuted : {X : Type 0} (o : Option X) → ((x : X) → o ≡ Some x → ⊥) → o ≡ None
 refuted None h = refl
 refuted (Some x) h = absurd (h x refl)
-
--- no number is less than itself
-not_itself : (n : ℕ) {P : Type 0} → nat_cmp n n ≡ Less → P
-not_itself n e = let l = ranked n n Less (sym e) in absurd (omega arith)
-
--- if the first of two tests holds, one of them holds
-or_first : (a b : Bool) → a ≡ true → (a || b) ≡ true
-or_first true b h = refl
-or_first false b h = absurd (false≢true h)
-
--- if the second of two tests holds, one of them holds
-or_later : (a b : Bool) → b ≡ true → (a || b) ≡ true
-or_later true b h = refl
-or_later false b h = h
-
--- if one of two tests holds, and the first isn't that the order is Equal, the second holds
-not_first : (o : Ordering) (b : Bool) → (o ≡ Equal → ⊥) → (is_eq o || b) ≡ true → b ≡ true
-not_first Less b n h = h
-not_first Equal b n h = absurd (n refl)
-not_first Greater b n h = h
-
--- a key equals itself
-same_key : (k : ℕ) → eq_by_cmp nat_cmp k k ≡ true
-same_key k = elim (nat_cmp k k) as (λ o. nat_cmp k k ≡ o → is_eq o ≡ true) [
-  | Less ↦ λ e. not_itself k e
-  | Equal ↦ λ _. refl
-  | Greater ↦ λ e. let l = ranked k k Greater (sym e) in absurd (omega arith)
-] refl
 
 -- an option that isn't None holds a value
 is_there : {X : Type 0} (o : Option X) → is_some o ≡ true → (x : X) × (o ≡ Some x)
@@ -92,35 +60,24 @@ found_later n (e ∷ es) fs h =
 
 -- a number other than the first entry's is found among all entries as among the later ones
 pub found_other : {V : Type 0} (e : ℕ × V) (es : List (ℕ × V)) (n : ℕ) → n ≢ e.0 → find nat_cmp n (e ∷ es) ≡ find nat_cmp n es
-found_other e es n apart =
-    elim (nat_cmp n e.0) as (λ o. nat_cmp n e.0 ≡ o → cond (is_eq o) (Some e.1) (find nat_cmp n es) ≡ find nat_cmp n es) [
-      | Less ↦ λ _. refl
-      | Equal ↦ λ o. absurd (apart (nat_cmp-IsAntisymmetric n e.0 o))
-      | Greater ↦ λ _. refl
-    ] refl
+found_other e es n apart = ap (λ b. cond b (Some e.1) (find nat_cmp n es)) (sym (unsigned_ties n e.0) ∙ other_number n e.0 apart)
 
 -- no two entries have the same number
 abbrev pub IsApart : Entries → Type 0
 IsApart [] = ⊤
 IsApart (e ∷ es) = (find nat_cmp e.0 es ≡ None) × IsApart es
 
--- the number of the first entry is found with its value
-pub found_head : (e : ℕ × ℕ) (es : Entries) → find nat_cmp e.0 (e ∷ es) ≡ Some e.1
-found_head e es =
-    elim (nat_cmp e.0 e.0) as (λ o. nat_cmp e.0 e.0 ≡ o → cond (is_eq o) (Some e.1) (find nat_cmp e.0 es) ≡ Some e.1) [
-      | Less ↦ λ o. not_itself e.0 o
-      | Equal ↦ λ _. refl
-      | Greater ↦ λ o. let l = ranked e.0 e.0 Greater (sym o) in absurd (omega arith)
-    ] refl
-
 -- a number found among the later entries, which all differ, is found among all
-pub found_tail : (e : ℕ × ℕ) (es : Entries) (n s : ℕ) → IsApart (e ∷ es) → find nat_cmp n es ≡ Some s → find nat_cmp n (e ∷ es) ≡ Some s
-found_tail e es n s apart is =
-    elim (nat_cmp n e.0) as (λ o. nat_cmp n e.0 ≡ o → cond (is_eq o) (Some e.1) (find nat_cmp n es) ≡ Some s) [
-      | Less ↦ λ _. is
-      | Equal ↦ λ o. none_some s (sym apart.0 ∙ ap (λ k. find nat_cmp k es) (sym (nat_cmp-IsAntisymmetric n e.0 o)) ∙ is)
-      | Greater ↦ λ _. is
-    ] refl
+found_tail : (e : ℕ × ℕ) (es : Entries) (n s : ℕ) → IsApart (e ∷ es) → find nat_cmp n es ≡ Some s → find nat_cmp n (e ∷ es) ≡ Some s
+found_tail e es n s apart is = elim (cases_eq n e.0) [
+  | inl same ↦ none_some s (sym apart.0 ∙ ap (λ k. find nat_cmp k es) (sym same) ∙ is)
+  | inr other ↦ found_other e es n other ∙ is
+]
+
+-- what holds of each number and amount found among entries with different numbers holds of each of these entries
+pub each_found : (P : ℕ × ℕ → Type 0) (es : Entries) → IsApart es → ((n s : ℕ) → find nat_cmp n es ≡ Some s → P (n, s)) → AllByRecursion P es
+each_found P [] apart h = tt
+each_found P (e ∷ es) apart h = (h e.0 e.1 (first e es), each_found P es apart.1 (λ n s is. h n s (found_tail e es n s apart is)))
 
 -- ---- entries put into a map in turn
 
@@ -133,25 +90,60 @@ left m (e ∷ es) n h =
       | false ↦ λ g none. left (insert m e.0 e.1) es n none ∙ g
     ] (get-insert nat_cmp_total m e.0 e.1 n) h
 
--- a number that an entry has gets the entry's value in a map into which entries with different numbers are put
-pub put : (m : FinMap nat_cmp ℕ) (es : Entries) (n s : ℕ) → IsApart es → find nat_cmp n es ≡ Some s → get (with_each m es) n ≡ Some s
-put m [] n s apart h = none_some s h
-put m (e ∷ es) n s apart h =
-    let more = insert m e.0 e.1 in
-    elim (nat_cmp n e.0) as (λ o. nat_cmp n e.0 ≡ o → get more n ≡ cond (is_eq o) (Some e.1) (get m n) → cond (is_eq o) (Some e.1) (find nat_cmp n es) ≡ Some s → get (with_each more es) n ≡ Some s) [
-      | Less ↦ λ _ _ is. put more es n s apart.1 is
-      | Equal ↦ λ o g is. left more es n (ap (λ k. find nat_cmp k es) (nat_cmp-IsAntisymmetric n e.0 o) ∙ apart.0) ∙ g ∙ is
-      | Greater ↦ λ _ _ is. put more es n s apart.1 is
-    ] refl (get-insert nat_cmp_total m e.0 e.1 n) h
+-- what holds of each entry holds of its number and value
+as_pairs : (P : ℕ → ℕ → Type 0) (es : Entries) → AllByRecursion (λ e. P e.0 e.1) es → EachOf P es
+as_pairs P [] h = tt
+as_pairs P (e ∷ es) h = (h.0, as_pairs P es h.1)
+
+-- ---- entries that agree with a function, put into a map in turn
+
+module _ (g : ℕ → Option ℕ) where
+  -- each entry's value is the one that the function `g` has for the entry's number
+  abbrev pub AgreeWith : Entries → Type 0
+  AgreeWith es = AllByRecursion (λ e. g e.0 ≡ Some e.1) es
+
+  -- an entry that agrees with the function `g`, put into a map, gives its number the value that `g` has for it
+  put_here : (m : FinMap nat_cmp ℕ) (e : ℕ × ℕ) (n s : ℕ) → n ≡ e.0 → g e.0 ≡ Some e.1 → g n ≡ Some s → get (insert m e.0 e.1) n ≡ Some s
+  put_here m e n s same tells is = ap (get (insert m e.0 e.1)) same ∙ get-insert_same m e.0 e.1 ∙ sym tells ∙ ap g (sym same) ∙ is
+
+  -- a value that the function `g` has, once in the map, stays when entries that agree with `g` are put in
+  agreeing_stays : (m : FinMap nat_cmp ℕ) (es : Entries) (n s : ℕ) → AgreeWith es → g n ≡ Some s → get m n ≡ Some s → get (with_each m es) n ≡ Some s
+  agreeing_stays m [] n s tells is at = at
+  agreeing_stays m (e ∷ es) n s tells is at =
+      agreeing_stays (insert m e.0 e.1) es n s tells.1 is (elim (cases_eq n e.0) [
+        | inl same ↦ put_here m e n s same tells.0 is
+        | inr apart ↦ get-insert_other m e.0 n e.1 apart ∙ at
+      ])
+
+  -- entries that agree with the function `g`, put into a map, give each of their numbers the value that `g` has for it
+  agreeing_comes : (m : FinMap nat_cmp ℕ) (es : Entries) (n s : ℕ) → AgreeWith es → g n ≡ Some s → is_some (find nat_cmp n es) ≡ true → get (with_each m es) n ≡ Some s
+  agreeing_comes m [] n s tells is some = absurd (false≢true some)
+  agreeing_comes m (e ∷ es) n s tells is some = elim (cases_eq n e.0) [
+    | inl same ↦ agreeing_stays (insert m e.0 e.1) es n s tells.1 is (put_here m e n s same tells.0 is)
+    | inr apart ↦ agreeing_comes (insert m e.0 e.1) es n s tells.1 is (ap is_some (sym (found_other e es n apart)) ∙ some)
+  ]
+
+  -- entries that agree with the function `g` and have all its numbers, put into the empty map, make a map of `g`
+  pub agreeing_put : (es : Entries) → AgreeWith es → ((n s : ℕ) → g n ≡ Some s → is_some (find nat_cmp n es) ≡ true) → (n : ℕ) → get (with_each empty es) n ≡ g n
+  agreeing_put es tells whole n = by_find (find nat_cmp n es) refl
+    where
+      -- the function has no value for a number that isn't among the entries
+      nothing : find nat_cmp n es ≡ None → (o : Option ℕ) → g n ≡ o → o ≡ None
+      nothing none None is = refl
+      nothing none (Some s) is = absurd (false≢true (ap is_some (sym none) ∙ whole n s is))
+
+      -- the map has the function's value for `n`, whether `n` is among the entries or not
+      by_find : (o : Option ℕ) → find nat_cmp n es ≡ o → get (with_each empty es) n ≡ g n
+      by_find None is = left empty es n is ∙ get-empty nat_cmp n ∙ sym (nothing is (g n) refl)
+      by_find (Some s) is =
+          let at : g n ≡ Some s = found_of (λ k t. g k ≡ Some t) es n s (as_pairs (λ k t. g k ≡ Some t) es tells) is in
+          agreeing_comes empty es n s tells at (ap is_some is) ∙ sym at
+
+-- ---- entries with different numbers
 
 -- a map into which entries with different numbers were put has under each number what is found among the entries
 pub found_put : (es : Entries) → IsApart es → (n : ℕ) → get (with_each empty es) n ≡ find nat_cmp n es
-found_put es apart n = by_find (find nat_cmp n es) refl
-  where
-    -- the map has under `n` what is found among the entries, `o`: a value or nothing
-    by_find : (o : Option ℕ) → find nat_cmp n es ≡ o → get (with_each empty es) n ≡ o
-    by_find None is = left empty es n is ∙ get-empty nat_cmp n
-    by_find (Some s) is = put empty es n s apart is
+found_put es apart = agreeing_put (λ n. find nat_cmp n es) es (each_found (λ e. find nat_cmp e.0 es ≡ Some e.1) es apart (λ n s is. is)) (λ n s is. ap is_some is)
 
 -- a number below those of all entries isn't found
 none_under : (k : ℕ) (es : Entries) → AllByRecursion (λ e. k < e.0) es → find nat_cmp k es ≡ None
@@ -200,69 +192,44 @@ put_in_turn {V} es = same_map nat_cmp_total nat_cmp-IsAntisymmetric _ _ (λ n.
 
 -- ---- entries that regions give, where a number gets one share at most
 
+-- a number found among the entries of one element of a list is found among those of all
+pub found_among : (f : ℕ → Entries) (n : ℕ) (xs : List ℕ) (x : ℕ) → list_any (eq_by_cmp nat_cmp x) xs ≡ true → is_some (find nat_cmp n (f x)) ≡ true → is_some (find nat_cmp n (flat_map f xs)) ≡ true
+found_among f n [] x among some = absurd (false≢true among)
+found_among f n (y ∷ xs) x among some = by_first (λ h. found_among f n xs x h some) (find nat_cmp n (f y)) refl (eq_by_cmp nat_cmp x y) refl among
+  where
+    -- a number is found among all entries, whether the entries of the first element have it or those of later ones
+    by_first : (list_any (eq_by_cmp nat_cmp x) xs ≡ true → is_some (find nat_cmp n (flat_map f xs)) ≡ true)
+        → (o : Option ℕ) → find nat_cmp n (f y) ≡ o → (b : Bool) → eq_by_cmp nat_cmp x y ≡ b → (b || list_any (eq_by_cmp nat_cmp x) xs) ≡ true → is_some (find nat_cmp n (flat_map f (y ∷ xs))) ≡ true
+    by_first rest (Some s) is b at h = ap is_some (found_first n (f y) (flat_map f xs) s is)
+    by_first rest None is true at h = absurd (false≢true (sym (ap is_some is) ∙ ap (λ z. is_some (find nat_cmp n (f z))) (sym (eqb-true x y (unsigned_ties x y ∙ at))) ∙ some))
+    by_first rest None is false at h = ap is_some (found_later n (f y) (flat_map f xs) is) ∙ rest h
+
+-- what holds of all entries of each element of a list holds of all entries together
+pub each_flat : {A : Type 0} (P : ℕ × ℕ → Type 0) (f : A → Entries) (xs : List A) → AllByRecursion (λ x. AllByRecursion P (f x)) xs → AllByRecursion P (flat_map f xs)
+each_flat P f [] h = tt
+each_flat P f (x ∷ xs) h = append_each P (f x) (flat_map f xs) h.0 (each_flat P f xs h.1)
+
 module _ (f : ℕ → Entries) where
   -- the entries of some regions, one region after the other
   abbrev from_all : List ℕ → Entries
   from_all rs = flat_map f rs
-
-  -- a number has the same value in the entries of any two regions that have it
-  abbrev GivesOne : ℕ → Type 0
-  GivesOne n = (q r s t : ℕ) → find nat_cmp n (f q) ≡ Some s → find nat_cmp n (f r) ≡ Some t → s ≡ t
-
-  -- a number that no region's entries have isn't found among those of some regions
-  nowhere : (n : ℕ) → ((r : ℕ) → find nat_cmp n (f r) ≡ None) → (rs : List ℕ) → find nat_cmp n (from_all rs) ≡ None
-  nowhere n none [] = refl
-  nowhere n none (r ∷ rs) = found_later n (f r) (from_all rs) (none r) ∙ nowhere n none rs
 
   -- a number found among the entries of some regions is found among those of one of them
   pub somewhere : (n s : ℕ) (rs : List ℕ) → find nat_cmp n (from_all rs) ≡ Some s → (r : ℕ) × (list_any (eq_by_cmp nat_cmp r) rs ≡ true) × (find nat_cmp n (f r) ≡ Some s)
   somewhere n s [] h = none_some s h
   somewhere n s (r ∷ rs) h =
       elim (find nat_cmp n (f r)) as (λ o. find nat_cmp n (f r) ≡ o → (q : ℕ) × (list_any (eq_by_cmp nat_cmp q) (r ∷ rs) ≡ true) × (find nat_cmp n (f q) ≡ Some s)) [
-        | None ↦ λ e. let (q, among, is) = somewhere n s rs (sym (found_later n (f r) (from_all rs) e) ∙ h) in (q, or_later (eq_by_cmp nat_cmp q r) _ among, is)
-        | Some t ↦ λ e. (r, or_first (eq_by_cmp nat_cmp r r) _ (same_key r), e ∙ sym (found_first n (f r) (from_all rs) t e) ∙ h)
+        | None ↦ λ e. let (q, among, is) = somewhere n s rs (sym (found_later n (f r) (from_all rs) e) ∙ h) in (q, or_right (eq_by_cmp nat_cmp q r) _ among, is)
+        | Some t ↦ λ e. (r, or_left (eq_by_cmp nat_cmp r r) _ (sym (unsigned_ties r r) ∙ same_number r), e ∙ sym (found_first n (f r) (from_all rs) t e) ∙ h)
       ] refl
 
-  -- a number found among the entries of one region is found, with that value, among those of all
-  there : (n r s : ℕ) → GivesOne n → find nat_cmp n (f r) ≡ Some s → (rs : List ℕ) → list_any (eq_by_cmp nat_cmp r) rs ≡ true → find nat_cmp n (from_all rs) ≡ Some s
-  there n r s one here [] h = absurd (false≢true h)
-  there n r s one here (q ∷ rs) h =
-      elim (find nat_cmp n (f q)) as (λ o. find nat_cmp n (f q) ≡ o → find nat_cmp n (from_all (q ∷ rs)) ≡ Some s) [
-        | None ↦ λ e. found_later n (f q) (from_all rs) e ∙ there n r s one here rs (not_first (nat_cmp r q) _ (λ o. none_some s (sym e ∙ ap (λ k. find nat_cmp n (f k)) (sym (nat_cmp-IsAntisymmetric r q o)) ∙ here)) h)
-        | Some t ↦ λ e. found_first n (f q) (from_all rs) t e ∙ ap Some (one q r t s e here)
-      ] refl
-
-  module _ (apart : (r : ℕ) → IsApart (f r)) where
-    -- to put in the entries of one region and others is to put in those of the one, and then those of the others
-    with_all : (m : FinMap nat_cmp ℕ) (r : ℕ) (rs : List ℕ) → with_each m (from_all (r ∷ rs)) ≡ with_each (with_each m (f r)) (from_all rs)
-    with_all m r rs = fold-append (λ so_far entry. insert so_far entry.0 entry.1) m (f r) (from_all rs)
-
-    -- a value in the map stays, where no region's entries have another for its number
-    stays : (m : FinMap nat_cmp ℕ) (n s : ℕ) → ((r t : ℕ) → find nat_cmp n (f r) ≡ Some t → t ≡ s) → get m n ≡ Some s → (rs : List ℕ) → get (with_each m (from_all rs)) n ≡ Some s
-    stays m n s same is [] = is
-    stays m n s same is (r ∷ rs) =
-        ap (λ k. get k n) (with_all m r rs) ∙ stays (with_each m (f r)) n s same (elim (find nat_cmp n (f r)) as (λ o. find nat_cmp n (f r) ≡ o → get (with_each m (f r)) n ≡ Some s) [
-          | None ↦ λ e. left m (f r) n e ∙ is
-          | Some t ↦ λ e. put m (f r) n t (apart r) e ∙ ap Some (same r t e)
-        ] refl) rs
-
-    -- a number found among the entries of some regions has that value in the map
-    comes : (m : FinMap nat_cmp ℕ) (n s : ℕ) → GivesOne n → (rs : List ℕ) → find nat_cmp n (from_all rs) ≡ Some s → get (with_each m (from_all rs)) n ≡ Some s
-    comes m n s one [] h = none_some s h
-    comes m n s one (r ∷ rs) h =
-        ap (λ k. get k n) (with_all m r rs) ∙ elim (find nat_cmp n (f r)) as (λ o. find nat_cmp n (f r) ≡ o → get (with_each (with_each m (f r)) (from_all rs)) n ≡ Some s) [
-          | None ↦ λ e. comes (with_each m (f r)) n s one rs (sym (found_later n (f r) (from_all rs) e) ∙ h)
-          | Some t ↦ λ e. stays (with_each m (f r)) n t (λ q u is. one q r u t is e) (put m (f r) n t (apart r) e) rs ∙ sym (found_first n (f r) (from_all rs) t e) ∙ h
-        ] refl
-
-    -- putting the entries of some regions into the empty map gives the map of them, if each number has one value
-    with_each-from_entries : ((n : ℕ) → GivesOne n) → (rs : List ℕ) → with_each empty (from_all rs) ≡ from_entries (from_all rs)
-    with_each-from_entries one rs = same_map nat_cmp_total nat_cmp-IsAntisymmetric _ _ (λ n.
-        elim (find nat_cmp n (from_all rs)) as (λ o. find nat_cmp n (from_all rs) ≡ o → get (with_each empty (from_all rs)) n ≡ o) [
-          | None ↦ λ e. left empty (from_all rs) n e ∙ get-empty nat_cmp n
-          | Some s ↦ λ e. comes empty n s (one n) rs e
-        ] refl
-        ∙ sym (get-from_entries nat_cmp_total (from_all rs) n))
+  -- a number found among the entries of one region is found, with that value, among those of all, if no two regions
+  -- have different values for it
+  there : (n r s : ℕ) → ((q t : ℕ) → find nat_cmp n (f q) ≡ Some t → t ≡ s) → find nat_cmp n (f r) ≡ Some s → (rs : List ℕ) → list_any (eq_by_cmp nat_cmp r) rs ≡ true → find nat_cmp n (from_all rs) ≡ Some s
+  there n r s one here rs among =
+      let (t, found) = is_there (find nat_cmp n (from_all rs)) (found_among f n rs r among (ap is_some here)) in
+      let (q, _, is) = somewhere n t rs found in
+      found ∙ ap Some (one q t is)
 
 -- ---- pairs of numbers and amounts
 
@@ -277,16 +244,15 @@ zip_found P (k ∷ ns) (t ∷ ss) n s h is =
       | Greater ↦ λ _. zip_found P ns ss n s h.1
     ] refl is
 
--- a list of numbers is sorted, each once
+-- a list of numbers is sorted, without duplicates
 abbrev pub IsRisen : List ℕ → Type 0
-IsRisen [] = ⊤
-IsRisen (n ∷ ns) = AllByRecursion (λ k. nat_cmp n k ≡ Less) ns × IsRisen ns
+IsRisen ns = InOrder (λ (n k : ℕ). n < k) ns
 
 -- sorted numbers with amounts are entries of which no two have the same number
 zip_apart : (ns ss : List ℕ) → IsRisen ns → IsApart (zip ns ss)
 zip_apart [] ss h = tt
 zip_apart (n ∷ ns) [] h = tt
-zip_apart (n ∷ ns) (s ∷ ss) h = (refuted _ (λ t is. not_itself n (zip_found (λ k. nat_cmp n k ≡ Less) ns ss n t h.0 is)), zip_apart ns ss h.1)
+zip_apart (n ∷ ns) (s ∷ ss) h = (refuted _ (λ t is. let low = zip_found (λ k. n < k) ns ss n t h.0 is in absurd (omega (arith, low))), zip_apart ns ss h.1)
 
 -- a function that agrees with pairs of numbers and amounts maps the numbers to the amounts
 zip_all : (g : ℕ → Option ℕ) (ns ss : List ℕ) → length ss ≡ length ns → IsApart (zip ns ss) → ((n s : ℕ) → find nat_cmp n (zip ns ss) ≡ Some s → g n ≡ Some s) → map g ns ≡ map Some ss
@@ -294,107 +260,61 @@ zip_all g [] [] l apart h = refl
 zip_all g [] (s ∷ ss) l apart h = absurd (omega arith)
 zip_all g (n ∷ ns) [] l apart h = absurd (omega arith)
 zip_all g (n ∷ ns) (s ∷ ss) l apart h =
-    let first : g n ≡ Some s = h n s (found_head (n, s) (zip ns ss)) in
+    let one : g n ≡ Some s = h n s (first (n, s) (zip ns ss)) in
     let rest : map g ns ≡ map Some ss = zip_all g ns ss (omega arith) apart.1 (λ k t is. h k t (found_tail (n, s) (zip ns ss) k t apart is)) in
-    λ i. first i ∷ rest i
+    λ i. one i ∷ rest i
 
--- ---- units that are in a region
+-- ---- lists of numbers
 
-module _ (p : ℕ → Bool) where
-  -- what holds of each number of a list holds of each that passes a test, and each of these passes it
-  kept_each : (P : ℕ → Type 0) (ns : List ℕ) → AllByRecursion P ns → AllByRecursion (λ n. P n × (p n ≡ true)) (filter p ns)
-  kept_each P [] h = tt
-  kept_each P (n ∷ ns) h = either (kept_each P ns h.1) (p n) refl
+-- if `P` holds of every number on a list, it holds of each element of the list (`AllByRecursion`)
+all_listed : (P : ℕ → Type 0) (ns : List ℕ) → ((n : ℕ) → IsListed n ns → P n) → AllByRecursion P ns
+all_listed P [] h = tt
+all_listed P (n ∷ ns) h = (h n (inl refl), all_listed P ns (λ k is. h k (inr is)))
+
+-- if `P` holds of `f x` for each element `x` of a list, it holds of each element of the list mapped by `f`
+each_mapped : {X Y : Type 0} (f : X → Y) (P : Y → Type 0) (xs : List X) → AllByRecursion (λ x. P (f x)) xs → AllByRecursion P (map f xs)
+each_mapped f P [] h = tt
+each_mapped f P (x ∷ xs) h = (h.0, each_mapped f P xs h.1)
+
+-- the numbers of entries whose numbers rise are sorted
+keys_risen : {V : Type 0} (es : List (ℕ × V)) → Rise es → IsRisen (map (λ e. e.0) es)
+keys_risen [] h = tt
+keys_risen (e ∷ es) h = (each_mapped (λ f. f.0) (λ k. e.0 < k) es h.0, keys_risen es h.1)
+
+module _ {X : Type 0} (p : X → Bool) where
+  -- the elements of a list that pass a test stay in their order (`InOrder`)
+  kept_in_order : (R : X → X → Type 0) (xs : List X) → InOrder R xs → InOrder R (filter p xs)
+  kept_in_order R [] h = tt
+  kept_in_order R (x ∷ xs) h = either (kept_in_order R xs h.1) (p x)
     where
-      -- each number that passes the test keeps its property with `n` in front, whether `n` passes the test or not
-      either : AllByRecursion (λ n. P n × (p n ≡ true)) (filter p ns) → (b : Bool) → p n ≡ b → AllByRecursion (λ n. P n × (p n ≡ true)) (cond b (n ∷ filter p ns) (filter p ns))
-      either rest true e = ((h.0, e), rest)
-      either rest false e = rest
-
-  -- the numbers of a sorted list that pass a test are sorted
-  kept_risen : (ns : List ℕ) → IsRisen ns → IsRisen (filter p ns)
-  kept_risen [] h = tt
-  kept_risen (n ∷ ns) h = either (kept_risen ns h.1) (p n)
-    where
-      -- the numbers that pass the test stay sorted with `n` in front, whether `n` passes the test or not
-      either : IsRisen (filter p ns) → (b : Bool) → IsRisen (cond b (n ∷ filter p ns) (filter p ns))
-      either rest true = (each_so _ _ (λ k both. both.0) (filter p ns) (kept_each (λ k. nat_cmp n k ≡ Less) ns h.0), rest)
+      -- what passes the test is in order with `x` in front, whether `x` passes or not
+      either : InOrder R (filter p xs) → (b : Bool) → InOrder R (cond b (x ∷ filter p xs) (filter p xs))
+      either rest true = (filter_each p (R x) xs h.0, rest)
       either rest false = rest
 
-  -- a number of a list that passes a test has an index among those that pass it
-  kept_index : (ns : List ℕ) (n i : ℕ) → i < length ns → get_or ns i 0 ≡ n → p n ≡ true → (j : ℕ) × (j < length (filter p ns)) × (get_or (filter p ns) j 0 ≡ n)
-  kept_index [] n i l at h = absurd (omega arith)
-  kept_index (k ∷ ns) n zero l at h = subst (λ b. (j : ℕ) × (j < length (cond b (k ∷ filter p ns) (filter p ns))) × (get_or (cond b (k ∷ filter p ns) (filter p ns)) j 0 ≡ n)) (sym (ap p at ∙ h)) (0, omega arith, at)
-  kept_index (k ∷ ns) n (suc i) l at h = either (kept_index ns n i (omega arith) at h) (p k)
+module _ (p : ℕ → Bool) (n : ℕ) where
+  -- a number on a list that passes a test is among those that pass it
+  kept_listed : (ns : List ℕ) → p n ≡ true → IsListed n ns → IsListed n (filter p ns)
+  kept_listed [] h is = is
+  kept_listed (k ∷ ns) h is = by_test (kept_listed ns h) (p k) refl is
     where
-      -- `n` keeps an index among the numbers that pass with `k` in front, whether `k` passes or not
-      either : (j : ℕ) × (j < length (filter p ns)) × (get_or (filter p ns) j 0 ≡ n) → (b : Bool) → (j : ℕ) × (j < length (cond b (k ∷ filter p ns) (filter p ns))) × (get_or (cond b (k ∷ filter p ns) (filter p ns)) j 0 ≡ n)
-      either (j, low, is) true = (suc j, omega arith, is)
-      either (j, low, is) false = (j, low, is)
+      -- the number stays listed with `k` in front, whether `k` passes the test or not
+      by_test : (IsListed n ns → IsListed n (filter p ns)) → (b : Bool) → p k ≡ b → IsListed n (k ∷ ns) → IsListed n (cond b (k ∷ filter p ns) (filter p ns))
+      by_test rest true e (inl same) = inl same
+      by_test rest true e (inr later) = inr (rest later)
+      by_test rest false e (inl same) = absurd (false≢true (sym e ∙ ap p (sym same) ∙ h))
+      by_test rest false e (inr later) = rest later
 
-module _ (r : ℕ) where
-  -- whether a unit is in region `r`
-  abbrev stands : Unit → Bool
-  stands u = u.region == r
-
-  -- the numbers of those units that are in region `r`
-  abbrev listed : List (ℕ × Unit) → List ℕ
-  listed es = numbers_among stands es
-
-  -- a unit, by its number, is among the listed units and in region `r`
-  abbrev StandsIn : List (ℕ × Unit) → ℕ → Type 0
-  StandsIn es n = (u : Unit) × (find nat_cmp n es ≡ Some u) × (u.region ≡ r)
-
-  -- each unit listed for region `r` is among the units and in that region
-  listed_each : (es : List (ℕ × Unit)) → is_sorted nat_cmp es ≡ true → AllByRecursion (StandsIn es) (listed es)
-  listed_each [] s = tt
-  listed_each (e ∷ es) s =
-      let behind = each_so (StandsIn es) (StandsIn (e ∷ es)) (λ n (u, is, here). (u, later e es n u s is, here)) (listed es) (listed_each es (and_parts _ _ s).1) in
-      subst (AllByRecursion (StandsIn (e ∷ es))) (sym (chosen-cons stands e es)) (elim (stands e.1) as (λ b. stands e.1 ≡ b → AllByRecursion (StandsIn (e ∷ es)) (cond b (e.0 ∷ listed es) (listed es))) [
-        | true ↦ λ h. ((e.1, first e es, eqb-true e.1.region r h), behind)
-        | false ↦ λ _. behind
-      ] refl)
-
-  -- a number below those of all units is below those of all units listed for region `r`
-  listed_above : (k : ℕ) (es : List (ℕ × Unit)) → below_all nat_cmp k es ≡ true → AllByRecursion (λ n. nat_cmp k n ≡ Less) (listed es)
-  listed_above k [] h = tt
-  listed_above k (e ∷ es) h =
-      let rest = listed_above k es (and_parts _ _ h).1 in
-      subst (AllByRecursion (λ n. nat_cmp k n ≡ Less)) (sym (chosen-cons stands e es)) (elim (stands e.1) as (λ b. AllByRecursion (λ n. nat_cmp k n ≡ Less) (cond b (e.0 ∷ listed es) (listed es))) [
-        | true ↦ (is_less (nat_cmp k e.0) (and_parts _ _ h).0, rest)
-        | false ↦ rest
-      ])
-
-  -- the numbers of a region's units are sorted
-  listed_risen : (es : List (ℕ × Unit)) → is_sorted nat_cmp es ≡ true → IsRisen (listed es)
-  listed_risen [] s = tt
-  listed_risen (e ∷ es) s =
-      let rest = listed_risen es (and_parts _ _ s).1 in
-      subst IsRisen (sym (chosen-cons stands e es)) (elim (stands e.1) as (λ b. IsRisen (cond b (e.0 ∷ listed es) (listed es))) [
-        | true ↦ (listed_above e.0 es (and_parts _ _ s).0, rest)
-        | false ↦ rest
-      ])
-
-  -- each unit that is in region `r` has an index in the list of the region's units
-  listed_index : (es : List (ℕ × Unit)) (n : ℕ) (u : Unit) → find nat_cmp n es ≡ Some u → stands u ≡ true → (i : ℕ) × (i < length (listed es)) × (get_or (listed es) i 0 ≡ n)
-  listed_index [] n u is h = none_some u is
-  listed_index (e ∷ es) n u is h =
-      subst (λ (ns : List ℕ). (i : ℕ) × (i < length ns) × (get_or ns i 0 ≡ n)) (sym (chosen-cons stands e es))
-      (elim (nat_cmp n e.0) as (λ o. nat_cmp n e.0 ≡ o → cond (is_eq o) (Some e.1) (find nat_cmp n es) ≡ Some u → (i : ℕ) × (i < length (cond (stands e.1) (e.0 ∷ listed es) (listed es))) × (get_or (cond (stands e.1) (e.0 ∷ listed es) (listed es)) i 0 ≡ n)) [
-        | Less ↦ λ _ g. behind (listed_index es n u g h) (stands e.1)
-        | Equal ↦ λ o g. here (sym (nat_cmp-IsAntisymmetric n e.0 o)) (stands e.1) (let one : e.1 ≡ u = cc in ap stands one ∙ h)
-        | Greater ↦ λ _ g. behind (listed_index es n u g h) (stands e.1)
-      ] refl is)
+  -- a number among those of a list that pass a test is on the list, and passes it
+  kept_was : (ns : List ℕ) → IsListed n (filter p ns) → IsListed n ns × (p n ≡ true)
+  kept_was [] is = absurd is
+  kept_was (k ∷ ns) is = by_test (kept_was ns) (p k) refl is
     where
-      -- a unit listed among the later units keeps an index with the first unit in front, whether that is listed or not
-      behind : (i : ℕ) × (i < length (listed es)) × (get_or (listed es) i 0 ≡ n) → (b : Bool) → (i : ℕ) × (i < length (cond b (e.0 ∷ listed es) (listed es))) × (get_or (cond b (e.0 ∷ listed es) (listed es)) i 0 ≡ n)
-      behind (i, low, at) true = (suc i, omega arith, at)
-      behind (i, low, at) false = (i, low, at)
-
-      -- the first unit, if it is in the region, has index 0 in the list
-      here : e.0 ≡ n → (b : Bool) → b ≡ true → (i : ℕ) × (i < length (cond b (e.0 ∷ listed es) (listed es))) × (get_or (cond b (e.0 ∷ listed es) (listed es)) i 0 ≡ n)
-      here at true t = (0, omega arith, at)
-      here at false t = absurd (false≢true t)
+      -- the number was listed and passes, whether `k` in front of the others passes or not
+      by_test : (IsListed n (filter p ns) → IsListed n ns × (p n ≡ true)) → (b : Bool) → p k ≡ b → IsListed n (cond b (k ∷ filter p ns) (filter p ns)) → IsListed n (k ∷ ns) × (p n ≡ true)
+      by_test rest true e (inl same) = (inl same, ap p same ∙ e)
+      by_test rest true e (inr later) = let (was, passes) = rest later in (inr was, passes)
+      by_test rest false e later = let (was, passes) = rest later in (inr was, passes)
 
 -- ---- units with a want
 
@@ -403,25 +323,24 @@ module _ (wants : FinMap nat_cmp ℕ) (units : FinMap nat_cmp Unit) where
   abbrev pub IsTaker : ℕ → ℕ → Type 0
   IsTaker r n = ((u : Unit) × (get units n ≡ Some u) × (u.region ≡ r)) × IsThere wants n
 
-  -- the units of a campaign are sorted by their numbers
-  sorted_units : is_sorted nat_cmp (entries units) ≡ true
-  sorted_units = sorted units
-
   -- each unit listed for region `r` as one with a want is in the region and has a want (`IsTaker`)
   takers_each : (r : ℕ) → AllByRecursion (IsTaker r) (takers_in wants units r)
-  takers_each r =
-      each_so _ (IsTaker r) (λ n ((u, is, here), want). ((u, get-entries units n ∙ is, here), is_there (get wants n) want)) (takers_in wants units r)
-      (kept_each (λ n. is_some (get wants n)) (StandsIn r (entries units)) (numbers_in r units) (listed_each r (entries units) sorted_units))
+  takers_each r = all_listed (IsTaker r) (takers_in wants units r) (λ n is.
+      let (among, want) = kept_was (λ k. is_some (get wants k)) n (numbers_in r units) is in
+      let (u, at, here) = listed_passing (λ (v : Unit). v.region == r) units n among in
+      ((u, at, eqb-true u.region r here), is_there (get wants n) want))
 
   -- the numbers of a region's units that have a want are sorted
   pub takers_risen : (r : ℕ) → IsRisen (takers_in wants units r)
-  takers_risen r = kept_risen (λ n. is_some (get wants n)) (numbers_in r units) (listed_risen r (entries units) sorted_units)
+  takers_risen r =
+      let here = λ (e : ℕ × Unit). e.1.region == r in
+      kept_in_order (λ n. is_some (get wants n)) (λ (n k : ℕ). n < k) (numbers_in r units)
+      (keys_risen (filter here (entries units)) (kept_in_order here (λ (e f : ℕ × Unit). e.0 < f.0) (entries units) (entries_rise units)))
 
-  -- each unit that has a want in a region has an index in the list of those that have one
-  pub taker_index : (n want : ℕ) (u : Unit) → get wants n ≡ Some want → get units n ≡ Some u → (i : ℕ) × (i < length (takers_in wants units u.region)) × (get_or (takers_in wants units u.region) i 0 ≡ n)
-  taker_index n want u wanted is =
-      let (i, low, at) = listed_index u.region (entries units) n u (sym (get-entries units n) ∙ is) (same_number u.region) in
-      kept_index (λ k. is_some (get wants k)) (numbers_in u.region units) n i low at (ap is_some wanted)
+  -- each unit that has a want in a region is listed among those that have one
+  pub taker_listed : (n want : ℕ) (u : Unit) → get wants n ≡ Some want → get units n ≡ Some u → IsListed n (takers_in wants units u.region)
+  taker_listed n want u wanted is =
+      kept_listed (λ k. is_some (get wants k)) n (numbers_in u.region units) (ap is_some wanted) (passing_listed (λ (v : Unit). v.region == u.region) units n u is (same_number u.region))
 
 -- ---- shares of all regions
 
@@ -439,7 +358,7 @@ module _ (pot_of : ℕ → ℕ) (wants : FinMap nat_cmp ℕ) (units : FinMap nat
   given_apart r = zip_apart (takers_in wants units r) (shares (pot_of r) (wants_in wants units r)) (takers_risen wants units r)
 
   -- no unit has shares in two regions
-  gives_one : (n : ℕ) → GivesOne given_in n
+  gives_one : (n q r s t : ℕ) → find nat_cmp n (given_in q) ≡ Some s → find nat_cmp n (given_in r) ≡ Some t → s ≡ t
   gives_one n q r s t is also =
       let ((u, at, here), _) = given_takes q n s is in
       let ((v, at_too, here_too), _) = given_takes r n t also in
@@ -448,48 +367,46 @@ module _ (pot_of : ℕ → ℕ) (wants : FinMap nat_cmp ℕ) (units : FinMap nat
       let share : Some s ≡ Some t = sym is ∙ ap (λ k. find nat_cmp n (given_in k)) region ∙ also in
       cc
 
-  -- putting the shares of some regions into the empty map, in turn, gives the map of them
-  put_all : (rs : List ℕ) → with_each empty (flat_map given_in rs) ≡ from_entries (flat_map given_in rs)
-  put_all rs = with_each-from_entries given_in given_apart gives_one rs
+-- what holds of each region of a campaign, by its number, holds of all keys of the regions
+pub each_region : (P : ℕ → Type 0) (c : CampaignValue) → ((r : ℕ) → IsThere c.regions r → P r) → AllByRecursion P (keys c.regions)
+each_region P c h = by_entries (entries c.regions) (each-from_every (λ r q. get c.regions r ≡ Some q) c.regions (λ r q is. is))
+  where
+    -- what holds of each region holds of all numbers of some entries that are regions of the campaign
+    by_entries : (es : List (ℕ × Region)) → EachOf (λ r q. get c.regions r ≡ Some q) es → AllByRecursion P (map (λ e. e.0) es)
+    by_entries [] all = tt
+    by_entries (e ∷ es) all = (h e.0 (e.1, all.0), by_entries es all.1)
 
 module _ (pot_of : ℕ → ℕ) (wants : FinMap nat_cmp ℕ) (c : CampaignValue) where
-  -- putting the shares of all regions into the empty map, in turn, gives the map `pot_shares` of the definition
-  put_is : with_each empty (flat_map (shares_in pot_of wants c.units) (keys c.regions)) ≡ pot_shares pot_of wants c
-  unfolding pot_shares
-  put_is = put_all pot_of wants c.units (keys c.regions)
-
-  -- once no region is left to come, the map into which all shares were put is `pot_shares` of the definition
-  pub all_put : (given : FinMap nat_cmp ℕ) (coming : List (ℕ × Region)) → coming ≡ []
-      → with_each given (flat_map (shares_in pot_of wants c.units) (map (λ e. e.0) coming)) ≡ with_each empty (flat_map (shares_in pot_of wants c.units) (keys c.regions))
-      → given ≡ pot_shares pot_of wants c
-  all_put given [] none so_far = so_far ∙ put_is
-  all_put given (e ∷ coming) none so_far = cc
-
   -- the share of a unit is the one found among those of all regions
   pub found_is : (n : ℕ) → share_of pot_of wants c n ≡ find nat_cmp n (flat_map (shares_in pot_of wants c.units) (keys c.regions))
   unfolding pot_shares
   found_is n = get-from_entries nat_cmp_total (flat_map (shares_in pot_of wants c.units) (keys c.regions)) n
 
-  -- a region of the campaign is among the keys of the regions
-  among : (r : ℕ) → IsThere c.regions r → list_any (eq_by_cmp nat_cmp r) (keys c.regions) ≡ true
-  among r (v, is) = sym (contains_key-keys c.regions r) ∙ ap is_some is
-
   -- a share found among those of a region of the campaign is the unit's share
   pub given_is : (r n s : ℕ) → IsThere c.regions r → find nat_cmp n (shares_in pot_of wants c.units r) ≡ Some s → share_of pot_of wants c n ≡ Some s
-  given_is r n s region is = found_is n ∙ there (shares_in pot_of wants c.units) n r s (gives_one pot_of wants c.units n) is (keys c.regions) (among r region)
+  given_is r n s (q, is) found =
+      found_is n ∙ there (shares_in pot_of wants c.units) n r s (λ k t also. gives_one pot_of wants c.units n k r t s also found) found (keys c.regions) (sym (contains_key-keys c.regions r) ∙ ap is_some is)
+
+  -- each share of a region of the campaign is its unit's share
+  pub region_agrees : (r : ℕ) → IsThere c.regions r → AllByRecursion (λ e. share_of pot_of wants c e.0 ≡ Some e.1) (shares_in pot_of wants c.units r)
+  region_agrees r region = each_found (λ e. share_of pot_of wants c e.0 ≡ Some e.1) (shares_in pot_of wants c.units r) (given_apart pot_of wants c.units r) (λ n s is. given_is r n s region is)
+
+  -- once no region is left to come, the map into which all shares were put is `pot_shares` of the definition
+  pub all_put : (given : FinMap nat_cmp ℕ) (coming : List (ℕ × Region)) → coming ≡ []
+      → with_each given (flat_map (shares_in pot_of wants c.units) (map (λ e. e.0) coming)) ≡ with_each empty (flat_map (shares_in pot_of wants c.units) (keys c.regions))
+      → given ≡ pot_shares pot_of wants c
+  all_put given [] none so_far = so_far ∙ same_map nat_cmp_total nat_cmp-IsAntisymmetric _ _ (agreeing_put (share_of pot_of wants c) (flat_map (shares_in pot_of wants c.units) (keys c.regions))
+      (each_flat (λ e. share_of pot_of wants c e.0 ≡ Some e.1) (shares_in pot_of wants c.units) (keys c.regions) (each_region (λ r. AllByRecursion (λ e. share_of pot_of wants c e.0 ≡ Some e.1) (shares_in pot_of wants c.units r)) c region_agrees))
+      (λ n s is. ap is_some (sym (found_is n) ∙ is)))
+  all_put given (e ∷ coming) none so_far = cc
 
 -- ---- the regions where a unit has a want
-
--- what holds of each entry holds of its number and value
-pub as_pairs : (P : ℕ → ℕ → Type 0) (es : Entries) → AllByRecursion (λ e. P e.0 e.1) es → EachOf P es
-as_pairs P [] h = tt
-as_pairs P (e ∷ es) h = (h.0, as_pairs P es h.1)
 
 -- a number that is in a map is still in it after another entry is put in
 some_more : (m : FinMap nat_cmp ℕ) (k v n : ℕ) → is_some (get m n) ≡ true → is_some (get (insert m k v) n) ≡ true
 some_more m k v n h = ap is_some (get-insert nat_cmp_total m k v n) ∙ elim (is_eq (nat_cmp n k)) as (λ b. is_some (cond b (Some v) (get m n)) ≡ true) [ true ↦ refl | false ↦ h ]
 
--- a number that is set in a map is there
+-- a number under which a value was put into a map is in the map
 pub some_new : (m : FinMap nat_cmp ℕ) (n v : ℕ) → is_some (get (insert m n v) n) ≡ true
 some_new m n v = ap is_some (get-insert_same m n v)
 
@@ -539,19 +456,20 @@ shares_each_pot pot_of wants c r region =
     let long : length given ≡ length takers = length-shares (pot_of r) (wants_in wants c.units r) ∙ length-map takers (want_of wants) in
     zip_all (share_of pot_of wants c) takers given long (given_apart pot_of wants c.units r) (λ n s is. given_is pot_of wants c r n s region is)
 
+-- if a function has for the numbers `ns` the shares `ss`, each at most the number's want, it has such a share for each
+shared_by : (g : ℕ → Option ℕ) (want : ℕ → ℕ) (ns ss : List ℕ) → map g ns ≡ map Some ss → ((i : ℕ) → get_or ss i 0 ≤ get_or (map want ns) i 0) → (n : ℕ) → IsListed n ns → (share : ℕ) × (g n ≡ Some share) × (share ≤ want n)
+shared_by g want [] ss same low n is = absurd is
+shared_by g want (k ∷ ns) [] same low n is = cc
+shared_by g want (k ∷ ns) (s ∷ ss) same low n (inl at) = (s, ap g at ∙ (cc), subst (λ j. s ≤ want j) (sym at) (low 0))
+shared_by g want (k ∷ ns) (s ∷ ss) same low n (inr rest) = shared_by g want ns ss (cc) (λ i. low (suc i)) n rest
+
 -- each unit that has a want and is in a region of the campaign has a share, at most its want
 pub each_taker_gets : EachTakerGets
 each_taker_gets pot_of wants c n want u wanted is region =
-    let r = u.region in
-    let takers = takers_in wants c.units r in
-    let given = shares (pot_of r) (wants_in wants c.units r) in
-    let (i, low, at) = taker_index wants c.units n want u wanted is in
-    let long : length given ≡ length takers = length-shares (pot_of r) (wants_in wants c.units r) ∙ length-map takers (want_of wants) in
-    let share : share_of pot_of wants c n ≡ Some (get_or given i 0) =
-    ap (share_of pot_of wants c) (sym at) ∙ sym (get_or-map (share_of pot_of wants c) takers i 0 None low)
-    ∙ ap (λ os. get_or os i None) (shares_each_pot pot_of wants c r region) ∙ get_or-map Some given i 0 None (omega arith) in
-    let amount : get_or (wants_in wants c.units r) i 0 ≡ want = get_or-map (want_of wants) takers i 0 0 low ∙ ap (want_of wants) at ∙ ap (λ o. unwrap_or o 0) wanted in
-    (get_or given i 0, share, subst (λ w. get_or given i 0 ≤ w) amount (share_at_most (pot_of r) (wants_in wants c.units r) i))
+    let takers = takers_in wants c.units u.region in
+    let given = shares (pot_of u.region) (wants_in wants c.units u.region) in
+    let (share, has, low) = shared_by (share_of pot_of wants c) (want_of wants) takers given (shares_each_pot pot_of wants c u.region region) (share_at_most (pot_of u.region) (wants_in wants c.units u.region)) n (taker_listed wants c.units n want u wanted is) in
+    (share, has, subst (λ o. share ≤ unwrap_or o 0) wanted low)
 
 -- each unit that has a share wants at least that much, and is in a region of the campaign
 pub only_takers_get : OnlyTakersGet

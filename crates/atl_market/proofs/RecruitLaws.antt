@@ -1,46 +1,38 @@
 -- Laws of RECRUIT: it keeps a campaign early, its books balanced and units without an order as they are; all shares can
 -- be given.
 use Rattle.std.proofs.Common.{◌≡◌, ◌≢◌, ℕ, ◌+◌, ◌-◌, ◌*◌, ◌/◌, ◌≤◌, Some, List, [], ◌∷◌, length, refl, sym, ap, subst, ◌∙◌, arith}
-use Rattle.std.specs.Prelude.{ℤ, fold, pos, neg_ℤ, min}
+use Rattle.std.specs.Prelude.{fold, pos, neg_ℤ, min}
 use Rattle.std.specs.Option.{option_map_or}
 use Rattle.std.specs.Ordering.{nat_cmp}
 use Rattle.std.specs.FinMap.{FinMap, entries, get, insert}
 use Rattle.std.proofs.lemmas.Int.{ints}
 use Rattle.std.proofs.Math.Nat.{div-le_self, mul-div-le, mul-le-mul_right, mul_comm}
 use Rattle.atl_world.specs.Worlds.{WorldValue}
-use Rattle.atl_world.specs.Sums.{changed, changed_at}
-use Rattle.atl_world.proofs.Maps.{insert_over}
 use Rattle.atl_records.specs.declared.books.Entry.{Entry}
 use Rattle.atl_records.specs.declared.books.Entry.TheVariants.{Recruiting}
 use Rattle.atl_records.specs.declared.books.Thing.{Thing}
 use Rattle.atl_records.specs.declared.books.Thing.TheVariants.{Money}
 use Rattle.atl_records.specs.declared.records.Region.{Region}
 use Rattle.atl_records.specs.declared.records.Unit.{Unit}
-use Rattle.atl_campaign.specs.Covers.{MarksChanges}
 use Rattle.atl_records.specs.Every.{Every}
 use Rattle.atl_campaign.specs.Good.{IsEarly}
 use Rattle.atl_records.specs.Holdings.{HoldingValue}
 use Rattle.atl_campaign.specs.Lending.{with_held, with_holding}
 use Rattle.atl_records.specs.Limits.{holding_limit, men_limit, most_units}
-use Rattle.atl_campaign.specs.Marking.{mark_amount, mark_region, mark_unit_row}
-use Rattle.atl_campaign.specs.Campaign.{MarkedCampaign, CampaignValue, region_changed, with_amount, with_money, with_peasants}
-use Rattle.atl_campaign.specs.Campaign as state
+use Rattle.atl_campaign.specs.Campaign.{CampaignValue, region_changed, with_amount, with_peasants}
 use Rattle.atl_campaign.proofs.ReadBackLaws.{entries_rise}
-use Rattle.atl_campaign.proofs.CoverLaws.{marks-amount, marks-region, marks-trans}
 use Rattle.atl_records.proofs.EveryLaws.{each-from_every, get-insert_other}
-use Rattle.atl_campaign.proofs.HoldingLaws.{marks-unit_row}
-use Rattle.atl_campaign.proofs.RegionLaws.{IsRegion-peasants, get-insert_same, steady-region}
+use Rattle.atl_campaign.proofs.RegionLaws.{IsRegion-peasants, steady-region}
 use Rattle.atl_phase.specs.Meaning.{LeavesWell, BookBound, most_moved}
 use Rattle.atl_phase.specs.Bounds.{HaveRoom, moved_times}
 use Rattle.atl_phase.specs.PhaseOrders.{Task}
 use Rattle.atl_phase.proofs.BookingLaws.{within-neg}
-use Rattle.atl_phase.proofs.MarkLaws.{marks_by}
 use Rattle.atl_phase.proofs.MeaningLaws.{room_less, well_within}
 use Rattle.atl_market.specs.PotPhase.{after_sharing, given_by}
 use Rattle.atl_market.specs.Bounds.{CanInTurn}
 use Rattle.atl_market.specs.Recruit.{after_recruiting, recruit_moves, recruit_pots, recruits_at, with_paid_recruits}
 use Rattle.atl_market.specs.Unordered.{OthersAreNoWorse}
-use Rattle.atl_market.proofs.DrawLaws.{AreReady, Drains, DrawnPots, HaveEnough, all_pairs, drawn, one_drains, one_draws, pot_is_enough, ready_after, region_pots, untouched, who_stand}
+use Rattle.atl_market.proofs.DrawLaws.{AreReady, Drains, DrawnPots, HaveEnough, all_pairs, drawn, one_drains, one_draws, pot_is_enough, ready_after, region_pots, untouched, draws_region}
 use Rattle.atl_campaign.proofs.HavingLaws.{MayHave, may_have}
 use Rattle.atl_market.proofs.ExchangeLaws.{KeepsTogether, exchange_well}
 use Rattle.atl_market.proofs.UnorderedLaws.{others_no_worse}
@@ -114,36 +106,6 @@ module _ (w : WorldValue) (c : CampaignValue) (n : ℕ) (u : Unit) (q : Region) 
         exchange_well w c n u q (with_fewer_peasants q recruits) more Recruiting (neg_ℤ (pos cost)) is around holding_limit may (λ g. g)
         (steady-region (with_fewer_peasants q recruits) peopled u.region q around w (IsRegion-peasants q (q.peasants - recruits) (omega (arith, within.peasants)) within) (early.steady.known.markets u.region q around))
         together (within-neg cost holding_limit (omega (arith, payable, (may_have w c n u is early.steady).limits.money))) early
-
--- ---- marks
-
--- setting a region's peasants and booking the cost of its recruits marks all that changes
-pub leaving_marks : (c d e : MarkedCampaign) (region peasants : ℕ) (z : ℤ) → d.value ≡ with_peasants c.value region peasants → d.marks ≡ mark_region c region
-    → e.value ≡ with_amount d.value Recruiting Money z → e.marks ≡ mark_amount d Recruiting Money → MarksChanges c e
-leaving_marks c d e region peasants z d_is d_marks e_is e_marks =
-    marks-trans c d e (marks_by c d _ d_is d_marks (marks-region (λ r. record r { peasants = peasants }) (λ r. refl) c region))
-    (marks_by d e _ e_is e_marks (marks-amount d Recruiting Money z))
-
--- replacing the holding of a unit that is there replaces it under the unit's number alone
-pub held_is : (c d : CampaignValue) (n : ℕ) (u : Unit) (h : HoldingValue) → get c.units n ≡ Some u → d ≡ with_holding c n h → d ≡ record c { units = insert c.units n (record u { holding = h }) }
-held_is c d n u h is same = same ∙ ap (with_held c n h) is
-
--- setting a unit's men and then its money replaces its holding by one with the new men and money
-pub joined_is : (a b c : CampaignValue) (n : ℕ) (u : Unit) (men money : ℕ) → get a.units n ≡ Some u → b ≡ state.with_men a n men → c ≡ with_money b n money → c ≡ with_holding a n (record u.holding { men = men; money = money })
-joined_is a b c n u men money is b_is c_is =
-    let peopled = record u { holding = record u.holding { men = men } } in
-    let paid = record u { holding = record u.holding { men = men; money = money } } in
-    let first : changed (λ u. record u { holding = record u.holding { men = men } }) a.units n ≡ insert a.units n peopled = ap (changed_at _ a.units n) is in
-    let units : b.units ≡ insert a.units n peopled = ap (λ (s : CampaignValue). s.units) b_is ∙ first in
-    let there : get b.units n ≡ Some peopled = ap (λ m. get m n) units ∙ get-insert_same a.units n peopled in
-    let second : changed (λ u. record u { holding = record u.holding { money = money } }) b.units n ≡ insert a.units n paid = ap (changed_at _ b.units n) there ∙ ap (λ m. insert m n paid) units ∙ insert_over a.units n peopled paid in
-    c_is ∙ ap (λ m. record b { units = m }) second ∙ ap (λ (s : CampaignValue). record s { units = insert a.units n paid }) b_is ∙ sym (ap (with_held a n (record u.holding { men = men; money = money })) is)
-
--- setting a unit's men and then its money marks all that changes
-pub joined_marks : (a b c : MarkedCampaign) (n men money : ℕ) → b.value ≡ state.with_men a.value n men → b.marks ≡ mark_unit_row a n → c.value ≡ with_money b.value n money → c.marks ≡ mark_unit_row b n → MarksChanges a c
-joined_marks a b c n men money b_is b_marks c_is c_marks =
-    marks-trans a b c (marks_by a b _ b_is b_marks (marks-unit_row (λ u. record u { holding = record u.holding { men = men } }) (λ u. refl) a n))
-    (marks_by b c _ c_is c_marks (marks-unit_row (λ u. record u { holding = record u.holding { money = money } }) (λ u. refl) b n))
 
 -- ---- one step
 
@@ -261,7 +223,7 @@ module _ (w : WorldValue) (c : CampaignValue) where
     -- each region has peasants enough for all its recruits
     all_enough : HaveEnough pots c shares
     all_enough r q around =
-        let few : drawn (who_stand c.units r) shares ≤ q.peasants / w.rules.recruit_fraction = subst (λ pot. drawn (who_stand c.units r) shares ≤ pot) (ap (λ o. option_map_or (λ (x : Region). x.peasants / w.rules.recruit_fraction) o 0) around) (pot_is_enough _ _ c r (q, around)) in
+        let few : drawn (draws_region c.units r) shares ≤ q.peasants / w.rules.recruit_fraction = subst (λ pot. drawn (draws_region c.units r) shares ≤ pot) (ap (λ o. option_map_or (λ (x : Region). x.peasants / w.rules.recruit_fraction) o 0) around) (pot_is_enough _ _ c r (q, around)) in
         omega (arith, few, part q.peasants w.rules.recruit_fraction)
 
     -- at most 100,000 units get recruits, as many as there may be

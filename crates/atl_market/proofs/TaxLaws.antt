@@ -11,32 +11,28 @@ use Rattle.atl_records.specs.declared.books.Thing.TheVariants.{Money, People, It
 use Rattle.atl_records.specs.declared.records.Region.{Region}
 use Rattle.atl_records.specs.declared.records.Unit.{Unit}
 use Rattle.atl_records.specs.Books.{amount_in}
-use Rattle.atl_campaign.specs.Covers.{MarksChanges}
 use Rattle.atl_records.specs.Every.{Every}
 use Rattle.atl_campaign.specs.Good.{IsEarly}
 use Rattle.atl_records.specs.Holdings.{amount_of}
 use Rattle.atl_records.specs.Limits.{holding_limit}
-use Rattle.atl_campaign.specs.Marking.{mark_region, mark_unit_row}
-use Rattle.atl_campaign.specs.Campaign.{MarkedCampaign, CampaignValue, region_changed, with_money, with_region_money}
+use Rattle.atl_campaign.specs.Campaign.{CampaignValue, region_changed, with_money, with_region_money}
 use Rattle.atl_records.specs.Amounts.{region_amount, unit_amount}
 use Rattle.atl_campaign.specs.Totals.{total}
 use Rattle.atl_campaign.proofs.ReadBackLaws.{entries_rise}
-use Rattle.atl_campaign.proofs.CoverLaws.{marks-region, marks-trans}
 use Rattle.atl_records.proofs.EveryLaws.{each-from_every}
-use Rattle.atl_campaign.proofs.HoldingLaws.{marks-unit_row, may_hold_money, of_one_faction_kept, steady-unit_amount, total-unit_amount}
+use Rattle.atl_campaign.proofs.HoldingLaws.{may_hold_money, of_one_faction_kept, steady-unit_amount, total-unit_amount}
 use Rattle.atl_campaign.proofs.RegionLaws.{IsRegion-money, steady-region, total-region}
 use Rattle.atl_phase.specs.Meaning.{LeavesWell}
 use Rattle.atl_phase.specs.Bounds.{moved_times}
 use Rattle.atl_phase.specs.NoWorse.{AreNoWorse}
 use Rattle.atl_phase.specs.Unbooked.{moves_nothing}
 use Rattle.atl_phase.specs.PhaseOrders.{Task}
-use Rattle.atl_phase.proofs.MarkLaws.{marks_by}
 use Rattle.atl_phase.proofs.MeaningLaws.{near_same, same_month_by, well_within}
 use Rattle.atl_phase.proofs.NoWorseLaws.{are_no_worse, are_no_worse_twice}
 use Rattle.atl_market.specs.PotPhase.{after_sharing, given_by}
 use Rattle.atl_market.specs.Bounds.{CanInTurn}
 use Rattle.atl_market.specs.Tax.{after_tax, money_at, tax_pots}
-use Rattle.atl_market.proofs.DrawLaws.{AreReady, Drains, DrawnPots, HaveEnough, all_pairs, drawn, one_drains, one_draws, pot_is_enough, ready_after, region_pots, untouched, who_stand}
+use Rattle.atl_market.proofs.DrawLaws.{AreReady, Drains, DrawnPots, HaveEnough, all_pairs, drawn, one_drains, one_draws, pot_is_enough, ready_after, region_pots, untouched, draws_region}
 use Rattle.atl_market.proofs.MoreMoneyLaws.{others_stay, paid, richer, richer_is, richer_no_worse}
 use Rattle.atl_market.proofs.ThereLaws.{by_region, by_unit, region_there, unit_there}
 use Rattle.atl_market.proofs.TurnLaws.{turns_leave_well}
@@ -94,15 +90,6 @@ module _ (w : WorldValue) (c : CampaignValue) (n : ℕ) (u : Unit) (q : Region) 
           balances = λ old t. ap pos (same_total t (total-region (drain q share) (richer c n u share) u.region q around t) (total-unit_amount w c n u (paid c n u share) is t)) ∙ old t;
           near = λ e t. near_same 0 (amount_in c.books e t);
         }
-
--- ---- marks
-
--- setting the money of a unit and of its region marks all that changes
-pub tax_marks : (c d e : MarkedCampaign) (n money region left : ℕ) → d.value ≡ with_money c.value n money → d.marks ≡ mark_unit_row c n
-    → e.value ≡ with_region_money d.value region left → e.marks ≡ mark_region d region → MarksChanges c e
-tax_marks c d e n money region left d_is d_marks e_is e_marks =
-    marks-trans c d e (marks_by c d _ d_is d_marks (marks-unit_row (λ u. record u { holding = record u.holding { money = money } }) (λ u. refl) c n))
-    (marks_by d e _ e_is e_marks (marks-region (λ r. record r { money = left }) (λ r. refl) d region))
 
 -- ---- one step
 
@@ -202,7 +189,7 @@ module _ (w : WorldValue) (c : CampaignValue) where
 
     -- each region has money enough for all shares
     all_enough : HaveEnough pots c shares
-    all_enough r q around = subst (λ pot. drawn (who_stand c.units r) shares ≤ pot) (ap (λ o. option_map_or money_of o 0) around) (pot_is_enough _ _ c r (q, around))
+    all_enough r q around = subst (λ pot. drawn (draws_region c.units r) shares ≤ pot) (ap (λ o. option_map_or money_of o 0) around) (pot_is_enough _ _ c r (q, around))
 
     -- all shares of TAX can be paid in turn, in an early campaign
     pub can_share_out : CanInTurn (CanTax w) after_tax c shares

@@ -46,7 +46,7 @@ use Rattle.atl_phase.proofs.BookingLaws.{within-neg, within-pos}
 use Rattle.atl_phase.proofs.ChangeLaws.{changed_held}
 use Rattle.atl_phase.proofs.MarkLaws.{marks_by}
 use Rattle.atl_phase.proofs.MeaningLaws.{room_less, well_unchanged, well_within}
-use Rattle.atl_market.specs.AtOnce.{stands_in}
+use Rattle.atl_market.specs.AtOnce.{is_in_region}
 use Rattle.atl_market.specs.ItemPots.{is_for, wants_for}
 use Rattle.atl_market.specs.PotPhase.{after_sharing, count_in, given_by, item_in, items_by, wants_by}
 use Rattle.atl_market.specs.Bounds.{CanInTurn}
@@ -107,7 +107,7 @@ module _ (w : WorldValue) (c : CampaignValue) (n : ℕ) (u : Unit) (q : Region) 
   abbrev left : CampaignValue
   left = region_changed (λ r. restocked r i d.stock) paid u.region
 
-  -- setting the result of a trade, by a unit that is there, gives the campaign `after`
+  -- setting unit `n`, which is there, its region's stock and the books to what the trade leaves gives the campaign `after`
   pub deal_is : with_result c n u i entry d ≡ after
   deal_is = ap (λ o. with_amount (with_stock (with_held c n more o) u.region i d.stock) entry Money d.booked) is
 
@@ -241,7 +241,7 @@ stock_low w c r q i early around = by_amount (get q.stocks i) refl
 
 -- which units draw from the pot of a region and an item: those that are in the region and whose order names the item
 abbrev pub draws_item : FinMap nat_cmp Unit → FinMap nat_cmp ℕ → ℕ × ℕ → ℕ → Bool
-draws_item units items k n = stands_in k.0 (get units n) && is_for k.1 (get items n)
+draws_item units items k n = is_in_region k.0 (get units n) && is_for k.1 (get items n)
 
 -- the pots of SELL or BUY, by region and item
 abbrev pub item_pots : Trade → WorldValue → FinMap nat_cmp Unit → FinMap nat_cmp ℕ → DrawnPots (ℕ × ℕ)
@@ -298,7 +298,7 @@ module _ (trade : Trade) (items : FinMap nat_cmp ℕ) (w : WorldValue) (c : Camp
     made_drains units there =
         region_drains (item_pots trade w units items) c e (after_trade trade items w c e) can.at.unit.region can.at.region can.at.around (λ r. restocked r m.item deal.stock) (ap (λ (d : CampaignValue). d.regions) made_is)
         (λ k same. here k same (eq_by_cmp nat_cmp k.1 m.item) refl)
-        (λ k apart. ap (λ b. b && is_for k.1 (get items e.0)) (ap (stands_in k.0) there ∙ other_number can.at.unit.region k.0 (λ is. apart (sym is))))
+        (λ k apart. ap (λ b. b && is_for k.1 (get items e.0)) (ap (is_in_region k.0) there ∙ other_number can.at.unit.region k.0 (λ is. apart (sym is))))
       where
         -- a number plus 0 is the number
         no_less : (a : ℕ) → a + 0 ≡ a
@@ -307,7 +307,7 @@ module _ (trade : Trade) (items : FinMap nat_cmp ℕ) (w : WorldValue) (c : Camp
         -- the unit draws from a pot of its own region exactly if the pot is of the market's item
         told_is : (k : ℕ × ℕ) → k.0 ≡ can.at.unit.region → draws_item units items k e.0 ≡ (m.item == k.1)
         told_is k same =
-            ap (λ b. b && is_for k.1 (get items e.0)) (ap (stands_in k.0) there ∙ ap (λ r. can.at.unit.region == r) same ∙ same_number can.at.unit.region)
+            ap (λ b. b && is_for k.1 (get items e.0)) (ap (is_in_region k.0) there ∙ ap (λ r. can.at.unit.region == r) same ∙ same_number can.at.unit.region)
             ∙ ap (is_for k.1) market.told
 
         -- a pot of the unit's region has the share less if it is of the market's item, and else stays as it was
@@ -435,7 +435,7 @@ module _ (trade : Trade) (items : FinMap nat_cmp ℕ) (w : WorldValue) (world : 
             let market = market_is w world u (get items e.0) m at in
             let k : ℕ × ℕ = (u.region, m.item) in
             let drawing : draws_item c.units items k e.0 ≡ true =
-            ap (λ b. b && is_for m.item (get items e.0)) (ap (stands_in u.region) there ∙ same_number u.region) ∙ ap (is_for m.item) market.told ∙ same_number m.item in
+            ap (λ b. b && is_for m.item (get items e.0)) (ap (is_in_region u.region) there ∙ same_number u.region) ∙ ap (is_for m.item) market.told ∙ same_number m.item in
             let few = first_draws pots d e es ready.enough k q around drawing in
             let limit : stock_limit w u.region m.item ≡ m.limit = ap (λ o. option_map_or (λ (x : Market). x.limit) o most_amount) market.there in
             has_pot (limit_of w m.item u.region) (amount_of q.stocks m.item) e.1 m (ap (λ o. option_map_or (λ (x : Market). x.limit) o 0) market.there)

@@ -16,27 +16,23 @@ use Rattle.atl_records.specs.declared.books.Entry.TheVariants.{Wages}
 use Rattle.atl_records.specs.declared.books.Thing.{Thing}
 use Rattle.atl_records.specs.declared.books.Thing.TheVariants.{Money, People, Item}
 use Rattle.atl_records.specs.declared.records.Unit.{Unit}
-use Rattle.atl_campaign.specs.Covers.{MarksChanges}
 use Rattle.atl_records.specs.Every.{Every}
 use Rattle.atl_campaign.specs.Good.{IsSteady}
 use Rattle.atl_records.specs.Holdings.{HoldingValue, amount_of}
 use Rattle.atl_records.specs.Limits.{holding_limit, most_units}
-use Rattle.atl_campaign.specs.Marking.{mark_amount, mark_unit_row}
-use Rattle.atl_campaign.specs.Campaign.{MarkedCampaign, CampaignValue, with_amount, with_money}
+use Rattle.atl_campaign.specs.Campaign.{CampaignValue, with_amount, with_money}
 use Rattle.atl_records.specs.Amounts.{unit_amount}
 use Rattle.atl_campaign.specs.Totals.{total}
 use Rattle.atl_campaign.proofs.ReadBackLaws.{Rise, entries_rise}
 use Rattle.atl_records.proofs.BookLaws.{booked-after_booking, share_of}
-use Rattle.atl_campaign.proofs.CoverLaws.{marks-amount, marks-trans}
 use Rattle.atl_records.proofs.EveryLaws.{each-from_every}
-use Rattle.atl_campaign.proofs.HoldingLaws.{marks-unit_row, may_hold_money, steady-unit_amount, total-unit_amount}
+use Rattle.atl_campaign.proofs.HoldingLaws.{may_hold_money, steady-unit_amount, total-unit_amount}
 use Rattle.atl_campaign.proofs.RegionLaws.{steady-amount, total-amount}
 use Rattle.atl_phase.specs.Meaning.{LeavesWell, BookBound, most_moved}
 use Rattle.atl_phase.specs.Bounds.{HaveRoom, moved_times}
 use Rattle.atl_phase.specs.NoWorse.{AreNoWorse}
 use Rattle.atl_phase.specs.PhaseOrders.{Task}
 use Rattle.atl_phase.proofs.BookingLaws.{booked-near, within-pos}
-use Rattle.atl_phase.proofs.MarkLaws.{marks_by}
 use Rattle.atl_phase.proofs.MeaningLaws.{room_less, same_month_by, well_within}
 use Rattle.atl_phase.proofs.NoWorseLaws.{are_no_worse, are_no_worse_twice}
 use Rattle.atl_market.specs.PotPhase.{after_sharing, given_by}
@@ -108,15 +104,6 @@ module _ (w : WorldValue) (c : CampaignValue) (n : ℕ) (u : Unit) (money : ℕ)
   -- no unit is worse off once unit `n` got wages
   pub wages_no_worse : AreNoWorse c wages_paid
   wages_no_worse k v there = richer_no_worse c n u money is k v there
-
--- ---- marks
-
--- setting a unit's money and booking its wages marks all that changes
-pub wages_marks : (c d e : MarkedCampaign) (n money unit_amount : ℕ) → d.value ≡ with_money c.value n unit_amount → d.marks ≡ mark_unit_row c n
-    → e.value ≡ with_amount d.value Wages Money (pos money) → e.marks ≡ mark_amount d Wages Money → MarksChanges c e
-wages_marks c d e n money unit_amount d_is d_marks e_is e_marks =
-    marks-trans c d e (marks_by c d _ d_is d_marks (marks-unit_row (λ u. record u { holding = record u.holding { money = unit_amount } }) (λ u. refl) c n))
-    (marks_by d e _ e_is e_marks (marks-amount d Wages Money (pos money)))
 
 -- ---- one step
 

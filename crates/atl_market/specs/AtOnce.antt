@@ -13,13 +13,13 @@ use Rattle.atl_phase.specs.PhaseOrders.{Task}
 use Rattle.atl_market.specs.ItemPots.{is_for}
 use Rattle.atl_market.specs.PotPhase.{PotMeaning, after_sharing, given_by}
 
--- whether a unit is there and is in a region, by the region's number
-abbrev pub stands_in : ℕ → Option Unit → Bool
-stands_in region unit = option_map_or (λ u. u.region == region) unit false
+-- whether a unit is there (Some) and is in the region with the given number
+abbrev pub is_in_region : ℕ → Option Unit → Bool
+is_in_region region unit = option_map_or (λ u. u.region == region) unit false
 
 -- the sum of what the units in a region got; `given` has the amounts by unit
 abbrev pub given_in : FinMap nat_cmp ℕ → FinMap nat_cmp Unit → (region : ℕ) → ℕ
-given_in given units region = sum (map (λ e. e.1) (filter (λ e. stands_in region (get units e.0)) (entries given)))
+given_in given units region = sum (map (λ e. e.1) (filter (λ e. is_in_region region (get units e.0)) (entries given)))
 
 -- a function that says what a unit is after it got its share
 abbrev pub UnitChange : Type 0
@@ -54,7 +54,7 @@ unchanged_region q share = q
 -- the sum of what those units in a region got that ask for an item; `item_of` has the item by unit
 abbrev pub given_of : (item_of : ℕ → Option ℕ) → FinMap nat_cmp ℕ → FinMap nat_cmp Unit → (region item : ℕ) → ℕ
 given_of item_of given units region item =
-    sum (map (λ e. e.1) (filter (λ e. stands_in region (get units e.0) && is_for item (item_of e.0)) (entries given)))
+    sum (map (λ e. e.1) (filter (λ e. is_in_region region (get units e.0) && is_for item (item_of e.0)) (entries given)))
 
 -- The region `after` is `q` with only its stocks changed: the stock of each item is `becomes` of the old stock and of
 -- the amount of the item that was given.

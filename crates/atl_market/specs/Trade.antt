@@ -63,9 +63,9 @@ abbrev pub most_tradable : Trade → HoldingValue → Market → ℕ
 most_tradable Sell h m = min (amount_of h.items m.item) ((holding_limit - h.money) / m.pays)
 most_tradable Buy h m = min (h.money / m.price) (holding_limit - amount_of h.items m.item)
 
--- how many pieces a unit wants to trade: what its order asks for (`told`), at most what it can; 0 without a market
-abbrev pub trade_want : Trade → HoldingValue → (told : ℕ) → Option Market → ℕ
-trade_want trade h told market = option_map_or (λ m. min told (most_tradable trade h m)) market 0
+-- how many pieces a unit wants to trade: what its order asks for (`asked`), at most what it can; 0 without a market
+abbrev pub trade_want : Trade → HoldingValue → (asked : ℕ) → Option Market → ℕ
+trade_want trade h asked market = option_map_or (λ m. min asked (most_tradable trade h m)) market 0
 
 -- ---- the pots
 

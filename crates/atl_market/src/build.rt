@@ -11,7 +11,7 @@ ghost use Rattle.atl_records.specs.Limits.{last_unit, most_structures};
 ghost use Rattle.atl_records.specs.declared.records.Unit.{Unit};
 ghost use Rattle.atl_phase.specs.Bounds.{HaveRoom};
 ghost use Rattle.atl_phase.specs.OrderEffects.{faction_effect};
-ghost use Rattle.atl_market.specs.Build.{after_building_on, after_start, begin, begin_fault, build_moves, build_spec, build_step, go_on, inside_fault, is_building, is_structure_limit, name_prefix, outside_fault, size_added, with_new_structure};
+ghost use Rattle.atl_market.specs.Build.{after_start, begin, begin_fault, build_moves, build_spec, build_step, go_on, inside_fault, is_building, is_structure_limit, name_prefix, outside_fault, size_added};
 ghost use Rattle.atl_market.specs.Bounds.{CanBuild, build_reserve};
 ghost use Rattle.atl_market.specs.Making.{CanUse};
 
@@ -121,34 +121,6 @@ fn name_of(alloc: Global, kind: &Kind, number: u32) -> Result<Text, AllocError>
     Ok(Text::from_string(letters))
 }
 
-/// Adds a structure of a kind, of which `size` is done and which nobody owns yet, and returns its
-/// number.
-fn raise(
-    alloc: Global,
-    campaign: &mut Campaign,
-    number: u16,
-    kind: &Kind,
-    region: u32,
-    size: u32,
-) -> Result<u32, AllocError>
-    requires fresh { map.get campaign.old.value.structures campaign.old.value.next_structure
-        ≡ None }
-    requires room { campaign.old.value.next_structure ≤ most_structures }
-    ensures what { OnOk result
-        (campaign.new.value ≡ with_new_structure campaign.old.value number kind.now region size) }
-    ensures number { IfOk result (λ place. place ≡ campaign.old.value.next_structure) }
-    ensures marks { OnOk result (MarksChanges campaign.old campaign.new) }
-{
-    let name = name_of(alloc, kind, campaign.next_structure())?;
-    campaign.begin_structure(Structure {
-        kind: number,
-        name,
-        region,
-        done: size,
-        owner: 0,
-    })
-}
-
 /// A unit uses `size` of its material for a new structure, leaves its old one and enters the new
 /// one.
 fn start(
@@ -170,7 +142,14 @@ fn start(
     ensures marks { OnOk result (MarksChanges campaign.old campaign.new) }
 {
     use_item(world, campaign, unit, kind.material, size)?;
-    let next = raise(alloc, campaign, number, kind, region, size)?;
+    let name = name_of(alloc, kind, campaign.next_structure())?;
+    let next = campaign.begin_structure(Structure {
+        kind: number,
+        name,
+        region,
+        done: size,
+        owner: 0,
+    })?;
     campaign.place(unit, region, next)?;
     Ok(())
 }
@@ -208,27 +187,6 @@ fn begin(
     Ok(Outcome::Done(u64::from(size)))
 }
 
-/// Takes `size` of a material from a unit, and sets how much of a structure is done.
-fn add(
-    world: &World,
-    campaign: &mut Campaign,
-    unit: u32,
-    material: u16,
-    size: u32,
-    structure: u32,
-    done: u32,
-) -> Result<(), AllocError>
-    requires { CanUse world.now campaign.old.value unit material size }
-    ensures what { OnOk result
-        (campaign.new.value ≡ after_building_on campaign.old.value unit material size structure
-        done) }
-    ensures marks { OnOk result (MarksChanges campaign.old campaign.new) }
-{
-    use_item(world, campaign, unit, material, size)?;
-    campaign.set_done(structure, done);
-    Ok(())
-}
-
 /// Carries out `BUILD`: the unit continues the structure that it is inside; with a fault nothing
 /// changes.
 #[tactic(auto, unfolding(crate::specs::Build::go_on))]
@@ -260,15 +218,8 @@ fn go_on(
     }
     let size = size_added(kind, &unit.holding, structure.done);
     let done = structure.done + size;
-    add(
-        world,
-        campaign,
-        order.unit,
-        kind.material,
-        size,
-        place,
-        done,
-    )?;
+    use_item(world, campaign, order.unit, kind.material, size)?;
+    campaign.set_done(place, done);
     Ok(Outcome::Done(u64::from(size)))
 }
 

@@ -1,11 +1,9 @@
 //! How much of an item a unit can make, and making it. See docs/RULES.md, "Producing".
 ghost use Rattle.std.specs.Prelude.{ℕ, ◌≡◌, ◌≤◌, ◌*◌, IfSome, OnOk};
-ghost use Rattle.std.specs.Option.{option_copied, option_map_or};
-ghost use Rattle.std.specs.List.{slice_get};
+ghost use Rattle.std.specs.Option.{option_copied};
 ghost use Rattle.atl_world.specs.Limits.{most_amount};
 ghost use Rattle.atl_campaign.specs.Covers.{MarksChanges};
 ghost use Rattle.atl_records.specs.Limits.{holding_limit};
-ghost use Rattle.atl_world.specs.declared.world.Item.{Item};
 ghost use Rattle.atl_market.specs.Making.{CanMakeOf, CanUse};
 ghost use Rattle.atl_market.specs.Produce.{is_unskilled, item_of, lacks_raw, make_fault, most_makeable, most_makeable_of, up_to_raw, with_item_made, with_raw_used};
 
@@ -66,12 +64,9 @@ pub(crate) fn make_fault(world: &World, holding: &Holding, asked: Option<u16>) -
         return Some(EventFault::NoSkill);
     };
     if is_unskilled(holding, item) {
-        Some(EventFault::NoSkill)
-    } else if lacks_raw(holding, item.raw_count, item.raw) {
-        Some(EventFault::NoMaterial)
-    } else {
-        None
+        return Some(EventFault::NoSkill);
     }
+    lacks_raw(holding, item.raw_count, item.raw).then_some(EventFault::NoMaterial)
 }
 
 /// How many of an item a unit can make: by its men times level, its room for the item, and its raw
@@ -120,9 +115,9 @@ fn use_raw(
     }
 }
 
-/// Makes `made` pieces of an item that the world has: takes the raw items from the unit, and gives
-/// it the pieces.
-fn make_of(
+/// Makes `made` pieces of the item `found`, which has the number `item`: takes the raw items from a
+/// unit, and gives it the pieces.
+pub(crate) fn make(
     world: &World,
     campaign: &mut Campaign,
     number: u32,
@@ -138,26 +133,4 @@ fn make_of(
     use_raw(world, campaign, number, found, made)?;
     make_item(world, campaign, number, item, made)?;
     Ok(())
-}
-
-/// Makes `made` pieces of an item: takes the raw items from the unit, and gives it the pieces.
-/// Where the world has no such item, nothing changes.
-pub(crate) fn make(
-    world: &World,
-    campaign: &mut Campaign,
-    number: u32,
-    item: u16,
-    made: u32,
-) -> Result<(), AllocError>
-    requires { (x : Item) → slice_get world.now.items item ≡ Some x
-        → CanMakeOf world.now campaign.old.value number made item x }
-    ensures what { OnOk result
-        (campaign.new.value ≡ option_map_or (with_item_made campaign.old.value number made item)
-        (slice_get world.now.items item) campaign.old.value) }
-    ensures marks { OnOk result (MarksChanges campaign.old campaign.new) }
-{
-    match item_of(world, Some(item)) {
-        Some(found) => make_of(world, campaign, number, item, found, made),
-        None => Ok(()),
-    }
 }

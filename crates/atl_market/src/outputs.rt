@@ -15,7 +15,9 @@ use std::alloc::{AllocError, Global};
 /// The pots of PRODUCE: what each region's terrain gives of the items that orders name.
 #[derive(Drop)]
 struct Outputs<'a> {
+    /// The world, whose terrains say what regions give.
     world: &'a World,
+    /// The item that each unit's order names, by unit.
     asked: &'a Numbered<u16>,
 }
 
@@ -46,10 +48,10 @@ impl<'a> ItemPots for Outputs<'a> {
     /// How much of an item a region's terrain gives; 0 where there is no terrain.
     fn pot(&self, item: u32, region: u32) -> u64 {
         match self.world.terrain_of(region) {
-            Some(terrain) => match terrain.output.as_slice().get(item as usize) {
-                Some(amount) => u64::from(*amount),
-                None => 0,
-            },
+            Some(terrain) => {
+                let outputs = terrain.output.as_slice();
+                u64::from(outputs.get(item as usize).copied().unwrap_or(0))
+            }
             None => 0,
         }
     }

@@ -122,102 +122,58 @@ fn unit_for<'c, P: PotPhase>(
     }
 }
 
-/// Puts what a unit wants by an order into a map by unit, if the order has no fault.
+/// Puts what a unit wants by an order, and the item that the order names, into maps by unit, if the
+/// order has no fault.
 #[tactic(auto, using(crate::proofs::WantLaws::one_want))]
-fn note_want<P: PotPhase>(
+fn note_order<P: PotPhase>(
     phase: &P,
     world: &World,
     campaign: &Campaign,
     order: PhaseOrder<'_>,
     wants: &mut Numbered<u32>,
+    items: &mut Numbered<u16>,
 ) -> Result<(), AllocError>
     requires { AreWants wants.old }
-    ensures value { OnOk result
+    ensures wants { OnOk result
         (wants.new ≡ with_any wants.old
         (want_by (P.meaning phase.now) world.now campaign.now.value (task_of order.entry))) }
     ensures bound { OnOk result (AreWants wants.new) }
+    ensures items { OnOk result
+        (items.new ≡ with_any items.old
+        (item_by (P.meaning phase.now) world.now campaign.now.value (task_of order.entry))) }
 {
-    if let Ok(unit) = unit_for(phase, world, campaign, order) {
-        wants.insert(order.unit, phase.want(world, unit, order))?;
-    }
-    Ok(())
-}
-
-/// What each unit wants by its order in `orders`, by unit; an order with a fault wants nothing.
-#[tactic(auto, using(crate::proofs::WantLaws::any_then))]
-fn wants_of<P: PotPhase>(
-    alloc: Global,
-    phase: &P,
-    world: &World,
-    campaign: &Campaign,
-    orders: &[PhaseOrder<'_>],
-) -> Result<Numbered<u32>, AllocError>
-    ensures value { IfOk result
-        (λ wants. wants ≡ wants_by (P.meaning phase.now) world.now campaign.now.value
-        (map task_of orders.now)) }
-    ensures bound { IfOk result (λ wants. AreWants wants) }
-{
-    let mut wants = Numbered::new(alloc);
-    for order in orders {
-        note_want(phase, world, campaign, *order, &mut wants)?;
-    }
-    Ok(wants)
-}
-
-/// Puts the item that an order names into a map by unit, if the order has no fault.
-fn note_item<P: PotPhase>(
-    phase: &P,
-    world: &World,
-    campaign: &Campaign,
-    order: PhaseOrder<'_>,
-    items: &mut Numbered<u16>,
-) -> Result<(), AllocError>
-    ensures { OnOk result (items.new
-        ≡ with_any items.old (item_by (P.meaning phase.now) world.now campaign.now.value
-        (task_of order.entry))) }
-{
-    if let (Ok(_), Some(item)) = (unit_for(phase, world, campaign, order), named_item(order)) {
+    let Ok(unit) = unit_for(phase, world, campaign, order) else {
+        return Ok(());
+    };
+    wants.insert(order.unit, phase.want(world, unit, order))?;
+    if let Some(item) = named_item(order) {
         items.insert(order.unit, item)?;
     }
     Ok(())
 }
 
-/// The item that each unit's order in `orders` names, by unit; an order with a fault counts as
-/// naming none.
+/// What each unit wants by its order in `orders`, and the item that the order names, each by unit.
+/// An order with a fault wants nothing and names no item.
 #[tactic(auto, using(crate::proofs::WantLaws::any_then))]
-fn items_of<P: PotPhase>(
+fn wants_and_items<P: PotPhase>(
     alloc: Global,
     phase: &P,
     world: &World,
     campaign: &Campaign,
     orders: &[PhaseOrder<'_>],
-) -> Result<Numbered<u16>, AllocError>
-    ensures { IfOk result (λ items. items
+) -> Result<(Numbered<u32>, Numbered<u16>), AllocError>
+    ensures wants { IfOk result (λ both. both.0
+        ≡ wants_by (P.meaning phase.now) world.now campaign.now.value (map task_of orders.now)) }
+    ensures bound { IfOk result (λ both. AreWants both.0) }
+    ensures items { IfOk result (λ both. both.1
         ≡ items_by (P.meaning phase.now) world.now campaign.now.value (map task_of orders.now)) }
 {
+    let mut wants = Numbered::new(alloc);
     let mut items = Numbered::new(alloc);
     for order in orders {
-        note_item(phase, world, campaign, *order, &mut items)?;
+        note_order(phase, world, campaign, *order, &mut wants, &mut items)?;
     }
-    Ok(items)
-}
-
-/// How much of its pot each unit gets by the wants of `orders`, by unit.
-fn given_of<P: PotPhase>(
-    alloc: Global,
-    phase: &P,
-    world: &World,
-    campaign: &Campaign,
-    items: &Numbered<u16>,
-    orders: &[PhaseOrder<'_>],
-) -> Result<Numbered<u32>, AllocError>
-    requires { P.needs phase.now world.now campaign.now.value }
-    ensures { IfOk result (λ given. given
-        ≡ PotMeaning.grants (P.meaning phase.now) items.now world.now campaign.now.value
-        (wants_by (P.meaning phase.now) world.now campaign.now.value (map task_of orders.now))) }
-{
-    let wants = wants_of(alloc, phase, world, campaign, orders)?;
-    phase.grants(alloc, world, campaign, items, &wants)
+    Ok((wants, items))
 }
 
 /// The event of an order: its fault, or Done with the event's number for the unit's amount in
@@ -313,8 +269,8 @@ pub(crate) fn share_out<P: PotPhase>(
         ≡ events_by (P.meaning phase.now) world.now campaign.old.value (map task_of orders.now)) }
     ensures marks { OnOk result (MarksChanges campaign.old campaign.new) }
 {
-    let items = items_of(alloc, phase, world, campaign, orders)?;
-    let given = given_of(alloc, phase, world, campaign, &items, orders)?;
+    let (wants, items) = wants_and_items(alloc, phase, world, campaign, orders)?;
+    let given = phase.grants(alloc, world, campaign, &items, &wants)?;
     let events = events_of(alloc, phase, world, campaign, orders, &given)?;
     pay_all(phase, world, campaign, &items, &given)?;
     Ok(events)

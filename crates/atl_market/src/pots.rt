@@ -49,10 +49,7 @@ fn want_of(wants: &Numbered<u32>, number: u32) -> u64
     ensures value { result ≡ want_of wants.now number }
     ensures bound { result ≤ most_amount }
 {
-    match wants.get(number) {
-        Some(want) => u64::from(*want),
-        None => 0,
-    }
+    u64::from(wants.get(number).copied().unwrap_or(0))
 }
 
 /// What each unit of `takers` wants, in their order; 0 where it has no want.

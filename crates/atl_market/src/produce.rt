@@ -7,7 +7,7 @@ ghost use Rattle.atl_market.specs.Making.{CanProduce};
 ghost use Rattle.atl_market.specs.Produce.{after_production, is_produce, produce_keeps, produce_meaning, produce_moves, produce_pots};
 ghost use Rattle.atl_market.specs.AfterPots.{ProducesAtOnce};
 
-use crate::making::{make, make_fault, most_makeable};
+use crate::making::{item_of, make, make_fault, most_makeable};
 use crate::outputs::made_amounts;
 use crate::pot_phase::{PotPhase, named_item, share_out};
 use atl_campaign::{Campaign, EventFault, Unit};
@@ -78,8 +78,11 @@ impl PotPhase for ProducePhase {
         number: u32,
         share: u32,
     ) -> Result<(), AllocError> {
-        match items.get(number) {
-            Some(item) => make(world, campaign, number, *item, share),
+        let Some(item) = items.get(number) else {
+            return Ok(());
+        };
+        match item_of(world, Some(*item)) {
+            Some(found) => make(world, campaign, number, *item, found, share),
             None => Ok(()),
         }
     }

@@ -1,17 +1,7 @@
 //! RECRUIT: peasants of a region join its units, at a price. See docs/RULES.md, "Recruiting".
-ghost use Rattle.std.specs.Prelude.{pos, neg_ℤ, ◌≡◌, ◌≤◌, ◌+◌, ◌*◌, Some};
-ghost use Rattle.std.specs.FinMap as finmap;
-ghost use Rattle.atl_records.specs.declared.books.Entry.TheVariants.{Recruiting};
-ghost use Rattle.atl_records.specs.declared.books.Thing.TheVariants.{Money};
-ghost use Rattle.atl_campaign.specs.Covers.{MarksChanges};
 ghost use Rattle.atl_campaign.specs.Good.{IsEarly};
-ghost use Rattle.atl_campaign.specs.Lending.{with_holding};
-ghost use Rattle.atl_records.specs.Limits.{holding_limit, men_limit};
-ghost use Rattle.atl_campaign.specs.Campaign.{with_amount, with_peasants};
-ghost use Rattle.atl_phase.specs.Holdings.{MarksNoGoods};
 ghost use Rattle.atl_phase.specs.Meaning.{most_moved};
-ghost use Rattle.atl_phase.specs.Bounds.{HaveRoom};
-ghost use Rattle.atl_market.specs.Recruit.{after_recruiting, is_recruit, recruit_keeps, recruit_meaning, recruit_moves, recruit_pots, recruits_at, with_paid_recruits};
+ghost use Rattle.atl_market.specs.Recruit.{is_recruit, recruit_keeps, recruit_meaning, recruit_moves, recruit_pots, recruits_at};
 ghost use Rattle.atl_market.specs.Payable.{CanRecruit};
 ghost use Rattle.atl_market.specs.AfterPots.{RecruitsAtOnce};
 
@@ -43,7 +33,9 @@ impl PhaseVerbs for RecruitPhase {
 /// The pots of RECRUIT: how many peasants of each region can be recruited.
 #[derive(Drop)]
 struct RecruitPots<'a> {
+    /// The world, which has the `recruit_fraction`.
     world: &'a World,
+    /// The campaign as the phase begins, which has the peasants.
     campaign: &'a Campaign,
 }
 
@@ -62,41 +54,6 @@ impl<'a> Pots for RecruitPots<'a> {
     }
 }
 
-/// Adds recruits to a unit that is there, and takes their cost from its money. It marks none of its
-/// goods.
-fn add_recruits(campaign: &mut Campaign, unit: u32, recruits: u32, cost: u32)
-    requires fits { (u : Unit) → finmap.get campaign.old.value.units unit ≡ Some u
-        → u.holding.men + recruits ≤ men_limit }
-    requires payable { (u : Unit) → finmap.get campaign.old.value.units unit ≡ Some u
-        → cost ≤ u.holding.money }
-    ensures what { (u : Unit) → finmap.get campaign.old.value.units unit ≡ Some u
-        → campaign.new.value ≡ with_holding campaign.old.value unit
-        (with_paid_recruits u.holding recruits cost) }
-    ensures marks { MarksChanges campaign.old campaign.new }
-    ensures goods { MarksNoGoods campaign.old.marks campaign.new.marks }
-{
-    if let Some(found) = campaign.unit(unit) {
-        let men = found.holding.men() + recruits;
-        let money = found.holding.money() - cost;
-        campaign.set_men(unit, men);
-        campaign.set_money(unit, money);
-    }
-}
-
-/// Sets how many peasants a region has left, and books what was paid for the recruits.
-fn take_recruits(campaign: &mut Campaign, region: u32, peasants: u32, cost: u32)
-    requires little { cost ≤ holding_limit }
-    requires things { 2 ≤ campaign.old.value.books.things }
-    requires room { HaveRoom (recruit_moves holding_limit) campaign.old.value }
-    ensures what { campaign.new.value
-        ≡ with_amount (with_peasants campaign.old.value region peasants) Recruiting Money
-        (neg_ℤ (pos cost)) }
-    ensures marks { MarksChanges campaign.old campaign.new }
-{
-    campaign.set_peasants(region, peasants);
-    book_taken(campaign, Entry::Recruiting, Thing::Money, cost);
-}
-
 /// The fault, want and share of a unit in RECRUIT, and its recruits coming out of its region's
 /// peasants for their price; the event says how many came.
 impl PotPhase for RecruitPhase {
@@ -108,11 +65,7 @@ impl PotPhase for RecruitPhase {
 
     /// NotEnough where the unit's money is less than the price of one recruit; else None.
     fn fault(&self, world: &World, unit: &Unit, _order: PhaseOrder<'_>) -> Option<EventFault> {
-        if unit.holding.money() < world.rules().recruit_price {
-            Some(EventFault::NotEnough)
-        } else {
-            None
-        }
+        (unit.holding.money() < world.rules().recruit_price).then_some(EventFault::NotEnough)
     }
 
     /// The number that the order asks for, at most what the unit can pay for and has room for.
@@ -149,17 +102,21 @@ impl PotPhase for RecruitPhase {
         number: u32,
         share: u32,
     ) -> Result<(), AllocError> {
-        let region = match campaign.unit(number) {
-            Some(unit) => unit.region,
-            None => return Ok(()),
+        let Some(unit) = campaign.unit(number) else {
+            return Ok(());
         };
-        let peasants = match campaign.region(region) {
-            Some(found) => found.peasants,
-            None => return Ok(()),
+        let region = unit.region;
+        let Some(found) = campaign.region(region) else {
+            return Ok(());
         };
         let cost = share * world.rules().recruit_price;
-        add_recruits(campaign, number, share, cost);
-        take_recruits(campaign, region, peasants - share, cost);
+        let men = unit.holding.men() + share;
+        let money = unit.holding.money() - cost;
+        let peasants = found.peasants - share;
+        campaign.set_men(number, men);
+        campaign.set_money(number, money);
+        campaign.set_peasants(region, peasants);
+        book_taken(campaign, Entry::Recruiting, Thing::Money, cost);
         Ok(())
     }
 }

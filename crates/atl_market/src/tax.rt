@@ -1,13 +1,8 @@
 //! TAX: the units on guard share the money of their region. See docs/RULES.md, "Tax".
-ghost use Rattle.std.specs.Prelude.{◌≡◌, ◌≤◌};
 ghost use Rattle.atl_world.specs.Worlds.{WorldValue};
-ghost use Rattle.atl_campaign.specs.Covers.{MarksChanges};
 ghost use Rattle.atl_campaign.specs.Good.{IsEarly};
-ghost use Rattle.atl_records.specs.Limits.{holding_limit};
-ghost use Rattle.atl_campaign.specs.Campaign.{with_money, with_region_money};
-ghost use Rattle.atl_phase.specs.Holdings.{MarksNoGoods};
 ghost use Rattle.atl_phase.specs.NoWorse.{spares_all};
-ghost use Rattle.atl_market.specs.Tax.{after_tax, is_tax, money_at, tax_meaning, tax_pots};
+ghost use Rattle.atl_market.specs.Tax.{is_tax, money_at, tax_meaning, tax_pots};
 ghost use Rattle.atl_market.specs.Payable.{CanTax};
 ghost use Rattle.atl_market.specs.AfterPots.{TaxesAtOnce};
 
@@ -36,6 +31,7 @@ impl PhaseVerbs for TaxPhase {
 /// The pots of TAX: the money of each region.
 #[derive(Drop)]
 struct RegionMoney<'a> {
+    /// The campaign as the phase begins.
     campaign: &'a Campaign,
 }
 
@@ -54,18 +50,6 @@ impl<'a> Pots for RegionMoney<'a> {
     }
 }
 
-/// Sets the money of a unit and that of its region.
-fn hand_over(campaign: &mut Campaign, unit: u32, money: u32, region: u32, left: u32)
-    requires { money ≤ holding_limit }
-    ensures what { campaign.new.value
-        ≡ with_region_money (with_money campaign.old.value unit money) region left }
-    ensures marks { MarksChanges campaign.old campaign.new }
-    ensures goods { MarksNoGoods campaign.old.marks campaign.new.marks }
-{
-    campaign.set_money(unit, money);
-    campaign.set_region_money(region, left);
-}
-
 /// The fault, want and share of a unit in TAX, and its share going from its region's money to it;
 /// the event says how much was taken.
 impl PotPhase for TaxPhase {
@@ -78,12 +62,9 @@ impl PotPhase for TaxPhase {
     /// NoMen, or NotGuarding without the guard flag; None without a fault.
     fn fault(&self, _world: &World, unit: &Unit, _order: PhaseOrder<'_>) -> Option<EventFault> {
         if unit.holding.men() == 0 {
-            Some(EventFault::NoMen)
-        } else if !unit.holding.guard() {
-            Some(EventFault::NotGuarding)
-        } else {
-            None
+            return Some(EventFault::NoMen);
         }
+        (!unit.holding.guard()).then_some(EventFault::NotGuarding)
     }
 
     /// `tax_per_man` money for each of the unit's men, at most its room for money.
@@ -119,15 +100,17 @@ impl PotPhase for TaxPhase {
         number: u32,
         share: u32,
     ) -> Result<(), AllocError> {
-        let (region, held) = match campaign.unit(number) {
-            Some(unit) => (unit.region, unit.holding.money()),
-            None => return Ok(()),
+        let Some(unit) = campaign.unit(number) else {
+            return Ok(());
         };
-        let money = match campaign.region(region) {
-            Some(found) => found.money,
-            None => return Ok(()),
+        let region = unit.region;
+        let Some(found) = campaign.region(region) else {
+            return Ok(());
         };
-        hand_over(campaign, number, held + share, region, money - share);
+        let held = unit.holding.money();
+        let left = found.money - share;
+        campaign.set_money(number, held + share);
+        campaign.set_region_money(region, left);
         Ok(())
     }
 }

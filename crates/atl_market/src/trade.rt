@@ -1,17 +1,14 @@
 //! SELL and BUY: units trade items with the markets of their regions. See docs/RULES.md, "Selling"
 //! and docs/RULES.md, "Buying".
-ghost use Rattle.std.specs.Prelude.{◌≡◌, ◌≤◌, ◌+◌, ◌*◌, IfSome, OnOk, Some};
+ghost use Rattle.std.specs.Prelude.{◌≡◌, ◌≤◌, IfSome, OnOk, Some};
 ghost use Rattle.std.specs.FinMap as finmap;
 ghost use Rattle.std.specs.Option.{option_copied};
 ghost use Rattle.atl_world.specs.Limits.{most_amount};
 ghost use Rattle.atl_campaign.specs.Covers.{MarksChanges};
 ghost use Rattle.atl_campaign.specs.Good.{IsEarly};
-ghost use Rattle.atl_records.specs.Holdings.{with_amount_of};
-ghost use Rattle.atl_records.specs.Limits.{holding_limit};
 ghost use Rattle.atl_records.specs.declared.records.Unit.{Unit};
-ghost use Rattle.atl_phase.specs.Holdings.{ChangesHolding};
 ghost use Rattle.atl_phase.specs.Meaning.{most_moved};
-ghost use Rattle.atl_market.specs.Trade.{after_trade, has_too_little, is_trade, limit_of, market_for, most_tradable, trade_entry, trade_fault, trade_keeps, trade_meaning, trade_moves, trade_of, trade_pot, trade_pots, trade_result_of, with_result};
+ghost use Rattle.atl_market.specs.Trade.{has_too_little, is_trade, limit_of, market_for, most_tradable, trade_entry, trade_fault, trade_keeps, trade_meaning, trade_moves, trade_of, trade_pot, trade_pots, trade_result_of, with_result};
 ghost use Rattle.atl_market.specs.Trading.{CanAfford, CanBookTrade, CanTrade, HasPot, IsPriced};
 ghost use Rattle.atl_market.specs.AfterPots.{TradesAtOnce};
 
@@ -41,19 +38,20 @@ pub(crate) enum Trade {
     Buy,
 }
 
-/// The amounts that a trade of one unit leaves, and what is booked of it.
+/// What a unit and its region's market have after the unit's trade, and the money to book for it.
 #[derive(Drop, Clone, Copy, Debug)]
 pub(crate) struct TradeResult {
-    /// The unit's money.
+    /// The unit's money after the trade.
     pub money: u32,
-    /// How much the unit has of the item.
+    /// How much the unit has of the traded item after the trade.
     pub amount: u32,
-    /// How much of the item the region's market has in stock.
+    /// How much of the item the region's market has in stock after the trade.
     pub stock: u32,
-    /// The money to book: positive for SELL, negative for BUY.
+    /// The money to book: what the unit got by SELL, or, below 0, what it paid by BUY.
     pub booked: i64,
 }
 
+/// Under which entry of the books a trade is booked.
 impl Trade {
     /// The entry of the books under which the money of a trade is booked.
     fn entry(self) -> Entry
@@ -92,11 +90,7 @@ fn trade_fault(trade: Trade, holding: &Holding, market: Option<&Market>) -> Opti
     let Some(market) = market else {
         return Some(EventFault::NoMarket);
     };
-    if has_too_little(trade, holding, market) {
-        Some(EventFault::NotEnough)
-    } else {
-        None
-    }
+    has_too_little(trade, holding, market).then_some(EventFault::NotEnough)
 }
 
 /// The most pieces of a market's item that a unit can trade, at most 999,999,999.
@@ -151,26 +145,9 @@ fn trade_result_of(
     }
 }
 
-/// Sets a unit's money and how much of an item it has; nothing where the unit isn't there.
-/// AllocError without memory, after the money was set.
-fn set_goods(
-    campaign: &mut Campaign,
-    number: u32,
-    item: u32,
-    money: u32,
-    amount: u32,
-) -> Result<(), AllocError>
-    requires money { money ≤ holding_limit }
-    requires amount { amount ≤ holding_limit }
-    ensures { OnOk result (ChangesHolding campaign.old campaign.new number
-        (λ h. record h { money = money; items = with_amount_of h.items item amount })) }
-{
-    campaign.set_money(number, money);
-    campaign.set_item(number, item, amount)
-}
-
-/// Sets a unit's money and amount of an item, and its region's stock, to the result of a trade, and
-/// books the money. AllocError without memory; the campaign may then be changed in part.
+/// Sets a unit's money and its amount of an item, and its region's stock of the item, to what a
+/// trade leaves of them, and books the money. AllocError without memory; the campaign may then be
+/// changed in part.
 fn book_trade(
     campaign: &mut Campaign,
     number: u32,
@@ -185,7 +162,8 @@ fn book_trade(
         → campaign.new.value ≡ with_result campaign.old.value number u item entry deal) }
     ensures marks { OnOk result (MarksChanges campaign.old campaign.new) }
 {
-    set_goods(campaign, number, item, deal.money, deal.amount)?;
+    campaign.set_money(number, deal.money);
+    campaign.set_item(number, item, deal.amount)?;
     campaign.set_stock(region, item, deal.stock)?;
     campaign.book(entry, Thing::Money, deal.booked);
     Ok(())
@@ -208,9 +186,13 @@ fn limit_of(world: &World, item: u32, region: u32) -> u32
 /// The pots of SELL or BUY, for each market: the limit less its stock (SELL), or its stock (BUY).
 #[derive(Drop)]
 struct MarketPots<'a> {
+    /// Whether the phase sells or buys.
     trade: Trade,
+    /// The world, which has the limits of stocks.
     world: &'a World,
+    /// The campaign as the phase begins, which has the stocks.
     campaign: &'a Campaign,
+    /// The item that each unit's order names, by unit.
     items: &'a Numbered<u16>,
 }
 

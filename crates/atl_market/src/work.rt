@@ -1,21 +1,14 @@
 //! WORK: units share the work places of their region's terrain, and each place pays the wage. See
 //! docs/RULES.md, "Work".
-ghost use Rattle.std.specs.Prelude.{⊤, pos, ◌≡◌, ◌≤◌, ◌+◌, ◌++◌, map, IfOk, OnOk};
+ghost use Rattle.std.specs.Prelude.{⊤, ◌≡◌, ◌++◌, map, IfOk, OnOk};
 ghost use Rattle.std.specs.List.Sorted.{IsPermutation, IsSortedByKey};
 ghost use Rattle.std.specs.Cmp.Lexicographic.{slice_cmp};
 ghost use Rattle.std.specs.Ordering.{nat_cmp};
-ghost use Rattle.atl_records.specs.declared.books.Entry.TheVariants.{Wages};
-ghost use Rattle.atl_records.specs.declared.books.Thing.TheVariants.{Money};
-ghost use Rattle.atl_campaign.specs.Covers.{MarksChanges};
 ghost use Rattle.atl_campaign.specs.Good.{IsSteady};
-ghost use Rattle.atl_records.specs.Limits.{holding_limit};
-ghost use Rattle.atl_campaign.specs.Campaign.{with_amount, with_money};
-ghost use Rattle.atl_phase.specs.Holdings.{MarksNoGoods};
 ghost use Rattle.atl_phase.specs.Meaning.{most_moved};
-ghost use Rattle.atl_phase.specs.Bounds.{HaveRoom};
 ghost use Rattle.atl_phase.specs.NoWorse.{spares_all};
 ghost use Rattle.atl_world.specs.ByNumber.{terrain_of};
-ghost use Rattle.atl_market.specs.Work.{is_work, places_at, wage_at, wages_for, work_meaning, work_moves, work_orders, work_pots, written_work};
+ghost use Rattle.atl_market.specs.Work.{places_at, wages_for, work_meaning, work_moves, work_orders, work_pots, written_work};
 ghost use Rattle.atl_orders.specs.declared.order.Operands.TheVariants.{Nothing};
 ghost use Rattle.atl_orders.specs.declared.verb.Verb.TheVariants.{Work};
 ghost use Rattle.atl_phase.specs.PhaseOrders.{key_of, task_of};
@@ -57,13 +50,6 @@ fn own_writers(
     Ok(writers)
 }
 
-/// Whether a verb is WORK.
-fn is_work(verb: Verb) -> bool
-    ensures { result ≡ is_work verb }
-{
-    matches!(verb, Verb::Work)
-}
-
 /// The orders of WORK among some orders, in their order.
 fn written_work<'m>(
     alloc: Global,
@@ -73,7 +59,7 @@ fn written_work<'m>(
 {
     let mut list = Vec::new(alloc);
     for order in orders {
-        if is_work(order.order.verb) {
+        if matches!(order.order.verb, Verb::Work) {
             list.push(*order)?;
         }
     }
@@ -164,6 +150,7 @@ fn no_mailing(alloc: Global) -> Mailing {
 /// The pots of WORK: how many work places each region's terrain has.
 #[derive(Drop)]
 struct WorkPlaces<'a> {
+    /// The world, whose terrains have the work places.
     world: &'a World,
 }
 
@@ -182,36 +169,15 @@ impl<'a> Pots for WorkPlaces<'a> {
     }
 }
 
-/// The wage of a region's terrain for one work place; 0 where there is no terrain.
-fn wage_at(world: &World, region: u32) -> u32
-    ensures { result ≡ wage_at world.now region }
-{
-    match world.terrain_of(region) {
-        Some(terrain) => terrain.wage,
-        None => 0,
-    }
-}
-
-/// The wages, in money, that this number of work places in a region pays.
+/// The wages, in money, that this number of work places in a region pays; 0 where there is no
+/// terrain.
 fn wages_for(world: &World, region: u32, places: u32) -> u64
     ensures { result ≡ wages_for world.now region places }
 {
-    u64::from(places) * u64::from(wage_at(world, region))
-}
-
-/// Adds wages to the money `held` by a unit, and books them.
-fn pay_wages(campaign: &mut Campaign, number: u32, held: u32, money: u32)
-    requires fits { held + money ≤ holding_limit }
-    requires things { 2 ≤ campaign.old.value.books.things }
-    requires room { HaveRoom (work_moves holding_limit) campaign.old.value }
-    ensures what { campaign.new.value
-        ≡ with_amount (with_money campaign.old.value number (held + money)) Wages Money
-        (pos money) }
-    ensures marks { MarksChanges campaign.old campaign.new }
-    ensures goods { MarksNoGoods campaign.old.marks campaign.new.marks }
-{
-    campaign.set_money(number, held + money);
-    campaign.book(Entry::Wages, Thing::Money, i64::from(money));
+    match world.terrain_of(region) {
+        Some(terrain) => u64::from(places) * u64::from(terrain.wage),
+        None => 0,
+    }
 }
 
 /// The fault, want and share of a unit in WORK, and the wages that its work places pay it; the
@@ -225,11 +191,7 @@ impl PotPhase for WorkPhase {
 
     /// NoMen for a unit without men; else None.
     fn fault(&self, _world: &World, unit: &Unit, _order: PhaseOrder<'_>) -> Option<EventFault> {
-        if unit.holding.men() == 0 {
-            Some(EventFault::NoMen)
-        } else {
-            None
-        }
+        (unit.holding.men() == 0).then_some(EventFault::NoMen)
     }
 
     /// How many work places the unit wants: one for each of its men, as far as it has room for the
@@ -271,12 +233,13 @@ impl PotPhase for WorkPhase {
         number: u32,
         share: u32,
     ) -> Result<(), AllocError> {
-        let (region, held) = match campaign.unit(number) {
-            Some(unit) => (unit.region, unit.holding.money()),
-            None => return Ok(()),
+        let Some(unit) = campaign.unit(number) else {
+            return Ok(());
         };
-        let money = wages_for(world, region, share) as u32;
-        pay_wages(campaign, number, held, money);
+        let held = unit.holding.money();
+        let money = wages_for(world, unit.region, share) as u32;
+        campaign.set_money(number, held + money);
+        campaign.book(Entry::Wages, Thing::Money, i64::from(money));
         Ok(())
     }
 }
