@@ -1,5 +1,5 @@
--- Laws of FORM: the campaign stays early, its books balanced, all that changes is marked, and each unit that was there is
--- unchanged.
+-- Laws of FORM: the campaign stays early, its books balanced, all that changes is marked,
+-- and each unit that was there is unchanged.
 use Rattle.std.proofs.Common.{◌≡◌, ◌≢◌, ◌==◌, ◌||◌, ◌*◌, ℕ, ◌+◌, ◌≤◌, ◌<◌, Bool, true, false, cond, Some, None, length, nat_le, nat_lt, refl, sym, ap, ◌∙◌, arith, not, List, [], ◌∷◌, Option, map, subst}
 use Rattle.std.proofs.lemmas.Bool.{true≢false}
 use Rattle.std.specs.Prelude.{IsTrue, is_some, unwrap_or, fold}

@@ -1,5 +1,5 @@
--- Laws of QUIT: units leave, what they had is booked as gone, and nothing else changes; the campaign stays steady, and a
--- unit is no worse off, unless its faction quits by an order for a unit that was its own as the phase began.
+-- Laws of QUIT: units leave, what they had is booked as gone, and nothing else changes; the campaign stays steady.
+-- A unit is no worse off, unless its faction quits by an order for a unit that was its own as the phase began.
 use Rattle.std.proofs.Common.{◌≡◌, ◌≢◌, ◌==◌, ℕ, ◌+◌, ◌*◌, ◌≤◌, ◌<◌, not, Bool, true, false, cond, List, [], ◌∷◌, length, drop, get_or, Option, Some, None, refl, sym, ap, subst, ◌∙◌, inl, inr, arith}
 use Rattle.std.specs.Prelude.{ℤ, pos, neg_ℤ, ◌+ℤ◌, IfSome, fold, unwrap_or, if◌then◌else◌}
 use Rattle.std.proofs.lemmas.Int.{ints}
