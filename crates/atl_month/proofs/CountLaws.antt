@@ -1,12 +1,11 @@
 -- The law that two maps of the same size have the same numbers, if one has each number of the other.
-use Rattle.std.proofs.Common.{◌≡◌, ℕ, suc, zero, ◌+◌, ◌-◌, ◌≤◌, cond, List, [], ◌∷◌, length, Option, Some, None, refl, sym, ap, ◌∙◌, inl, inr, arith}
+use Rattle.std.proofs.Common.{◌≡◌, ℕ, suc, zero, ◌-◌, ◌≤◌, cond, List, [], ◌∷◌, length, Option, Some, None, refl, sym, ap, ◌∙◌, arith}
 use Rattle.std.specs.Prelude.{is_some}
 use Rattle.std.specs.Ordering.{nat_cmp}
 use Rattle.std.specs.Cmp.{nat_cmp_total}
-use Rattle.std.specs.FinMap.{FinMap, empty_of_len, entries, find, get, get-empty, get-entries, insert, len, len-entries, len-insert, len-remove, remove}
-use Rattle.std.proofs.lemmas.Bool.{cases_eq}
+use Rattle.std.specs.FinMap.{FinMap, empty_of_len, entries, find, get, get-empty, get-entries, len, len-entries, len-remove, remove}
 use Rattle.atl_records.specs.Every.{IsThere}
-use Rattle.atl_records.proofs.EveryLaws.{first, get-insert_other, none_some}
+use Rattle.atl_records.proofs.EveryLaws.{first, none_some}
 use Rattle.atl_records.proofs.RemovedLaws.{get-remove_other, still}
 
 module _ {V : Type 0} where
@@ -17,10 +16,6 @@ module _ {V : Type 0} where
   -- a map without one of its numbers is smaller by 1
   len_without : (m : FinMap nat_cmp V) (n : ℕ) (v : V) → get m n ≡ Some v → len (remove m n) ≡ len m - 1
   len_without m n v is = len-remove nat_cmp_total m n ∙ ap (λ o. cond (is_some o) (len m - 1) (len m)) is
-
-  -- a map with one number more is larger by 1
-  len_with : (m : FinMap nat_cmp V) (n : ℕ) (v : V) → get m n ≡ None → len (insert m n v) ≡ len m + 1
-  len_with m n v none = len-insert nat_cmp_total m n v ∙ ap (λ o. cond (is_some o) (len m) (len m + 1)) none
 
   -- a map that has a number isn't empty
   some_values : (m : FinMap nat_cmp V) (n : ℕ) (v : V) → get m n ≡ Some v → 1 ≤ len m
@@ -43,14 +38,6 @@ module _ {V : Type 0} where
   at_least zero a b count all = omega arith
   at_least (suc k) a b count all = by_entries (λ c d less has. at_least k c d less has) (entries b) refl
     where
-      -- if a size `x` is one more than `k`, and `y` is one less than `x`, `y` is `k`
-      fewer : (x y : ℕ) → x ≡ suc k → y ≡ x - 1 → y ≡ k
-      fewer x y count is = omega (arith, count, is)
-
-      -- if `y` is at least `k`, and one less than a size `x` of at least 1, `x` is at least `k + 1`
-      more : (x y : ℕ) → k ≤ y → y ≡ x - 1 → 1 ≤ x → suc k ≤ x
-      more x y l is some = omega (arith, l, is, some)
-
       -- map `a` has at least size `k + 1`, from the entries of map `b`: without the first of them, both maps are as for
       -- size `k`
       by_entries : ((c d : FinMap nat_cmp V) → len d ≡ k → HasAllNumbers c d → k ≤ len c) → (es : List (ℕ × V)) → entries b ≡ es → suc k ≤ len a
@@ -58,25 +45,17 @@ module _ {V : Type 0} where
       by_entries step (e ∷ es) is =
           let here : get b e.0 ≡ Some e.1 = get-entries b e.0 ∙ ap (find nat_cmp e.0) is ∙ first e es in
           let (x, there) = all e.0 (e.1, here) in
-          more (len a) (len (remove a e.0)) (step (remove a e.0) (remove b e.0) (fewer (len b) (len (remove b e.0)) count (len_without b e.0 e.1 here)) (has_all_without a b e.0 all)) (len_without a e.0 x there) (some_values a e.0 x there)
-
-  -- if one map has each number of another, and number `n`, it has each number of the other with `n`
-  has_all_with : (a b : FinMap nat_cmp V) (n : ℕ) (v : V) → HasAllNumbers a b → get a n ≡ Some v → HasAllNumbers a (insert b n v)
-  has_all_with a b n v all here m (x, there) = elim (cases_eq m n) [
-    | inl same ↦ (v, ap (get a) same ∙ here)
-    | inr apart ↦ all m (x, sym (get-insert_other b n m v apart) ∙ there)
-  ]
+          let rest = step (remove a e.0) (remove b e.0) (omega (arith, count, len_without b e.0 e.1 here)) (has_all_without a b e.0 all) in
+          omega (arith, rest, len_without a e.0 x there, some_values a e.0 x there)
 
   -- if a map has each number of another of the same size, the other has each number of it
   pub has_all_back : (a b : FinMap nat_cmp V) → len b ≡ len a → HasAllNumbers a b → HasAllNumbers b a
   has_all_back a b count all n (v, here) = by_value (get b n) refl
     where
-      -- sizes that contradict each other (`x` is `y`, and `x + 1` is at most `y`) prove anything, so also that map `b`
-      -- has number `n`
-      too_many : (x y z : ℕ) → x ≡ y → z ≡ x + 1 → z ≤ y → IsThere b n
-      too_many x y z count is l = absurd (omega (arith, count, is, l))
-
       -- map `b` has number `n`, whether its look-up finds a value or, which can't be, none
       by_value : (o : Option V) → get b n ≡ o → IsThere b n
       by_value (Some x) is = (x, is)
-      by_value None none = too_many (len b) (len a) (len (insert b n v)) count (len_with b n v none) (at_least (len (insert b n v)) a (insert b n v) refl (has_all_with a b n v all here))
+      by_value None none =
+          let others : HasAllNumbers (remove a n) b = λ m there.
+          let (x, is) = all m there in (x, get-remove_other a n m (λ own. none_some there.0 (sym none ∙ ap (get b) (sym own) ∙ there.1)) ∙ is) in
+          absurd (omega (arith, count, at_least (len b) (remove a n) b refl others, len_without a n v here, some_values a n v here))

@@ -1,16 +1,14 @@
+pub mod GroupedLaws
 pub mod PassingLaws
 pub mod SweepLaws
 pub mod SweepAllLaws
 pub mod ReceiverLaws
-pub mod SweepRunLaws
 pub mod RestockLaws
 pub mod SeasonLaws
 pub mod CountLaws
 pub mod MonthLaws
 pub mod UpkeepSharingLaws
 pub mod UpkeepLaws
-pub mod UpkeepPeersLaws
 pub mod UnmailedEndLaws
 pub mod PhaseLaws
 pub mod MoveLaws
-pub mod UnmailedMonthLaws

@@ -1,30 +1,41 @@
--- Laws of a whole month: with the month counted and the mail removed the campaign is good again, and mail order doesn't
--- count.
-use Rattle.std.proofs.Common.{◌≡◌, ℕ, ◌+◌, ◌*◌, ◌≤◌, ◌<◌, List, ap, ◌∙◌, arith}
+-- Laws of a whole month: with the month counted and the mail removed the campaign is good again, mail order doesn't
+-- count, and what is left to units of a faction that sent no mailing.
+use Rattle.std.proofs.Common.{◌≡◌, ℕ, ◌+◌, ◌*◌, ◌≤◌, ◌<◌, List, ap, ◌∙◌, arith, ◌≢◌, ◌-◌, cond, [], ◌∷◌, map, Some, None, refl, sym, subst}
 use Rattle.std.specs.Prelude.{ℤ}
-use Rattle.std.specs.FinMap.{FinMap, empty, get, len}
-use Rattle.std.specs.Ordering.{nat_cmp}
+use Rattle.std.specs.FinMap.{FinMap, empty, get, len, find, get-from_entries, nat_cmp-IsAntisymmetric}
+use Rattle.std.specs.Ordering.{nat_cmp, is_eq}
 use Rattle.std.proofs.lemmas.Int.{ints}
 use Rattle.atl_world.specs.Worlds.{WorldValue}
 use Rattle.atl_records.specs.declared.event.Event.{Event}
 use Rattle.atl_records.specs.Books.{IsWithin, amount_in}
-use Rattle.atl_records.specs.Every.{IsThere}
+use Rattle.atl_records.specs.Every.{IsThere, Every}
 use Rattle.atl_campaign.specs.Good.{AreAmountsWithin, IsGood, IsSound, IsSteady, amount_bound}
 use Rattle.atl_records.specs.Limits.{last_month}
 use Rattle.atl_campaign.specs.Campaign.{CampaignValue}
 use Rattle.atl_campaign.specs.Totals.{Balances, total}
-use Rattle.atl_orders.specs.Mailing.{Reading}
+use Rattle.atl_orders.specs.Mailing.{Reading, reading_of}
 use Rattle.atl_records.proofs.EveryLaws.{every-empty}
 use Rattle.atl_campaign.proofs.GoodLaws.{posted-steady, posted-unsent}
-use Rattle.atl_phase.specs.Month.{MonthValue}
-use Rattle.atl_phase.specs.Meaning.{BookBound, Condition, IsNear, IsSameMonth, LeavesWell, Meaning}
+use Rattle.atl_phase.specs.Month.{MonthValue, by_faction}
+use Rattle.atl_phase.specs.Meaning.{BookBound, Condition, IsNear, IsSameMonth, LeavesWell, Meaning, Frame}
 use Rattle.atl_phase.specs.Bounds.{HaveRoom}
 use Rattle.atl_phase.proofs.MonthLaws.{mailings_have_no_order}
 use Rattle.atl_phase.proofs.MeaningLaws.{MovesLess, near_more, room_when_sound}
-use Rattle.atl_month.specs.Month.{BooksAreNear, MailOrderDoesNotCount, after_month, month_meaning, month_moves, month_of, new_month, phases_moving}
-use Rattle.atl_month.specs.AfterSweep.{IsSwept}
+use Rattle.atl_month.specs.Month.{BooksAreNear, MailOrderDoesNotCount, after_month, month_meaning, month_moves, month_of, new_month, phases_moving, early_phases, last_phases, later_phases, month_keeps}
+use Rattle.atl_month.specs.Sweep.{IsSwept}
 use Rattle.atl_month.proofs.CountLaws.{has_all_back}
 use Rattle.atl_month.proofs.MoveLaws.{month_within, moves_in_month, phases_little}
+use Rattle.std.specs.List.{AllByRecursion}
+use Rattle.std.specs.Cmp.{nat_cmp_total}
+use Rattle.std.specs.declared.cmp.Ordering.TheVariants.{Less, Equal, Greater}
+use Rattle.std.proofs.lemmas.List.Elements.{recursion_from_All}
+use Rattle.atl_orders.specs.declared.mailing.Mailing.{Mailing}
+use Rattle.atl_phase.specs.OrderEffects.{IsUnaffected}
+use Rattle.atl_phase.specs.Unmailed.{IsLeft, IsLessBy, starved_in}
+use Rattle.atl_phase.proofs.UnmailedLaws.{ClosesUnmailed, both_leave, then_closes}
+use Rattle.atl_phase.proofs.PhaseSpecLaws.{closed_together, each_also, leave_together}
+use Rattle.atl_month.proofs.PhaseLaws.{IsPhase, early_are, last_leave, later_are}
+use Rattle.atl_month.specs.Unmailed.{SentNone, UnmailedAreLeft}
 
 module _ (w : WorldValue) (d : CampaignValue) where
   -- a steady campaign before the last month stays steady when its month is counted and its mail is removed
@@ -55,14 +66,10 @@ module _ (w : WorldValue) (c d : CampaignValue) (moving : BookBound) (little : M
       near_within (amount_in c.books e t) (amount_in d.books e t) (moving e t) (amount_bound c) (amount_bound (after_month d)) (little e t)
       (bound_grows c.month d.month (len c.factions) (len d.factions) same.month same.count) (well.near e t) (old e t)
 
-  -- a month's number that stays the same is still below the last
-  earlier : (a b : ℕ) → b ≡ a → a < last_month → b < last_month
-  earlier a b is l = omega (arith, is, l)
-
   -- after the phases of a month, counted and without mail, a sound campaign is sound again
   finished_sound : IsSound w c → IsSound w (after_month d)
   finished_sound old = record {
-    steady = finished_steady w d (earlier c.month d.month same.month early) well.leaves_it.steady;
+    steady = finished_steady w d (omega (arith, same.month, early)) well.leaves_it.steady;
     men = well.leaves_it.men;
     amounts = amounts_within old.amounts;
     gone = well.leaves_it.gone;
@@ -95,14 +102,56 @@ phases_room w c sound = room_when_sound w c phases_moving (λ e t. omega (arith,
 -- the campaign and the events that some phases make of month `m` are what they make of `begin`, if `m` is `begin`
 phases_result : (phases : Meaning) (w : WorldValue) (c d : CampaignValue) (m n : MonthValue) (begin : MonthValue) (events : List Event) → (d, n) ≡ phases w c m → m ≡ begin → events ≡ n.events
     → ◌≡◌ {A = CampaignValue × List Event} (d, events) ((phases w c begin).0, (phases w c begin).1.events)
-phases_result phases w c d m n begin events meaning begins told = ap (λ (es : List Event). (d, es)) told ∙ ap (λ (p : CampaignValue × MonthValue). (p.0, p.1.events)) (meaning ∙ ap (phases w c) begins)
+phases_result phases w c d m n begin events meaning begins events_are = ap (λ (es : List Event). (d, es)) events_are ∙ ap (λ (p : CampaignValue × MonthValue). (p.0, p.1.events)) (meaning ∙ ap (phases w c) begins)
 
 -- the campaign and the events that the phases of a month make of a new month are those of `month_of`
 pub month_is : (w : WorldValue) (c d : CampaignValue) (m n : MonthValue) (readings : FinMap nat_cmp Reading) (words : List ℕ) (events : List Event)
     → (d, n) ≡ month_meaning w c m → m ≡ new_month readings words → events ≡ n.events → (d, events) ≡ month_of w c readings words
 unfolding month_of
-month_is w c d m n readings words events meaning begins told = phases_result month_meaning w c d m n (new_month readings words) events meaning begins told
+month_is w c d m n readings words events meaning begins events_are = phases_result month_meaning w c d m n (new_month readings words) events meaning begins events_are
 
 -- the mailings of a month, given in another order, make the same campaign and the same events
 pub mail_order_does_not_count : MailOrderDoesNotCount
 mail_order_does_not_count w c words mailings others own same = ap (λ readings. month_of w c readings words) (mailings_have_no_order mailings others own same)
+
+-- ---- the month
+
+-- all phases of a month together leave units of factions without a mailing their items, and their men less the starved
+-- (`ClosesUnmailed`)
+month_leaves : ClosesUnmailed month_meaning month_keeps
+month_leaves =
+    then_closes (both_leave (leave_together early_phases (each_also (λ phase (is : IsPhase phase). is.leaves) early_phases early_are)) (leave_together later_phases (each_also (λ phase (is : IsPhase phase). is.leaves) later_phases later_are)))
+    (closed_together last_phases last_leave)
+
+-- if none of the mailings is of a faction, the month has no mailing of that faction
+none_read : (f : ℕ) (ms : List Mailing) → SentNone ms f → get (by_faction (map reading_of ms)) f ≡ None
+none_read f ms none = get-from_entries nat_cmp_total (map (λ r. (r.faction, r)) (map reading_of ms)) f ∙ not_found ms (recursion_from_All (λ m. m.faction ≢ f) ms none)
+  where
+    -- the search finds no reading of the faction among the readings of these mailings
+    not_found : (ms : List Mailing) → AllByRecursion (λ m. m.faction ≢ f) ms → find nat_cmp f (map (λ r. (r.faction, r)) (map reading_of ms)) ≡ None
+    not_found [] none = refl
+    not_found (m ∷ ms) none =
+        elim (nat_cmp f m.faction) as (λ o. nat_cmp f m.faction ≡ o → cond (is_eq o) (Some (reading_of m)) (find nat_cmp f (map (λ r. (r.faction, r)) (map reading_of ms))) ≡ None) [
+          | Less ↦ λ o. not_found ms none.1
+          | Equal ↦ λ o. absurd (none.0 (sym (nat_cmp-IsAntisymmetric f m.faction o)))
+          | Greater ↦ λ o. not_found ms none.1
+        ] refl
+
+-- Phases that leave units without a mailing their items, and their men less the starved leave them, over a month that
+-- begins without events, exactly the men whom its events don't report as starved.
+left_behind : (phases : Meaning) (keeps : Frame) → ClosesUnmailed phases keeps → (w : WorldValue) (c d : CampaignValue) (m : MonthValue) (events : List Event) → m.events ≡ [] → ◌≡◌ {A = CampaignValue × List Event} (d, events) ((phases w c m).0, (phases w c m).1.events) → keeps w m c d
+    → Every (λ n u. get m.readings u.faction ≡ None → IsLeft (starved_in events n) d n u) c.units
+left_behind phases keeps closes w c d m events begins is kept n u there none some =
+    let state : d ≡ (phases w c m).0 = ap (λ (p : CampaignValue × List Event). p.0) is in
+    let events_are : events ≡ (phases w c m).1.events = ap (λ (p : CampaignValue × List Event). p.1) is in
+    let from_none : starved_in m.events n ≡ 0 = ap (λ es. starved_in es n) begins in
+    let so_many : starved_in (phases w c m).1.events n - starved_in m.events n ≡ starved_in events n = omega (arith, from_none, ap (λ es. starved_in es n) events_are) in
+    subst (λ k. IsUnaffected (IsLessBy k) d n u) so_many (subst (λ s. IsUnaffected (IsLessBy (starved_in (phases w c m).1.events n - starved_in m.events n)) s n u) (sym state)
+    (closes.left w c m (subst (keeps w m c) state kept) n u there none (subst (λ k. k < u.holding.men) (sym so_many) some)))
+
+-- after a month units without a mailing have name, items and all men who didn't starve (`UnmailedAreLeft`)
+pub unmailed_left : (w : WorldValue) (c d : CampaignValue) (ms : List Mailing) (words : List ℕ) (events : List Event) → (d, events) ≡ month_of w c (by_faction (map reading_of ms)) words
+    → month_keeps w (new_month (by_faction (map reading_of ms)) words) c d → UnmailedAreLeft ms events c d
+unfolding month_of
+unmailed_left w c d ms words events is kept n u there none =
+    left_behind month_meaning month_keeps month_leaves w c d (new_month (by_faction (map reading_of ms)) words) events refl is kept n u there (none_read u.faction ms none)

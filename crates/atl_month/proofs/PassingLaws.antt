@@ -1,15 +1,13 @@
 -- Laws of the sweep: what holds of a campaign after a unit without men passed money or items on to another
 -- (`PassesOn`).
-use Rattle.std.proofs.Common.{◌≡◌, ◌≢◌, ◌==◌, ℕ, ◌+◌, ◌-◌, ◌≤◌, ◌<◌, min, Bool, true, false, cond, List, [], ◌∷◌, length, Option, Some, None, refl, sym, ap, subst, ◌∙◌, arith}
+use Rattle.std.proofs.Common.{◌≡◌, ◌≢◌, ◌==◌, ℕ, ◌+◌, ◌-◌, ◌≤◌, ◌<◌, Bool, cond, List, [], ◌∷◌, length, Option, Some, None, refl, sym, ap, subst, ◌∙◌, arith, inl, inr}
 use Rattle.std.specs.Prelude.{ℤ, pos, neg_ℤ, ◌+ℤ◌, fold}
 use Rattle.std.proofs.lemmas.Int.{ints}
 use Rattle.std.proofs.lemmas.Bool.Decides.{nat_tests}
 use Rattle.std.proofs.lemmas.Option.{same_Some}
-use Rattle.std.specs.declared.cmp.Ordering.TheVariants.{Less, Equal, Greater}
 use Rattle.std.specs.Option.{option_map_or}
-use Rattle.std.specs.Ordering.{nat_cmp, is_eq}
-use Rattle.std.specs.Cmp.{ranked}
-use Rattle.std.specs.FinMap.{FinMap, get, insert, nat_cmp-IsAntisymmetric}
+use Rattle.std.specs.Ordering.{nat_cmp}
+use Rattle.std.specs.FinMap.{FinMap, get, insert}
 use Rattle.atl_world.specs.Worlds.{WorldValue}
 use Rattle.atl_records.specs.Books.{amount_in, booked, thing_index}
 use Rattle.atl_records.specs.declared.books.Entry.{Entry}
@@ -27,17 +25,18 @@ use Rattle.atl_campaign.specs.Campaign.{CampaignValue, with_item, with_money}
 use Rattle.atl_records.specs.Amounts.{unit_amount}
 use Rattle.atl_campaign.specs.Totals.{total}
 use Rattle.atl_records.proofs.BookLaws.{booked-after_booking}
-use Rattle.atl_records.proofs.EveryLaws.{every-insert, get-insert_other}
+use Rattle.atl_records.proofs.EveryLaws.{every-insert, get-insert_other, same_number}
 use Rattle.atl_campaign.proofs.HoldingLaws.{MayHold, may_hold_money, steady-unit_amount, total-unit_amount}
 use Rattle.atl_campaign.proofs.RegionLaws.{changed-known, get-insert_same, steady-amount, total-amount}
 use Rattle.atl_phase.specs.Meaning.{BookBound, IsNear, IsSameMonth, both_move, moves_only}
 use Rattle.atl_phase.proofs.MeaningLaws.{near_same, near_twice, same_month_by, same_month_twice}
-use Rattle.atl_records.proofs.HoldingLaws.{amount_within, every_amount, set_amount}
+use Rattle.atl_records.proofs.HoldingLaws.{amount_within, every_amount, set_same, set_other}
 use Rattle.atl_phase.proofs.BookingLaws.{booked-near, within-neg}
 use Rattle.atl_phase.proofs.NoWorseLaws.{no_worse, no_worse_twice}
 use Rattle.atl_phase.specs.Bounds.{moving_items}
 use Rattle.atl_instant.proofs.QuitLaws.{owing_items, part_of}
 use Rattle.atl_month.specs.Sweep.{IsKept, accepted_of, after_passing_item, after_passing_money, with_lost}
+use Rattle.std.proofs.lemmas.Bool.{cases_eq}
 
 -- ---- more than is booked
 
@@ -89,48 +88,38 @@ pub record PassesOn (w : WorldValue) (n : ℕ) (owing : Thing → ℕ) (moving :
 pub passes-refl : (w : WorldValue) (n : ℕ) (c : CampaignValue) → IsSteady w c → PassesOn w n (λ s. 0) (λ e s. 0) c c
 passes-refl w n c steady = record {
   steady = steady;
-  owes = λ s x h. subst (Owes c s) (plain x) h;
+  owes = λ s x h. let same : x ≡ x + 0 = omega arith in subst (Owes c s) same h;
   near = λ e s. near_same 0 (amount_in c.books e s);
   same = same_month_by refl;
   unit = refl;
   forth = λ m u is. (u, is, kept-refl u);
   back = λ m v is. (v, is, kept-refl v);
 }
-  where
-    -- a number is itself plus 0
-    plain : (x : ℕ) → x ≡ x + 0
-    plain x = omega arith
 
 -- passing on something of unit `n` and then something else is passing on both together (`PassesOn`)
 pub passes-trans : {o p : Thing → ℕ} {i j : BookBound} (w : WorldValue) (n : ℕ) (a b c : CampaignValue) → PassesOn w n o i a b → PassesOn w n p j b c
     → PassesOn w n (λ s. o s + p s) (both_move i j) a c
 passes-trans {o} {p} {i} {j} w n a b c one two = record {
   steady = two.steady;
-  owes = λ s x h. subst (Owes c s) (grouped x (o s) (p s)) (two.owes s (x + o s) (one.owes s x h));
+  owes = λ s x h. let grouped : (x + o s) + p s ≡ x + (o s + p s) = omega arith in subst (Owes c s) grouped (two.owes s (x + o s) (one.owes s x h));
   near = λ e s. near_twice (i e s) (j e s) (amount_in a.books e s) (amount_in b.books e s) (amount_in c.books e s) (one.near e s) (two.near e s);
   same = same_month_twice a b c one.same two.same;
   unit = two.unit ∙ one.unit;
   forth = λ m u is. let (v, there, kept) = one.forth m u is in let (x, behind, more) = two.forth m v there in (x, behind, kept-trans u v x kept more);
   back = λ m x is. let (v, there, more) = two.back m x is in let (u, before, kept) = one.back m v there in (u, before, kept-trans u v x kept more);
 }
-  where
-    -- a sum of three numbers is the same in either grouping
-    grouped : (x y z : ℕ) → (x + y) + z ≡ x + (y + z)
-    grouped x y z = omega arith
 
 -- After `taken` was given and `lost` booked as lost, of a thing for which test `b` holds, the total is above the books
 -- by both together more than before; of any other thing by as much as before.
 owed : (b : Bool) (taken lost x before after : ℕ) (books : ℤ) → after ≡ before + cond b taken 0 → pos before ≡ books +ℤ pos x
     → pos after ≡ (books +ℤ cond b (neg_ℤ (pos lost)) (pos 0)) +ℤ pos (x + cond b (taken + lost) 0)
-owed true taken lost x before after books e h = omega (arith, ints, e, h)
-owed false taken lost x before after books e h = omega (arith, ints, e, h)
+owed b taken lost x before after books e h = grind (arith, ints, e, h)
 
 -- after `lost` was booked as lost, of a thing for which test `b` holds, the total is above the books by `lost` more
 -- than before; of any other thing by as much as before
 owed_all : (b : Bool) (lost x all : ℕ) (books : ℤ) → pos all ≡ books +ℤ pos x
     → pos all ≡ (books +ℤ cond b (neg_ℤ (pos lost)) (pos 0)) +ℤ pos (x + cond b lost 0)
-owed_all true lost x all books h = omega (arith, ints, h)
-owed_all false lost x all books h = omega (arith, ints, h)
+owed_all b lost x all books h = grind (arith, ints, h)
 
 module _ (w : WorldValue) (c : CampaignValue) (n : ℕ) (t : Thing) (inside : thing_index t < things_of w) (steady : IsSteady w c) where
   -- booking an amount of a thing as lost is passing it on (`PassesOn`), in a steady campaign
@@ -159,12 +148,7 @@ module _ (w : WorldValue) (c : CampaignValue) (n : ℕ) (t : Thing) (inside : th
 
     -- the total of each thing grows by the part that is given
     grown : (s : Thing) → total given s ≡ total c s + part_of s t taken
-    grown s = sum (total given s) (unit_amount s v.holding) (total c s) (unit_amount s h) (part_of s t taken) (total-unit_amount w c k v h is s) (more s)
-      where
-        -- if a total less the old amount of a unit plus its new one is the new total, and the new amount is greater by
-        -- `p`, the total grows by `p`
-        sum : (a x b y p : ℕ) → a + x ≡ b + y → y ≡ x + p → a ≡ b + p
-        sum a x b y p e f = omega (arith, e, f)
+    grown s = omega (arith, total-unit_amount w c k v h is s, more s)
 
     -- giving a part of an amount to a unit and booking the rest as lost is passing it on (`PassesOn`)
     pub part_lost : PassesOn w n (λ s. part_of s t (taken + lost)) (moves_only (taken + lost) Lost t) c (with_lost given t lost)
@@ -180,7 +164,7 @@ module _ (w : WorldValue) (c : CampaignValue) (n : ℕ) (t : Thing) (inside : th
           (within-neg lost (taken + lost) (omega arith));
       same = same_month_by refl;
       unit = get-insert_other c.units k n (record v { holding = h }) apart;
-      forth = λ m u there. new_unit m u there;
+      forth = new_unit;
       back =
           every-insert (λ m x. (u : Unit) × (get c.units m ≡ Some u) × IsKept u x) c.units k (record v { holding = h }) (v, is, kept)
           (λ m x there. (x, there, kept-refl x));
@@ -188,73 +172,35 @@ module _ (w : WorldValue) (c : CampaignValue) (n : ℕ) (t : Thing) (inside : th
       where
         -- each unit that was there is there after unit `k` got holding `h`, and nothing is taken from it
         new_unit : (m : ℕ) (u : Unit) → get c.units m ≡ Some u → (x : Unit) × (get (insert c.units k (record v { holding = h })) m ≡ Some x) × IsKept u x
-        new_unit m u there =
-            elim (nat_cmp m k) as (λ o. nat_cmp m k ≡ o → (x : Unit) × (get (insert c.units k (record v { holding = h })) m ≡ Some x) × IsKept u x) [
-              | Less ↦ λ o.
-                  let other : m ≢ k = λ same. let l = ranked m k Less (sym o) in omega arith in
-                  (u, get-insert_other c.units k m (record v { holding = h }) other ∙ there, kept-refl u)
-              | Equal ↦ λ o.
-                  let same : m ≡ k = nat_cmp-IsAntisymmetric m k o in
-                  let one : Some v ≡ Some u = sym is ∙ ap (get c.units) (sym same) ∙ there in (
-                    record v { holding = h },
-                    ap (get (insert c.units k (record v { holding = h }))) same ∙ get-insert_same c.units k (record v { holding = h }),
-                    subst (λ (x : Unit). IsKept x (record v { holding = h })) (same_Some v u one) kept,
-                  )
-              | Greater ↦ λ o.
-                  let other : m ≢ k = λ same. let l = ranked m k Greater (sym o) in omega arith in
-                  (u, get-insert_other c.units k m (record v { holding = h }) other ∙ there, kept-refl u)
-            ] refl
+        new_unit m u there = elim (cases_eq m k) [
+          | inl same ↦
+              let one : Some v ≡ Some u = sym is ∙ ap (get c.units) (sym same) ∙ there in (
+                record v { holding = h },
+                ap (get (insert c.units k (record v { holding = h }))) same ∙ get-insert_same c.units k (record v { holding = h }),
+                subst (λ (x : Unit). IsKept x (record v { holding = h })) (same_Some v u one) kept,
+              )
+          | inr other ↦ (u, get-insert_other c.units k m (record v { holding = h }) other ∙ there, kept-refl u)
+        ]
 
 -- ---- a holding with more of an item
-
--- a number plus what is added only if a test holds is the number, if the test fails
-nothing_added : (b : Bool) (x n : ℕ) → b ≡ false → x ≡ x + cond b n 0
-nothing_added true x n e = cc
-nothing_added false x n e = omega arith
 
 -- a holding with more of one item has that much more of it, and as much as before of others
 more_amount : (items : FinMap nat_cmp ℕ) (i n j : ℕ)
     → amount_of (with_amount_of items i (amount_of items i + n)) j ≡ amount_of items j + cond (2 + j == 2 + i) n 0
-more_amount items i n j =
-    set_amount items i (amount_of items i + n) j
-    ∙ elim (nat_cmp j i)
-    as (λ o. nat_cmp j i ≡ o → cond (is_eq o) (amount_of items i + n) (amount_of items j) ≡ amount_of items j + cond (2 + j == 2 + i) n 0) [
-      | Less ↦ λ o. let l = ranked j i Less (sym o) in nothing_added (2 + j == 2 + i) (amount_of items j) n (below l)
-      | Equal ↦ λ o. here (nat_cmp-IsAntisymmetric j i o)
-      | Greater ↦ λ o. let l = ranked j i Greater (sym o) in nothing_added (2 + j == 2 + i) (amount_of items j) n (above l)
-    ] refl
-  where
-    -- for an item `j` below item `i`, the test whether they are the same thing of the books is false
-    below : j < i → (2 + j == 2 + i) ≡ false
-    below l = grind (arith, nat_tests)
-
-    -- for an item `j` above item `i`, the test whether they are the same thing of the books is false
-    above : i < j → (2 + j == 2 + i) ≡ false
-    above l = grind (arith, nat_tests)
-
-    -- if `j` is the item that grows by `n`, its amount is the old one plus `n`
-    here : j ≡ i → amount_of items i + n ≡ amount_of items j + cond (2 + j == 2 + i) n 0
-    here same =
-        let tie : (2 + j == 2 + i) ≡ true = grind (arith, nat_tests) in
-        ap (λ k. amount_of items k + n) (sym same) ∙ ap (λ b. amount_of items j + cond b n 0) (sym tie)
+more_amount items i n j = elim (cases_eq j i) [
+  | inl same ↦ rw same (set_same items i (amount_of items i + n) ∙ ap (λ b. amount_of items i + cond b n 0) (sym (same_number (2 + i))))
+  | inr apart ↦ let kept = set_other items i (amount_of items i + n) j apart in grind (arith, nat_tests)
+]
 
 -- ---- the part that a unit takes, and the rest
 
 -- the part that is accepted and the rest are the amount
 whole : (amount have : ℕ) → accepted_of amount have + (amount - accepted_of amount have) ≡ amount
-whole amount have = omega (arith, least amount (holding_limit - have))
-  where
-    -- the lesser of two numbers is at most the first
-    least : (a b : ℕ) → min a b ≤ a
-    least a b = omega arith
+whole amount have = omega arith
 
 -- what a unit accepts is within the room that its holding has
 fits : (amount have : ℕ) → have ≤ holding_limit → have + accepted_of amount have ≤ holding_limit
-fits amount have l = omega (arith, least amount (holding_limit - have))
-  where
-    -- the lesser of two numbers is at most the second
-    least : (a b : ℕ) → min a b ≤ b
-    least a b = omega arith
+fits amount have l = omega arith
 
 module _ (w : WorldValue) (c : CampaignValue) (n k : ℕ) (apart : n ≢ k) (steady : IsSteady w c) where
   -- campaign `d` is one in which an amount of a thing of unit `n` was passed on (`PassesOn`), which moves Lost alone
@@ -264,16 +210,12 @@ module _ (w : WorldValue) (c : CampaignValue) (n k : ℕ) (apart : n ≢ k) (ste
   -- a holding with more money has that much more money, and as much as before of each item
   more_money : (h : HoldingValue) (n : ℕ) (s : Thing) → unit_amount s (record h { money = h.money + n }) ≡ unit_amount s h + part_of s Money n
   more_money h n Money = refl
-  more_money h n People = nothing_added false h.men n refl
-  more_money h n (Item i) = nothing_added (2 + i == 0) (amount_of h.items i) n (let e : (2 + i == 0) ≡ false = grind (arith, nat_tests) in e)
+  more_money h n People = grind (arith, nat_tests)
+  more_money h n (Item i) = grind (arith, nat_tests)
 
   -- if unit `k` takes nothing of an amount, all of it is booked as lost
   all_left : (t : Thing) (amount : ℕ) → Passed t amount (with_lost c t amount) → Passed t amount (with_lost c t (amount - 0))
-  all_left t amount lost = subst (λ a. Passed t amount (with_lost c t a)) (same amount) lost
-    where
-      -- a number is itself less 0
-      same : (x : ℕ) → x ≡ x - 0
-      same x = omega arith
+  all_left t amount lost = let same : amount ≡ amount - 0 = omega arith in subst (λ a. Passed t amount (with_lost c t a)) same lost
 
   -- the campaign after money went to unit `k`, if it is there; what it doesn't take is booked as lost
   abbrev money_to : (amount : ℕ) → Option Unit → CampaignValue
@@ -306,8 +248,8 @@ module _ (w : WorldValue) (c : CampaignValue) (n k : ℕ) (apart : n ≢ k) (ste
   -- a holding with more of an item has that much more of the item, and as much as before of any other thing
   more_item : (h : HoldingValue) (i n : ℕ) (s : Thing)
       → unit_amount s (record h { items = with_amount_of h.items i (amount_of h.items i + n) }) ≡ unit_amount s h + part_of s (Item i) n
-  more_item h i n Money = nothing_added (0 == 2 + i) h.money n (let e : (0 == 2 + i) ≡ false = grind (arith, nat_tests) in e)
-  more_item h i n People = nothing_added (1 == 2 + i) h.men n (let e : (1 == 2 + i) ≡ false = grind (arith, nat_tests) in e)
+  more_item h i n Money = grind (arith, nat_tests)
+  more_item h i n People = grind (arith, nat_tests)
   more_item h i n (Item j) = more_amount h.items i n j
 
   -- the campaign after an item went to unit `k`, if it is there; what it doesn't take is booked as lost

@@ -1,16 +1,13 @@
 -- Laws of each phase of a month: which entries of the books it moves, and what it leaves to a faction without a
 -- mailing.
-use Rattle.std.proofs.Common.{◌≡◌, ◌≢◌, ◌==◌, ◌&&◌, not, ℕ, ◌+◌, ◌*◌, ◌≤◌, Bool, true, false, [], ◌∷◌, refl, sym, subst, arith}
+use Rattle.std.proofs.Common.{◌≤◌, [], ◌∷◌, arith}
 use Rattle.std.specs.Prelude.{if◌then◌else◌}
 use Rattle.std.proofs.lemmas.Bool.Decides.{nat_tests}
 use Rattle.atl_records.specs.declared.books.Entry.{Entry}
 use Rattle.atl_records.specs.declared.books.Entry.TheVariants as entries
 use Rattle.atl_records.specs.declared.books.Thing.{Thing}
 use Rattle.atl_records.specs.declared.books.Thing.TheVariants.{Item, Money, People}
-use Rattle.atl_records.specs.Books.{entry_index, thing_index, amount_number}
-use Rattle.atl_records.specs.Limits.{entry_count}
 use Rattle.atl_records.proofs.EveryEntryLaws.{entry_small}
-use Rattle.atl_records.proofs.EveryLaws.{other_number}
 use Rattle.atl_phase.specs.Meaning.{BookBound, both_move, most_moved, moves_only}
 use Rattle.atl_phase.specs.PhaseSpecs.{EachPhase, MovedEntries, MovesItsOwn, PhaseSpec, may_move, no_moved_entries}
 use Rattle.atl_phase.specs.Unbooked.{moves_nothing}
@@ -52,29 +49,17 @@ MovesAlone moving moved = (e : Entry) (t : Thing) → moving e t ≤ (if may_mov
 nothing : (moved : MovedEntries) → MovesAlone moves_nothing moved
 nothing moved e t = omega arith
 
--- for one thing of the books, a bound that applies to a single amount is within a bound that applies to the entry of
--- that amount
-same_thing : (a x y : ℕ) (p : Bool) → (x == y) ≡ p → (q : Bool) → (entry_count * a + x == entry_count * a + y) ≡ q → (if q then most_moved else 0) ≤ (if p then most_moved else 0)
-same_thing a x y true e false f = omega arith
-same_thing a x y true e true f = omega arith
-same_thing a x y false e false f = omega arith
-same_thing a x y false e true f = absurd (grind (arith, nat_tests, e, f))
-
--- a bound that applies only where two numbers are equal is 0 where they differ
-other_thing : (m n : ℕ) → m ≢ n → (if m == n then most_moved else 0) ≤ 0
-other_thing m n apart = subst (λ q. (if q then most_moved else 0) ≤ 0) (sym (other_number m n apart)) (omega arith)
-
 -- moving one amount of money moves the listed entry of money alone
 money_alone : (k : Entry) → MovesAlone (moves_only most_moved k Money) (record { money = k ∷ []; people = []; items = [] })
-money_alone k e Money = same_thing 0 (entry_index e) (entry_index k) (entry_index e == entry_index k) refl (amount_number e Money == amount_number k Money) refl
-money_alone k e People = other_thing (amount_number e People) (amount_number k Money) (λ same. omega (arith, same, entry_small k))
-money_alone k e (Item i) = other_thing (amount_number e (Item i)) (amount_number k Money) (λ same. omega (arith, same, entry_small k))
+money_alone k e Money = grind (arith, nat_tests)
+money_alone k e People = grind (arith, nat_tests, entry_small k)
+money_alone k e (Item i) = grind (arith, nat_tests, entry_small k)
 
 -- moving one amount of people moves the listed entry of people alone
 people_alone : (k : Entry) → MovesAlone (moves_only most_moved k People) (record { money = []; people = k ∷ []; items = [] })
-people_alone k e Money = other_thing (amount_number e Money) (amount_number k People) (λ same. omega (arith, same, entry_small e))
-people_alone k e People = same_thing 1 (entry_index e) (entry_index k) (entry_index e == entry_index k) refl (amount_number e People == amount_number k People) refl
-people_alone k e (Item i) = other_thing (amount_number e (Item i)) (amount_number k People) (λ same. omega (arith, same, entry_small k))
+people_alone k e Money = grind (arith, nat_tests, entry_small e)
+people_alone k e People = grind (arith, nat_tests)
+people_alone k e (Item i) = grind (arith, nat_tests, entry_small k)
 
 -- moving an amount of money and one of people moves the two listed entries alone
 money_and_people : (k j : Entry) → MovesAlone (both_move (moves_only most_moved k Money) (moves_only most_moved j People)) (record { money = k ∷ []; people = j ∷ []; items = [] })
@@ -108,28 +93,17 @@ work_alone = money_alone entries.Wages
 pub upkeep_alone : MovesItsOwn upkeep_spec
 upkeep_alone = money_and_people entries.Upkeep entries.Starved
 
--- a bound by two tests is at most the bound by the first of them
-both_hold : (a b : Bool) → (if a && b then most_moved else 0) ≤ (if a then most_moved else 0)
-both_hold true true = omega arith
-both_hold true false = omega arith
-both_hold false b = omega arith
-
--- a bound that applies only where two tests hold is 0 if the second is false
-never : (a : Bool) → (if a && false then most_moved else 0) ≤ 0
-never true = omega arith
-never false = omega arith
-
 -- the season moves its own entries of the books alone, each by less than 10^14
 pub season_alone : MovesItsOwn season_spec
-season_alone e Money = omega (arith, money_and_people entries.Income entries.Births e Money, never (entry_index e == entry_index entries.Stocked))
-season_alone e People = omega (arith, money_and_people entries.Income entries.Births e People, never (entry_index e == entry_index entries.Stocked))
-season_alone e (Item i) = omega (arith, money_and_people entries.Income entries.Births e (Item i), both_hold (entry_index e == entry_index entries.Stocked) true)
+season_alone e Money = grind (arith, money_and_people entries.Income entries.Births e Money)
+season_alone e People = grind (arith, money_and_people entries.Income entries.Births e People)
+season_alone e (Item i) = grind (arith, money_and_people entries.Income entries.Births e (Item i))
 
 -- the sweep moves its own entries of the books alone, each by less than 10^14
 pub sweep_alone : MovesItsOwn sweep_spec
-sweep_alone e Money = both_hold (entry_index e == entry_index entries.Lost) true
-sweep_alone e People = never (entry_index e == entry_index entries.Lost)
-sweep_alone e (Item i) = both_hold (entry_index e == entry_index entries.Lost) (not (thing_index (Item i) == thing_index People))
+sweep_alone e Money = grind arith
+sweep_alone e People = grind arith
+sweep_alone e (Item i) = grind (arith, nat_tests)
 
 -- ---- each phase
 

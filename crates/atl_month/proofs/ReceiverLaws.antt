@@ -1,10 +1,10 @@
 -- Laws of the receivers of the sweep: the code's map has them, and sweeping a unit leaves them the same.
-use Rattle.std.proofs.Common.{◌≡◌, ◌≢◌, ◌==◌, ◌&&◌, ℕ, ◌≤◌, ◌<◌, Bool, true, false, cond, List, [], ◌∷◌, Option, Some, refl, sym, ap, subst, ◌∙◌, inl, inr, ◌⊎◌, arith}
+use Rattle.std.proofs.Common.{◌≡◌, ◌≢◌, ◌==◌, ◌&&◌, ℕ, ◌≤◌, ◌<◌, Bool, true, false, cond, List, [], ◌∷◌, Option, Some, refl, sym, ap, subst, ◌∙◌, inl, inr, arith}
 use Rattle.std.specs.Prelude.{nat_lt, unwrap_or, if◌then◌else◌}
 use Rattle.std.proofs.lemmas.Bool.Decides.{nat_tests}
 use Rattle.std.proofs.lemmas.Bool.{and_parts, cases_eq}
 use Rattle.std.specs.Ordering.{nat_cmp}
-use Rattle.std.specs.FinMap.{FinMap, empty, entries, get, get-empty, insert, is_sorted}
+use Rattle.std.specs.FinMap.{FinMap, empty, entries, get, get-empty, is_sorted}
 use Rattle.std.specs.FinMap.Entries.{below_all}
 use Rattle.atl_world.specs.Worlds.{WorldValue}
 use Rattle.atl_world.specs.Sums.{numbers_among, numbers_where}
@@ -15,14 +15,15 @@ use Rattle.atl_records.specs.Every.{Every}
 use Rattle.atl_campaign.specs.Good.{IsSteady}
 use Rattle.atl_campaign.specs.Owners.{first_or_zero}
 use Rattle.atl_campaign.specs.Campaign.{CampaignValue}
-use Rattle.atl_records.proofs.EveryLaws.{get-insert_other, sorted, other_number, same_number}
+use Rattle.atl_records.proofs.EveryLaws.{sorted}
 use Rattle.atl_campaign.proofs.OrderedLaws.{below}
-use Rattle.atl_campaign.proofs.RegionLaws.{get-insert_same}
 use Rattle.atl_campaign.proofs.NumberListLaws.{IsListed, listed_passing, passing_listed}
 use Rattle.atl_month.specs.Receivers.{AreReceivers, ReceiverMap, or_if_zero, receiver_in, with_receiver, with_receiver_of}
 use Rattle.atl_month.specs.Sweep.{IsKept, after_sweeping_unit, receiver, receives}
 use Rattle.atl_month.proofs.SweepLaws.{first_listed}
 use Rattle.atl_month.proofs.SweepAllLaws.{swept_at_keeps, swept_at_leaves_well, swept_at_were}
+use Rattle.atl_month.proofs.GroupedLaws.{get-grouped}
+use Rattle.atl_world.proofs.GeneralLaws.{is_equal}
 
 -- ---- the first number whose value passes a test
 
@@ -92,17 +93,11 @@ module _ {V : Type 0} (p : V → Bool) where
 module _ (w : WorldValue) (c : CampaignValue) (n : ℕ) (steady : IsSteady w c) where
   -- a unit that is kept, with its men (`IsKept`), receives for a faction in a region exactly if it did before
   passes_still : (region faction : ℕ) (u v : Unit) → IsKept u v → receives region faction u ≡ receives region faction v
-  passes_still region faction u v kept =
-      ap (λ r. (r == region) && ((u.faction == faction) && nat_lt 0 u.holding.men)) (sym kept.no_worse.region)
-      ∙ ap (λ f. (v.region == region) && ((f == faction) && nat_lt 0 u.holding.men)) (sym kept.no_worse.faction)
-      ∙ ap (λ m. (v.region == region) && ((v.faction == faction) && nat_lt 0 m)) (sym kept.men)
+  passes_still region faction u v kept = cc (kept.no_worse.region, kept.no_worse.faction, kept.men)
 
   -- a unit that receives has men
   has_men : (region faction : ℕ) (u : Unit) → receives region faction u ≡ true → 1 ≤ u.holding.men
-  has_men region faction u t =
-      let both = and_parts (u.region == region) ((u.faction == faction) && nat_lt 0 u.holding.men) t in
-      let men = (and_parts (u.faction == faction) (nat_lt 0 u.holding.men) both.1).1 in
-      grind (arith, nat_tests)
+  has_men region faction u t = grind (arith, nat_tests, t)
 
   -- sweeping a unit leaves the receiver of each faction in each region the same, in a steady campaign
   pub receiver_stays : (region faction : ℕ) → receiver (after_sweeping_unit c n) region faction ≡ receiver c region faction
@@ -115,138 +110,46 @@ module _ (w : WorldValue) (c : CampaignValue) (n : ℕ) (steady : IsSteady w c) 
 
 -- ---- receivers put into the map, unit by unit
 
--- the receiver of a faction by the part of the map for a region; 0 where there is none
-abbrev receiver_under : ℕ → Option (FinMap nat_cmp ℕ) → ℕ
-receiver_under faction o = unwrap_or (get (unwrap_or o empty) faction) 0
-
-module _ (m : ReceiverMap) (region faction n : ℕ) where
-  -- after a receiver is set for a faction in a region, it is the receiver there
-  noted_here : receiver_in (with_receiver m region faction n) region faction ≡ n
-  noted_here =
-      ap (receiver_under faction) (get-insert_same m region (insert (group_of m region) faction n))
-      ∙ ap (λ o. unwrap_or o 0) (get-insert_same (group_of m region) faction n)
-
-  -- after a receiver is set for a faction in a region, any other faction or region has the receiver that it had
-  noted_apart : (r f : ℕ) → (r ≢ region) ⊎ (f ≢ faction) → receiver_in (with_receiver m region faction n) r f ≡ receiver_in m r f
-  noted_apart r f h =
-      elim (cases_eq r region) [
-        | inl same ↦
-            elim h [
-              | inl apart ↦ absurd (apart same)
-              | inr apart ↦
-                  ap (λ k. receiver_in (with_receiver m region faction n) k f) same
-                  ∙ ap (receiver_under f) (get-insert_same m region (insert (group_of m region) faction n))
-                  ∙ ap (λ o. unwrap_or o 0) (get-insert_other (group_of m region) faction f n apart)
-                  ∙ ap (λ k. receiver_in m k f) (sym same)
-            ]
-        | inr apart ↦ ap (receiver_under f) (get-insert_other m region r (insert (group_of m region) faction n) apart)
-      ]
-
 module _ (m : ReceiverMap) (n : ℕ) (u : Unit) (es : List (ℕ × Unit)) (low : 1 ≤ n) where
   -- the receiver of a faction in a region among the units that come after unit `n`; 0 where there is none
   abbrev behind : (region faction : ℕ) → ℕ
   behind r f = first_or_zero (numbers_among (receives r f) es)
 
-  -- noting unit `n` keeps the receiver of a faction in a region: the one in the map, else the first of the units to
-  -- come
-  abbrev GoesOn : (region faction : ℕ) → Type 0
-  GoesOn r f = or_if_zero (receiver_in (with_receiver_of m n u) r f) (behind r f) ≡ or_if_zero (receiver_in m r f) (first_or_zero (numbers_among (receives r f) ((n, u) ∷ es)))
-
-  -- the first number of a list with, perhaps, one more in front is that one, or the first of the list
-  first_of_cond : (b : Bool) (x : ℕ) (ns : List ℕ) → first_or_zero (cond b (x ∷ ns) ns) ≡ cond b x (first_or_zero ns)
-  first_of_cond true x ns = refl
-  first_of_cond false x ns = refl
-
   -- the first receiver among unit `n` and those after it is unit `n` if it receives, else the first of those after it
   opened : (r f : ℕ) → first_or_zero (numbers_among (receives r f) ((n, u) ∷ es)) ≡ cond (receives r f u) n (behind r f)
-  opened r f = ap first_or_zero (chosen-cons (receives r f) (n, u) es) ∙ first_of_cond (receives r f u) n (numbers_among (receives r f) es)
-
-  -- noting a unit keeps the receiver of its own faction in its own region (`GoesOn`)
-  own : GoesOn u.region u.faction
-  own =
-      by_tests (nat_lt 0 u.holding.men) (receiver_in m u.region u.faction == 0) refl refl
-      ∙ ap (λ b. or_if_zero x (cond b n F)) (sym passes) ∙ ap (or_if_zero x) (sym (opened u.region u.faction))
+  opened r f = ap first_or_zero (chosen-cons (receives r f) (n, u) es) ∙ first_of_cond (receives r f u) (numbers_among (receives r f) es)
     where
-      -- the receiver that the map has for the unit's faction in its region, before the unit is noted; 0 where there is
-      -- none
-      x : ℕ
-      x = receiver_in m u.region u.faction
+      -- the first number of a list with, perhaps, `n` in front is `n`, or the first of the list
+      first_of_cond : (b : Bool) (ns : List ℕ) → first_or_zero (cond b (n ∷ ns) ns) ≡ cond b n (first_or_zero ns)
+      first_of_cond b ns = grind arith
 
-      -- the first receiver among the units that come after unit `n`, for its faction in its region; 0 where there is
-      -- none
-      F : ℕ
-      F = behind u.region u.faction
+  -- after unit `n` was noted for its faction in its region, if test `b` says so, it is the receiver there, and any other
+  -- faction or region has the receiver that it had
+  noted : (b : Bool) (r f : ℕ) → receiver_in (if b then with_receiver m u.region u.faction n else m) r f
+      ≡ unwrap_or (cond (b && ((u.region == r) && (u.faction == f))) (Some n) (get (group_of m r) f)) 0
+  noted true r f = ap (λ o. unwrap_or o 0) (get-grouped m u.region u.faction n r f)
+  noted false r f = refl
 
-      -- a unit receives for its own faction in its own region exactly if it has men
-      passes : receives u.region u.faction u ≡ nat_lt 0 u.holding.men
-      passes = ap (λ a. a && ((u.faction == u.faction) && nat_lt 0 u.holding.men)) (same_number u.region) ∙ ap (λ a. a && nat_lt 0 u.holding.men) (same_number u.faction)
-
-      -- `or_if_zero` gives the first number, if it is at least 1
-      some_else : (a b : ℕ) → 1 ≤ a → or_if_zero a b ≡ a
-      some_else a b l = by_test (a == 0) refl
-        where
-          -- a choice between `b`, where `a` is 0, and `a` gives `a`, since `a` is at least 1
-          by_test : (t : Bool) → (a == 0) ≡ t → (if t then b else a) ≡ a
-          by_test true e = let zero : a ≡ 0 = grind (arith, nat_tests) in absurd (omega (arith, zero, l))
-          by_test false e = refl
-
-      -- noting unit `n` keeps the receiver, whether the unit has men (`k`) or not, and whether the map has no receiver
-      -- yet (`z`) or has one
-      by_tests : (k z : Bool) → nat_lt 0 u.holding.men ≡ k → (receiver_in m u.region u.faction == 0) ≡ z
-          → or_if_zero (receiver_in (with_receiver_of m n u) u.region u.faction) F ≡ or_if_zero x (cond (nat_lt 0 u.holding.men) n F)
-      by_tests true true k z =
-          ap (λ a. or_if_zero (receiver_in (if a && (x == 0) then with_receiver m u.region u.faction n else m) u.region u.faction) F) k
-          ∙ ap (λ a. or_if_zero (receiver_in (if a then with_receiver m u.region u.faction n else m) u.region u.faction) F) z
-          ∙ ap (λ a. or_if_zero a F) (noted_here m u.region u.faction n) ∙ some_else n F low
-          ∙ ap (λ a. if a then n else x) (sym z) ∙ ap (λ a. or_if_zero x (cond a n F)) (sym k)
-      by_tests true false k z =
-          ap (λ a. or_if_zero (receiver_in (if a && (x == 0) then with_receiver m u.region u.faction n else m) u.region u.faction) F) k
-          ∙ ap (λ a. or_if_zero (receiver_in (if a then with_receiver m u.region u.faction n else m) u.region u.faction) F) z
-          ∙ ap (λ a. if a then F else x) z
-          ∙ ap (λ a. if a then n else x) (sym z) ∙ ap (λ a. or_if_zero x (cond a n F)) (sym k)
-      by_tests false z k e =
-          ap (λ a. or_if_zero (receiver_in (if a && (x == 0) then with_receiver m u.region u.faction n else m) u.region u.faction) F) k
-          ∙ ap (λ a. or_if_zero x (cond a n F)) (sym k)
-
-  -- noting a unit keeps the receiver of any other faction or region (`GoesOn`)
-  others : (r f : ℕ) → (r ≢ u.region) ⊎ (f ≢ u.faction) → GoesOn r f
-  others r f apart =
-      ap (λ a. or_if_zero a (behind r f)) (by_test (nat_lt 0 u.holding.men && (receiver_in m u.region u.faction == 0)))
-      ∙ ap (λ b. or_if_zero (receiver_in m r f) (cond b n (behind r f))) (sym (fails apart)) ∙ ap (or_if_zero (receiver_in m r f)) (sym (opened r f))
-    where
-      -- the receiver of another faction or region stays, whether unit `n` is noted (`b`) or not
-      by_test : (b : Bool) → receiver_in (if b then with_receiver m u.region u.faction n else m) r f ≡ receiver_in m r f
-      by_test true = noted_apart m u.region u.faction n r f apart
-      by_test false = refl
-
-      -- a test and false are false together
-      no_second : (a : Bool) → a && false ≡ false
-      no_second true = refl
-      no_second false = refl
-
-      -- the unit doesn't receive for another faction or in another region
-      fails : (r ≢ u.region) ⊎ (f ≢ u.faction) → receives r f u ≡ false
-      fails (inl h) = ap (λ a. a && ((u.faction == f) && nat_lt 0 u.holding.men)) (other_number u.region r (λ e. h (sym e)))
-      fails (inr h) = ap (λ a. (u.region == r) && (a && nat_lt 0 u.holding.men)) (other_number u.faction f (λ e. h (sym e))) ∙ no_second (u.region == r)
-
-  -- noting a unit keeps the receiver of each faction in each region (`GoesOn`)
-  pub noted_goes_on : (r f : ℕ) → GoesOn r f
+  -- noting unit `n` keeps the receiver of each faction in each region: the one in the map, else the first of the units
+  -- to come
+  pub noted_goes_on : (r f : ℕ) → or_if_zero (receiver_in (with_receiver_of m n u) r f) (behind r f)
+      ≡ or_if_zero (receiver_in m r f) (first_or_zero (numbers_among (receives r f) ((n, u) ∷ es)))
   noted_goes_on r f =
-      elim (cases_eq r u.region) [
-        | inl region ↦
-            elim (cases_eq f u.faction) [
-              | inl faction ↦ subst (λ k. GoesOn k f) (sym region) (subst (GoesOn u.region) (sym faction) own)
-              | inr apart ↦ others r f (inr apart)
-            ]
-        | inr apart ↦ others r f (inl apart)
-      ]
+      ap (λ x. or_if_zero x (behind r f)) (noted (nat_lt 0 u.holding.men && (receiver_in m u.region u.faction == 0)) r f)
+      ∙ goes_on (u.region == r) (u.faction == f) (nat_lt 0 u.holding.men) (get (group_of m r) f) (receiver_in m u.region u.faction) (behind r f)
+      (λ region faction. ap (λ k. receiver_in m k f) (sym (is_equal u.region r region)) ∙ ap (receiver_in m u.region) (sym (is_equal u.faction f faction)))
+      ∙ ap (or_if_zero (receiver_in m r f)) (sym (opened r f))
+    where
+      -- The receiver goes on, for a faction in a region with receiver `o` in the map, and `next` the first of the units
+      -- that come after unit `n`. Tests `p` and `q` say whether unit `n` is in the region and of the faction, and `k`
+      -- whether it has men; `x` is the receiver of its own faction in its own region.
+      goes_on : (p q k : Bool) (o : Option ℕ) (x next : ℕ) → (p ≡ true → q ≡ true → unwrap_or o 0 ≡ x)
+          → or_if_zero (unwrap_or (cond ((k && (x == 0)) && (p && q)) (Some n) o) 0) next ≡ or_if_zero (unwrap_or o 0) (cond (p && (q && k)) n next)
+      goes_on p q k o x next same = grind (arith, nat_tests, low)
 
 -- before any unit is noted, the receivers are the first of all units
 pub nothing_noted : (c : CampaignValue) (m : ReceiverMap) → m ≡ empty → (r f : ℕ) → or_if_zero (receiver_in m r f) (first_or_zero (numbers_among (receives r f) (entries c.units))) ≡ receiver c r f
-nothing_noted c m none r f =
-    ap (λ k. or_if_zero (receiver_under f (get k r)) (first_or_zero (numbers_among (receives r f) (entries c.units)))) none
-    ∙ ap (λ o. or_if_zero (receiver_under f o) (first_or_zero (numbers_among (receives r f) (entries c.units)))) (get-empty nat_cmp r)
-    ∙ ap (λ o. or_if_zero (unwrap_or o 0) (first_or_zero (numbers_among (receives r f) (entries c.units)))) (get-empty nat_cmp f)
+nothing_noted c m none r f = rw (none, get-empty nat_cmp r, get-empty nat_cmp f) refl
 
 -- after all units were noted, the map has the receivers of the campaign
 pub all_noted : (c : CampaignValue) (m : ReceiverMap) → ((r f : ℕ) → or_if_zero (receiver_in m r f) (first_or_zero (numbers_among (receives r f) [])) ≡ receiver c r f) → AreReceivers c m
@@ -254,9 +157,4 @@ all_noted c m h r f = plain (receiver_in m r f) ∙ h r f
   where
     -- `or_if_zero` with 0 as the second number gives the first
     plain : (x : ℕ) → x ≡ or_if_zero x 0
-    plain x = by_test (x == 0) refl
-      where
-        -- a choice between 0, where `x` is 0, and `x` gives `x`
-        by_test : (b : Bool) → (x == 0) ≡ b → x ≡ (if b then 0 else x)
-        by_test true e = grind (arith, nat_tests)
-        by_test false e = refl
+    plain x = grind (arith, nat_tests)

@@ -1,11 +1,11 @@
 -- Laws of restocking a region's markets: it keeps a campaign steady, its books balanced and all units as they are.
-use Rattle.std.proofs.Common.{◌≡◌, ◌≢◌, ◌==◌, ◌&&◌, ℕ, ◌+◌, ◌-◌, ◌*◌, ◌≤◌, ◌<◌, min, Bool, true, false, cond, Option, Some, None, List, [], ◌∷◌, length, refl, sym, ap, subst, ◌∙◌, arith}
+use Rattle.std.proofs.Common.{◌≡◌, ◌≢◌, ◌==◌, ℕ, ◌+◌, ◌-◌, ◌≤◌, ◌<◌, Bool, true, cond, Option, Some, None, List, [], ◌∷◌, length, refl, sym, ap, subst, ◌∙◌, arith, inl, inr}
 use Rattle.std.specs.Prelude.{ℤ, pos, ◌+ℤ◌, is_some, option_and_then, unwrap_or, if◌then◌else◌}
 use Rattle.std.specs.Ordering.{nat_cmp, is_lt}
 use Rattle.std.specs.FinMap.{empty, entries, get, is_sorted}
 use Rattle.std.specs.FinMap.Entries.{below_all}
 use Rattle.std.specs.Option.{option_map_or}
-use Rattle.std.proofs.lemmas.Bool.{and_parts}
+use Rattle.std.proofs.lemmas.Bool.{and_parts, cases_eq}
 use Rattle.std.proofs.lemmas.Bool.Decides.{nat_tests}
 use Rattle.std.proofs.lemmas.Int.{ints}
 use Rattle.atl_world.specs.Worlds.{WorldValue, IsMarket, IsWorld}
@@ -19,8 +19,7 @@ use Rattle.atl_records.specs.declared.books.Entry.TheVariants.{Stocked}
 use Rattle.atl_records.specs.declared.books.Thing.{Thing}
 use Rattle.atl_records.specs.declared.books.Thing.TheVariants.{Money, People, Item}
 use Rattle.atl_records.specs.declared.records.Region.{Region}
-use Rattle.atl_records.specs.Limits.{entry_count}
-use Rattle.atl_records.specs.Books.{amount_in, booked, entry_index, thing_at, thing_index, amount_number}
+use Rattle.atl_records.specs.Books.{amount_in, booked, thing_at, thing_index, amount_number}
 use Rattle.atl_campaign.specs.Campaign.{MarkedCampaign, CampaignValue, with_amount, with_stock}
 use Rattle.atl_campaign.specs.Covers.{MarksChanges}
 use Rattle.atl_records.specs.Every.{EachOf, IsThere}
@@ -32,17 +31,18 @@ use Rattle.atl_campaign.specs.Stocks.{stock_limit, stock_of}
 use Rattle.atl_campaign.specs.Totals.{Balances, total}
 use Rattle.atl_records.proofs.AccountLaws.{at_place}
 use Rattle.atl_records.proofs.BookLaws.{booked-after_booking}
-use Rattle.atl_campaign.proofs.CoverLaws.{marks-amount, marks-stock, marks-trans}
+use Rattle.atl_campaign.proofs.CoverLaws.{marks-stock}
 use Rattle.atl_records.proofs.EveryEntryLaws.{entry_small}
-use Rattle.atl_records.proofs.EveryLaws.{each-from_every, sorted}
+use Rattle.atl_records.proofs.EveryLaws.{each-from_every, sorted, same_number}
 use Rattle.atl_campaign.proofs.RegionLaws.{steady-amount, total-amount}
 use Rattle.atl_campaign.proofs.StockLaws.{steady-stock, total-stock, total-stock_other}
 use Rattle.atl_phase.specs.Meaning.{BookBound, LeavesWell, moves_only}
 use Rattle.atl_phase.specs.Bounds.{HasRoom, HaveRoom}
 use Rattle.atl_phase.proofs.BookingLaws.{booked-near, within-pos}
-use Rattle.atl_phase.proofs.MarkLaws.{marks_by}
+use Rattle.atl_phase.proofs.MarkLaws.{marks_by, booked_marks}
 use Rattle.atl_phase.proofs.MeaningLaws.{both_leave_well, room_behind, room_less, same_month_by, well_unchanged, well_within}
 use Rattle.atl_month.specs.Restock.{after_market_restock, after_restock, markets_of, restock, stocks_by}
+use Rattle.atl_campaign.proofs.OrderedLaws.{below}
 
 -- ---- how far new goods move the books
 
@@ -51,119 +51,36 @@ abbrev pub stocking : List (ℕ × Market) → BookBound
 stocking [] e t = 0
 stocking (x ∷ xs) e t = moves_only most_amount Stocked (Item x.0) e t + stocking xs e t
 
--- new goods of an item move the amount of that item under Stocked alone
-one_stocked : (k : ℕ) (e : Entry) (t : Thing) → moves_only most_amount Stocked (Item k) e t ≤ (if (entry_index e == entry_index Stocked) && (thing_index t == 2 + k) then most_amount else 0)
-one_stocked k e t = by_number (amount_number e t == amount_number Stocked (Item k)) refl
-  where
-    -- a bound that applies where two tests hold is `most_amount`, if both hold
-    at_place : (a b : Bool) → a ≡ true → b ≡ true → most_amount ≤ (if a && b then most_amount else 0)
-    at_place true true f g = omega arith
-    at_place true false f g = cc
-    at_place false b f g = cc
-
-    -- the bound for entry `e` and thing `t` holds, whether their amount is that of item `k` under Stocked (`b`) or
-    -- another
-    by_number : (b : Bool) → (amount_number e t == amount_number Stocked (Item k)) ≡ b → (if b then most_amount else 0) ≤ (if (entry_index e == entry_index Stocked) && (thing_index t == 2 + k) then most_amount else 0)
-    by_number true is =
-        let same : entry_count * thing_index t + entry_index e ≡ entry_count * (2 + k) + entry_index Stocked = grind (arith, nat_tests) in
-        let small = entry_small e in
-        let small_stocked = entry_small Stocked in
-        let thing : thing_index t ≡ 2 + k = omega arith in
-        let entry : entry_index e ≡ entry_index Stocked = omega arith in
-        at_place (entry_index e == entry_index Stocked) (thing_index t == 2 + k) (let f : (entry_index e == entry_index Stocked) ≡ true = grind (arith, nat_tests) in f) (let g : (thing_index t == 2 + k) ≡ true = grind (arith, nat_tests) in g)
-    by_number false is = omega arith
-
--- a number that is at most `most_amount` if two tests hold, and else 0 at most, is 0 where the second test is false
-no_part : (a b : Bool) (n : ℕ) → b ≡ false → n ≤ (if a && b then most_amount else 0) → n ≡ 0
-no_part true true n f l = cc
-no_part true false n f l = omega (arith, l)
-no_part false b n f l = omega (arith, l)
+-- new goods of an item move amounts within the bound of restocking
+one_stocked : (k : ℕ) (e : Entry) (t : Thing) → moves_only most_amount Stocked (Item k) e t ≤ stocks_by most_amount e t
+one_stocked k e Money = grind (arith, nat_tests, entry_small e)
+one_stocked k e People = grind (arith, nat_tests, entry_small e)
+one_stocked k e (Item i) = grind (arith, nat_tests, entry_small e)
 
 -- new goods of one item move no amount of another
-other_item : (k : ℕ) (e : Entry) (t : Thing) → (thing_index t == 2 + k) ≡ false → moves_only most_amount Stocked (Item k) e t ≡ 0
-other_item k e t apart = no_part (entry_index e == entry_index Stocked) (thing_index t == 2 + k) (moves_only most_amount Stocked (Item k) e t) apart (one_stocked k e t)
-
--- the sum of two numbers that are 0 is 0
-sum_of_none : (n y : ℕ) → n ≡ 0 → y ≡ 0 → n + y ≡ 0
-sum_of_none n y e f = omega (arith, e, f)
+other_item : (k : ℕ) (e : Entry) (t : Thing) → thing_index t ≢ 2 + k → moves_only most_amount Stocked (Item k) e t ≡ 0
+other_item k e t apart = grind (arith, nat_tests, entry_small e)
 
 -- the new goods of markets whose items are all above `k` move nothing of item `k`
 none_above : (k : ℕ) (xs : List (ℕ × Market)) (e : Entry) (t : Thing) → thing_index t ≡ 2 + k → below_all nat_cmp k xs ≡ true → stocking xs e t ≡ 0
 none_above k [] e t at above = refl
 none_above k (x ∷ xs) e t at above =
     let both = and_parts (is_lt (nat_cmp k x.0)) (below_all nat_cmp k xs) above in
-    let first : k < x.0 = is_below k x.0 both.0 in
-    sum_of_none (moves_only most_amount Stocked (Item x.0) e t) (stocking xs e t) (other_item x.0 e t (grind (arith, nat_tests))) (none_above k xs e t at both.1)
-  where
-    -- a number that compares as less is less
-    is_below : (a b : ℕ) → is_lt (nat_cmp a b) ≡ true → a < b
-    is_below a b h = grind (arith, nat_tests)
-
--- the new goods of markets with different items move no amount by more than 999,999,999
-little : (xs : List (ℕ × Market)) → is_sorted nat_cmp xs ≡ true → (e : Entry) (t : Thing) → stocking xs e t ≤ (if entry_index e == entry_index Stocked then most_amount else 0)
-little [] rising e t = omega arith
-little (x ∷ xs) rising e t = with_rest (little xs (and_parts _ _ rising).1 e t)
-  where
-    -- what the new goods of the first market may move of the amount
-    first : ℕ
-    first = moves_only most_amount Stocked (Item x.0) e t
-
-    -- the bound on the amount: `most_amount` under Stocked, and 0 under any other entry
-    bound : ℕ
-    bound = if entry_index e == entry_index Stocked then most_amount else 0
-
-    -- a number within a bound by two tests is within the bound by the first of them
-    head : (a b : Bool) (n : ℕ) → n ≤ (if a && b then most_amount else 0) → n ≤ (if a then most_amount else 0)
-    head true true n l = l
-    head true false n l = omega (arith, l)
-    head false b n l = l
-
-    -- a number within a bound stays within it when a number that is 0 is added
-    alone : (n y z : ℕ) → n ≤ z → y ≡ 0 → n + y ≤ z
-    alone n y z l e = omega (arith, l, e)
-
-    -- a number that is 0, plus a number within a bound, is within the bound
-    behind : (n y z : ℕ) → n ≡ 0 → y ≤ z → n + y ≤ z
-    behind n y z e l = omega (arith, l, e)
-
-    -- the goods of the first and of the other markets together are within the bound, whether the thing is the first
-    -- market's item (`b`) or not
-    by_thing : (b : Bool) → (thing_index t == 2 + x.0) ≡ b → stocking xs e t ≤ bound → first + stocking xs e t ≤ bound
-    by_thing true is rest =
-        alone first (stocking xs e t) bound (head (entry_index e == entry_index Stocked) (thing_index t == 2 + x.0) first (one_stocked x.0 e t))
-        (none_above x.0 xs e t (let at : thing_index t ≡ 2 + x.0 = grind (arith, nat_tests) in at) (and_parts _ _ rising).0)
-    by_thing false is rest = behind first (stocking xs e t) bound (other_item x.0 e t is) rest
-
-    -- if the goods of the other markets are within the bound, they are so together with those of the first
-    with_rest : stocking xs e t ≤ bound → first + stocking xs e t ≤ bound
-    with_rest rest = by_thing (thing_index t == 2 + x.0) refl rest
-
--- new goods move no amount of money or people
-not_stocked : (xs : List (ℕ × Market)) (e : Entry) (t : Thing) → thing_index t ≤ 1 → stocking xs e t ≡ 0
-not_stocked [] e t low = refl
-not_stocked (x ∷ xs) e t low =
-    sum_of_none (moves_only most_amount Stocked (Item x.0) e t) (stocking xs e t) (other_item x.0 e t (grind (arith, nat_tests))) (not_stocked xs e t low)
+    let less = below k x.0 both.0 in
+    omega (arith, other_item x.0 e t (λ same. omega (arith, at, same, less)), none_above k xs e t at both.1)
 
 -- the new goods of markets with different items move Stocked of each item by at most 999,999,999, and nothing else
 pub stocks_little : (xs : List (ℕ × Market)) → is_sorted nat_cmp xs ≡ true → (e : Entry) (t : Thing) → stocking xs e t ≤ stocks_by most_amount e t
-stocks_little xs rising e Money = omega (arith, not_stocked xs e Money (omega arith))
-stocks_little xs rising e People = omega (arith, not_stocked xs e People (omega arith))
-stocks_little xs rising e (Item i) = item (entry_index e == entry_index Stocked) (stocking xs e (Item i)) (little xs rising e (Item i))
-  where
-    -- a number within a bound by a test is within the bound by the test and true
-    item : (a : Bool) (n : ℕ) → n ≤ (if a then most_amount else 0) → n ≤ (if a && true then most_amount else 0)
-    item true n l = l
-    item false n l = l
+stocks_little [] rising e t = omega arith
+stocks_little (x ∷ xs) rising e t =
+    let both = and_parts (below_all nat_cmp x.0 xs) (is_sorted nat_cmp xs) rising in
+    let rest = stocks_little xs both.1 e t in
+    elim (cases_eq (thing_index t) (2 + x.0)) [
+      | inl at ↦ omega (arith, one_stocked x.0 e t, none_above x.0 xs e t at both.0)
+      | inr apart ↦ omega (arith, other_item x.0 e t apart, rest)
+    ]
 
 -- ---- a market that gets new goods
-
--- what is added to an amount, at most what is missing to a limit, keeps it within the limit
-fits : (a b d : ℕ) → d ≤ b → d + min a (b - d) ≤ b
-fits a b d l = omega (arith, least a (b - d))
-  where
-    -- the lesser of two numbers is at most the second
-    least : (x y : ℕ) → min x y ≤ y
-    least x y = omega arith
 
 module _ (w : WorldValue) (c : CampaignValue) (n i : ℕ) (m : Market) (r : Region) (here : get c.regions n ≡ Some r) (market : market_of w n i ≡ Some m) (known : IsMarket (length w.items) i m) (steady : IsSteady w c) where
   -- the stock of the market before it gets its new goods
@@ -193,7 +110,7 @@ module _ (w : WorldValue) (c : CampaignValue) (n i : ℕ) (m : Market) (r : Regi
 
   -- the stock of the market with its new goods is at most its limit
   pub stock_fits : stock + more ≤ m.limit
-  stock_fits = fits m.restock m.limit stock stock_small
+  stock_fits = omega (arith, stock_small)
 
   -- the item is one of the things of the world's books
   inside : thing_index (Item i) < things_of w
@@ -209,29 +126,13 @@ module _ (w : WorldValue) (c : CampaignValue) (n i : ℕ) (m : Market) (r : Regi
 
   -- the total of the item grows by the new goods
   filled_total : (t : Thing) → total filled t ≡ total c t + cond (thing_index t == 2 + i) more 0
-  filled_total t = by_place (thing_index t == 2 + i) refl
-    where
-      -- if the new total plus the old stock is the old total plus the new stock, the total grows by the new goods
-      added : (a b : ℕ) → a + stock ≡ b + (stock + more) → a ≡ b + more
-      added a b e = omega (arith, e)
-
-      -- the total grows by the new goods if the thing is the item (`b`), and stays if not
-      by_place : (b : Bool) → (thing_index t == 2 + i) ≡ b → total filled t ≡ total c t + cond b more 0
-      by_place true is =
-          let place : thing_index t ≡ thing_index (Item i) = grind (arith, nat_tests) in
-          let same : t ≡ Item i = sym (at_place t) ∙ ap thing_at place ∙ at_place (Item i) in
-          subst (λ (u : Thing). total filled u ≡ total c u + more) (sym same) (added (total filled (Item i)) (total c (Item i)) (total-stock c n i (stock + more) r here))
-      by_place false is =
-          let apart : t ≢ Item i = λ same. absurd (other (ap thing_index same) is) in
-          total-stock_other c n i (stock + more) r here t apart ∙ plain (total c t)
-        where
-          -- a thing with the number of the item can't fail the test for it
-          other : thing_index t ≡ 2 + i → (thing_index t == 2 + i) ≡ false → ⊥
-          other e f = grind (arith, nat_tests)
-
-          -- a number is itself plus 0
-          plain : (k : ℕ) → k ≡ k + 0
-          plain k = omega arith
+  filled_total t = elim (cases_eq (thing_index t) (2 + i)) [
+    | inl place ↦
+        let same : t ≡ Item i = sym (at_place t) ∙ ap thing_at place ∙ at_place (Item i) in
+        let its = total-stock c n i (stock + more) r here in
+        subst (λ (u : Thing). total filled u ≡ total c u + cond (thing_index u == 2 + i) more 0) (sym same) (grind (arith, nat_tests, its))
+    | inr apart ↦ let kept = total-stock_other c n i (stock + more) r here t (λ same. apart (ap thing_index same)) in grind (arith, nat_tests, kept)
+  ]
 
   -- if the books balance before, they balance with the new goods in stock and booked
   balanced : Balances c → Balances (with_amount filled Stocked (Item i) (pos more))
@@ -242,8 +143,7 @@ module _ (w : WorldValue) (c : CampaignValue) (n i : ℕ) (m : Market) (r : Regi
       -- if the total of a thing is what the books account for, it is so with the new goods in both, if the thing is the
       -- item (`b`)
       added : (b : Bool) (x : ℕ) (z : ℤ) → pos x ≡ z → pos (x + cond b more 0) ≡ z +ℤ cond b (pos more) (pos 0)
-      added true x z e = omega (arith, ints, e)
-      added false x z e = omega (arith, ints, e)
+      added b x z e = grind (arith, ints, e)
 
   -- new goods of a market of region `n` keep a steady campaign steady and its books balanced, and book only that item
   pub market_leaves_well : LeavesWell IsSteady (moves_only most_amount Stocked (Item i)) w c (after_market_restock n c (i, m))
@@ -318,17 +218,12 @@ restocked_keeps n c (x ∷ xs) = restocked_keeps n (after_market_restock n c x) 
 
 -- a market whose limit is at most 999,999,999 gets at most that many new goods
 pub restock_small : (m : Market) (stock : ℕ) → m.limit ≤ most_amount → restock m stock ≤ most_amount
-restock_small m stock l = omega (arith, l, least m.restock (m.limit - stock))
-  where
-    -- the lesser of two numbers is at most the second
-    least : (x y : ℕ) → min x y ≤ y
-    least x y = omega arith
+restock_small m stock l = omega (arith, l)
 
 -- books with room for an item's new goods have room for its amount under Stocked
 pub room_alone : (c : CampaignValue) (i : ℕ) → HaveRoom (moves_only most_amount Stocked (Item i)) c → HasRoom most_amount (amount_in c.books Stocked (Item i))
 room_alone c i room =
-    let same : (amount_number Stocked (Item i) == amount_number Stocked (Item i)) ≡ true = grind (arith, nat_tests) in
-    subst (λ b. HasRoom (if b then most_amount else 0) (amount_in c.books Stocked (Item i))) same (room Stocked (Item i))
+    subst (λ b. HasRoom (if b then most_amount else 0) (amount_in c.books Stocked (Item i))) (same_number (amount_number Stocked (Item i))) (room Stocked (Item i))
 
 -- books with room for the new goods of all markets have room for those of the first
 pub room_for_market : (x : ℕ × Market) (xs : List (ℕ × Market)) (c : CampaignValue) → HaveRoom (stocking (x ∷ xs)) c → HaveRoom (moves_only most_amount Stocked (Item x.0)) c
@@ -342,5 +237,4 @@ room_behind_market w n there x xs c of steady room = room_behind (moves_only mos
 pub market_marks : (stock more n i : ℕ) (c d e : MarkedCampaign) → d.value ≡ with_stock c.value n i (stock + more) → MarksStock c n i (stock + more) d.marks
     → e.value ≡ with_amount d.value Stocked (Item i) (pos more) → e.marks ≡ mark_amount d Stocked (Item i) → MarksChanges c e
 market_marks stock more n i c d e d_is d_marks e_is e_marks =
-    marks-trans c d e (marks_by c d _ d_is refl (marks-stock c n i (stock + more) d.marks d_marks))
-    (marks_by d e _ e_is e_marks (marks-amount d Stocked (Item i) (pos more)))
+    booked_marks c d e Stocked (Item i) (pos more) (marks_by c d _ d_is refl (marks-stock c n i (stock + more) d.marks d_marks)) e_is e_marks

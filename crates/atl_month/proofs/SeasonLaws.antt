@@ -1,7 +1,7 @@
 -- Laws of the season: it keeps a campaign steady, its books balanced and all units as they are, and the books have room
 -- for it.
-use Rattle.std.proofs.Common.{◌≡◌, ◌==◌, ◌&&◌, ℕ, ◌+◌, ◌-◌, ◌*◌, ◌/◌, ◌%◌, ◌≤◌, min, Bool, true, false, cond, Option, Some, None, List, [], ◌∷◌, length, map, refl, sym, ap, subst, ◌∙◌, arith}
-use Rattle.std.specs.Prelude.{pos, ◌+ℤ◌, fold, zip, option_and_then, if◌then◌else◌}
+use Rattle.std.proofs.Common.{◌≡◌, ℕ, ◌+◌, ◌-◌, ◌≤◌, Option, Some, None, List, [], ◌∷◌, length, map, refl, sym, ap, subst, ◌∙◌, arith}
+use Rattle.std.specs.Prelude.{pos, ◌+ℤ◌, fold, zip, option_and_then}
 use Rattle.std.specs.List.{slice_get}
 use Rattle.std.specs.FinMap.{entries, get, len-entries}
 use Rattle.std.specs.Option.{option_map_or}
@@ -14,45 +14,41 @@ use Rattle.atl_world.specs.declared.world.Terrain.{Terrain}
 use Rattle.atl_world.specs.declared.world.RegionPlan.{RegionPlan}
 use Rattle.atl_world.specs.ByNumber.{terrain_of}
 use Rattle.atl_records.specs.declared.books.Entry.{Entry}
-use Rattle.atl_records.specs.declared.books.Entry.TheVariants.{Births, Income, Stocked}
+use Rattle.atl_records.specs.declared.books.Entry.TheVariants.{Births, Income}
 use Rattle.atl_records.specs.declared.books.Thing.{Thing}
 use Rattle.atl_records.specs.declared.books.Thing.TheVariants.{Money, People, Item}
 use Rattle.atl_records.specs.declared.records.Region.{Region}
-use Rattle.atl_records.specs.Books.{BooksValue, amount_in, entry_index, after_booking, amount_number}
+use Rattle.atl_records.specs.Books.{BooksValue, amount_in, after_booking}
 use Rattle.atl_campaign.specs.Good.{IsSteady}
-use Rattle.atl_records.specs.Holdings.{amount_of}
 use Rattle.atl_campaign.specs.Covers.{MarksChanges}
 use Rattle.atl_campaign.specs.Marking.{mark_amount, mark_region}
 use Rattle.atl_campaign.specs.Campaign.{MarkedCampaign, CampaignValue, with_amount, with_peasants, with_region_money}
 use Rattle.atl_records.specs.Amounts.{region_amount}
 use Rattle.atl_campaign.specs.Totals.{Balances, total}
 use Rattle.atl_records.proofs.BookLaws.{booked-after_booking, share_of}
-use Rattle.atl_campaign.proofs.CoverLaws.{marks-amount, marks-region, marks-trans}
+use Rattle.atl_campaign.proofs.CoverLaws.{marks-region, marks-trans}
 use Rattle.atl_campaign.proofs.RegionLaws.{IsRegion-money, IsRegion-peasants, region-changed, steady-amount, steady-region, total-amount, total-region}
 use Rattle.atl_records.proofs.EveryLaws.{none_some}
 use Rattle.atl_phase.specs.Meaning.{IsNear, LeavesWell, both_move, most_moved, moves_only}
 use Rattle.atl_phase.specs.Bounds.{HaveRoom, moved_times}
 use Rattle.atl_phase.specs.There.{at_region}
-use Rattle.atl_phase.proofs.MarkLaws.{marks_by}
+use Rattle.atl_phase.proofs.MarkLaws.{marks_by, booked_marks}
 use Rattle.atl_phase.proofs.MeaningLaws.{both_leave_well, fold_leaves_well, near_more, near_twice, room_behind_one, room_for_one, room_less, same_month_by, well_unchanged, well_within}
 use Rattle.atl_phase.proofs.BookingLaws.{booked-near, within-pos}
-use Rattle.atl_month.specs.Restock.{after_restock, is_item, markets_of, stocks_by}
+use Rattle.atl_month.specs.Restock.{after_restock, markets_of, stocks_by}
 use Rattle.atl_month.specs.Season.{births, grows_by, income, season, season_at, season_moves, season_of, with_growth}
 use Rattle.atl_month.proofs.RestockLaws.{restocked_keeps, restocked_leaves_well}
+use Rattle.std.proofs.lemmas.Slice.Zip.{length-zip}
 
 -- ---- births and income
 
--- the lesser of two numbers is at most the second
-least : (a b : ℕ) → min a b ≤ b
-least a b = omega arith
-
 -- peasants with those born are at most 999,999,999, if the limit and the peasants are
 pub births_fit : (growth limit word peasants : ℕ) → limit ≤ most_amount → peasants ≤ most_amount → peasants + births growth limit word peasants ≤ most_amount
-births_fit growth limit word peasants l p = omega (arith, least (peasants * (word % (growth + 1)) / 100) (limit - peasants))
+births_fit growth limit word peasants l p = omega (arith, l, p)
 
 -- money with the income is at most 999,999,999, if the limit and the money are
 pub income_fits : (per_peasant limit peasants money : ℕ) → limit ≤ most_amount → money ≤ most_amount → money + income per_peasant limit peasants money ≤ most_amount
-income_fits per_peasant limit peasants money l m = omega (arith, least (peasants * per_peasant) (limit - money))
+income_fits per_peasant limit peasants money l m = omega (arith, l, m)
 
 -- ---- the books of a region's season
 
@@ -102,20 +98,7 @@ module _ (w : WorldValue) (c : CampaignValue) (n : ℕ) (r : Region) (born earne
           → pos (total (with_growth c n r.peasants r.money born earned) t) ≡ (pos (total c t) +ℤ share_of t People (pos born)) +ℤ share_of t Money (pos earned)
       total_of Money a b g h = omega (arith, ints, a, b, g, h)
       total_of People a b g h = omega (arith, ints, a, b, g, h)
-      total_of (Item i) a b g h =
-          let people : (2 + i == 1) ≡ false = grind (arith, nat_tests) in
-          let money : (2 + i == 0) ≡ false = grind (arith, nat_tests) in
-          ap pos (same _ _ _ _ (amount_of r.stocks i) a b g h)
-          ∙ sym (ap (λ q. (pos (total c (Item i)) +ℤ cond q (pos born) (pos 0)) +ℤ cond (2 + i == 0) (pos earned) (pos 0)) people
-          ∙ ap (λ q. (pos (total c (Item i)) +ℤ pos 0) +ℤ cond q (pos earned) (pos 0)) money ∙ zeros (total c (Item i)))
-        where
-          -- the total of an item stays, since births and income change nothing of it
-          same : (x y z u k : ℕ) → x ≡ y → y ≡ z → u + k ≡ total c (Item i) + k → z + k ≡ u + k → x ≡ total c (Item i)
-          same x y z u k a b g h = omega arith
-
-          -- an integer that 0 is added to twice is the same
-          zeros : (x : ℕ) → (pos x +ℤ pos 0) +ℤ pos 0 ≡ pos x
-          zeros x = omega (arith, ints)
+      total_of (Item i) a b g h = grind (arith, ints, nat_tests, a, b, g, h)
 
   -- the books after the births were booked
   abbrev one_booked : BooksValue
@@ -161,10 +144,9 @@ pub growth_marks : (c d e f g : MarkedCampaign) (n peasants money born earned : 
     → f.value ≡ with_amount e.value Births People (pos born) → f.marks ≡ mark_amount e Births People
     → g.value ≡ with_amount f.value Income Money (pos earned) → g.marks ≡ mark_amount f Income Money → MarksChanges c g
 growth_marks c d e f g n peasants money born earned d_is d_marks e_is e_marks f_is f_marks g_is g_marks =
-    marks-trans c d g (marks_by c d _ d_is d_marks (marks-region (λ r. record r { peasants = peasants }) (λ r. refl) c n))
-    (marks-trans d e g (marks_by d e _ e_is e_marks (marks-region (λ r. record r { money = money }) (λ r. refl) d n))
-    (marks-trans e f g (marks_by e f _ f_is f_marks (marks-amount e Births People (pos born)))
-    (marks_by f g _ g_is g_marks (marks-amount f Income Money (pos earned)))))
+    let people = marks_by c d _ d_is d_marks (marks-region (λ r. record r { peasants = peasants }) (λ r. refl) c n) in
+    let treasure = marks_by d e _ e_is e_marks (marks-region (λ r. record r { money = money }) (λ r. refl) d n) in
+    booked_marks c f g Income Money (pos earned) (booked_marks c e f Births People (pos born) (marks-trans c d e people treasure) f_is f_marks) g_is g_marks
 
 -- ---- the terrains of a world
 
@@ -217,36 +199,9 @@ season_at_leaves_well w world c (n, word) steady = by_terrain (terrain_of w n) r
     by_terrain None is = same
     by_terrain (Some t) is = by_region t is (get c.regions n) refl
 
--- pairs of two lists are at most as many as the elements of the first
-length-zip : {A B : Type 0} (xs : List A) (ys : List B) → length (zip xs ys) ≤ length xs
-length-zip [] ys = omega arith
-length-zip (x ∷ xs) [] = omega arith
-length-zip (x ∷ xs) (y ∷ ys) = omega (arith, length-zip xs ys)
-
 -- the season of as many regions as there may be moves each amount by less than 10^14
 pub season_little : (k : ℕ) → k ≤ most_regions → (e : Entry) (t : Thing) → moved_times k (season_moves most_amount) e t ≤ season_moves most_moved e t
-season_little k few e t = scaled (amount_number e t == amount_number Income Money) (amount_number e t == amount_number Births People) ((entry_index e == entry_index Stocked) && is_item t)
-  where
-    -- the bound for one region on an amount: `most_amount` if the season may move it (`a`), and else 0
-    one : Bool → ℕ
-    one a = if a then most_amount else 0
-
-    -- the bound for the whole season on an amount: `most_moved` if the season may move it (`a`), and else 0
-    most : Bool → ℕ
-    most a = if a then most_moved else 0
-
-    -- the bounds of `k` regions on an amount are together within that of the whole season
-    each : (a : Bool) → k * one a ≤ most a
-    each true = omega (arith, few)
-    each false = omega arith
-
-    -- `k` times a sum of three numbers is the sum of `k` times each
-    parts : (x y z : ℕ) → k * ((x + y) + z) ≡ (k * x + k * y) + k * z
-    parts x y z = omega arith
-
-    -- the bounds of `k` regions on three amounts are together within those of the whole season
-    scaled : (a b d : Bool) → k * ((one a + one b) + one d) ≤ (most a + most b) + most d
-    scaled a b d = omega (arith, parts (one a) (one b) (one d), each a, each b, each d)
+season_little k few e t = grind (arith, few)
 
 -- the season of all regions keeps a steady campaign steady and its books balanced, within the phase's bound
 pub season_leaves_well : (w : WorldValue) → IsWorld w → (c : CampaignValue) (words : List ℕ) → IsSteady w c → LeavesWell IsSteady (season_moves most_moved) w c (season w c words)
@@ -290,10 +245,7 @@ season_keeps_units w c words = each_keeps w c (zip (map (λ (e : ℕ × RegionPl
 pub season_goes_on : (w : WorldValue) (c d all : CampaignValue) (regions rest : List (ℕ × RegionPlan)) (words tail : List ℕ) (n word : ℕ) (plan : RegionPlan)
     → regions ≡ (n, plan) ∷ rest → words ≡ word ∷ tail → d ≡ season_at w c (n, word)
     → fold (season_at w) c (zip (map (λ e. e.0) regions) words) ≡ all → fold (season_at w) d (zip (map (λ e. e.0) rest) tail) ≡ all
-season_goes_on w c d all regions rest words tail n word plan listed given is whole =
-    ap (λ s. fold (season_at w) s (zip (map (λ (e : ℕ × RegionPlan). e.0) rest) tail)) is
-    ∙ sym (ap (λ l. fold (season_at w) c (zip (map (λ (e : ℕ × RegionPlan). e.0) l) words)) listed ∙ ap (λ ws. fold (season_at w) c (zip (n ∷ map (λ (e : ℕ × RegionPlan). e.0) rest) ws)) given)
-    ∙ whole
+season_goes_on w c d all regions rest words tail n word plan listed given is whole = rw is (rw (listed, given) at whole)
 
 -- after the season of the first region, the books have room for the season of the others
 pub room_goes_on : (w : WorldValue) → IsWorld w → (c d : CampaignValue) (regions rest : List (ℕ × RegionPlan)) (n word : ℕ) (plan : RegionPlan)

@@ -1,19 +1,18 @@
 -- Laws of sweeping one unit without men: it keeps a campaign steady and its books balanced, and takes nothing from
--- other units.
-use Rattle.std.proofs.Common.{◌≡◌, ◌≢◌, ◌==◌, ◌&&◌, ℕ, ◌+◌, ◌*◌, ◌≤◌, ◌<◌, not, Bool, true, false, cond, List, [], ◌∷◌, length, Option, Some, refl, sym, ap, subst, ◌∙◌, inl, arith}
-use Rattle.std.specs.Prelude.{ℤ, pos, ◌+ℤ◌, nat_lt, unwrap_or, if◌then◌else◌}
+-- other units. The code sets all marks, and the books have room for what it books.
+use Rattle.std.proofs.Common.{◌≡◌, ◌≢◌, ℕ, ◌+◌, ◌≤◌, ◌<◌, true, List, [], ◌∷◌, length, Option, Some, refl, sym, ap, subst, ◌∙◌, inl, arith, suc, ◌-◌}
+use Rattle.std.specs.Prelude.{ℤ, pos, ◌+ℤ◌, unwrap_or}
 use Rattle.std.proofs.lemmas.Int.{ints}
 use Rattle.std.proofs.lemmas.Bool.Decides.{nat_tests}
-use Rattle.std.proofs.lemmas.Bool.{and_parts}
 use Rattle.std.proofs.lemmas.Option.{same_Some}
 use Rattle.std.specs.Ordering.{nat_cmp}
 use Rattle.std.specs.FinMap.{FinMap, entries, get, get-entries, len}
 use Rattle.atl_world.specs.Worlds.{WorldValue}
 use Rattle.atl_world.specs.Limits.{most_amount}
 use Rattle.atl_world.specs.Sums.{numbers_where}
-use Rattle.atl_records.specs.Books.{BooksValue, amount_in, booked, entry_index, thing_index, amount_number}
+use Rattle.atl_records.specs.Books.{BooksValue, amount_in, booked}
 use Rattle.atl_records.specs.declared.books.Entry.{Entry}
-use Rattle.atl_records.specs.declared.books.Entry.TheVariants.{Lost}
+use Rattle.atl_records.specs.declared.books.Entry.TheVariants.{Lost, Left}
 use Rattle.atl_records.specs.declared.books.Thing.{Thing}
 use Rattle.atl_records.specs.declared.books.Thing.TheVariants.{Item, Money, People}
 use Rattle.atl_records.specs.declared.records.Faction.{Faction}
@@ -21,23 +20,24 @@ use Rattle.atl_records.specs.declared.records.Unit.{Unit}
 use Rattle.atl_records.specs.Every.{EachOf, Every, IsThere}
 use Rattle.atl_campaign.specs.Good.{IsSteady}
 use Rattle.atl_records.specs.Holdings.{HoldingValue, amount_of}
-use Rattle.atl_records.specs.Limits.{entry_count, holding_limit}
+use Rattle.atl_records.specs.Limits.{holding_limit}
 use Rattle.atl_campaign.specs.Owners.{first_or_zero, without_unit}
-use Rattle.atl_campaign.specs.Campaign.{CampaignValue}
+use Rattle.atl_campaign.specs.Campaign.{CampaignValue, with_item}
 use Rattle.atl_records.specs.Amounts.{unit_amount}
 use Rattle.atl_campaign.specs.Totals.{Balances, total}
-use Rattle.atl_records.proofs.EveryEntryLaws.{entry_small}
 use Rattle.atl_records.proofs.EveryLaws.{each-from_every, sorted}
 use Rattle.atl_phase.specs.Meaning.{BookBound, IsNear, LeavesWell, both_move, moves_only}
 use Rattle.atl_records.proofs.HoldingLaws.{amount_within}
-use Rattle.atl_phase.proofs.MeaningLaws.{near_more}
-use Rattle.atl_phase.specs.Bounds.{moving_items}
-use Rattle.atl_instant.proofs.QuitLaws.{no_money, no_people, of_item, owing_items, part_of}
-use Rattle.atl_month.specs.Sweep.{IsKept, after_passing_all, after_passing_money, loses_by, receiver, receives}
+use Rattle.atl_phase.proofs.MeaningLaws.{near_more, near_room, room_less}
+use Rattle.atl_phase.specs.Bounds.{moving_items, HaveRoom}
+use Rattle.atl_instant.proofs.QuitLaws.{no_money, no_people, of_item, owing_items, part_of, moves_what_leaves}
+use Rattle.atl_month.specs.Sweep.{IsKept, after_passing_all, after_passing_money, loses_by, receiver, receives, accepted_of, after_passing_item, with_lost}
 use Rattle.atl_records.proofs.RemovedLaws.{get-remove_other, still}
 use Rattle.atl_campaign.proofs.NumberListLaws.{IsListed, listed_passing}
 use Rattle.atl_campaign.proofs.LeavingLaws.{only_reduced, steady-without, total-without}
-use Rattle.atl_month.proofs.PassingLaws.{Owes, PassesOn, pass_items, pass_money, passes-trans}
+use Rattle.atl_month.proofs.PassingLaws.{Owes, PassesOn, pass_items, pass_money, passes-trans, pass_item}
+use Rattle.std.specs.Option.{option_map_or}
+use Rattle.atl_instant.specs.Quit.{loss_under}
 
 -- ---- how much of each thing a unit passes on
 
@@ -51,97 +51,20 @@ moving_all h = both_move (moves_only h.money Lost Money) (moving_items (entries 
 
 -- a unit without men passes on all that it has of each thing
 all_owed : (h : HoldingValue) → h.men ≡ 0 → (s : Thing) → owing_all h s ≡ unit_amount s h
-all_owed h none Money = ap (λ n. h.money + n) (no_money (entries h.items)) ∙ plain h.money
-  where
-    -- a number plus 0 is the number
-    plain : (x : ℕ) → x + 0 ≡ x
-    plain x = omega arith
-all_owed h none People = ap (λ n. 0 + n) (no_people (entries h.items)) ∙ sym none
+all_owed h none Money = omega (arith, no_money (entries h.items))
+all_owed h none People = omega (arith, none, no_people (entries h.items))
 all_owed h none (Item j) =
-    let apart : (2 + j == 0) ≡ false = grind (arith, nat_tests) in
-    ap (λ b. cond b h.money 0 + owing_items (entries h.items) (Item j)) apart ∙ nothing (owing_items (entries h.items) (Item j))
-    ∙ of_item j (entries h.items) (sorted h.items) ∙ ap (λ (o : Option ℕ). unwrap_or o 0) (sym (get-entries h.items j))
-  where
-    -- 0 plus a number is the number
-    nothing : (x : ℕ) → 0 + x ≡ x
-    nothing x = omega arith
+    let items : owing_items (entries h.items) (Item j) ≡ amount_of h.items j = of_item j (entries h.items) (sorted h.items) ∙ ap (λ (o : Option ℕ). unwrap_or o 0) (sym (get-entries h.items j)) in
+    grind (arith, nat_tests)
 
 -- ---- how far it moves the books
 
--- the given amount under the entry Lost, and 0 under any other
-abbrev of_lost : Entry → ℕ → ℕ
-of_lost e n = cond (entry_index e == 7) n 0
-
--- the bound on booking an amount of a thing as lost is 0 but for that thing under Lost
-one_moved : (a : ℕ) (t : Thing) (e : Entry) (s : Thing) → moves_only a Lost t e s ≤ of_lost e (part_of s t a)
-one_moved a t e s = by_number (amount_number e s == amount_number Lost t) refl
-  where
-    -- the amount `a` is within a bound that is `a` where two tests hold, if both hold
-    at_place : (b d : Bool) → b ≡ true → d ≡ true → a ≤ cond b (cond d a 0) 0
-    at_place true true f g = omega arith
-    at_place true false f g = cc
-    at_place false d f g = cc
-
-    -- the amount of entry `e` and thing `s` is within its bound, whether it is the one that is booked (`b`) or another
-    by_number : (b : Bool) → (amount_number e s == amount_number Lost t) ≡ b → (if b then a else 0) ≤ of_lost e (part_of s t a)
-    by_number true is =
-        let same : entry_count * thing_index s + entry_index e ≡ entry_count * thing_index t + 7 = grind (arith, nat_tests) in
-        let small = entry_small e in
-        let thing : thing_index s ≡ thing_index t = omega arith in
-        let entry : entry_index e ≡ 7 = omega arith in
-        let is_lost : (entry_index e == 7) ≡ true = grind (arith, nat_tests) in
-        let is_thing : (thing_index s == thing_index t) ≡ true = grind (arith, nat_tests) in
-        at_place (entry_index e == 7) (thing_index s == thing_index t) is_lost is_thing
-    by_number false is = omega arith
-
--- two amounts within bounds under Lost are together within the sum of the bounds
-lost_sum : (e : Entry) (x y m n : ℕ) → x ≤ of_lost e m → y ≤ of_lost e n → x + y ≤ of_lost e (m + n)
-lost_sum e x y m n = by_test (entry_index e == 7)
-  where
-    -- two amounts within bounds are together within the sum of the bounds, whether the entry is Lost (`b`) or another
-    by_test : (b : Bool) → x ≤ cond b m 0 → y ≤ cond b n 0 → x + y ≤ cond b (m + n) 0
-    by_test true k l = omega arith
-    by_test false k l = omega arith
-
--- passing items on moves each amount of the books by at most what is passed on of the thing, under Lost alone
-items_moved : (es : List (ℕ × ℕ)) (e : Entry) (s : Thing) → moving_items es e s ≤ of_lost e (owing_items es s)
-items_moved [] e s = omega arith
-items_moved (x ∷ xs) e s =
-    lost_sum e (moves_only x.1 Lost (Item x.0) e s) (moving_items xs e s) (part_of s (Item x.0) x.1) (owing_items xs s)
-    (one_moved x.1 (Item x.0) e s) (items_moved xs e s)
-
--- passing on a holding without men moves each amount of the books by at most what it has
-all_moved : (h : HoldingValue) → h.men ≡ 0 → (e : Entry) (s : Thing) → moving_all h e s ≤ of_lost e (unit_amount s h)
-all_moved h none e s =
-    subst (λ n. moving_all h e s ≤ of_lost e n) (all_owed h none s)
-    (lost_sum e (moves_only h.money Lost Money e s) (moving_items (entries h.items) e s) (part_of s Money h.money)
-    (owing_items (entries h.items) s) (one_moved h.money Money e s) (items_moved (entries h.items) e s))
-
--- what a unit within the limits holds of a thing is within the sweep's bound for one unit, if it has no men
+-- what a unit without men has of a thing is within the sweep's bound for one unit, under the entry for its loss
 little_lost : (h : HoldingValue) → h.men ≡ 0 → h.money ≤ holding_limit → ((i : ℕ) → amount_of h.items i ≤ holding_limit) → (e : Entry) (s : Thing)
-    → of_lost e (unit_amount s h) ≤ loses_by most_amount e s
-little_lost h none money items e Money = by_test (entry_index e == 7)
-  where
-    -- the money of the holding is within the bound, whether the entry is Lost (`b`) or another
-    by_test : (b : Bool) → cond b h.money 0 ≤ (if b && not false then most_amount else 0)
-    by_test true = money
-    by_test false = omega arith
-little_lost h none money items e People = by_test (entry_index e == 7)
-  where
-    -- the men of the holding, which are none, are within the bound of 0
-    by_test : (b : Bool) → cond b h.men 0 ≤ (if b && not true then most_amount else 0)
-    by_test true = omega (arith, none)
-    by_test false = omega arith
-little_lost h none money items e (Item j) =
-    let apart : (2 + j == 1) ≡ false = grind (arith, nat_tests) in
-    by_test (entry_index e == 7) (2 + j == 1) apart
-  where
-    -- an item of the holding is within the bound, whether the entry is Lost (`b`) or another, since an item isn't
-    -- people (`d`)
-    by_test : (b d : Bool) → d ≡ false → cond b (amount_of h.items j) 0 ≤ (if b && not d then most_amount else 0)
-    by_test true false f = items j
-    by_test true true f = cc
-    by_test false d f = omega arith
+    → loss_under e s h ≤ loses_by most_amount e s
+little_lost h none money items e Money = grind arith
+little_lost h none money items e People = grind arith
+little_lost h none money items e (Item j) = let most = items j in grind (arith, nat_tests)
 
 -- ---- the unit that receives
 
@@ -154,14 +77,8 @@ module _ (w : WorldValue) (c : CampaignValue) (n : ℕ) (u : Unit) (is : get c.u
   -- a unit without men receives nothing
   not_received : (region faction : ℕ) (v : Unit) → get c.units n ≡ Some v → receives region faction v ≡ true → ⊥
   not_received region faction v there t =
-      let both = and_parts (v.region == region) ((v.faction == faction) && nat_lt 0 v.holding.men) t in
-      let men : nat_lt 0 v.holding.men ≡ true = (and_parts (v.faction == faction) (nat_lt 0 v.holding.men) both.1).1 in
-      let one : Some v ≡ Some u = sym there ∙ is in
-      without_men v.holding.men (ap (λ (x : Unit). x.holding.men) (same_Some v u one) ∙ none) men
-    where
-      -- a number of men that is 0 doesn't test as more than 0
-      without_men : (men : ℕ) → men ≡ 0 → nat_lt 0 men ≡ true → ⊥
-      without_men men e t = let some : 1 ≤ men = grind (arith, nat_tests) in absurd (omega (arith, e, some))
+      let men = ap (λ (x : Unit). x.holding.men) (same_Some v u (sym there ∙ is)) in
+      grind (arith, nat_tests, men, none, t)
 
   -- a unit without men isn't its own receiver
   receiver_apart : (region faction : ℕ) → n ≢ receiver c region faction
@@ -218,15 +135,15 @@ module _ (w : WorldValue) (c : CampaignValue) (n : ℕ) (u : Unit) (is : get c.u
       rest : (a h b o : ℕ) (z : ℤ) → a + h ≡ b → o ≡ h → pos b ≡ z +ℤ pos (0 + o) → pos a ≡ z
       rest a h b o z e f g = omega (arith, ints, e, f, g)
 
-  -- if a is at most b, and b at most d, a is at most d
-  less_less : (a b d : ℕ) → a ≤ b → b ≤ d → a ≤ d
-  less_less a b d k l = omega arith
-
   -- passing on what the unit has moves the books within the sweep's bound for one unit
   pub moves_little : (e : Entry) (s : Thing) → moving_all u.holding e s ≤ loses_by most_amount e s
   moves_little e s =
-      less_less (moving_all u.holding e s) (of_lost e (unit_amount s u.holding)) (loses_by most_amount e s) (all_moved u.holding none e s)
+      within (moves_only u.holding.men Left People e s) (moving_all u.holding e s) (loss_under e s u.holding) (loses_by most_amount e s) (moves_what_leaves u.holding e s)
       (little_lost u.holding none (steady.numbers.units n u is).1.money (λ i. amount_within u.holding i (steady.numbers.units n u is).1) e s)
+    where
+      -- of a sum that is at most `b`, the second part is at most each number that is at least `b`
+      within : (m a b d : ℕ) → m + a ≤ b → b ≤ d → a ≤ d
+      within m a b d k l = omega arith
 
   -- sweeping unit `n` keeps the campaign steady and its books balanced, within the sweep's bound for one unit
   pub swept_leaves_well : LeavesWell IsSteady (loses_by most_amount) w c swept
@@ -261,3 +178,48 @@ module _ (w : WorldValue) (c : CampaignValue) (n : ℕ) (u : Unit) (is : get c.u
       let only = only_reduced w passed n u there_still in
       let (apart, here) = still passed.units n m v (sym (ap (λ (units : FinMap nat_cmp Unit). get units m) only.units) ∙ there) in
       (apart, passing.back m v here)
+
+-- ---- an item that is passed on
+
+-- setting unit `to`'s amount of an item to what it had plus what it accepts, and booking the rest as lost, is passing
+-- the item on (`after_passing_item`)
+pub passed_item_is : (c : CampaignValue) (to item amount : ℕ) (v : Unit) → get c.units to ≡ Some v
+    → with_lost (with_item c to item (amount_of v.holding.items item + accepted_of amount (amount_of v.holding.items item))) (Item item) (amount - accepted_of amount (amount_of v.holding.items item))
+    ≡ after_passing_item to c (item, amount)
+unfolding after_passing_item
+passed_item_is c to item amount v is = rw is refl
+
+-- ---- room
+
+-- books that moved within one bound have room under another bound, if they had room under both together
+pub near_leaves_room : (j k : BookBound) (c d : CampaignValue) → ((e : Entry) (t : Thing) → IsNear (j e t) (amount_in c.books e t) (amount_in d.books e t))
+    → HaveRoom (both_move j k) c → HaveRoom k d
+near_leaves_room j k c d near room e t = near_room (j e t) (k e t) (amount_in c.books e t) (amount_in d.books e t) (near e t) (room e t)
+
+-- no number is its own successor
+another : (n : ℕ) → suc n ≢ n
+another n same = omega (arith, same)
+
+module _ (w : WorldValue) (c : CampaignValue) (steady : IsSteady w c) where
+  -- an item of the world that goes to a unit, or is lost, is passed on (`PassesOn`), whichever unit it comes from
+  pub item_passes : (to i amount : ℕ) → i < length w.items
+      → PassesOn w (suc to) (λ s. part_of s (Item i) amount) (moves_only amount Lost (Item i)) c (after_passing_item to c (i, amount))
+  item_passes to i amount known = pass_item w c (suc to) to (another to) steady i amount known
+
+  -- after the first item was passed on, the books have room for the others, if they had room for all
+  pub rest_room : (to : ℕ) (x : ℕ × ℕ) (xs : List (ℕ × ℕ)) → x.0 < length w.items → HaveRoom (moving_items (x ∷ xs)) c
+      → HaveRoom (moving_items xs) (after_passing_item to c x)
+  rest_room to x xs known room =
+      near_leaves_room (moves_only x.1 Lost (Item x.0)) (moving_items xs) c (after_passing_item to c x) (item_passes to x.0 x.1 known).near room
+
+  -- a campaign stays steady when money is passed on
+  pub money_steady : (to amount : ℕ) → IsSteady w (after_passing_money c to amount)
+  money_steady to amount = (pass_money w c (suc to) to (another to) steady amount).steady
+
+  -- after the money of a unit without men was passed on, the books have room for its items
+  pub items_room : (n to : ℕ) (u : Unit) → get c.units n ≡ Some u → u.holding.men ≡ 0 → HaveRoom (loses_by most_amount) c
+      → HaveRoom (moving_items (entries u.holding.items)) (after_passing_money c to u.holding.money)
+  items_room n to u is none room =
+      near_leaves_room (moves_only u.holding.money Lost Money) (moving_items (entries u.holding.items)) c (after_passing_money c to u.holding.money)
+      (pass_money w c (suc to) to (another to) steady u.holding.money).near
+      (room_less (moving_all u.holding) (loses_by most_amount) c (moves_little w c n u is none steady) room)

@@ -1,5 +1,5 @@
 -- Laws of what upkeep, season and sweep leave to units of a faction that sent no mailing.
-use Rattle.std.proofs.Common.{◌≡◌, ◌≢◌, ◌==◌, ◌+◌, ◌-◌, ◌≤◌, ◌<◌, ℕ, Bool, true, false, not, cond, List, [], ◌∷◌, map, filter, sum_by, Option, Some, None, refl, sym, ap, subst, ◌∙◌, inl, inr, arith}
+use Rattle.std.proofs.Common.{◌≡◌, ◌==◌, ◌+◌, ◌-◌, ℕ, Bool, true, false, not, cond, List, [], ◌∷◌, map, filter, sum_by, Some, refl, sym, ap, subst, ◌∙◌, inl, inr, arith}
 use Rattle.std.specs.Prelude.{fold, if◌then◌else◌}
 use Rattle.std.specs.Ordering.{nat_cmp}
 use Rattle.std.specs.FinMap.{FinMap, get}
@@ -9,10 +9,8 @@ use Rattle.atl_world.specs.Worlds.{WorldValue}
 use Rattle.atl_world.proofs.GeneralLaws.{is_equal}
 use Rattle.atl_records.specs.declared.event.Event.{Event}
 use Rattle.atl_records.specs.declared.records.Unit.{Unit}
-use Rattle.atl_records.specs.Holdings.{HoldingValue}
 use Rattle.atl_campaign.specs.Campaign.{CampaignValue}
-use Rattle.atl_records.proofs.EveryLaws.{get-insert_other, other_number}
-use Rattle.atl_campaign.proofs.RegionLaws.{get-insert_same}
+use Rattle.atl_records.proofs.EveryLaws.{other_number}
 use Rattle.atl_phase.specs.Month.{MonthValue}
 use Rattle.atl_phase.specs.OrderEffects.{IsUnaffected}
 use Rattle.atl_phase.specs.Unmailed.{IsLessBy, men_starved_by, starved_in}
@@ -21,8 +19,9 @@ use Rattle.atl_phase.proofs.UnmailedLaws.{ClosesUnmailed, LeavesUnmailed, men_sa
 use Rattle.atl_month.specs.declared.upkeep_sharing.UpkeepResult.{UpkeepResult}
 use Rattle.atl_month.specs.Season.{season_keeps, season_meaning}
 use Rattle.atl_month.specs.Sweep.{sweep_keeps, sweep_meaning}
-use Rattle.atl_month.specs.Upkeep.{after_upkeep, starved_event, starves, upkeep_at, upkeep_keeps, upkeep_meaning, upkeep_results}
-use Rattle.atl_month.proofs.UpkeepLaws.{days_left, upkeep_in}
+use Rattle.atl_month.specs.Upkeep.{starved_event, starves, upkeep_at, upkeep_keeps, upkeep_meaning, upkeep_results}
+use Rattle.atl_month.proofs.UpkeepLaws.{other_unit, own_unit, unit_after_upkeep}
+use Rattle.std.proofs.lemmas.Bool.Decides.{nat_tests}
 
 -- ---- upkeep
 
@@ -31,38 +30,17 @@ less_plus : (a b : ℕ) (u v x : Unit) → IsLessBy a u v → IsLessBy b v x →
 less_plus a b u v x one two = record {
   faction = two.faction ∙ one.faction;
   name = two.name ∙ one.name;
-  men = less u.holding.men v.holding.men x.holding.men one.men two.men;
+  men = omega (arith, one.men, two.men);
   items = λ i. omega (arith, one.items i, two.items i);
 }
-  where
-    -- a number less `a`, and then less `b`, is the number less `a + b`
-    less : (j k l : ℕ) → k ≡ j - a → l ≡ k - b → l ≡ j - (a + b)
-    less j k l e f = omega (arith, e, f)
 
 -- each unit has no men less than itself
 nobody_less : (u : Unit) → IsLessBy 0 u u
 nobody_less u = record { faction = refl; name = refl; men = omega arith; items = λ i. omega arith }
 
--- a unit with what its upkeep leaves it
-abbrev supplied_unit : UpkeepResult → Unit → Unit
-supplied_unit s u = record u { holding = after_upkeep s u.holding }
-
--- how many men a unit has after its upkeep
-abbrev men_left : UpkeepResult → Unit → ℕ
-men_left s u = u.holding.men - s.starved
-
--- the holding of a unit after its upkeep; with `b` true its men and days are as they were
-abbrev held_by : UpkeepResult → Unit → Bool → HoldingValue
-held_by s u b = record (if b then u.holding else record u.holding { men = men_left s u; days = days_left (men_left s u) u.holding }) { money = u.holding.money - s.paid }
-
 -- after its upkeep a unit has exactly those men less who starved
-fewer_by : (s : UpkeepResult) (u : Unit) → IsLessBy s.starved u (supplied_unit s u)
-fewer_by s u = by_test (men_left s u == u.holding.men) refl
-  where
-    -- the unit has exactly those men less who starved, whether it has all its men (`b`) or fewer
-    by_test : (b : Bool) → (men_left s u == u.holding.men) ≡ b → IsLessBy s.starved u (record u { holding = held_by s u b })
-    by_test true is = record { faction = refl; name = refl; men = sym (is_equal (men_left s u) u.holding.men is); items = λ i. omega arith }
-    by_test false is = record { faction = refl; name = refl; men = refl; items = λ i. omega arith }
+fewer_by : (s : UpkeepResult) (u : Unit) → IsLessBy s.starved u (unit_after_upkeep s u)
+fewer_by s u = record { faction = refl; name = grind arith; men = grind (arith, nat_tests); items = λ i. grind arith }
 
 -- how many men of unit `n` starve by one result of upkeep; 0 where the result is another unit's
 abbrev among : ℕ → UpkeepResult → ℕ
@@ -70,20 +48,21 @@ among n s = if s.unit == n then s.starved else 0
 
 -- after upkeep of one unit each unit has exactly those men less who starved of it
 supplied_at : (c : CampaignValue) (s : UpkeepResult) (n : ℕ) (u : Unit) → get c.units n ≡ Some u → IsUnaffected (IsLessBy (among n s)) (upkeep_at c s) n u
-unfolding upkeep_at
 supplied_at c s n u there = elim (cases_eq n s.unit) [
   | inl own ↦
       let here : get c.units s.unit ≡ Some u = ap (get c.units) (sym own) ∙ there in
-      let behind : get (upkeep_at c s).units n ≡ Some (supplied_unit s u) = ap (λ k. get (upkeep_at c s).units k) own ∙ ap (λ o. get (upkeep_in c s o).units s.unit) here ∙ get-insert_same c.units s.unit (supplied_unit s u) in
-      record { unit = supplied_unit s u; there = behind; spared = subst (λ b. IsLessBy (if b then s.starved else 0) u (supplied_unit s u)) (sym (equal_passes s.unit n (sym own))) (fewer_by s u) }
+      record {
+        unit = unit_after_upkeep s u;
+        there = ap (get (upkeep_at c s).units) own ∙ own_unit c s u here;
+        spared = subst (λ b. IsLessBy (if b then s.starved else 0) u (unit_after_upkeep s u)) (sym (equal_passes s.unit n (sym own))) (fewer_by s u);
+      }
   | inr apart ↦
-      record { unit = u; there = by_unit apart (get c.units s.unit) ∙ there; spared = subst (λ b. IsLessBy (if b then s.starved else 0) u u) (sym (other_number s.unit n (λ same. apart (sym same)))) (nobody_less u) }
+      record {
+        unit = u;
+        there = other_unit c s n apart ∙ there;
+        spared = subst (λ b. IsLessBy (if b then s.starved else 0) u u) (sym (other_number s.unit n (λ same. apart (sym same)))) (nobody_less u);
+      }
 ]
-  where
-    -- upkeep of another unit leaves unit `n` as it is, whether that other unit is there or not
-    by_unit : n ≢ s.unit → (o : Option Unit) → get (upkeep_in c s o).units n ≡ get c.units n
-    by_unit apart None = refl
-    by_unit apart (Some v) = get-insert_other c.units s.unit n (supplied_unit s v) apart
 
 -- after upkeep of several units each unit has exactly those men less who starved of it
 all_supplied : (c : CampaignValue) (ss : List UpkeepResult) (n : ℕ) (u : Unit) → get c.units n ≡ Some u → IsUnaffected (IsLessBy (sum_by (among n) ss)) (fold upkeep_at c ss) n u
@@ -106,22 +85,17 @@ starved_are_reported : (ss : List UpkeepResult) (n : ℕ) → starved_reported n
 starved_are_reported [] n = refl
 starved_are_reported (s ∷ ss) n = by_test (starved_are_reported ss n) (s.starved == 0) refl ∙ sym (sum_by-cons (among n) s ss)
   where
-    -- a number stays when a number that is 0 is added, if a test `b` says so
-    none : (a x : ℕ) (b : Bool) → a ≡ 0 → x ≡ (if b then a else 0) + x
-    none a x true is = omega (arith, is)
-    none a x false is = omega arith
-
     -- the events report all men of the unit who starve, with one result more, whether nobody starves by it (`b`) or
     -- some do
     by_test : starved_reported n (filter starves ss) ≡ sum_by (among n) ss → (b : Bool) → (s.starved == 0) ≡ b → starved_reported n (cond (not b) (s ∷ filter starves ss) (filter starves ss)) ≡ among n s + sum_by (among n) ss
-    by_test rest true is = rest ∙ none s.starved (sum_by (among n) ss) (s.unit == n) (is_equal s.starved 0 is)
+    by_test rest true is = let none = is_equal s.starved 0 is in grind (arith, rest, none)
     by_test rest false is = sum_by-cons (by_event n) (starved_event s) (map starved_event (filter starves ss)) ∙ ap (λ x. among n s + x) rest
 
 -- upkeep leaves units of factions without a mailing their items, and their men less the starved (`LeavesUnmailed`)
 pub upkeep_leaves : LeavesUnmailed upkeep_meaning upkeep_keeps
 upkeep_leaves = record {
   readings = λ w c m. refl;
-  told = λ w c m n. more (starved_in m.events n) (all w c n) _ (sums w c m n);
+  told = λ w c m n. omega (arith, sums w c m n);
   left = λ w c m keeps n u there none.
       let one = all_supplied c (upkeep_results w c) n u there in
       record { unit = one.unit; there = one.there; spared = subst (λ k. IsLessBy k u one.unit) (less (starved_in m.events n) (all w c n) _ (sums w c m n)) one.spared };
@@ -134,10 +108,6 @@ upkeep_leaves = record {
     -- after upkeep the events report for unit `n` the men starved before and those who starve by upkeep
     sums : (w : WorldValue) (c : CampaignValue) (m : MonthValue) (n : ℕ) → starved_in (upkeep_meaning w c m).1.events n ≡ starved_in m.events n + all w c n
     sums w c m n = sum_by-append (by_event n) m.events (map starved_event (filter starves (upkeep_results w c))) ∙ ap (λ x. starved_in m.events n + x) (starved_are_reported (upkeep_results w c) n)
-
-    -- one of two numbers is at most their sum
-    more : (x y z : ℕ) → z ≡ x + y → x ≤ z
-    more x y z is = omega (arith, is)
 
     -- one of two numbers is their sum less the other
     less : (x y z : ℕ) → z ≡ x + y → y ≡ z - x
@@ -158,14 +128,6 @@ pub sweep_leaves : ClosesUnmailed sweep_meaning sweep_keeps
 sweep_leaves = record {
   told = λ w c m n. omega arith;
   left = λ w c m keeps n u there none some.
-      let (v, behind, kept) = keeps n u there (some_men (starved_in m.events n) u.holding.men some) in
-      record { unit = v; there = behind; spared = record { faction = kept.no_worse.faction; name = kept.no_worse.name; men = nobody (starved_in m.events n) u.holding.men v.holding.men kept.men; items = kept.no_worse.items } };
+      let (v, behind, kept) = keeps n u there (omega (arith, some)) in
+      record { unit = v; there = behind; spared = record { faction = kept.no_worse.faction; name = kept.no_worse.name; men = omega (arith, kept.men); items = kept.no_worse.items } };
 }
-  where
-    -- a number that is more than x - x, which is 0, is at least 1
-    some_men : (x a : ℕ) → x - x < a → 1 ≤ a
-    some_men x a l = omega (arith, l)
-
-    -- a number that stays is what it was less x - x, which is 0
-    nobody : (x a b : ℕ) → b ≡ a → b ≡ a - (x - x)
-    nobody x a b is = omega (arith, is)

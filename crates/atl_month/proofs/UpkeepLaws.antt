@@ -1,6 +1,7 @@
--- Laws of upkeep: it keeps a campaign steady and its books balanced, and each unit can pay when its turn comes.
-use Rattle.std.proofs.Common.{◌≡◌, ◌≢◌, ◌==◌, ℕ, ◌+◌, ◌-◌, ◌*◌, ◌/◌, ◌≤◌, ◌<◌, Bool, true, false, cond, Option, Some, None, List, [], ◌∷◌, length, map, refl, sym, ap, subst, ◌∙◌, arith}
-use Rattle.std.specs.Prelude.{IsTrue, nat_lt, ◌&&◌, ℤ, pos, neg_ℤ, ◌+ℤ◌, fold, is_some, unwrap_or, if◌then◌else◌}
+-- Laws of upkeep: it keeps a campaign steady and its books balanced, each unit can pay when its turn comes, and what
+-- upkeep takes from a unit follows from the units of its faction in its region alone.
+use Rattle.std.proofs.Common.{◌≡◌, ◌≢◌, ◌==◌, ℕ, ◌+◌, ◌-◌, ◌*◌, ◌/◌, ◌≤◌, ◌<◌, Bool, true, false, Option, Some, None, List, [], ◌∷◌, length, map, refl, sym, ap, subst, ◌∙◌, arith}
+use Rattle.std.specs.Prelude.{IsTrue, ℤ, pos, neg_ℤ, ◌+ℤ◌, fold, is_some, unwrap_or, if◌then◌else◌}
 use Rattle.std.specs.List.{AllByRecursion, list_any}
 use Rattle.std.specs.Option.{option_map_or}
 use Rattle.std.specs.Ordering.{eq_by_cmp, nat_cmp}
@@ -14,34 +15,29 @@ use Rattle.std.proofs.lemmas.Bool.Decides.{nat_tests}
 use Rattle.atl_world.specs.Worlds.{WorldValue}
 use Rattle.atl_world.specs.Limits.{most_amount}
 use Rattle.atl_world.specs.Names.{name_ok}
-use Rattle.atl_world.specs.Sums.{changed_at}
 use Rattle.atl_world.proofs.SumLaws.{put_same}
 use Rattle.atl_records.specs.declared.books.Entry.{Entry}
 use Rattle.atl_records.specs.declared.books.Entry.TheVariants.{Starved, Upkeep}
 use Rattle.atl_records.specs.declared.books.Thing.{Thing}
 use Rattle.atl_records.specs.declared.books.Thing.TheVariants.{Money, People, Item}
 use Rattle.atl_records.specs.declared.records.Unit.{Unit}
-use Rattle.atl_records.specs.Books.{BooksValue, amount_in, after_booking, amount_number}
-use Rattle.atl_campaign.specs.Covers.{MarksChanges}
+use Rattle.atl_records.specs.Books.{BooksValue, amount_in, after_booking}
 use Rattle.atl_records.specs.Every.{EachOf, Every}
 use Rattle.atl_campaign.specs.Good.{IsSteady, guards}
 use Rattle.atl_records.specs.Holdings.{AreAmounts, HoldingValue, amount_of, with_amount_of}
 use Rattle.atl_campaign.specs.Lending.{with_held}
 use Rattle.atl_records.specs.Limits.{most_days, most_units}
-use Rattle.atl_campaign.specs.Marking.{mark_amount}
-use Rattle.atl_campaign.specs.Campaign.{MarkedCampaign, CampaignValue, with_amount, with_money}
+use Rattle.atl_campaign.specs.Campaign.{CampaignValue, with_amount}
 use Rattle.atl_records.specs.Amounts.{unit_amount}
 use Rattle.atl_campaign.specs.Totals.{Balances, total}
 use Rattle.atl_campaign.proofs.ReadBackLaws.{Rise, entries_rise}
 use Rattle.atl_records.proofs.BookLaws.{booked-after_booking, share_of}
-use Rattle.atl_campaign.proofs.CoverLaws.{marks-amount, marks-trans}
-use Rattle.atl_records.proofs.EveryLaws.{each-from_every, every-empty, get-insert_other}
+use Rattle.atl_records.proofs.EveryLaws.{each-from_every, every-empty, get-insert_other, every-from_each}
 use Rattle.atl_campaign.proofs.HoldingLaws.{MayHold, steady-unit_amount, total-unit_amount}
-use Rattle.atl_campaign.proofs.RegionLaws.{steady-amount, total-amount}
+use Rattle.atl_campaign.proofs.RegionLaws.{steady-amount, total-amount, get-insert_same}
 use Rattle.atl_phase.specs.Meaning.{IsNear, LeavesWell, BookBound, moves_only, most_moved}
 use Rattle.atl_phase.specs.Bounds.{HaveRoom, moved_times}
 use Rattle.atl_phase.specs.Holdings.{with_days}
-use Rattle.atl_phase.proofs.MarkLaws.{marks_by}
 use Rattle.atl_phase.proofs.MeaningLaws.{MovesLess, near_twice, room_less, same_month_by, well_within}
 use Rattle.atl_phase.proofs.BookingLaws.{booked-near, within-neg}
 use Rattle.atl_instant.specs.Amounts.{amounts_for}
@@ -67,19 +63,11 @@ IsStudied w men skill days = (skill < length w.skills) × (1 ≤ days) × (days 
 module _ (w : WorldValue) (left men : ℕ) (fewer : left ≤ men) where
   -- the days that stay with fewer men are at most as many as those men may have
   part : (days : ℕ) → days ≤ most_days * men → days * left / men ≤ most_days * left
-  part days most = div-le_of_le-mul men (scaled days most)
+  part days most = div-le_of_le-mul men (subst (λ n. days * left ≤ n) turned (mul-le-mul_right left most))
     where
-      -- days of at most `most_days` for each man, times `left`, are at most `men` times the most days of `left` men
-      scaled : (days : ℕ) → days ≤ most_days * men → days * left ≤ men * (most_days * left)
-      scaled days most = subst (λ n. days * left ≤ n) (turned most_days men left) (times days (most_days * men) left most)
-        where
-          -- the factors of a product can be taken in another order
-          turned : (k m l : ℕ) → (k * m) * l ≡ m * (k * l)
-          turned k m l = grind arith
-
-          -- a number that is at most another is so when both are multiplied by the same
-          times : (a b l : ℕ) → a ≤ b → a * l ≤ b * l
-          times a b l h = mul-le-mul_right l h
+      -- the factors of a product can be taken in another order
+      turned : (most_days * men) * left ≡ men * (most_days * left)
+      turned = grind arith
 
 -- the days of each skill that stay with `left` of a holding's men
 abbrev pub days_left : ℕ → HoldingValue → FinMap nat_cmp ℕ
@@ -123,16 +111,12 @@ module _ (w : WorldValue) (h : HoldingValue) (left : ℕ) (fewer : left ≤ h.me
 
 -- ---- the upkeep of a unit that is there
 
--- a campaign after the upkeep of unit `u`
-abbrev upkeep_of : CampaignValue → UpkeepResult → Unit → CampaignValue
-upkeep_of c s u =
-    let unit_amount = with_held c s.unit (after_upkeep s u.holding) (Some u) in
-    let paid = with_amount unit_amount Upkeep Money (neg_ℤ (pos s.paid)) in
-    with_amount paid Starved People (neg_ℤ (pos s.starved))
-
--- a campaign after the upkeep of a unit, if it is there
+-- a campaign after the upkeep of the unit that a look-up found, which is booked; unchanged where it found none
 abbrev pub upkeep_in : CampaignValue → UpkeepResult → Option Unit → CampaignValue
-upkeep_in c s o = option_map_or (upkeep_of c s) o c
+upkeep_in c s o = option_map_or (λ u.
+    let held = with_held c s.unit (after_upkeep s u.holding) (Some u) in
+    let paid = with_amount held Upkeep Money (neg_ℤ (pos s.paid)) in
+    with_amount paid Starved People (neg_ℤ (pos s.starved))) o c
 
 module _ (w : WorldValue) (c : CampaignValue) (s : UpkeepResult) (u : Unit) (is : get c.units s.unit ≡ Some u) (spare : CanSpare s u.holding.men u.holding.money)
     (steady : IsSteady w c) where
@@ -161,11 +145,7 @@ module _ (w : WorldValue) (c : CampaignValue) (s : UpkeepResult) (u : Unit) (is 
 
   -- a unit that guards after its upkeep guarded before
   guard_kept : guards (record u { holding = now }) ≡ true → guards u ≡ true
-  guard_kept = both_true now.guard old.guard now.men old.men with_less.3 (omega (arith, with_less.0))
-    where
-      -- a unit with the same guard flag and at least as many men guards, if the other unit guards
-      both_true : (a b : Bool) (m n : ℕ) → a ≡ b → m ≤ n → (a && nat_lt 0 m) ≡ true → (b && nat_lt 0 n) ≡ true
-      both_true a b m n same fewer is = grind (arith, nat_tests)
+  guard_kept is = let (men, _, _, guard, _) = with_less in grind (arith, nat_tests, men, guard, is)
 
   -- the unit may hold what its upkeep leaves it
   may_hold : MayHold w u now
@@ -211,37 +191,14 @@ module _ (w : WorldValue) (c : CampaignValue) (s : UpkeepResult) (u : Unit) (is 
       total_of t (total-amount paid_off Starved People t (neg_ℤ (pos s.starved))) (total-amount held_back Upkeep Money t (neg_ℤ (pos s.paid)))
       (total-unit_amount w c s.unit u now is t)
     where
-      -- the total of money falls by the money `p` that the unit pays
-      taken : (x y z a l p : ℕ) → x ≡ y → y ≡ z → z + a ≡ total c Money + l → l ≡ a - p → p ≤ a
-          → pos x ≡ (pos (total c Money) +ℤ neg_ℤ (pos p)) +ℤ pos 0
-      taken x y z a l p e f g h k = omega (arith, ints, e, f, g, h, k)
-
-      -- the total of people falls by the men `p` who starve
-      starved_away : (x y z a l p : ℕ) → x ≡ y → y ≡ z → z + a ≡ total c People + l → l ≡ a - p → p ≤ a
-          → pos x ≡ (pos (total c People) +ℤ pos 0) +ℤ neg_ℤ (pos p)
-      starved_away x y z a l p e f g h k = omega (arith, ints, e, f, g, h, k)
-
       -- the total of thing `t` falls by what the unit paid or by those who starved, or stays, from how each step
       -- changes it
       total_of : (t : Thing) → total after t ≡ total paid_off t → total paid_off t ≡ total held_back t
           → total held_back t + unit_amount t old ≡ total c t + unit_amount t now
           → pos (total after t) ≡ (pos (total c t) +ℤ share_of t Money (neg_ℤ (pos s.paid))) +ℤ share_of t People (neg_ℤ (pos s.starved))
-      total_of Money a b g = taken _ _ _ old.money now.money s.paid a b g refl spare.paid
-      total_of People a b g = starved_away _ _ _ old.men now.men s.starved a b g with_less.0 spare.starved
-      total_of (Item i) a b g =
-          let people : (2 + i == 1) ≡ false = grind (arith, nat_tests) in
-          let money : (2 + i == 0) ≡ false = grind (arith, nat_tests) in
-          ap pos (same _ _ _ _ _ a b g (ap (λ m. amount_of m i) with_less.4))
-          ∙ sym (ap (λ q. (pos (total c (Item i)) +ℤ cond (2 + i == 0) (neg_ℤ (pos s.paid)) (pos 0)) +ℤ cond q (neg_ℤ (pos s.starved)) (pos 0)) people
-          ∙ ap (λ q. (pos (total c (Item i)) +ℤ cond q (neg_ℤ (pos s.paid)) (pos 0)) +ℤ pos 0) money ∙ zeros (total c (Item i)))
-        where
-          -- the total of an item stays, since upkeep changes no items
-          same : (x y z a l : ℕ) → x ≡ y → y ≡ z → z + a ≡ total c (Item i) + l → l ≡ a → x ≡ total c (Item i)
-          same x y z a l e f g h = omega (arith, e, f, g, h)
-
-          -- an integer that 0 is added to twice is the same
-          zeros : (x : ℕ) → (pos x +ℤ pos 0) +ℤ pos 0 ≡ pos x
-          zeros x = omega (arith, ints)
+      total_of Money a b g = omega (arith, ints, a, b, g, spare.paid)
+      total_of People a b g = omega (arith, ints, a, b, g, with_less.0, spare.starved)
+      total_of (Item i) a b g = let items = ap (λ m. amount_of m i) with_less.4 in grind (arith, ints, nat_tests, a, b, g, items)
 
   -- the books after the money was booked
   abbrev one_booked : BooksValue
@@ -372,16 +329,7 @@ module _ (w : WorldValue) (c : CampaignValue) (some : 1 ≤ w.rules.maintenance)
 
   -- the upkeep of all units together moves each amount of the books by less than 10^14
   little : MovesLess (moved_times (length list) (takes_up_to most_amount)) (takes_up_to most_moved)
-  little e t = scaled (length list) few (amount_number e t == amount_number Upkeep Money) (amount_number e t == amount_number Starved People)
-    where
-      -- the bounds of `k` units on two amounts, each moved only if a test says so, are together within those of the
-      -- whole phase
-      scaled : (k : ℕ) → k ≤ most_units → (a b : Bool)
-          → k * ((if a then most_amount else 0) + (if b then most_amount else 0)) ≤ (if a then most_moved else 0) + (if b then most_moved else 0)
-      scaled k few true true = omega (arith, few)
-      scaled k few true false = omega (arith, few)
-      scaled k few false true = omega (arith, few)
-      scaled k few false false = omega (arith, few)
+  little e t = grind (arith, few)
 
   -- each unit can pay what upkeep takes from it when its turn comes
   pub all_can_pay : CanInTurn (CanPayUpkeep w) upkeep_at c list
@@ -400,12 +348,7 @@ module _ (w : WorldValue) (c : CampaignValue) (some : 1 ≤ w.rules.maintenance)
 
 -- a holding of which all men are left is as it was
 men_stay : (h : HoldingValue) (left : ℕ) → left ≡ h.men → with_men_left left h ≡ h
-men_stay h left is = by_men (left == h.men) refl
-  where
-    -- a holding of which all men are left is as it was, whether the test for it (`b`) is true or, which can't be, false
-    by_men : (b : Bool) → (left == h.men) ≡ b → (if b then h else record h { men = left; days = days_left left h }) ≡ h
-    by_men true test = refl
-    by_men false test = grind (arith, nat_tests)
+men_stay h left is = grind (arith, nat_tests, is)
 
 -- the upkeep of a unit of which nobody starves changes only the money of its holding
 pub paid_alone : (s : UpkeepResult) (h : HoldingValue) → s.starved ≡ 0 → after_upkeep s h ≡ record h { money = h.money - s.paid }
@@ -461,25 +404,48 @@ days_set left h listed =
 -- setting the men, the money and the days of each skill gives the holding after upkeep
 pub starved_supplied : (s : UpkeepResult) (h : HoldingValue) → 1 ≤ s.starved → s.starved ≤ h.men → Every (λ k d. 1 ≤ d) h.days
     → record h { men = h.men - s.starved; money = h.money - s.paid; days = with_days h.days (staying_list (h.men - s.starved) h.men h.days) } ≡ after_upkeep s h
-starved_supplied s h some fewer listed = by_men ((h.men - s.starved) == h.men) refl
-  where
-    -- setting men, money and days gives the holding after upkeep, whether all men are left (`b`), which can't be, or
-    -- fewer
-    by_men : (b : Bool) → ((h.men - s.starved) == h.men) ≡ b
-        → record h { men = h.men - s.starved; money = h.money - s.paid; days = with_days h.days (staying_list (h.men - s.starved) h.men h.days) }
-        ≡ record (if b then h else record h { men = h.men - s.starved; days = days_left (h.men - s.starved) h }) { money = h.money - s.paid }
-    by_men true is = let same : h.men - s.starved ≡ h.men = grind (arith, nat_tests) in absurd (omega (arith, same, some, fewer))
-    by_men false is =
-        ap (λ days. record h { men = h.men - s.starved; money = h.money - s.paid; days = days })
-        (days_set (h.men - s.starved) h listed)
+starved_supplied s h some fewer listed =
+    let set = days_set (h.men - s.starved) h listed in
+    let other : (h.men - s.starved == h.men) ≡ false = grind (arith, nat_tests) in
+    rw (set, other) refl
 
--- ---- marks
+-- ---- the upkeep of a unit by its faction's units in its region
 
--- upkeep marks all that changes, if taking it marks what it changes and both amounts are booked after that
-pub upkeep_marks : (c d e f : MarkedCampaign) (s : UpkeepResult) (x y : ℤ)
-    → MarksChanges c d → e.value ≡ with_amount d.value Upkeep Money x → e.marks ≡ mark_amount d Upkeep Money
-    → f.value ≡ with_amount e.value Starved People y → f.marks ≡ mark_amount e Starved People → MarksChanges c f
-upkeep_marks c d e f s x y d_marks e_is e_marks f_is f_marks =
-    marks-trans c d f d_marks
-    (marks-trans d e f (marks_by d e _ e_is e_marks (marks-amount d Upkeep Money x))
-    (marks_by e f _ f_is f_marks (marks-amount e Starved People y)))
+-- a unit with what its upkeep leaves it
+abbrev pub unit_after_upkeep : UpkeepResult → Unit → Unit
+unit_after_upkeep s u = record u { holding = after_upkeep s u.holding }
+
+-- upkeep of a unit that is there leaves it what its result says
+pub own_unit : (c : CampaignValue) (s : UpkeepResult) (u : Unit) → get c.units s.unit ≡ Some u → get (upkeep_at c s).units s.unit ≡ Some (unit_after_upkeep s u)
+own_unit c s u is = ap (λ (d : CampaignValue). get d.units s.unit) (upkeep_at_is c s u is) ∙ get-insert_same c.units s.unit (unit_after_upkeep s u)
+
+module _ (m : ℕ) (all : List UpkeepInput) where
+  -- a unit with a lower number than all whose turn is still to come stays as it is
+  others_stay : (es : List (ℕ × Unit)) (c : CampaignValue) (n : ℕ) → AllByRecursion (λ e. n < e.0) es
+      → get (fold upkeep_at c (settled_each m all es)).units n ≡ get c.units n
+  others_stay [] c n h = refl
+  others_stay (e ∷ es) c n h =
+      let s = settled_one m all (upkeep_input_of e) in
+      others_stay es (upkeep_at c s) n h.1 ∙ other_unit c s n (λ same. omega (arith, h.0, same))
+
+  -- unit `n`, which was `u`, is in campaign `after` with what its upkeep among all units leaves it
+  abbrev IsSettled : CampaignValue → ℕ → Unit → Type 0
+  IsSettled after n u = get after.units n ≡ Some (unit_after_upkeep (settled_one m all (upkeep_input_of (n, u))) u)
+
+  -- after the upkeep of some units in turn, each of them has what its upkeep among all units leaves it
+  each_settled : (es : List (ℕ × Unit)) (c : CampaignValue) → Rise es → EachOf (λ n u. get c.units n ≡ Some u) es
+      → EachOf (IsSettled (fold upkeep_at c (settled_each m all es))) es
+  each_settled [] c rise there = tt
+  each_settled ((n, u) ∷ es) c rise there =
+      let s = settled_one m all (upkeep_input_of (n, u)) in
+      let next = upkeep_at c s in (
+        others_stay es next n rise.0 ∙ own_unit c s u there.0,
+        each_settled es next rise.1 (each_still c s es rise.0 there.1),
+      )
+
+-- after upkeep each unit has what its upkeep among the units of its faction in its region leaves it
+pub upkeep_is_of_peers : (w : WorldValue) (c : CampaignValue)
+    → Every (IsSettled w.rules.maintenance (upkeep_inputs_of c) (upkeep c (upkeep_results w c))) c.units
+upkeep_is_of_peers w c =
+    let here = each-from_every (λ n u. get c.units n ≡ Some u) c.units (λ n u is. is) in
+    every-from_each _ c.units (each_settled w.rules.maintenance (upkeep_inputs_of c) (entries c.units) c (entries_rise c.units) here)

@@ -1,82 +1,51 @@
 -- Laws of the accounts of upkeep: what the code computes with them for each unit in turn is what the definition says.
-use Rattle.std.proofs.Common.{◌≡◌, ◌≢◌, ◌==◌, ◌&&◌, ◌++◌, ℕ, zero, suc, ◌+◌, ◌-◌, ◌*◌, ◌≤◌, ◌<◌, min, Bool, true, false, cond, List, [], ◌∷◌, length, get_or, take, filter, sum_by, Option, unwrap_or, refl, sym, ap, ◌∙◌, mul_comm, add-zero, arith}
+use Rattle.std.proofs.Common.{◌≡◌, ◌++◌, ℕ, zero, suc, ◌+◌, ◌-◌, ◌*◌, ◌≤◌, ◌<◌, min, Bool, true, false, cond, List, [], ◌∷◌, length, get_or, take, filter, sum_by, unwrap_or, refl, sym, ap, ◌∙◌, mul_comm, add-zero, arith, Some}
 use Rattle.std.specs.Prelude.{All, nat_lt}
 use Rattle.std.specs.Ordering.{nat_cmp}
-use Rattle.std.specs.FinMap.{FinMap, empty, get, insert, get-empty}
+use Rattle.std.specs.FinMap.{empty, get, get-empty}
 use Rattle.std.proofs.Math.Nat.{div-lt_iff_lt-mul}
-use Rattle.std.proofs.lemmas.Bool.{and_parts}
 use Rattle.std.proofs.lemmas.Bool.Decides.{nat_tests}
 use Rattle.std.proofs.lemmas.List.Elements.{filter-append}
 use Rattle.std.proofs.lemmas.List.Sums.{sum_by-append}
 use Rattle.atl_world.specs.Limits.{most_per_head}
 use Rattle.atl_world.specs.Groups.{group_of}
 use Rattle.atl_records.specs.Limits.{holding_limit, men_limit}
-use Rattle.atl_records.proofs.EveryLaws.{get-insert_other, same_number}
-use Rattle.atl_campaign.proofs.RegionLaws.{get-insert_same}
+use Rattle.atl_records.proofs.EveryLaws.{same_number}
 use Rattle.atl_month.specs.declared.accounts.Account.{Account}
 use Rattle.atl_month.specs.declared.upkeep_sharing.UpkeepInput.{UpkeepInput}
 use Rattle.atl_month.specs.declared.upkeep_sharing.UpkeepResult.{UpkeepResult}
 use Rattle.atl_month.specs.Accounts.{FactionAccounts, IsOpen, account_after, account_at, account_of, left_among, no_account, short_among, upkeep_result_by, with_account, with_counted}
 use Rattle.atl_phase.specs.InTurn.{amount_in_turn}
 use Rattle.atl_month.specs.UpkeepSharing.{AreInOrder, EachCanSpare, given_among, is_input_of, left_of, paid_by, peers_of, short_of, starved_of, upkeep_result_among}
-
--- ---- an account is set in the map
-
--- the account that an option holds; `no_account` where it holds none
-abbrev account_or : Option Account → Account
-account_or o = unwrap_or o no_account
-
--- the account of a faction among those of a region
-abbrev account_in : ℕ → Option (FinMap nat_cmp Account) → Account
-account_in faction o = account_or (get (unwrap_or o empty) faction)
-
-module _ (m : FactionAccounts) (r f : ℕ) (a : Account) where
-  -- the map with account `a` of faction `f` in region `r`
-  abbrev put : FactionAccounts
-  put = with_account m r f a
-
-  -- the account that was set is the one of the faction in the region
-  put_same : account_at put r f ≡ a
-  put_same = ap (account_in f) (get-insert_same m r (insert (group_of m r) f a)) ∙ ap account_or (get-insert_same (group_of m r) f a)
-
-  -- the accounts of another region are as they were
-  other_region : (s g : ℕ) → s ≢ r → account_at put s g ≡ account_at m s g
-  other_region s g apart = ap (account_in g) (get-insert_other m r s (insert (group_of m r) f a) apart)
-
-  -- the account of another faction in the region is as it was
-  other_faction : (g : ℕ) → g ≢ f → account_at put r g ≡ account_at m r g
-  other_faction g apart =
-      ap (account_in g) (get-insert_same m r (insert (group_of m r) f a)) ∙ ap account_or (get-insert_other (group_of m r) f g a apart)
-
-  -- after an account is set, that faction has it in that region, and any other faction or region has what it had
-  pub account_put : (s g : ℕ) → account_at put s g ≡ cond ((r == s) && (f == g)) a (account_at m s g)
-  account_put s g = by_region (r == s) refl
-    where
-      -- in the region of the account that was set, its faction has this account, and any other has what it had, as test
-      -- `c` says
-      by_faction : r ≡ s → (c : Bool) → (f == g) ≡ c → account_at put s g ≡ cond c a (account_at m s g)
-      by_faction same true is = let one : f ≡ g = grind (arith, nat_tests) in rw (← same, ← one) put_same
-      by_faction same false is = let apart : g ≢ f = grind (arith, nat_tests) in rw (← same) (other_faction g apart)
-
-      -- a faction has the account that was set, if its region (`b`) and faction are those of it, and else the one that
-      -- it had
-      by_region : (b : Bool) → (r == s) ≡ b → account_at put s g ≡ cond (b && (f == g)) a (account_at m s g)
-      by_region true is = by_faction (grind (arith, nat_tests)) (f == g) refl
-      by_region false is = let apart : s ≢ r = grind (arith, nat_tests) in other_region s g apart
+use Rattle.atl_month.proofs.GroupedLaws.{get-grouped}
 
 -- ---- a unit more
 
-module _ (amount : UpkeepInput → ℕ) (test : UpkeepInput → Bool) (xs : List UpkeepInput) (p : UpkeepInput) where
-  -- a sum over units that pass a test grows by a further unit's amount if the unit passes the test
-  pub among_more : sum_by amount (filter test (xs ++ p ∷ [])) ≡ sum_by amount (filter test xs) + cond (test p) (amount p) 0
-  among_more =
-      ap (sum_by amount) (filter-append test xs (p ∷ [])) ∙ sum_by-append amount (filter test xs) (filter test (p ∷ []))
-      ∙ ap (λ n. sum_by amount (filter test xs) + n) (one (test p))
+-- a unit is of its own faction and in its own region
+own : (p : UpkeepInput) → is_input_of p.region p.faction p ≡ true
+own p = rw (same_number p.region, same_number p.faction) refl
+
+module _ (amount : UpkeepInput → ℕ) (xs : List UpkeepInput) (p : UpkeepInput) where
+  -- a sum over the units of a faction in a region grows by a further unit's amount, if that is one of them
+  more_among : (s g : ℕ) → sum_by amount (peers_of s g (xs ++ p ∷ [])) ≡ sum_by amount (peers_of s g xs) + cond (is_input_of s g p) (amount p) 0
+  more_among s g =
+      ap (sum_by amount) (filter-append (is_input_of s g) xs (p ∷ [])) ∙ sum_by-append amount (peers_of s g xs) (peers_of s g (p ∷ []))
+      ∙ ap (λ n. sum_by amount (peers_of s g xs) + n) (one (is_input_of s g p))
     where
-      -- the sum over one more unit is its amount if it passes the test (`b`), and else 0
+      -- the sum over one more unit is its amount if it is one of the units (`b`), and else 0
       one : (b : Bool) → sum_by amount (cond b (p ∷ []) []) ≡ cond b (amount p) 0
       one true = omega arith
       one false = refl
+
+  -- a sum over the units of a further unit's faction in its region grows by that unit's amount
+  more_own : sum_by amount (peers_of p.region p.faction (xs ++ p ∷ [])) ≡ sum_by amount (peers_of p.region p.faction xs) + amount p
+  more_own = more_among p.region p.faction ∙ ap (λ b. sum_by amount (peers_of p.region p.faction xs) + cond b (amount p) 0) (own p)
+
+  -- a sum over the units of another faction or region stays the same
+  more_other : (s g : ℕ) → is_input_of s g p ≡ false → sum_by amount (peers_of s g (xs ++ p ∷ [])) ≡ sum_by amount (peers_of s g xs)
+  more_other s g is = more_among s g ∙ ap (λ b. sum_by amount (peers_of s g xs) + cond b (amount p) 0) is ∙ add-zero (sum_by amount (peers_of s g xs))
+
+-- ---- an account is set in the map
 
 -- an account by its four amounts
 abbrev account : (left short given covered : ℕ) → Account
@@ -93,27 +62,23 @@ pub each_account : (P : ℕ → ℕ → Account → Type 0) (m : FactionAccounts
 each_account P m p a here others s g = by_test (is_input_of s g p) refl
   where
     -- the account of a faction in a region is the new one if the unit is of both (`test`), and else the old one
-    at : (test : Bool) → is_input_of s g p ≡ test → account_at (with_account m p.region p.faction a) s g ≡ cond test a (account_at m s g)
-    at test is = account_put m p.region p.faction a s g ∙ ap (λ b. cond b a (account_at m s g)) is
+    at : (test : Bool) → is_input_of s g p ≡ test
+        → account_at (with_account m p.region p.faction a) s g ≡ unwrap_or (cond test (Some a) (get (group_of m s) g)) no_account
+    at test is = ap (λ o. unwrap_or o no_account) (get-grouped m p.region p.faction a s g ∙ ap (λ b. cond b (Some a) (get (group_of m s) g)) is)
 
     -- P holds of the account of a faction in a region, whether the unit is of both (`test`) or not
     by_test : (test : Bool) → is_input_of s g p ≡ test → P s g (account_at (with_account m p.region p.faction a) s g)
     by_test true is =
-        let (first, second) = and_parts (p.region == s) (p.faction == g) is in
         let region : p.region ≡ s = grind (arith, nat_tests) in
         let faction : p.faction ≡ g = grind (arith, nat_tests) in
         rw (at true is, ← region, ← faction) here
     by_test false is = rw (at false is) (others s g is)
 
--- a unit is of its own faction and in its own region
-own : (p : UpkeepInput) → is_input_of p.region p.faction p ≡ true
-own p = rw (same_number p.region, same_number p.faction) refl
-
 -- ---- the units are counted
 
 -- with no unit counted yet, each account of the empty map is that of no units (`account_of`)
 pub no_accounts : (m s g : ℕ) → account_at empty s g ≡ account_of m [] [] s g
-no_accounts m s g = ap (account_in g) (get-empty nat_cmp s) ∙ ap account_or (get-empty nat_cmp g)
+no_accounts m s g = rw (get-empty nat_cmp s, get-empty nat_cmp g) refl
 
 -- the sums of an account are at most what `n` units may have left and be short of
 pub record IsFew (n : ℕ) (a : Account) : Type 0 where
@@ -124,37 +89,9 @@ pub record IsFew (n : ℕ) (a : Account) : Type 0 where
 
 -- in the empty map the sums of each account are within those of 0 units
 pub none_few : (s g : ℕ) → IsFew 0 (account_at empty s g)
-none_few s g = rw (ap (account_in g) (get-empty nat_cmp s) ∙ ap account_or (get-empty nat_cmp g)) (record { left = omega arith; short = omega arith })
+none_few s g = rw (no_accounts 0 s g) (record { left = omega arith; short = omega arith })
 
 module _ (m : ℕ) (before : List UpkeepInput) (p : UpkeepInput) where
-  -- the units counted so far, and the next
-  abbrev more : List UpkeepInput
-  more = before ++ p ∷ []
-
-  -- with one more unit counted, what a faction's units in a region have left grows by what the unit has, if it is one
-  left_more : (s g : ℕ) → left_among m s g more ≡ left_among m s g before + cond (is_input_of s g p) (left_of m p) 0
-  left_more s g = among_more (left_of m) (is_input_of s g) before p
-
-  -- with one more unit counted, what a faction's units in a region are short of grows by its own, if it is one of them
-  short_more : (s g : ℕ) → short_among m s g more ≡ short_among m s g before + cond (is_input_of s g p) (short_of m p) 0
-  short_more s g = among_more (short_of m) (is_input_of s g) before p
-
-  -- with one more unit counted, what the units of its faction in its region have left grows by what it has left
-  left_own : left_among m p.region p.faction more ≡ left_among m p.region p.faction before + left_of m p
-  left_own = left_more p.region p.faction ∙ ap (λ b. left_among m p.region p.faction before + cond b (left_of m p) 0) (own p)
-
-  -- with one more unit counted, what the units of its faction in its region are short of grows by what it is short of
-  short_own : short_among m p.region p.faction more ≡ short_among m p.region p.faction before + short_of m p
-  short_own = short_more p.region p.faction ∙ ap (λ b. short_among m p.region p.faction before + cond b (short_of m p) 0) (own p)
-
-  -- with one more unit counted, what units of another faction or region have left stays the same
-  left_other : (s g : ℕ) → is_input_of s g p ≡ false → left_among m s g more ≡ left_among m s g before
-  left_other s g is = left_more s g ∙ ap (λ b. left_among m s g before + cond b (left_of m p) 0) is ∙ add-zero (left_among m s g before)
-
-  -- with one more unit counted, what units of another faction or region are short of stays the same
-  short_other : (s g : ℕ) → is_input_of s g p ≡ false → short_among m s g more ≡ short_among m s g before
-  short_other s g is = short_more s g ∙ ap (λ b. short_among m s g before + cond b (short_of m p) 0) is ∙ add-zero (short_among m s g before)
-
   -- the lesser of 0 and a number is the same for any two numbers
   none_given : (x y : ℕ) → min 0 x ≡ min 0 y
   none_given x y = omega arith
@@ -162,11 +99,13 @@ module _ (m : ℕ) (before : List UpkeepInput) (p : UpkeepInput) where
   -- with the next unit counted, each account is that of the units counted so far and this one
   pub opened_more : (accounts : FactionAccounts) (a : Account) → ((s g : ℕ) → account_at accounts s g ≡ account_of m before [] s g)
       → a ≡ with_counted m p (account_at accounts p.region p.faction)
-      → (s g : ℕ) → account_at (with_account accounts p.region p.faction a) s g ≡ account_of m more [] s g
+      → (s g : ℕ) → account_at (with_account accounts p.region p.faction a) s g ≡ account_of m (before ++ p ∷ []) [] s g
   opened_more accounts a each is =
-      each_account (λ s g b. b ≡ account_of m more [] s g) accounts p a
-      (is ∙ ap (with_counted m p) (each p.region p.faction) ∙ account_is _ _ _ _ _ _ _ _ (sym left_own) (sym short_own) (none_given _ _) (none_given _ _))
-      (λ s g apart. each s g ∙ account_is _ _ _ _ _ _ _ _ (sym (left_other s g apart)) (sym (short_other s g apart)) (none_given _ _) (none_given _ _))
+      each_account (λ s g b. b ≡ account_of m (before ++ p ∷ []) [] s g) accounts p a
+      (is ∙ ap (with_counted m p) (each p.region p.faction)
+      ∙ account_is _ _ _ _ _ _ _ _ (sym (more_own (left_of m) before p)) (sym (more_own (short_of m) before p)) (none_given _ _) (none_given _ _))
+      (λ s g apart. each s g
+      ∙ account_is _ _ _ _ _ _ _ _ (sym (more_other (left_of m) before p s g apart)) (sym (more_other (short_of m) before p s g apart)) (none_given _ _) (none_given _ _))
 
 -- with one more unit counted, the sums of each account are at most those of one more unit
 pub few_more : (m n : ℕ) (accounts : FactionAccounts) (p : UpkeepInput) (a : Account) → left_of m p ≤ holding_limit → short_of m p ≤ most_per_head * men_limit
@@ -181,32 +120,15 @@ few_more m n accounts p a left short each is =
 -- ---- the units of lower numbers
 
 module _ {A : Type 0} where
-  -- an element ahead of a list, if a test says so
-  abbrev if_so : Bool → A → List A → List A
-  if_so b x xs = cond b (x ∷ xs) xs
-
   -- filtering a list by two tests gives the same in either order
   filters_swap : (t q : A → Bool) (xs : List A) → filter q (filter t xs) ≡ filter t (filter q xs)
   filters_swap t q [] = refl
-  filters_swap t q (x ∷ xs) = either (filters_swap t q xs) (t x) (q x) refl refl
-    where
-      -- with one more element in front, filtering gives the same in either order, whether each test (`b`, `d`) is true
-      -- of it or not
-      either : filter q (filter t xs) ≡ filter t (filter q xs) → (b d : Bool) → t x ≡ b → q x ≡ d
-          → filter q (if_so b x (filter t xs)) ≡ filter t (if_so d x (filter q xs))
-      either same true true is as_well =
-          ap (λ d. if_so d x (filter q (filter t xs))) as_well ∙ ap (λ l. x ∷ l) same
-          ∙ sym (ap (λ b. if_so b x (filter t (filter q xs))) is)
-      either same true false is not_so = ap (λ d. if_so d x (filter q (filter t xs))) not_so ∙ same
-      either same false true is as_well = same ∙ sym (ap (λ b. if_so b x (filter t (filter q xs))) is)
-      either same false false is not_so = same
+  filters_swap t q (x ∷ xs) = grind (arith, filters_swap t q xs)
 
   -- if no element passes a test, filtering by the test gives the empty list
   none_pass : (t : A → Bool) (xs : List A) → All (λ x. t x ≡ false) xs → filter t xs ≡ []
   none_pass t [] h = refl
-  none_pass t (x ∷ xs) h =
-      ap (λ b. if_so b x (filter t xs)) (h 0 x (omega arith))
-      ∙ none_pass t xs (λ k d l. h (suc k) d (omega (arith, l)))
+  none_pass t (x ∷ xs) h = rw (h 0 x (omega arith)) (none_pass t xs (λ k d l. h (suc k) d (omega (arith, l))))
 
 -- whether a unit's number is below another
 abbrev is_lower : ℕ → UpkeepInput → Bool
@@ -225,12 +147,11 @@ pub lower_first : (all : List UpkeepInput) (i : ℕ) (d : UpkeepInput) → AreIn
     → filter (is_lower (get_or all i d).unit) all ≡ take i all
 lower_first [] i d order l = absurd (omega (arith, l))
 lower_first (p ∷ ps) zero d order l =
-    ap (λ b. if_so b p (filter (is_lower p.unit) ps)) (no_lower p.unit p.unit (omega arith))
-    ∙ none_pass (is_lower p.unit) ps (λ k e h. no_lower _ p.unit (omega (arith, order 0 (suc k) e (omega arith) (omega (arith, h)))))
+    rw (no_lower p.unit p.unit (omega arith))
+    (none_pass (is_lower p.unit) ps (λ k e h. no_lower _ p.unit (omega (arith, order 0 (suc k) e (omega arith) (omega (arith, h))))))
 lower_first (p ∷ ps) (suc i) d order l =
-    let n = (get_or ps i d).unit in
-    ap (λ b. if_so b p (filter (is_lower n) ps)) (lower p.unit n (order 0 (suc i) d (omega arith) l))
-    ∙ ap (λ l. p ∷ l) (lower_first ps i d (λ j k e h m. order (suc j) (suc k) e (omega (arith, h)) (omega (arith, m))) (omega (arith, l)))
+    rw (lower p.unit (get_or ps i d).unit (order 0 (suc i) d (omega arith) l))
+    (ap (λ l. p ∷ l) (lower_first ps i d (λ j k e h m. order (suc j) (suc k) e (omega (arith, h)) (omega (arith, m))) (omega (arith, l))))
 
 -- ---- the upkeep of all units
 
@@ -263,11 +184,11 @@ module _ (m : ℕ) (all before : List UpkeepInput) (p : UpkeepInput) (accounts :
       each_account (λ s g b. b ≡ account_of m all (before ++ p ∷ []) s g) accounts p a
       (is ∙ ap (λ b. account_after m b p) (each p.region p.faction)
       ∙ account_is _ _ _ _ _ _ _ _ refl refl
-      (next_dealt (left_among m p.region p.faction before) (left_of m p) amount ∙ sym (ap (λ n. min n amount) (left_own m before p)))
-      (next_dealt (short_among m p.region p.faction before) (short_of m p) amount ∙ sym (ap (λ n. min n amount) (short_own m before p))))
+      (next_dealt (left_among m p.region p.faction before) (left_of m p) amount ∙ sym (ap (λ n. min n amount) (more_own (left_of m) before p)))
+      (next_dealt (short_among m p.region p.faction before) (short_of m p) amount ∙ sym (ap (λ n. min n amount) (more_own (short_of m) before p))))
       (λ s g apart. each s g ∙ account_is _ _ _ _ _ _ _ _ refl refl
-      (sym (ap (λ n. min n (given_among m (peers_of s g all))) (left_other m before p s g apart)))
-      (sym (ap (λ n. min n (given_among m (peers_of s g all))) (short_other m before p s g apart))))
+      (sym (ap (λ n. min n (given_among m (peers_of s g all))) (more_other (left_of m) before p s g apart)))
+      (sym (ap (λ n. min n (given_among m (peers_of s g all))) (more_other (short_of m) before p s g apart))))
 
   -- the peers of a unit with lower numbers are the peers among the units that had their turn before it
   before_among : filter (is_lower p.unit) all ≡ before → filter (is_lower p.unit) peers ≡ peers_of p.region p.faction before

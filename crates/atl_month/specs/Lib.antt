@@ -1,7 +1,6 @@
 pub mod Limits
 pub mod Restock
 pub mod Season
-pub mod AfterSweep
 pub mod UpkeepSharing
 pub mod Accounts
 pub mod Upkeep

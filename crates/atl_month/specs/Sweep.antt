@@ -13,6 +13,7 @@ use Rattle.atl_records.specs.declared.records.Unit.{Unit}
 use Rattle.atl_records.specs.Every.{Every}
 use Rattle.atl_records.specs.Holdings.{amount_of}
 use Rattle.atl_records.specs.Limits.{holding_limit}
+use Rattle.atl_campaign.specs.Good.{HaveMen, IsSteady, UnitlessAreGone}
 use Rattle.atl_campaign.specs.Owners.{first_or_zero, without_unit}
 use Rattle.atl_campaign.specs.Campaign.{CampaignValue, active, numbers_of, with_amount, with_gone, with_item, with_money}
 use Rattle.atl_phase.specs.Month.{MonthValue}
@@ -100,6 +101,15 @@ sweep_meaning w c m = (sweep c, m)
 -- the bound on what the sweep books: Lost of money and of each item by at most `most`, nothing else
 abbrev pub loses_by : ℕ → BookBound
 loses_by most e t = if (entry_index e == entry_index Lost) && not (thing_index t == thing_index People) then most else 0
+
+-- what holds of a campaign after the sweep: it is steady, each unit has men, and each faction without units is gone
+pub record IsSwept (w : WorldValue) (c : CampaignValue) : Type 0 where
+  -- the campaign is steady
+  pub steady : IsSteady w c
+  -- each unit has men
+  pub men : HaveMen c
+  -- each faction without units is gone
+  pub gone : UnitlessAreGone c
 
 -- a unit is no worse off, and its men and their days are as they were
 pub record IsKept (before after : Unit) : Type 0 where

@@ -4,13 +4,12 @@ ghost use Rattle.std.specs.FinMap.{len};
 ghost use Rattle.atl_orders.specs.Mailing.{IsReadWith, reading_of};
 ghost use Rattle.atl_campaign.specs.Covers.{MarksChanges};
 ghost use Rattle.atl_records.specs.Every.{IsThere};
-ghost use Rattle.atl_campaign.specs.Good.{IsGood, IsSound};
+ghost use Rattle.atl_campaign.specs.Good.{IsGood};
 ghost use Rattle.atl_records.specs.Limits.{last_month};
 ghost use Rattle.atl_phase.specs.Month.{HaveOwnFactions, by_faction};
-ghost use Rattle.atl_phase.specs.Fit.{AreFit};
-ghost use Rattle.atl_phase.specs.Meaning.{IsSameMonth, LeavesWell};
-ghost use Rattle.atl_month.specs.Month.{BooksAreNear, MailOrderDoesNotCount, PhasesMoveLittle, TwoMoveAtMost, after_month, month_keeps, month_meaning, month_moves, month_of, new_month, phases_moving};
-ghost use Rattle.atl_month.specs.AfterSweep.{IsSwept};
+ghost use Rattle.atl_phase.specs.Room.{OnePhaseHasRoom};
+ghost use Rattle.atl_phase.specs.Meaning.{IsSameMonth};
+ghost use Rattle.atl_month.specs.Month.{BooksAreNear, MailOrderDoesNotCount, PhasesMoveLittle, TwoMoveAtMost, after_month, month_keeps, month_moves, month_of, new_month};
 ghost use Rattle.atl_month.specs.Unmailed.{UnmailedAreLeft};
 
 use crate::orders::OrderPhases;
@@ -20,26 +19,9 @@ use crate::upkeep::UpkeepPhase;
 use atl_campaign::{Campaign, Event};
 use atl_market::WorkPhase;
 use atl_orders::Mailing;
-use atl_phase::{Month, Phase, PhaseResult};
+use atl_phase::{Month, Phase};
 use atl_world::World;
 use std::alloc::{AllocError, Global};
-
-/// Runs all phases of a month, one after the other.
-fn run_phases(alloc: Global, world: &World, campaign: Campaign, month: Month) -> PhaseResult
-    requires sound { IsSound world.now campaign.value }
-    requires read { AreFit world.now month.readings }
-    ensures meaning { IfOk result
-        (λ r. (r.0.value, r.1) ≡ month_meaning world.now campaign.value month) }
-    ensures leaves { IfOk result
-        (λ r. LeavesWell IsSwept phases_moving world.now campaign.value r.0.value) }
-    ensures keeps { IfOk result (λ r. month_keeps world.now month campaign.value r.0.value) }
-    ensures marks { IfOk result (λ r. MarksChanges campaign r.0) }
-{
-    let closing = (WorkPhase, (UpkeepPhase, (SeasonPhase, SweepPhase)));
-    let phases = (OrderPhases, closing);
-    let (campaign, month) = phases.run(alloc, world, campaign, month)?;
-    Ok((campaign, month))
-}
 
 /// Closes a month: runs its phases over a good campaign, and returns the campaign and the events.
 /// It takes the mailings of the factions and one word of the dice for each region. The month isn't
@@ -79,7 +61,8 @@ pub fn close_month(
     ensures marks { IfOk result (λ r. MarksChanges campaign r.0) }
 {
     let month = Month::new(alloc, mailings, words.to_vec(alloc)?);
-    let (campaign, month) = run_phases(alloc, world, campaign, month)?;
+    let closing = (WorkPhase, (UpkeepPhase, (SeasonPhase, SweepPhase)));
+    let (campaign, month) = (OrderPhases, closing).run(alloc, world, campaign, month)?;
     Ok((campaign, month.into_events()))
 }
 
@@ -94,4 +77,11 @@ pub fn months_have_no_order()
 pub fn phases_move_little()
     ensures little { PhasesMoveLittle }
     ensures two { TwoMoveAtMost }
+{}
+
+/// The law that books of which no amount passes 9*10^18 in size have room for one phase that moves
+/// each amount by less than 10^14, as each phase of a month does. It says nothing of two phases,
+/// which together may move an amount further. Does nothing.
+pub fn one_phase_has_room()
+    ensures { OnePhaseHasRoom }
 {}

@@ -7,15 +7,13 @@ mod limits;
 mod orders;
 mod receivers;
 mod restock;
-mod room;
 mod season;
 mod sweep;
 mod upkeep;
 mod upkeep_sharing;
 
-pub use close::{close_month, months_have_no_order, phases_move_little};
+pub use close::{close_month, months_have_no_order, one_phase_has_room, phases_move_little};
 pub use orders::OrderPhases;
-pub use room::one_phase_has_room;
 pub use season::SeasonPhase;
 pub use sweep::SweepPhase;
 pub use upkeep::UpkeepPhase;

@@ -71,9 +71,8 @@ fn turn_region(
         (campaign.new.value ≡ season_at world.now campaign.old.value (number, word)) }
     ensures marks { OnOk result (MarksChanges campaign.old campaign.new) }
 {
-    let terrain = match world.terrain_of(number) {
-        Some(terrain) => terrain,
-        None => return Ok(()),
+    let Some(terrain) = world.terrain_of(number) else {
+        return Ok(());
     };
     let (peasants, money) = match campaign.region(number) {
         Some(region) => (region.peasants, region.money),
@@ -116,13 +115,7 @@ impl Phase for SeasonPhase {
 
     ghost keeps = { season_keeps };
 
-    fn run(
-        &self,
-        _alloc: Global,
-        world: &World,
-        mut campaign: Campaign,
-        month: Month,
-    ) -> PhaseResult {
+    fn run(&self, _: Global, world: &World, mut campaign: Campaign, month: Month) -> PhaseResult {
         turn_regions(world, &mut campaign, month.words())?;
         Ok((campaign, month))
     }

@@ -2,18 +2,16 @@
 //! docs/RULES.md, "Sweep".
 ghost use Rattle.std.specs.Prelude.{◌≡◌, ◌≤◌, ◌<◌, ◌+◌, IfOk, OnOk, fold, length};
 ghost use Rattle.atl_world.specs.Limits.{most_amount};
-ghost use Rattle.atl_records.specs.Books.{amount_in, thing_index};
+ghost use Rattle.atl_records.specs.Books.{amount_in};
 ghost use Rattle.atl_campaign.specs.Covers.{MarksChanges};
 ghost use Rattle.atl_records.specs.Every.{EachOf};
 ghost use Rattle.atl_campaign.specs.Good.{IsSteady};
-ghost use Rattle.atl_campaign.specs.Marking.{mark_amount};
 ghost use Rattle.atl_records.specs.declared.books.Entry.TheVariants.{Lost};
 ghost use Rattle.atl_records.specs.declared.books.Thing.TheVariants.{Item, Money};
 ghost use Rattle.atl_phase.specs.Meaning.{most_moved};
 ghost use Rattle.atl_phase.specs.Bounds.{HasRoom, HaveRoom, moved_times, moving_items};
-ghost use Rattle.atl_month.specs.Sweep.{accepted_of, after_passing_item, after_passing_money, after_sweeping_faction, after_sweeping_unit, loses_by, menless_units, sweep_keeps, sweep_meaning, with_lost};
+ghost use Rattle.atl_month.specs.Sweep.{IsSwept, accepted_of, after_passing_item, after_passing_money, after_sweeping_faction, after_sweeping_unit, loses_by, menless_units, sweep_keeps, sweep_meaning};
 ghost use Rattle.atl_month.specs.Receivers.{AreReceivers};
-ghost use Rattle.atl_month.specs.AfterSweep.{IsSwept};
 
 use crate::receivers::{Receivers, receiver_in, receivers_of};
 use atl_campaign::{Campaign, Entry, HOLDING_LIMIT, Thing};
@@ -34,16 +32,6 @@ fn accepted_of(amount: u32, have: u32) -> u32
     amount.min(HOLDING_LIMIT.saturating_sub(have))
 }
 
-/// Books an amount of a thing as lost.
-fn lose(campaign: &mut Campaign, thing: Thing, amount: u32)
-    requires there { thing_index thing < campaign.old.value.books.things }
-    requires room { HasRoom amount (amount_in campaign.old.value.books Lost thing) }
-    ensures what { campaign.new.value ≡ with_lost campaign.old.value thing amount }
-    ensures marks { campaign.new.marks ≡ mark_amount campaign.old Lost thing }
-{
-    book_taken(campaign, Entry::Lost, thing, amount);
-}
-
 /// Gives money to a unit, up to its room; the rest is lost, all of it where the unit isn't there.
 #[tactic(auto, unfolding(crate::specs::Sweep::after_passing_money))]
 fn pass_money(campaign: &mut Campaign, to: u32, amount: u32)
@@ -57,9 +45,9 @@ fn pass_money(campaign: &mut Campaign, to: u32, amount: u32)
             let money = unit.holding.money();
             let taken = accepted_of(amount, money);
             campaign.set_money(to, money + taken);
-            lose(campaign, Thing::Money, amount - taken);
+            book_taken(campaign, Entry::Lost, Thing::Money, amount - taken);
         }
-        None => lose(campaign, Thing::Money, amount),
+        None => book_taken(campaign, Entry::Lost, Thing::Money, amount),
     }
 }
 
@@ -85,9 +73,9 @@ fn pass_item(
             let have = unit.holding.amount(number);
             let taken = accepted_of(amount, have);
             campaign.set_item(to, number, have + taken)?;
-            lose(campaign, Thing::Item(item), amount - taken);
+            book_taken(campaign, Entry::Lost, Thing::Item(item), amount - taken);
         }
-        None => lose(campaign, Thing::Item(item), amount),
+        None => book_taken(campaign, Entry::Lost, Thing::Item(item), amount),
     }
     Ok(())
 }
@@ -209,13 +197,8 @@ impl Phase for SweepPhase {
 
     ghost keeps = { sweep_keeps };
 
-    fn run(
-        &self,
-        alloc: Global,
-        world: &World,
-        mut campaign: Campaign,
-        month: Month,
-    ) -> PhaseResult {
+    fn run(&self, alloc: Global, world: &World, campaign: Campaign, month: Month) -> PhaseResult {
+        let mut campaign = campaign;
         let receivers = receivers_of(alloc, &campaign)?;
         let numbers = menless_units(alloc, &campaign)?;
         sweep_units(alloc, world, &receivers, &mut campaign, &numbers)?;

@@ -54,24 +54,6 @@ fn days_with(alloc: Global, left: u32, holding: &Holding) -> Result<Vec<(u32, u3
     Ok(list)
 }
 
-/// Takes from a unit the money that it pays, where none of its men starves. It marks none of its
-/// goods, and where the unit pays nothing, nothing at all.
-fn pay(campaign: &mut Campaign, settled: &UpkeepResult)
-    requires can { (w : WorldValue) × CanPayUpkeep w campaign.old.value settled.now }
-    requires fed { settled.now.starved ≡ 0 }
-    ensures what { IsAfterUpkeep campaign.old.value settled.now campaign.new.value }
-    ensures marks { MarksChanges campaign.old campaign.new }
-    ensures goods { MarksNoGoods campaign.old.marks campaign.new.marks }
-{
-    if settled.paid == 0 {
-        return;
-    }
-    if let Some(unit) = campaign.unit(settled.unit) {
-        let left = unit.holding.money() - settled.paid;
-        campaign.set_money(settled.unit, left);
-    }
-}
-
 /// Takes from a unit the money that it pays and the men who starve, with their days. It marks none
 /// of its items.
 fn starve(alloc: Global, campaign: &mut Campaign, settled: &UpkeepResult) -> Result<(), AllocError>
@@ -105,16 +87,22 @@ fn take_upkeep(
     ensures goods { OnOk result
         (settled.now.starved ≡ 0 → MarksNoGoods campaign.old.marks campaign.new.marks) }
 {
-    if settled.starved == 0 {
-        pay(campaign, settled);
+    if settled.starved != 0 {
+        return starve(alloc, campaign, settled);
+    }
+    if settled.paid == 0 {
         return Ok(());
     }
-    starve(alloc, campaign, settled)
+    if let Some(unit) = campaign.unit(settled.unit) {
+        let left = unit.holding.money() - settled.paid;
+        campaign.set_money(settled.unit, left);
+    }
+    Ok(())
 }
 
 /// Takes from a unit the money that it pays for upkeep and the men who starve, and books both. It
 /// marks none of the unit's items, and where nobody starves none of its goods.
-fn upkeep_of(
+fn charge_upkeep(
     alloc: Global,
     campaign: &mut Campaign,
     settled: &UpkeepResult,
@@ -133,7 +121,7 @@ fn upkeep_of(
 }
 
 /// Takes from each unit of `list` the money that it pays and the men who starve, and books both.
-fn upkeep_of_all(
+fn charge_all(
     alloc: Global,
     campaign: &mut Campaign,
     list: &[UpkeepResult],
@@ -143,7 +131,7 @@ fn upkeep_of_all(
     ensures marks { OnOk result (MarksChanges campaign.old campaign.new) }
 {
     for settled in list {
-        upkeep_of(alloc, campaign, settled)?;
+        charge_upkeep(alloc, campaign, settled)?;
     }
     Ok(())
 }
@@ -178,16 +166,11 @@ impl Phase for UpkeepPhase {
 
     ghost keeps = { upkeep_keeps };
 
-    fn run(
-        &self,
-        alloc: Global,
-        world: &World,
-        mut campaign: Campaign,
-        mut month: Month,
-    ) -> PhaseResult {
+    fn run(&self, alloc: Global, world: &World, campaign: Campaign, month: Month) -> PhaseResult {
+        let (mut campaign, mut month) = (campaign, month);
         let inputs = upkeep_inputs_of(alloc, &campaign)?;
         let list = upkeep_payments(alloc, world.rules().maintenance, &inputs)?;
-        upkeep_of_all(alloc, &mut campaign, &list)?;
+        charge_all(alloc, &mut campaign, &list)?;
         report_starved(&mut month, &list)?;
         Ok((campaign, month))
     }

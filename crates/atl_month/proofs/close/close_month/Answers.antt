@@ -1,13 +1,13 @@
 use Rattle.std.proofs.Common.{rules, ◌≡◌, map, subst}
 use Rattle.std.proofs.lemmas.List.Elements.{recursion_from_All}
 use Rattle.atl_orders.specs.Mailing.{IsReadWith, reading_of}
+use Rattle.atl_campaign.proofs.GoodLaws.{sound_early}
 use Rattle.atl_phase.specs.Fit.{AreFit}
 use Rattle.atl_phase.specs.Month.{MonthValue, by_faction}
 use Rattle.atl_month.specs.Month.{month_keeps, new_month, phases_moving}
-use Rattle.atl_month.proofs.MonthLaws.{books_near, factions_stay, finished_good, month_is}
+use Rattle.atl_month.proofs.MonthLaws.{books_near, factions_stay, finished_good, month_is, phases_room, unmailed_left}
 use Rattle.atl_phase.proofs.FitLaws.{read_fit}
 use Rattle.atl_month.proofs.MoveLaws.{phases_little}
-use Rattle.atl_month.proofs.UnmailedMonthLaws.{unmailed_left}
 use Rattle.atl_month.proofs.close.close_month.Goals as goal
 
 -- the campaign is good again with the month counted and the mail removed
@@ -32,9 +32,18 @@ returns-clause-keeps c =
     let is : c.new-month.result ≡ new_month (by_faction (map reading_of c.args.mailings.items)) c.args.words.now = search rules in
     subst (λ (m : MonthValue). month_keeps c.args.world.now m c.args.campaign.value c.in_ok-campaign.campaign.value) is c.in_ok-campaign.ensures.keeps
 
+-- a good campaign is early, as the first phase needs, and each phase leaves what the next one needs
+pub run-requires-clause-needs : goal.run-requires-clause-needs
+run-requires-clause-needs c =
+    (sound_early c.args.world.now c.args.campaign.value c.requires.good.sound, λ w d h. (h, λ w d h. (h, λ w d h. (h, λ w d h. h))))
+
+-- the books of a good campaign have room for all phases of a month
+pub run-requires-clause-room : goal.run-requires-clause-room
+run-requires-clause-room c = phases_room c.args.world.now c.args.campaign.value c.requires.good.sound
+
 -- the mailings that the phases get can be read with the world
-pub run_phases-requires-clause-read : goal.run_phases-requires-clause-read
-run_phases-requires-clause-read c =
+pub run-requires-clause-read : goal.run-requires-clause-read
+run-requires-clause-read c =
     let ms = c.args.mailings.items in
     let w = c.args.world.now in
     let is : by_faction (map reading_of ms) ≡ c.new-month.result.readings = search rules in

@@ -4,15 +4,16 @@ use Rattle.atl_records.specs.declared.books.Entry.TheVariants.{Lost}
 use Rattle.atl_records.specs.declared.books.Thing.TheVariants.{Item}
 use Rattle.atl_records.specs.Books.{amount_in}
 use Rattle.atl_campaign.specs.Campaign.{CampaignValue}
+use Rattle.atl_campaign.proofs.CoverLaws.{marks-refl}
 use Rattle.atl_phase.proofs.ChangeLaws.{item_changes}
 use Rattle.atl_phase.proofs.MarkLaws.{booked_marks}
 use Rattle.atl_phase.proofs.MeaningLaws.{less_room}
-use Rattle.atl_month.proofs.SweepRunLaws.{lost_marks, passed_item_is}
+use Rattle.atl_month.proofs.SweepLaws.{passed_item_is}
 use Rattle.atl_month.proofs.sweep.pass_item.Goals as goal
 
 -- the item is a thing of the books, which have room for what is lost of it
-pub lose-requires : goal.lose-requires
-lose-requires c =
+pub book_taken-requires : goal.book_taken-requires
+book_taken-requires c =
     let books = ap (λ (s : CampaignValue). s.books) c.in_ok-set_item-in-Some.ensures.ok in
     record {
       there = rw books (omega (arith, c.requires.steady.numbers.books.count, c.requires.known));
@@ -33,15 +34,15 @@ returns-in_ok-set_item-in-Some c =
     let set = item_changes old mid c.args.to c.from-number.result have c.in_ok-set_item-in-Some.ensures.ok c.in_ok-set_item-in-Some.ensures.marks in
     record {
       what =
-          rw (c.lose.ensures.what, c.in_ok-set_item-in-Some.ensures.ok, c.accepted_of-taken.ensures, c.amount-have.ensures, c.from-number.ensures)
+          rw (c.book_taken.ensures.what, c.in_ok-set_item-in-Some.ensures.ok, c.accepted_of-taken.ensures, c.amount-have.ensures, c.from-number.ensures)
           (passed_item_is old.value c.args.to c.args.item c.args.amount u there);
       marks =
-          booked_marks old mid c.lose.new.campaign Lost (Item c.args.item) (neg_ℤ (pos (c.args.amount - c.accepted_of-taken.result))) set.marks
-          c.lose.ensures.what c.lose.ensures.marks;
+          booked_marks old mid c.book_taken.new.campaign Lost (Item c.args.item) (neg_ℤ (pos (c.args.amount - c.accepted_of-taken.result))) set.marks
+          c.book_taken.ensures.what c.book_taken.ensures.marks;
     }
 
 -- where the unit isn't there, the loss that is booked is marked
 pub returns-in-None-clause-marks : goal.returns-in-None-clause-marks
 returns-in-None-clause-marks c =
-    lost_marks c.args.amount c.args.campaign.now c.lose-in-None.new.campaign (Item c.args.item)
-    c.lose-in-None.ensures.what c.lose-in-None.ensures.marks
+    booked_marks c.args.campaign.now c.args.campaign.now c.book_taken-in-None.new.campaign Lost (Item c.args.item) (neg_ℤ (pos c.args.amount))
+    (marks-refl c.args.campaign.now) c.book_taken-in-None.ensures.what c.book_taken-in-None.ensures.marks

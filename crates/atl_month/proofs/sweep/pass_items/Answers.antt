@@ -3,7 +3,7 @@ use Rattle.atl_campaign.proofs.CoverLaws.{marks-trans}
 use Rattle.atl_phase.proofs.FoldLaws.{fold_behind}
 use Rattle.atl_instant.proofs.QuitLaws.{known_ahead, next_room, room_ahead}
 use Rattle.atl_month.specs.Sweep.{after_passing_item}
-use Rattle.atl_month.proofs.SweepRunLaws.{item_passes, rest_room}
+use Rattle.atl_month.proofs.SweepLaws.{item_passes, rest_room}
 use Rattle.atl_month.proofs.sweep.pass_items.Goals as goal
 
 -- the books have room for what may be lost of the next item

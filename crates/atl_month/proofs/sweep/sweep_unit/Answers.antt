@@ -8,7 +8,7 @@ use Rattle.atl_campaign.proofs.CoverLaws.{marks-trans}
 use Rattle.atl_campaign.proofs.LeavingLaws.{marks-without}
 use Rattle.atl_phase.proofs.MeaningLaws.{less_room}
 use Rattle.atl_instant.proofs.QuitLaws.{known_held}
-use Rattle.atl_month.proofs.SweepRunLaws.{items_room, money_steady}
+use Rattle.atl_month.proofs.SweepLaws.{items_room, money_steady}
 use Rattle.atl_month.proofs.sweep.sweep_unit.Goals as goal
 
 -- the books have room for what may be lost of the unit's money

@@ -1,7 +1,6 @@
 use Rattle.std.proofs.Common.{rules, ◌≡◌}
 use Rattle.atl_month.specs.Upkeep.{upkeep, upkeep_inputs_of, upkeep_results}
-use Rattle.atl_month.proofs.UpkeepPeersLaws.{upkeep_is_of_peers}
-use Rattle.atl_month.proofs.UpkeepLaws.{all_can_pay, inputs_in_order, upkeep_leaves_well}
+use Rattle.atl_month.proofs.UpkeepLaws.{upkeep_is_of_peers, all_can_pay, inputs_in_order, upkeep_leaves_well}
 use Rattle.atl_month.proofs.upkeep.UpkeepPhasePhase.run.Goals as goal
 
 -- what upkeep reads of the units is sorted by their numbers
@@ -11,8 +10,8 @@ upkeep_payments-requires-clause-order c =
     rw list (inputs_in_order c.args.campaign.value)
 
 -- each unit can pay what upkeep takes from it when its turn comes
-pub upkeep_of_all-requires : goal.upkeep_of_all-requires
-upkeep_of_all-requires c =
+pub charge_all-requires : goal.charge_all-requires
+charge_all-requires c =
     let w = c.args.world.now in
     let before = c.args.campaign.value in
     let list : c.deref-2.result.now ≡ upkeep_results w before = search rules in
@@ -23,7 +22,7 @@ pub returns-clause-leaves : goal.returns-clause-leaves
 returns-clause-leaves c =
     let w = c.args.world.now in
     let before = c.args.campaign.value in
-    let is : c.upkeep_of_all.new.campaign.value ≡ upkeep before (upkeep_results w before) = search rules in
+    let is : c.charge_all.new.campaign.value ≡ upkeep before (upkeep_results w before) = search rules in
     rw is (upkeep_leaves_well w before c.rules.ensures.world.rules.maintenance_least c.requires.needs c.requires.room)
 
 -- upkeep leaves each unit what its faction's units in its region decide (`upkeep_keeps`)
@@ -31,5 +30,5 @@ pub returns-clause-keeps : goal.returns-clause-keeps
 returns-clause-keeps c =
     let w = c.args.world.now in
     let before = c.args.campaign.value in
-    let is : c.upkeep_of_all.new.campaign.value ≡ upkeep before (upkeep_results w before) = search rules in
+    let is : c.charge_all.new.campaign.value ≡ upkeep before (upkeep_results w before) = search rules in
     rw is (upkeep_is_of_peers w before)

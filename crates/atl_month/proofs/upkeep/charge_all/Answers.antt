@@ -7,11 +7,11 @@ use Rattle.atl_market.specs.Bounds.{CanInTurn}
 use Rattle.atl_month.specs.declared.upkeep_sharing.UpkeepResult.{UpkeepResult}
 use Rattle.atl_month.specs.UpkeepTaken.{CanPayUpkeep}
 use Rattle.atl_month.specs.Upkeep.{upkeep_at}
-use Rattle.atl_month.proofs.upkeep.upkeep_of_all.Goals as goal
+use Rattle.atl_month.proofs.upkeep.charge_all.Goals as goal
 
 -- the next unit can pay what upkeep takes from it
-pub upkeep_of-requires : goal.upkeep_of-requires
-upkeep_of-requires c =
+pub charge_upkeep-requires : goal.charge_upkeep-requires
+charge_upkeep-requires c =
     let list = c.args.list.now in
     let i = c.loop-settled.settled-index in
     let s : UpkeepResult = get_or list i (record { unit = 0; faction = 0; paid = 0; starved = 0 }) in
@@ -26,14 +26,14 @@ loop-settled-preserved c =
     let i = c.loop-settled.settled-index in
     let s : UpkeepResult = get_or list i (record { unit = 0; faction = 0; paid = 0; starved = 0 }) in
     let before = c.loop-settled.campaign.value in
-    let after = c.upkeep_of.new.campaign.value in
+    let after = c.charge_upkeep.new.campaign.value in
     let old = c.loop-settled.invariant in
     let behind : drop i list ≡ s ∷ drop (i + 1) list = drop_more list i _ c.loop-settled-test.true in
     let is : after ≡ upkeep_at before s = search rules in
-    let marked = c.in_ok-upkeep_of.ensures.marks in
+    let marked = c.in_ok-charge_upkeep.ensures.marks in
     let (w, can) = old.can in
     record {
       rest = ap (λ (d : CampaignValue). fold upkeep_at d (drop (i + 1) list)) is ∙ sym (ap (fold upkeep_at before) behind) ∙ old.rest;
       can = (w, rw is (subst (CanInTurn (CanPayUpkeep w) upkeep_at before) behind can).1);
-      marks = marks-trans c.args.campaign.now c.loop-settled.campaign c.upkeep_of.new.campaign old.marks marked;
+      marks = marks-trans c.args.campaign.now c.loop-settled.campaign c.charge_upkeep.new.campaign old.marks marked;
     }

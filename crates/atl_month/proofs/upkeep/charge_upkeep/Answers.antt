@@ -7,9 +7,10 @@ use Rattle.atl_records.specs.declared.books.Thing.TheVariants.{Money, People}
 use Rattle.atl_campaign.specs.Campaign.{CampaignValue}
 use Rattle.atl_phase.specs.Meaning.{moves_only}
 use Rattle.atl_phase.proofs.BookingLaws.{booked-room, within-neg}
+use Rattle.atl_phase.proofs.MarkLaws.{booked_marks}
 use Rattle.atl_phase.proofs.MeaningLaws.{less_room}
-use Rattle.atl_month.proofs.UpkeepLaws.{few_paid, few_starved, upkeep_at_is, upkeep_marks}
-use Rattle.atl_month.proofs.upkeep.upkeep_of.Goals as goal
+use Rattle.atl_month.proofs.UpkeepLaws.{few_paid, few_starved, upkeep_at_is}
+use Rattle.atl_month.proofs.upkeep.charge_upkeep.Goals as goal
 
 -- money is a thing of the books, which have room for what the unit pays
 pub book_taken-requires : goal.book_taken-requires
@@ -55,9 +56,10 @@ returns-clause-what c =
 -- all that the upkeep of the unit changes is marked
 pub returns-clause-marks : goal.returns-clause-marks
 returns-clause-marks c =
-    let (w, can) = c.requires in
+    let old = c.args.campaign.now in
+    let one = c.take_upkeep.new.campaign in
+    let two = c.book_taken.new.campaign in
     let s = c.args.settled.now in
-    let what = c.in_ok-take_upkeep.ensures.what can.unit can.there in
-    upkeep_marks c.args.campaign.now c.take_upkeep.new.campaign c.book_taken.new.campaign c.book_taken-2.new.campaign s
-    (neg_ℤ (pos s.paid)) (neg_ℤ (pos s.starved))
-    c.in_ok-take_upkeep.ensures.marks c.book_taken.ensures.what c.book_taken.ensures.marks c.book_taken-2.ensures.what c.book_taken-2.ensures.marks
+    booked_marks old two c.book_taken-2.new.campaign Starved People (neg_ℤ (pos s.starved))
+    (booked_marks old one two Upkeep Money (neg_ℤ (pos s.paid)) c.in_ok-take_upkeep.ensures.marks c.book_taken.ensures.what c.book_taken.ensures.marks)
+    c.book_taken-2.ensures.what c.book_taken-2.ensures.marks

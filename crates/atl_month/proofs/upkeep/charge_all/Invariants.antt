@@ -5,7 +5,7 @@ use Rattle.atl_campaign.specs.Covers.{MarksChanges}
 use Rattle.atl_market.specs.Bounds.{CanInTurn}
 use Rattle.atl_month.specs.UpkeepTaken.{CanPayUpkeep}
 use Rattle.atl_month.specs.Upkeep.{upkeep, upkeep_at}
-use Rattle.atl_month.proofs.upkeep.upkeep_of_all.Given as goal
+use Rattle.atl_month.proofs.upkeep.charge_all.Given as goal
 
 -- before each result: the upkeep of the units still to come makes what that of all makes, each of them can pay in turn,
 -- and all changes are marked

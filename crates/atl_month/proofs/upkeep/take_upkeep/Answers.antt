@@ -1,10 +1,14 @@
+use Rattle.std.proofs.Common.{◌≡◌, arith}
 use Rattle.atl_phase.proofs.ChangeLaws.{money_changes}
 use Rattle.atl_month.proofs.UpkeepLaws.{pays_nothing}
-use Rattle.atl_month.proofs.upkeep.pay.Goals as goal
+use Rattle.atl_month.proofs.upkeep.take_upkeep.Goals as goal
 
 -- where the unit pays nothing and nobody starves, the campaign stays as it is
 pub returns-then-settled-eq0-clause-what : goal.returns-then-settled-eq0-clause-what
-returns-then-settled-eq0-clause-what c u is = pays_nothing c.args.campaign.now.value c.args.settled.now u is c.requires.fed c.if-settled-eq0.true
+returns-then-settled-eq0-clause-what c u is =
+    let fed : c.args.settled.now.starved ≡ 0 = omega arith in
+    let none : c.args.settled.now.paid ≡ 0 = omega arith in
+    pays_nothing c.args.campaign.now.value c.args.settled.now u is fed none
 
 -- the unit whose money changes is marked
 pub returns-in-Some-clause-marks : goal.returns-in-Some-clause-marks
