@@ -84,9 +84,9 @@ all_study taught = carried_leaves (study_step taught) is_studying (study_spares 
 pub learn_leaves : LeavesUnmailed learn_meaning learn_keeps
 learn_leaves = record {
   readings = λ w c m. let lessons = after_lessons c (learners w c m) m in (all_study lessons.0).readings w c lessons.1 ∙ (all_lessons_add_no_starved c (learners w c m) m).readings;
-  told = λ w c m n.
+  starved_reported = λ w c m n.
       let lessons = after_lessons c (learners w c m) m in
-      omega (arith, (all_study lessons.0).told w c lessons.1 n, (all_lessons_add_no_starved c (learners w c m) m).starved n);
+      omega (arith, (all_study lessons.0).starved_reported w c lessons.1 n, (all_lessons_add_no_starved c (learners w c m) m).starved n);
   left = λ w c m keeps n u there none.
       let lessons = after_lessons c (learners w c m) m in
       let same = all_lessons_add_no_starved c (learners w c m) m in

@@ -95,7 +95,7 @@ starved_are_reported (s ∷ ss) n = by_test (starved_are_reported ss n) (s.starv
 pub upkeep_leaves : LeavesUnmailed upkeep_meaning upkeep_keeps
 upkeep_leaves = record {
   readings = λ w c m. refl;
-  told = λ w c m n. omega (arith, sums w c m n);
+  starved_reported = λ w c m n. omega (arith, sums w c m n);
   left = λ w c m keeps n u there none.
       let one = all_supplied c (upkeep_results w c) n u there in
       record { unit = one.unit; there = one.there; spared = subst (λ k. IsLessBy k u one.unit) (less (starved_in m.events n) (all w c n) _ (sums w c m n)) one.spared };
@@ -126,7 +126,7 @@ season_leaves =
 -- (`ClosesUnmailed`)
 pub sweep_leaves : ClosesUnmailed sweep_meaning sweep_keeps
 sweep_leaves = record {
-  told = λ w c m n. omega arith;
+  starved_reported = λ w c m n. omega arith;
   left = λ w c m keeps n u there none some.
       let (v, behind, kept) = keeps n u there (omega (arith, some)) in
       record { unit = v; there = behind; spared = record { faction = kept.no_worse.faction; name = kept.no_worse.name; men = omega (arith, kept.men); items = kept.no_worse.items } };

@@ -57,7 +57,7 @@ closed_together (phase ∷ next ∷ rest) each = then_closes each.0 (closed_toge
 pub leave_together : (phases : List PhaseSpec) → EachPhase PhaseLeavesUnmailed phases → LeavesUnmailed (meaning_of phases) (keeps_of phases)
 leave_together [] each = record {
   readings = λ w c m. refl;
-  told = λ w c m n. omega arith;
+  starved_reported = λ w c m n. omega arith;
   left = λ w c m keeps n u there none. record { unit = u; there = there; spared = record { faction = refl; name = refl; men = nobody (starved_in m.events n) u.holding.men; items = λ i. omega arith } };
 }
   where

@@ -45,7 +45,7 @@ pub record LeavesUnmailed (meaning : Meaning) (keeps : Frame) : Type 0 where
   -- the phase keeps the mailings
   pub readings : (w : WorldValue) (c : CampaignValue) (m : MonthValue) → (meaning w c m).1.readings ≡ m.readings
   -- the events report no fewer men of a unit as starved than before the phase
-  pub told : (w : WorldValue) (c : CampaignValue) (m : MonthValue) (n : ℕ) → starved_in m.events n ≤ starved_in (meaning w c m).1.events n
+  pub starved_reported : (w : WorldValue) (c : CampaignValue) (m : MonthValue) (n : ℕ) → starved_in m.events n ≤ starved_in (meaning w c m).1.events n
   -- each unit of a faction without a mailing loses just the men whom the new events report as starved
   pub left : (w : WorldValue) (c : CampaignValue) (m : MonthValue) → keeps w m c (meaning w c m).0 →
       Every (λ n u. get m.readings u.faction ≡ None → IsUnaffected (IsLessBy (starved_in (meaning w c m).1.events n - starved_in m.events n)) (meaning w c m).0 n u) c.units
@@ -55,7 +55,7 @@ pub record LeavesUnmailed (meaning : Meaning) (keeps : Frame) : Type 0 where
 -- change the mailings.
 pub record ClosesUnmailed (meaning : Meaning) (keeps : Frame) : Type 0 where
   -- the events report no fewer men of a unit as starved than before the phase
-  pub told : (w : WorldValue) (c : CampaignValue) (m : MonthValue) (n : ℕ) → starved_in m.events n ≤ starved_in (meaning w c m).1.events n
+  pub starved_reported : (w : WorldValue) (c : CampaignValue) (m : MonthValue) (n : ℕ) → starved_in m.events n ≤ starved_in (meaning w c m).1.events n
   -- each unit of a faction without a mailing, unless all its men starved, loses just those whom the new events report
   pub left : (w : WorldValue) (c : CampaignValue) (m : MonthValue) → keeps w m c (meaning w c m).0 →
       Every (λ n u. get m.readings u.faction ≡ None → IsLeft (starved_in (meaning w c m).1.events n - starved_in m.events n) (meaning w c m).0 n u) c.units
@@ -87,12 +87,12 @@ module _ {first second : Meaning} {early late : Frame} where
   pub both_leave : LeavesUnmailed first early → LeavesUnmailed second late → LeavesUnmailed (then_also first second) (both_keep first early late)
   both_leave one two = record {
     readings = λ w c m. two.readings w (first w c m).0 (first w c m).1 ∙ one.readings w c m;
-    told = λ w c m n. omega (arith, one.told w c m n, two.told w (first w c m).0 (first w c m).1 n);
+    starved_reported = λ w c m n. omega (arith, one.starved_reported w c m n, two.starved_reported w (first w c m).0 (first w c m).1 n);
     left = λ w c m keeps n u there none.
         let between = first w c m in
         let a = one.left w c m keeps.0 n u there none in
         let b = two.left w between.0 between.1 keeps.1 n a.unit a.there (still_none one w c m u.faction a.unit.faction a.spared.faction none) in
-        record { unit = b.unit; there = b.there; spared = less_twice _ _ _ u a.unit b.unit (one.told w c m n) (two.told w between.0 between.1 n) a.spared b.spared };
+        record { unit = b.unit; there = b.there; spared = less_twice _ _ _ u a.unit b.unit (one.starved_reported w c m n) (two.starved_reported w between.0 between.1 n) a.spared b.spared };
   }
 
   -- a phase that leaves units of factions without a mailing their items, and their men less the starved
@@ -100,12 +100,12 @@ module _ {first second : Meaning} {early late : Frame} where
   -- the second kind
   pub then_closes : LeavesUnmailed first early → ClosesUnmailed second late → ClosesUnmailed (then_also first second) (both_keep first early late)
   then_closes one two = record {
-    told = λ w c m n. omega (arith, one.told w c m n, two.told w (first w c m).0 (first w c m).1 n);
+    starved_reported = λ w c m n. omega (arith, one.starved_reported w c m n, two.starved_reported w (first w c m).0 (first w c m).1 n);
     left = λ w c m keeps n u there none some.
         let between = first w c m in
         let a = one.left w c m keeps.0 n u there none in
-        let early = one.told w c m n in
-        let late = two.told w between.0 between.1 n in
+        let early = one.starved_reported w c m n in
+        let late = two.starved_reported w between.0 between.1 n in
         let b = two.left w between.0 between.1 keeps.1 n a.unit a.there (still_none one w c m u.faction a.unit.faction a.spared.faction none)
         (some_left _ _ _ u.holding.men a.unit.holding.men early late a.spared.men some) in
         record { unit = b.unit; there = b.there; spared = less_twice _ _ _ u a.unit b.unit early late a.spared b.spared };
@@ -216,7 +216,7 @@ module _ {meaning : Meaning} {keeps : Frame} (readings : (w : WorldValue) (c : C
   pub whole_leaves : LeavesUnmailed meaning keeps
   whole_leaves = record {
     readings = readings;
-    told = λ w c m n. omega (arith, nobody w c m n);
+    starved_reported = λ w c m n. omega (arith, nobody w c m n);
     left = λ w c m h n u there none.
         let one = men w c m h n u there none in
         let two = items w c m h n u there none in
