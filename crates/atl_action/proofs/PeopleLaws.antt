@@ -82,7 +82,7 @@ module _ (structure to : ℕ) where
   abbrev pub elsewhere : FinMap nat_cmp Unit → ℕ → FinMap nat_cmp Unit
   elsewhere m n = changed gone m n
 
-  -- the campaign in which unit n was put elsewhere, and then its flag cleared, has other units and is otherwise the same
+  -- putting unit n elsewhere and then clearing its flag changes nothing of the campaign but the units (`elsewhere`)
   pub elsewhere_is : (c : CampaignValue) (n : ℕ) → with_guard (placed c n to structure) n false ≡ record c { units = elsewhere c.units n }
   elsewhere_is c n = changed_twice (λ x. record x { region = to; structure = structure }) (λ x. record x { holding = record x.holding { guard = false } }) c n
 
