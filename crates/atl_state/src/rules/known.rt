@@ -92,9 +92,7 @@ fn have_known_markets(world: &World, campaign: &Campaign) -> bool
     ensures { IsTrue result ↔
         (Every (λ n r. AreOfMarkets world.now n r.stocks) campaign.now.value.regions) }
 {
-    campaign
-        .regions()
-        .all(|(number, region)| has_known_markets(world, number, region))
+    campaign.regions().all(|(number, region)| has_known_markets(world, number, region))
 }
 
 /// Whether the campaign's regions are exactly the world's, and their stocks are of their markets.
@@ -214,9 +212,9 @@ fn are_structures_known(world: &World, campaign: &Campaign) -> bool
     ensures { IsTrue result ↔
         (Every (λ n s. IsBuilt world.now campaign.now.value s) campaign.now.value.structures) }
 {
-    campaign
-        .structures()
-        .all(|(_, structure)| has_known_kind_region_and_owner(world, campaign, structure))
+    campaign.structures().all(|(_, structure)| has_known_kind_region_and_owner(
+        world, campaign, structure,
+    ))
 }
 
 /// Whether all mail is of factions that exist.
