@@ -25,12 +25,12 @@ use Rattle.atl_campaign.proofs.MarketLaws.{market_known}
 
 -- ---- items that no world has
 
--- the sum over entries that each add 0 is 0
+-- the sum of what f gives for the values of some entries is 0, if f gives 0 for each of them
 pub none_weighed : {V : Type 0} (f : V → ℕ) (es : List (ℕ × V)) → EachOf (λ _ v. f v ≡ 0) es → sum_by (λ e. f e.1) es ≡ 0
 none_weighed f [] each = refl
 none_weighed {V} f (e ∷ es) each = let more = sum_by-cons (λ (e : ℕ × V). f e.1) e es in omega (arith, more, each.0, none_weighed f es each.1)
 
--- if all listed items have numbers below `count`, an item with a number of `count` or more has the amount 0
+-- if all items of a map of amounts have numbers below `count`, an item i from `count` on has the amount 0 in it
 unheld : (items : FinMap nat_cmp ℕ) (count i : ℕ) → Every (λ k amount. k < count) items → count ≤ i → amount_of items i ≡ 0
 unheld items count i known l = ap (λ o. unwrap_or o 0) (free_from items i (λ there. let few = known i there.0 there.1 in omega (arith, few)))
 

@@ -1,4 +1,4 @@
--- Laws of the dirty set of the books' amounts: it has room for each amount's number, and has no others (MarksAmounts).
+-- Laws of MarksAmounts: a dirty set of the books has only amounts of the first things, and room for all of these.
 use Rattle.std.proofs.Common.{◌≡◌, ℕ, ◌*◌, ◌<◌, ◌≤◌, Bool, true, ◌||◌, sym, ◌∙◌, subst, refl, arith}
 use Rattle.std.proofs.lemmas.Bool.{false≢true}
 use Rattle.std.specs.declared.cmp.Ordering.TheVariants.{Less, Equal, Greater}
@@ -28,7 +28,7 @@ or_there n k there P h itself others = elim (nat_cmp k n) as (λ r. nat_cmp k n 
 number_small : (things : ℕ) (e : Entry) (t : Thing) → thing_index t < things → amount_number e t < entry_count * things
 number_small things e t small = omega (arith, small, entry_small e)
 
--- an empty dirty set with room for all amounts of `things` things has that room and marks no others (MarksAmounts)
+-- an empty dirty set with room for all amounts of the first `things` things has only such amounts (MarksAmounts)
 pub none_marked : (things room : ℕ) → entry_count * things ≤ room → MarksAmounts things (record { numbers = set.empty; room = room })
 none_marked things room enough = record { room = enough; numbers = λ k there. absurd (false≢true (sym (set.contains-empty nat_cmp k) ∙ there)) }
 
@@ -37,11 +37,11 @@ more_of_things : (things : ℕ) (s : set.FinSet nat_cmp) (e : Entry) (t : Thing)
 more_of_things things s e t small are k there =
     or_there (amount_number e t) k (set.contains s k) (λ n. n < entry_count * things) (sym (set.contains-insert nat_cmp_total s (amount_number e t) k) ∙ there) (number_small things e t small) (are k)
 
--- a set that marks only amounts of the first `things` things, with room for all, stays so with one more (MarksAmounts)
+-- a dirty set still has only amounts of the first `things` things, and room for all, once one is added (MarksAmounts)
 pub more_marked : (things : ℕ) (marks : RoomySet) (e : Entry) (t : Thing) → thing_index t < things → MarksAmounts things marks → MarksAmounts things (record marks { numbers = amount_marked marks.numbers e t })
 more_marked things marks e t small are = record { room = are.room; numbers = more_of_things things marks.numbers e t small are.numbers }
 
--- a set that marks only amounts of the first `things` things, with room for all (MarksAmounts), has room for one more
+-- a dirty set with only amounts of the first `things` things, and room for all (MarksAmounts), has room for any of them
 pub fits_amount : (things : ℕ) (marks : RoomySet) (e : Entry) (t : Thing) → thing_index t < things → MarksAmounts things marks → set.len (amount_marked marks.numbers e t) ≤ marks.room
 fits_amount things marks e t small are =
     let few = len-below (entry_count * things) (amount_marked marks.numbers e t) (more_of_things things marks.numbers e t small are.numbers) in

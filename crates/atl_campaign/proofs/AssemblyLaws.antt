@@ -35,18 +35,18 @@ get_other m k n v h = get-insert nat_cmp_total m k v n ∙ ap (λ b. cond b (Som
 -- ---- what units have, and regions in stock
 
 module _ {R : Type 0} (thing amount : R → ℕ) (test : R → Bool) where
-  -- putting in rows that pass a test puts in the first, if it passes, and then those of the rest that pass
+  -- putting those of the rows r ∷ rows that pass a test puts in r, if it passes (b), and then those of `rows` that pass
   pub taken_or_not : (r : R) (rows : List R) (b : Bool) (m : FinMap nat_cmp ℕ) → test r ≡ b → put_rows thing amount (filter test (r ∷ rows)) m ≡ put_rows thing amount (filter test rows) (cond b (insert m (thing r) (amount r)) m)
   taken_or_not r rows true m h = ap (λ b. put_rows thing amount (cond b (r ∷ filter test rows) (filter test rows)) m) h
   taken_or_not r rows false m h = ap (λ b. put_rows thing amount (cond b (r ∷ filter test rows) (filter test rows)) m) h
 
 -- ---- rows in their ranges
 
--- the minimum of n and a bound that n is at most is n
+-- the minimum of n and `most` is n, if n is at most `most`
 pub min_small : (n most : ℕ) → n ≤ most → min n most ≡ n
 min_small n most h = grind arith
 
--- a number of a row from low to high, with high at most most_u32, is read as itself, which is from low to high
+-- a row's number from low to high, where high is at most most_u32, is read as itself, and so from low to high
 pub from_range : (low high : ℕ) (z : ℤ) → high ≤ most_u32 → is_from low high z ≡ true → (z ≡ pos (as_u32 z)) × (low ≤ as_u32 z) × (as_u32 z ≤ high)
 from_range low high (pos n) h e =
     let parts = and_parts (nat_le low n) (nat_le n high) e in
@@ -104,12 +104,12 @@ AreAmounts-insert m k v h old item amount e =
       | inr apart ↦ old item amount (sym (get_other m k item v apart) ∙ e)
     ]
 
--- amounts stay from 1 to holding_limit (AreAmounts) if a row in range is put in where it is of unit n's items
+-- a map's amounts still are from 1 to holding_limit (AreAmounts) once a row in range is put in, if of unit n's items
 chosen : (n : ℕ) (r : StoredHas) (m : FinMap nat_cmp ℕ) (b : Bool) → is_of n 0 r ≡ b → has_in_range r ≡ true → AreAmounts m → AreAmounts (cond b (insert m (thing_of r) (amount_of r)) m)
 chosen n r m true of h old = AreAmounts-insert m (thing_of r) (amount_of r) (amount_in_range n r h of) old
 chosen n r m false of h old = old
 
--- amounts stay from 1 to holding_limit (AreAmounts) once all rows of unit n's items, each in range, are put in
+-- a map's amounts still are from 1 to holding_limit (AreAmounts) once unit n's rows of items, all in range, are put in
 put_in_range : (n : ℕ) (rows : List StoredHas) (m : FinMap nat_cmp ℕ) → list_all has_in_range rows ≡ true → AreAmounts m → AreAmounts (put_rows thing_of amount_of (filter (is_of n 0) rows) m)
 put_in_range n [] m h old = old
 put_in_range n (r ∷ rows) m h old =
@@ -124,13 +124,13 @@ no_some x e = cc
 pub none_held : (item amount : ℕ) → get (empty {X = ℕ} {R = nat_cmp}) item ≡ Some amount → (1 ≤ amount) × (amount ≤ holding_limit)
 none_held item amount e = absurd (no_some amount (sym (get-empty nat_cmp item) ∙ e))
 
--- the items that rows in range give unit n have amounts from 1 to holding_limit (AreAmounts)
+-- the items that rows of `has`, all in range, give unit n have amounts from 1 to holding_limit (AreAmounts)
 pub AreAmounts-had : (n : ℕ) (rows : List StoredHas) → list_all has_in_range rows ≡ true → AreAmounts (things_had n 0 rows)
 AreAmounts-had n rows h = put_in_range n rows empty h none_held
 
 -- ---- texts
 
--- if bytes are UTF-8, a text that is made of them has these bytes
+-- a text that has the bytes `some`, if these are UTF-8, has the bytes `bytes`, if both are equal and `bytes` are UTF-8
 pub IfOk-text : {E : Type 0} (r : Result (List ℕ) E) (some bytes : List ℕ) → some ≡ bytes → IsUtf8 bytes → IfOk r (λ made. IsUtf8 some → made ≡ some) → IfOk r (λ made. made ≡ bytes)
 IfOk-text (Ok made) some bytes e h f = f (subst IsUtf8 (sym e) h) ∙ e
 IfOk-text (Err x) some bytes e h f = tt

@@ -65,7 +65,7 @@ module _ (w : WorldValue) (c : CampaignValue) (s : Structure) (fresh : IsFresh w
   one_more : len structures ≡ len c.structures + 1
   one_more = len-insert nat_cmp_total c.structures next s ∙ ap (λ o. cond (is_some o) (len c.structures) (len c.structures + 1)) free
 
-  -- once a structure is begun, all numbers of the campaign are still in range
+  -- once a structure is begun, the campaign's counts and numbers are still in their ranges (AreInRange)
   numbers_kept : AreInRange w raised
   numbers_kept = record {
     month = old.numbers.month;
@@ -86,7 +86,7 @@ module _ (w : WorldValue) (c : CampaignValue) (s : Structure) (fresh : IsFresh w
   nobody : {P : Type 0} → s.owner ≢ 0 → P
   nobody some = absurd (some fresh.ownerless)
 
-  -- once a structure is begun, all that is named by its number still exists
+  -- once a structure is begun, everything that the campaign names by number still exists (AreKnown)
   known_kept : AreKnown w raised
   known_kept = record {
     regions = old.known.regions;
@@ -201,7 +201,7 @@ module _ (w : WorldValue) (c : CampaignValue) (k : ℕ) (s : Structure) (done : 
       | inr apart ↦ (y, get-insert_other c.structures k j further apart ∙ there, p)
     ]
 
-    -- after building on a structure, all numbers of the campaign are still in range
+    -- after building on a structure, the campaign's counts and numbers are still in their ranges (AreInRange)
     numbers_built : AreInRange w built
     numbers_built = record {
       month = was.numbers.month;
@@ -218,7 +218,7 @@ module _ (w : WorldValue) (c : CampaignValue) (k : ℕ) (s : Structure) (done : 
       books = was.numbers.books;
     }
 
-    -- after building on a structure, all that is named by its number still exists
+    -- after building on a structure, everything that the campaign names by number still exists (AreKnown)
     known_built : AreKnown w built
     known_built = record {
       regions = was.known.regions;

@@ -29,7 +29,7 @@ use Rattle.atl_records.proofs.EveryLaws.{get-insert_other}
 use Rattle.atl_records.proofs.HoldingLaws.{set_amount, set_other}
 use Rattle.atl_campaign.proofs.RegionLaws.{amount-other}
 
--- if b is true wherever a is, and b is false, a is false
+-- if b is true whenever a is, and b is false, a is false
 false_before : (a b : Bool) → (a ≡ true → b ≡ true) → b ≡ false → a ≡ false
 false_before true b stays free = absurd (true≢false (sym (stays refl) ∙ free))
 false_before false b stays free = refl
@@ -79,7 +79,7 @@ marks-trans a b c one two = record { stay = stay-trans one.stay two.stay; covers
 
 -- ---- one change at a time
 
--- an or with true is true
+-- `b || true` is true, whatever b is
 or-true : (b : Bool) → (b || true) ≡ true
 or-true true = refl
 or-true false = refl
@@ -112,16 +112,16 @@ neither : (a b : Bool) → (a || b) ≡ false → (a ≡ false) × (b ≡ false)
 neither true b h = absurd (true≢false h)
 neither false b h = (refl, h)
 
--- all things that were marked still are once all goods of unit n are marked
+-- each item, skill or stock that was marked still is once all goods of unit n, or all stocks of region n, are marked
 pub whole_stays : (goods : FinSet nat_cmp) (things : Things) (n : ℕ) → ThingsStayMarked goods things (insert goods n) things
 whole_stays goods things n k t = both_stay (contains goods k) (contains (insert goods n) k) (is_some (get (group_of things k) t)) (is_some (get (group_of things k) t)) (put_stays goods n k) (λ h. h)
 
--- if a thing of unit k is not marked once all goods of unit n are, k differs from n
+-- if thing t of unit or region k is not marked once all those of n are, k differs from n
 pub apart_by_whole : (goods : FinSet nat_cmp) (things : Things) (n k t : ℕ) → is_thing_marked (insert goods n) things k t ≡ false → k ≢ n
 apart_by_whole goods things n k t free = apart_by goods n k (neither (contains (insert goods n) k) (is_some (get (group_of things k) t)) free).0
 
 module _ (goods : FinSet nat_cmp) (things : Things) (n thing : ℕ) where
-  -- once a thing of unit n is marked, the single things marked are that one and those that were marked before
+  -- once `thing` of unit or region n is marked, t of k is marked alone if it is that one or was so before
   put_in : (k t : ℕ) → is_some (get (group_of (with_thing things n thing) k) t) ≡ cond (eq_by_cmp nat_cmp k n) (eq_by_cmp nat_cmp t thing || is_some (get (group_of things n) t)) (is_some (get (group_of things k) t))
   put_in k t =
       ap (λ (o : Option (FinMap nat_cmp (Prim.Unit {0}))). is_some (get (unwrap_or o map.empty) t)) (get-insert nat_cmp_total things n (map.insert (group_of things n) thing tt) k)
@@ -132,13 +132,13 @@ module _ (goods : FinSet nat_cmp) (things : Things) (n thing : ℕ) where
       by_thing true o = refl
       by_thing false o = refl
 
-      -- if k is n, the things of k are those of n and the new one; else they are unchanged
+      -- if k is n (b), the things marked of k are those of n and the new one; else those of k are unchanged
       by_unit : (b : Bool) → is_some (get (unwrap_or (cond b (Some (map.insert (group_of things n) thing tt)) (get things k)) map.empty) t)
           ≡ cond b (eq_by_cmp nat_cmp t thing || is_some (get (group_of things n) t)) (is_some (get (group_of things k) t))
       by_unit true = ap is_some (get-insert nat_cmp_total (group_of things n) thing tt t) ∙ by_thing (eq_by_cmp nat_cmp t thing) (get (group_of things n) t)
       by_unit false = refl
 
-  -- all things that were marked still are once one more thing is marked
+  -- each item, skill or stock that was marked still is once one more is marked alone
   pub thing_stays : ThingsStayMarked goods things goods (with_thing things n thing)
   thing_stays k t = both_stay (contains goods k) (contains goods k) (is_some (get (group_of things k) t)) (is_some (get (group_of (with_thing things n thing) k) t)) (λ h. h) (λ h. put_in k t ∙ by_unit h (eq_by_cmp nat_cmp k n) refl)
     where
@@ -147,7 +147,7 @@ module _ (goods : FinSet nat_cmp) (things : Things) (n thing : ℕ) where
       by_unit h true e = ap (λ q. eq_by_cmp nat_cmp t thing || is_some (get (group_of things q) t)) (sym (same_key k n e)) ∙ ap (λ b. eq_by_cmp nat_cmp t thing || b) h ∙ or-true (eq_by_cmp nat_cmp t thing)
       by_unit h false e = h
 
-  -- if a thing of unit n is not marked once another is, the two things differ
+  -- if t of unit or region n is not marked once `thing` of n is, t is not `thing`
   pub apart_by_thing : (k t : ℕ) → is_thing_marked goods (with_thing things n thing) k t ≡ false → k ≡ n → t ≢ thing
   apart_by_thing k t free same_unit same =
       let there = put_in k t ∙ ap (λ b. cond b (eq_by_cmp nat_cmp t thing || is_some (get (group_of things n) t)) (is_some (get (group_of things k) t))) (ties k n same_unit)
@@ -158,33 +158,33 @@ module _ (goods : FinSet nat_cmp) (things : Things) (n thing : ℕ) where
 
 -- the 14 parts of a campaign that have marks of their own: more than its ten tables, as units, goods and stocks have several
 pub data MarkedPart : Type 0 where
-  -- factions
+  -- the factions, marked by their numbers
   Factions : MarkedPart
-  -- regions without their stocks, whose rows are marked
+  -- the rows of regions, without their stocks, marked by the regions' numbers
   Regions : MarkedPart
-  -- regions of which a stock is marked
+  -- the regions of which a stock is marked; the stocks themselves are the part Stocks
   Markets : MarkedPart
-  -- stocks of single items in regions
+  -- the stocks in regions, marked by region and item
   Stocks : MarkedPart
-  -- structures
+  -- the structures, marked by their numbers
   Structures : MarkedPart
-  -- mail of factions
+  -- the mail of factions, marked by the factions' numbers
   Mail : MarkedPart
-  -- reports of factions
+  -- the reports of factions, marked by the factions' numbers
   Reports : MarkedPart
-  -- units of which something is marked
+  -- the units of which something is marked; the parts Rows, Goods, Items and Skills say what
   Units : MarkedPart
-  -- units without their goods, whose rows are marked
+  -- the rows of units, without their goods, marked by the units' numbers
   Rows : MarkedPart
-  -- units all of whose items and days are marked
+  -- the units all of whose items and days are marked; these themselves are the parts Items and Skills
   Goods : MarkedPart
-  -- single items of units
+  -- the items of units, marked by unit and item
   Items : MarkedPart
-  -- days of single skills of units
+  -- the days of study of units, marked by unit and skill
   Skills : MarkedPart
-  -- amounts of the books
+  -- the amounts of the books, marked by the amounts' numbers (amount_number)
   Books : MarkedPart
-  -- the campaign row: month, pass text and next numbers
+  -- the campaign row, with month, pass text and next numbers; it has one mark
   Row : MarkedPart
 
 -- what names one mark of a part: region and item for Stocks, unit and thing for Items and Skills, nothing for Row,
@@ -196,7 +196,7 @@ Mark Skills = ℕ × ℕ
 Mark Row = Prim.Unit {0}
 Mark _ = ℕ
 
--- whether the named mark of a part is set; for Stocks, Items and Skills alone, or with all of the region or unit
+-- whether the mark k of a part is set; a stock, an item or a skill is also marked with all of its region or unit
 abbrev pub is_marked : (p : MarkedPart) → Marks → Mark p → Bool
 is_marked Factions m k = contains m.factions k
 is_marked Regions m k = contains m.regions k
@@ -223,7 +223,7 @@ LookupKey Books = Entry × Thing
 LookupKey Row = Prim.Unit {0}
 LookupKey _ = ℕ
 
--- the mark for the value of a part under a key: the key itself, but for the books the number of the account's amount
+-- the mark that covers the value of a part under a key: the key itself, but for Books the number of the amount
 abbrev pub mark_at : (p : MarkedPart) → LookupKey p → Mark p
 mark_at Books k = amount_number k.0 k.1
 mark_at _ k = k
@@ -245,7 +245,7 @@ Shown Skills = Option ℕ
 Shown Books = ℤ
 Shown Row = ℕ × (List ℕ × (ℕ × (ℕ × ℕ)))
 
--- the value of a part under a key; nothing for Units, Goods and Markets
+-- what the marks of a part cover under a key; nothing for Units, Goods and Markets, which other parts cover
 abbrev pub shown : (p : MarkedPart) → CampaignValue → LookupKey p → Shown p
 shown Factions c k = get c.factions k
 shown Regions c k = option_map unstocked (get c.regions k)
@@ -262,11 +262,11 @@ shown Skills c k = get (days_under (get c.units k.0)) k.1
 shown Books c k = amount_in c.books k.0 k.1
 shown Row c k = own_row c
 
--- all that was marked of a part under m is marked under n
+-- each mark of part p that is set in the marks m is set in the marks n too
 abbrev pub Stays : Marks → Marks → MarkedPart → Type 0
 Stays m n p = (k : Mark p) → is_marked p m k ≡ true → is_marked p n k ≡ true
 
--- each value of a part that is not marked in m is the same before and after
+-- each value of part p that is not marked in the marks m is the same in the campaigns `before` and `after`
 abbrev pub KeepsUnmarked : Marks → CampaignValue → CampaignValue → MarkedPart → Type 0
 KeepsUnmarked m before after p = (k : LookupKey p) → is_marked p m (mark_at p k) ≡ false → shown p after k ≡ shown p before k
 
@@ -304,16 +304,16 @@ part_by_part a b stays tells = record {
   };
 }
 
--- where neither values nor marks change, all that changes is marked (MarksChanges)
+-- from a campaign to itself no mark is lost, and all that changes, which is nothing, is marked (MarksChanges)
 pub marks-refl : (a : MarkedCampaign) → MarksChanges a a
 marks-refl a = part_by_part a a (λ p k h. h) (λ p k free. refl)
 
--- P holds of a map with f applied under n and the old value there, if it does in both cases: a value there, or none
+-- P holds of the map with f applied to n's value, if any, and of the old value, if it does with and without one
 pub changed_there : {V : Type 0} (P : FinMap nat_cmp V → Option V → Type 0) (f : V → V) (values : FinMap nat_cmp V) (n : ℕ)
     → P values None → ((v : V) → get values n ≡ Some v → P (map.insert values n (f v)) (Some v)) → P (changed f values n) (get values n)
 changed_there {V} P f values n none some = by_value (get values n) refl
   where
-    -- P holds of the map with f applied under n and the old value o there, whether o is a value or None
+    -- P holds of the map with f applied to n's value, if any, and of the old value o, whether o is a value or None
     by_value : (o : Option V) → get values n ≡ o → P (changed_at f values n o) o
     by_value None is = none
     by_value (Some v) is = some v is
@@ -328,11 +328,11 @@ marks-faction f c n =
     (λ p. elim p as (Stays c.marks next.marks) [ Factions ↦ put_stays c.marks.factions n | _ ↦ λ k h. h ])
     (λ p. elim p as (KeepsUnmarked next.marks c.value next.value) [ Factions ↦ λ k free. get-insert_other c.value.factions n k (f v) (apart_by c.marks.factions n k free) | _ ↦ λ k free. refl ]))
 
--- replacing the value of n by a value of which `shows` gives the same changes nothing that `shows` gives of the map
+-- where `shows` gives the same of n's value v and of w, it gives the same of each number's value once w replaces v
 pub shown_still : {V X : Type 0} (shows : Option V → X) (values : FinMap nat_cmp V) (n k : ℕ) (v w : V) → get values n ≡ Some v → (k ≡ n → shows (Some w) ≡ shows (Some v)) → shows (get (map.insert values n w) k) ≡ shows (get values k)
 shown_still shows values n k v w is same = ap shows (get-insert nat_cmp_total values n w k) ∙ by_number (eq_by_cmp nat_cmp k n) refl
   where
-    -- `shows` gives the same under k once the value of n is replaced, whether k is n or not
+    -- `shows` gives the same of k's value as before w replaced n's value v, whether k is n (b) or not
     by_number : (b : Bool) → eq_by_cmp nat_cmp k n ≡ b → shows (cond b (Some w) (get values k)) ≡ shows (get values k)
     by_number true e = let here = same_key k n e in same here ∙ sym (ap shows (ap (get values) here ∙ is))
     by_number false e = refl
@@ -365,11 +365,11 @@ module _ (c : MarkedCampaign) (n item amount : ℕ) where
   abbrev with_regions : FinMap nat_cmp Region → CampaignValue
   with_regions m = record c.value { regions = m }
 
-  -- the campaign with the stock of the item set in region n, given that region
+  -- the campaign in which region n is the given region with its stock of the item set
   abbrev there_after : Region → CampaignValue
   there_after v = with_regions (map.insert c.value.regions n (stocked v))
 
-  -- setting a stock changes nothing of a region but its stocks
+  -- setting the stock of the item in region n changes no region but for its stocks
   unstocked_stays : (v : Region) → get c.value.regions n ≡ Some v → (k : ℕ) → option_map unstocked (get (there_after v).regions k) ≡ option_map unstocked (get c.value.regions k)
   unstocked_stays v is k = shown_still (option_map unstocked) c.value.regions n k v (stocked v) is (λ _. refl)
 
@@ -377,7 +377,7 @@ module _ (c : MarkedCampaign) (n item amount : ℕ) where
   other_stays : (v : Region) → get c.value.regions n ≡ Some v → (k i : ℕ) → (k ≡ n → i ≢ item) → stock_of (there_after v) k i ≡ stock_of c.value k i
   other_stays v is k i other = shown_still (in_stock i) c.value.regions n k v (stocked v) is (λ here. set_other v.stocks item amount i (other here))
 
-  -- setting a stock to the amount that it has changes no stock
+  -- setting an item's amount in a map of stocks to what it is already changes the amount of no item
   set_again : (stocks : FinMap nat_cmp ℕ) (i : ℕ) → amount_of stocks item ≡ amount → amount_of (with_amount_of stocks item amount) i ≡ amount_of stocks i
   set_again stocks i was = set_amount stocks item amount i ∙ by_item (eq_by_cmp nat_cmp i item) refl
     where
@@ -459,8 +459,8 @@ module _ (c : MarkedCampaign) (n item amount : ℕ) where
       was : (v : Region) → get c.value.regions n ≡ Some v → (stock_of c.value n item == amount) ≡ true → amount_of v.stocks item ≡ amount
       was v is same = sym (ap (in_stock item) is) ∙ equal (stock_of c.value n item) amount same
 
-      -- marking that stock alone marks all that changes, and so does marking all stocks of its region; where the stock
-      -- has the new amount already (b), nothing changes, and nothing is marked
+      -- setting the stock marks all that changes, both with the marks of that stock alone and with those of all stocks
+      -- of its region; where it has the new amount already (b), nothing changes, and nothing is marked
       either : (b : Bool) → (stock_of c.value n item == amount) ≡ b → after_regions (changed stocked c.value.regions n) (item_alone (to_restock b)) × after_regions (changed stocked c.value.regions n) (all_of_region (to_restock b))
       either true same =
           let still = changed_there (λ regions o. after_regions regions c.marks) stocked c.value.regions n (marks-refl c) (λ v is. stock_stays v is (was v is same)) in
@@ -470,7 +470,8 @@ module _ (c : MarkedCampaign) (n item amount : ℕ) where
         changed_there (λ regions o. after_regions regions (all_of_region o)) stocked c.value.regions n (marks-refl c) stocks_change,
       )
 
-      -- the marks m, which are one of these two (MarksStock), mark all that changes, whether the amount changes or not
+      -- the marks m, which are either those of that stock alone or those of all stocks of its region (MarksStock), mark
+      -- all that changes, whether the stock had the new amount already (b) or not
       by_amount : (b : Bool) → (stock_of c.value n item == amount) ≡ b → after_regions (changed stocked c.value.regions n) m
       by_amount b is = elim how [
         | inl e ↦ subst (after_regions (changed stocked c.value.regions n)) (sym (e ∙ ap (λ k. item_alone (to_restock k)) is)) (either b is).0

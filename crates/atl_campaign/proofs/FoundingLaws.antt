@@ -97,11 +97,11 @@ founded-balances w pass (Item i) =
 none_within : (things : ℕ) (e : Entry) (t : Thing) → IsWithin 0 (amount_in (no_amounts things) e t)
 none_within things e t = rw (amount-no_amounts things e t) record { most = omega (arith, ints); least = omega (arith, ints) }
 
--- a region that is founded by a valid plan has all its numbers in range
+-- the peasants, the money and the stocks of a region that is founded by a valid plan are in their ranges (IsRegion)
 in_range : (w : WorldValue) (p : RegionPlan) (terrains items n : ℕ) → IsRegionPlan terrains items n p → IsRegion w n (founded_region p)
 in_range w p terrains items n plan = record { peasants = plan.peasants; money = plan.money; stocks = every-empty (λ i amount. (1 ≤ amount) × (amount ≤ stock_limit w n i)) }
 
--- the empty map is numbered without a gap, and its next number is 1
+-- the empty map is numbered from 1 without a gap, and its next number is 1 (IsNumbered)
 numbered_none : {V : Type 0} → IsNumbered (empty {X = V} {R = nat_cmp}) 1
 numbered_none {V} = record { first = get-empty nat_cmp 0; count = ap (λ n. n + 1) (sym (len-empty nat_cmp V)); free = λ n _. get-empty nat_cmp n }
 
@@ -118,7 +118,7 @@ module _ (w : WorldValue) (pass : List ℕ) (world : IsWorld w) where
   abbrev people : ℕ
   people = sum_over (λ (r : Region). region_amount People r) regions
 
-  -- all numbers of a campaign that is founded are in range
+  -- the counts and numbers of a campaign that is founded are in their ranges (AreInRange)
   founded-numbers : AreInRange w (founded_of w pass)
   unfolding founded_of
   founded-numbers = record {
@@ -176,7 +176,7 @@ module _ (w : WorldValue) (pass : List ℕ) (world : IsWorld w) where
     guarded = every-empty (λ n u. Every (λ m v. guards u ≡ true → guards v ≡ true → u.region ≡ v.region → u.faction ≡ v.faction) empty);
   }
 
-  -- the amounts of a founded campaign are within their bound, if its money and its people are at most 10^14
+  -- the amounts of a founded campaign's books are within amount_bound, if its money and its people are at most 10^14
   founded-amounts : money ≤ 100000000000000 → people ≤ 100000000000000 → AreAmountsWithin (founded_of w pass)
   unfolding founded_of
   founded-amounts few_money few_people =

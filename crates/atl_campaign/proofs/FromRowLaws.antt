@@ -80,7 +80,7 @@ min_low low n most h k = grind arith
 min_high : (n high most : ℕ) → n ≤ high → min n most ≤ high
 min_high n high most h = grind arith
 
--- a number from low to high, with low at most the largest that is read, is read as one from low to high
+-- a row's number from low to high is read as one from low to high, also where it is read as `most`, at least low
 pub in_range : (low high most : ℕ) (z : ℤ) → low ≤ most → is_from low high z ≡ true → (low ≤ clamp most z) × (clamp most z ≤ high)
 in_range low high most (pos n) h e =
     let parts = and_parts (nat_le low n) (nat_le n high) e in
@@ -95,7 +95,8 @@ from_le m n h = grind (arith, nat_tests)
 
 -- ---- the books
 
--- books of `things` things (AreBooks) stay so once a row's amount is put in, or left out if its thing isn't theirs
+-- books of `things` things (AreBooks) still are such once a row's amount is put in, or left out if its thing isn't
+-- theirs
 row_put : (things : ℕ) (books : BooksValue) (e : Entry) (r : StoredBooks) (b : Bool) → nat_lt (as_u32 r.thing) books.things ≡ b → AreBooks things books → AreBooks things (cond b (with_amount books e (thing_at (as_u32 r.thing)) r.amount) books)
 row_put things books e r true inside are =
     let few : as_u32 r.thing < books.things = grind (arith, nat_tests) in
@@ -148,7 +149,7 @@ region_ranges w markets r all h =
       stocks = in_stock w (as_u32 r.number) markets all;
     }
 
--- a structure assembled from a row in range has from 1 to its kind's size done
+-- of a structure that is assembled from a row in range at least 1 is done, and at most its kind's size
 structure_ranges : (w : WorldValue) (r : StoredStructure) → structure_in_range w r ≡ true → (1 ≤ (structure_of r).done) × ((structure_of r).done ≤ size_of w (structure_of r).kind)
 structure_ranges w r h =
     let size = size_of w (as_u16 r.kind) in
@@ -282,7 +283,7 @@ module _ (w : WorldValue) (p : Parts) (h : AreRowsInRange w p) where
       let ranges = number_ranges w p h.numbers in
       by_number-every (λ r. as_u32 r.number) (unit_of p.has) (λ n u. 1 ≤ u.holding.men) unit_in_range (λ r good. (in_range 1 men_limit most_u32 r.men (omega arith) (unit_ranges r good).men).0) p.units ranges.units
 
-  -- all numbers of the campaign assembled from rows in range are in their ranges
+  -- the counts and numbers of the campaign assembled from rows in range are in their ranges (AreInRange)
   pub AreInRange-said : AreInRange w (campaign_of w p)
   unfolding campaign_of
   AreInRange-said =

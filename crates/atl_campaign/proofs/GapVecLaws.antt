@@ -3,7 +3,7 @@ use Rattle.std.proofs.Common.{◌≡◌, ℕ, suc, ◌+◌, ◌-◌, ◌<◌, �
 use Rattle.std.proofs.lemmas.List.{drop_at, drop-drop, drop-take, drop-append-le, drop-set-add, drop_more, length-take-le, set_at}
 use Rattle.std.specs.List.{insert, remove, copy_within}
 
--- from index `at` on, copy_within gives the copied range, and then the rest of the list unchanged
+-- once a list's elements at `from` to `to` are copied to `at`, the list from `at` on is these, and then what it was
 copied : {A : Type 0} (xs : List A) (from to at : ℕ) → at ≤ length xs → drop at (copy_within xs from to at) ≡ take (to - from) (drop from xs) ++ drop (at + (to - from)) xs
 copied xs from to at l =
     ap (drop at) (append_assoc (take at xs) (take (to - from) (drop from xs)) (drop (at + (to - from)) xs))
@@ -15,13 +15,13 @@ module _ {A : Type 0} (xs : List A) (free place : ℕ) where
   count = omega arith
 
   -- ---- the elements before an index moved, towards it or away from it
-  -- moving the elements before an index up by one removes the element at that index
+  -- moving the elements between the free slots and an index up by one removes the element at that index from the list
   pub closed : free + place < length xs → drop (free + 1) (copy_within xs free (free + place) (free + 1)) ≡ remove (drop free xs) place
   closed l =
       let behind : free + 1 + place ≡ free + suc place = omega arith in
       rw (copied xs free (free + place) (free + 1) (omega arith), count, behind) (ap (λ ys. take place (drop free xs) ++ ys) (sym (drop-drop (suc place) free xs)))
 
-  -- moving the elements before an index down by one, and setting the gap to x, inserts x at that index
+  -- moving the elements before an index down by one, and putting x into the gap, inserts x into the list at that index
   pub opened : (x : A) → 0 < free → free + place ≤ length xs → drop (free - 1) (set (copy_within xs free (free + place) (free - 1)) (free - 1 + place) x) ≡ insert (drop free xs) place x
   opened x some l =
       let behind : free - 1 + place + 1 ≡ free + place = omega arith in

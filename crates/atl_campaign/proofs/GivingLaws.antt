@@ -27,12 +27,12 @@ map_twice : {V : Type 0} (f g : V → V) (o : Option V) → option_map f (option
 map_twice f g None = refl
 map_twice f g (Some v) = refl
 
--- `changed_at` by f leaves f of the old value under its number, or none where there was none
+-- after `changed_at` by f, number k has f of its old value o, or none where it had none
 at_same : {V : Type 0} (f : V → V) (m : FinMap nat_cmp V) (k : ℕ) (o : Option V) → get m k ≡ o → get (changed_at f m k o) k ≡ option_map f o
 at_same f m k None e = e
 at_same f m k (Some v) e = get_same m k (f v)
 
--- `changed_at` changes no value under another number
+-- after `changed_at` of number k, another number n has the value that it had
 at_other : {V : Type 0} (f : V → V) (m : FinMap nat_cmp V) (k n : ℕ) (o : Option V) → n ≢ k → get (changed_at f m k o) n ≡ get m n
 at_other f m k n None apart = refl
 at_other f m k n (Some v) apart = get_other m k n (f v) apart
@@ -43,7 +43,7 @@ module _ {R V : Type 0} (owner : R → ℕ) (more : R → V → V) where
   given n [] v = v
   given n (r ∷ rows) v = given n rows (cond (owner r == n) (more r v) v)
 
-  -- adding one row changes the value under the row's number alone
+  -- adding one row to a map of values changes the value under the row's number alone
   get-changed : (r : R) (m : FinMap nat_cmp V) (n : ℕ) → get (changed (more r) m (owner r)) n ≡ option_map (λ v. cond (owner r == n) (more r v) v) (get m n)
   get-changed r m n =
       let k = owner r in
@@ -56,7 +56,7 @@ module _ {R V : Type 0} (owner : R → ℕ) (more : R → V → V) where
             at_other (more r) m k n (get m k) (λ e. apart (sym e)) ∙ map_none (get m n) ∙ ap (λ b. option_map (λ v. cond b (more r v) v) (get m n)) (sym other)
       ]
 
-  -- adding rows changes each value by the rows of its number
+  -- adding rows to a map of values adds to each value the rows of its number (`given`)
   get-give : (rows : List R) (m : FinMap nat_cmp V) (n : ℕ) → get (give owner more rows m) n ≡ option_map (given n rows) (get m n)
   get-give [] m n = map_none (get m n)
   get-give (r ∷ rows) m n = get-give rows (changed (more r) m (owner r)) n ∙ ap (option_map (given n rows)) (get-changed r m n) ∙ map_twice (given n rows) (λ v. cond (owner r == n) (more r v) v) (get m n)
@@ -66,7 +66,7 @@ module _ {R V : Type 0} (owner : R → ℕ) (more : R → V → V) where
     abbrev Becomes : FinMap nat_cmp V → FinMap nat_cmp V → Type 0
     Becomes m l = (n : ℕ) → option_map (given n rows) (get m n) ≡ get l n
 
-    -- two maps still agree (Becomes) once a value is put in, into one without its rows, into the other with them
+    -- if adding the rows to m gives l (Becomes), it still does once t is put into both: into l with its rows added
     put_one : (t : T) (m l : FinMap nat_cmp V) → Becomes m l → Becomes (insert m (number t) (before t)) (insert l (number t) (after t))
     put_one t m l all n =
         let k = number t in
@@ -77,7 +77,8 @@ module _ {R V : Type 0} (owner : R → ℕ) (more : R → V → V) where
           | inr apart ↦ ap (option_map (given n rows)) (get_other m k n (before t) (λ e. apart (sym e))) ∙ all n ∙ sym (get_other l k n (after t) (λ e. apart (sym e)))
         ]
 
-    -- two maps still agree (Becomes) once all values are put in, into one without their rows, into the other with them
+    -- if adding the rows to m gives l (Becomes), it still does once all ts are put into both: into l with their rows
+    -- added
     put_each : (ts : List T) (m l : FinMap nat_cmp V) → Becomes m l → Becomes (put_rows number before ts m) (put_rows number after ts l)
     put_each [] m l all = all
     put_each (t ∷ ts) m l all = put_each ts (insert m (number t) (before t)) (insert l (number t) (after t)) (put_one t m l all)
@@ -98,8 +99,7 @@ thing_of r = as_u32 r.thing
 abbrev amount_of : StoredHas → ℕ
 amount_of r = as_u32 r.amount
 
--- a unit with new items, new days or neither, as three tests pick, is the unit with its items and its days picked each
--- for itself
+-- choosing between a unit with new items, one with new days, and the old one is choosing its items and its days apart
 picked : (r : StoredUnit) (items items' days days' : FinMap nat_cmp ℕ) (mine item skill : Bool) → (item ≡ true → skill ≡ false)
     → cond mine (cond item (unit_with r items' days) (cond skill (unit_with r items days') (unit_with r items days))) (unit_with r items days) ≡ unit_with r (cond (mine && item) items' items) (cond (mine && skill) days' days)
 picked r items items' days days' false item skill h = refl

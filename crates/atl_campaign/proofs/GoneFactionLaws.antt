@@ -44,7 +44,7 @@ module _ (c : CampaignValue) (n : ℕ) (x : Faction) (is : get c.factions n ≡ 
   there : (k : ℕ) → IsThere c.factions k → IsThere factions k
   there k h = there-insert c.factions n k (as_gone x) h
 
-  -- the campaign's numbers stay in range when faction n is set gone
+  -- the campaign's counts and numbers stay in their ranges (AreInRange) when faction n is set gone
   numbers_kept : (w : WorldValue) → AreInRange w c → AreInRange w left
   numbers_kept w old = record {
     month = old.month;
@@ -61,11 +61,11 @@ module _ (c : CampaignValue) (n : ℕ) (x : Faction) (is : get c.factions n ≡ 
     books = old.books;
   }
 
-  -- two factions with the same joined name have the same number
+  -- if faction f of number k and faction g of number m joined under the same name, k is m
   abbrev JoinedOnce : ℕ → Faction → ℕ → Faction → Type 0
   JoinedOnce k f m g = f.joined_as ≡ g.joined_as → k ≡ m
 
-  -- names and pass texts keep their rules, and joined names differ, when faction n is set gone
+  -- names and pass texts keep their rules, and no two factions joined under the same name, when faction n is set gone
   names_kept : AreNamed c → AreNamed left
   names_kept old = record {
     pass = old.pass;

@@ -24,7 +24,7 @@ use Rattle.atl_records.proofs.EveryLaws.{every-empty, every-insert, there-new, t
 pub posted-there : {factions later : FinMap nat_cmp Faction} {mail reports : FinMap nat_cmp (List ℕ)} → ((n : ℕ) → IsThere factions n → IsThere later n) → AreOfFactions factions mail reports → AreOfFactions later mail reports
 posted-there stays posts = record { mail = λ n text is. stays n (posts.mail n text is); reports = λ n text is. stays n (posts.reports n text is) }
 
--- reports are still of factions that are there once mail is removed
+-- once all mail is removed, mail, of which there is none, and reports are of factions that are there (AreOfFactions)
 pub posted-unsent : {factions : FinMap nat_cmp Faction} {mail reports : FinMap nat_cmp (List ℕ)} → AreOfFactions factions mail reports → AreOfFactions factions empty reports
 posted-unsent posts = record { mail = every-empty _; reports = posts.reports }
 
@@ -33,11 +33,11 @@ pub posted-nobody : {factions : FinMap nat_cmp Faction} → AreOfFactions factio
 posted-nobody = record { mail = every-empty _; reports = every-empty _ }
 
 module _ (w : WorldValue) (c : CampaignValue) (month : ℕ) (mail reports : FinMap nat_cmp (List ℕ)) where
-  -- the campaign in another month, with other mail and other reports
+  -- the campaign with the given month, mail and reports in place of its own
   abbrev posted : CampaignValue
   posted = record c { month = month; mail = mail; reports = reports }
 
-  -- the campaign stays in range in another month, up to the last, with other mail and reports
+  -- counts and numbers stay in their ranges (AreInRange) with the given month, up to last_month, mail and reports
   posted-numbers : month ≤ last_month → AreInRange w c → AreInRange w posted
   posted-numbers early old = record {
     month = early;
@@ -54,16 +54,16 @@ module _ (w : WorldValue) (c : CampaignValue) (month : ℕ) (mail reports : FinM
     books = old.books;
   }
 
-  -- names and pass texts keep their rules with another month, other mail and other reports
+  -- names and pass texts still keep their rules (AreNamed) with the given month, mail and reports
   posted-names : AreNamed c → AreNamed posted
   posted-names old = record { pass = old.pass; factions = old.factions; joined = old.joined; units = old.units; structures = old.structures }
 
   module _ (early : month ≤ last_month) (posts : AreOfFactions c.factions mail reports) where
-    -- all that the campaign names by number still exists with other mail and reports, if they are of its factions
+    -- all that the campaign names by number still exists (AreKnown) with the given mail and reports of its factions
     posted-known : AreKnown w c → AreKnown w posted
     posted-known old = record { regions = old.regions; markets = old.markets; units = old.units; structures = old.structures; posts = posts }
 
-    -- the campaign stays steady in another month, up to the last, with other mail and reports of its factions
+    -- the campaign stays steady with the given month, up to last_month, and the given mail and reports of its factions
     pub posted-steady : IsSteady w c → IsSteady w posted
     posted-steady old = record {
       numbers = posted-numbers early old.numbers;
@@ -77,7 +77,7 @@ module _ (w : WorldValue) (c : CampaignValue) (month : ℕ) (mail reports : FinM
       guarded = old.guarded;
     }
 
--- a sound campaign stays sound with other mail and reports of its factions, if each mail is a mailing of a faction
+-- a sound campaign stays sound with the given mail and reports of its factions, if each mail is a mailing of a faction
 -- that is not gone
 posted-sound : (w : WorldValue) (c : CampaignValue) (mail reports : FinMap nat_cmp (List ℕ)) → AreOfFactions c.factions mail reports
     → Every (λ n text. IsMailingOf n text × IsActive c n) mail → IsSound w c → IsSound w (record c { mail = mail; reports = reports })

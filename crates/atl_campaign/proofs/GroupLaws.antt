@@ -14,7 +14,7 @@ use Rattle.atl_campaign.proofs.OrderLaws.{Apart, Apart-keys, HasNumber, each_so,
 -- ---- rows that pass a test
 
 module _ {R : Type 0} (test : R → Bool) where
-  -- if P holds of rows, and of r if r passes, it holds of the rows with r put in front if it passes
+  -- if P holds of rows, and of r if r passes the test, it holds of the rows with r in front where r passes (b)
   first_kept : (P : R → Type 0) (r : R) (rows : List R) (b : Bool) → test r ≡ b → (test r ≡ true → P r) → AllByRecursion P rows → AllByRecursion P (cond b (r ∷ rows) rows)
   first_kept P r rows true e one all = (one e, all)
   first_kept P r rows false e one all = all
@@ -24,7 +24,7 @@ module _ {R : Type 0} (test : R → Bool) where
   kept P [] all = tt
   kept P (r ∷ rows) all = first_kept P r (filter test rows) (test r) refl all.0 (kept P rows all.1)
 
-  -- if P holds of the rows, with r in front if r passes, it holds of the rows, and of r if r passes
+  -- if P holds of rows with r in front where r passes the test (b), it holds of the rows, and of r if r passes
   first_unkept : (P : R → Type 0) (r : R) (rows : List R) (b : Bool) → test r ≡ b → AllByRecursion P (cond b (r ∷ rows) rows) → (test r ≡ true → P r) × AllByRecursion P rows
   first_unkept P r rows true e all = (λ _. all.0, all.1)
   first_unkept P r rows false e all = (λ passes. absurd (false≢true (sym e ∙ passes)), all)
@@ -44,17 +44,17 @@ module _ {R : Type 0} (test : R → Bool) where
   filter_apart e [] d = tt
   filter_apart e (r ∷ rows) d = either (filter_apart e rows d.1) (test r)
     where
-      -- the filtered rows are distinct, whether r passes the test or not
+      -- if the filtered rows are distinct, they are so with r in front too, where r passes the test (b)
       either : IsDistinct e (filter test rows) → (b : Bool) → IsDistinct e (cond b (r ∷ filter test rows) (filter test rows))
       either rest true = (filter_each (λ s. e r s ≡ false) rows d.0, rest)
       either rest false = rest
 
-  -- filtering by two tests in turn is filtering by both
+  -- filtering rows by `test` and then by `other` is filtering them by both at once
   pub filter_both : (other : R → Bool) (rows : List R) → filter other (filter test rows) ≡ filter (λ r. test r && other r) rows
   filter_both other [] = refl
   filter_both other (r ∷ rows) = either (filter_both other rows) (test r)
     where
-      -- filtering by both tests is the same, whether r passes the first or not
+      -- filtering in turn and at once give the same also with r in front, whether r passes the first test (b) or not
       either : filter other (filter test rows) ≡ filter (λ r. test r && other r) rows → (b : Bool)
           → filter other (cond b (r ∷ filter test rows) (filter test rows)) ≡ cond (b && other r) (r ∷ filter (λ r. test r && other r) rows) (filter (λ r. test r && other r) rows)
       either rest true = ap (λ rs. cond (other r) (r ∷ rs) rs) rest
@@ -65,7 +65,7 @@ single : {R : Type 0} (b : Bool) (r : R) (rows : List R) → cond b (r ∷ []) [
 single true r rows = refl
 single false r rows = refl
 
--- filtering each row by itself, and joining what is left, is filtering the rows
+-- filtering each row in a list of its own, and joining what is left, is filtering all rows
 pub filter_lines : {X R : Type 0} (test : R → Bool) (f : X → R) (xs : List X) → flat_map (λ x. filter test (f x ∷ [])) xs ≡ filter test (map f xs)
 filter_lines test f [] = refl
 filter_lines test f (x ∷ xs) = ap (λ rs. filter test (f x ∷ []) ++ rs) (filter_lines test f xs) ∙ single (test (f x)) (f x) (filter test (map f xs))
@@ -108,7 +108,8 @@ module _ {R U : Type 0} (group : R → ℕ) (number : U → ℕ) where
       absurd (false≢true (sym (ap not same) ∙ other))
   of_others n g units (inr there) other = there
 
-  -- all groups' rows, one group after another, are the rows in some order, if groups differ and each row is of one
+  -- the rows of all groups, one group after another, are the rows in some order, if no two groups have the same number
+  -- and each row is of one
   by_group : (units : List U) (rows : List R) → Apart number units → AllByRecursion (λ r. HasNumber number units (group r)) rows → IsPermutation (flat_map (λ u. of_group (number u) rows) units) rows
   by_group [] [] apart all = IsPermutation-refl []
   by_group [] (r ∷ rows) apart all = absurd all.0
@@ -127,7 +128,8 @@ module _ {R U : Type 0} (group : R → ℕ) (number : U → ℕ) where
   each_group f g same [] = IsPermutation-refl []
   each_group f g same (u ∷ units) = IsPermutation-append (f u) (g u) (flat_map f units) (flat_map g units) (same u) (each_group f g same units)
 
-  -- each group's rows in some order give all rows in some order, if groups differ and each row is of one
+  -- if f gives each group's rows in some order, it gives all rows in some order, if no two groups have the same number
+  -- and each row is of one
   pub gathered : (f : U → List R) (units : List U) (rows : List R) → ((u : U) → IsPermutation (f u) (of_group (number u) rows)) → Apart number units → AllByRecursion (λ r. HasNumber number units (group r)) rows
       → IsPermutation (flat_map f units) rows
   gathered f units rows same apart all =
@@ -151,7 +153,7 @@ module _ {R K : Type 0} (key : R → K) (same : K → K → Bool) (itself : (k :
     other_thing : (r s : R) → IsMine r → IsMine s → same (key s) (key r) ≡ false → thing r ≢ thing s
     other_thing r s a b d e = false≢true (sym (ap (same (key s)) (same_key r s a b e) ∙ d) ∙ itself (key s))
 
-    -- no two rows of the group are of one thing, if rows of one thing have one key and keys differ
+    -- no two rows of the group are of one thing, if rows of one thing have one key and no two rows have equal keys
     pub things_apart : (rows : List R) → AllByRecursion P rows → IsDistinct same (map key rows) → Apart thing (filter mine rows)
     things_apart rows all d =
         let keys = IsDistinct-map key same (filter mine rows) (filter_apart mine (λ r s. same (key r) (key s)) rows (IsDistinct-of_map key same rows d)) in

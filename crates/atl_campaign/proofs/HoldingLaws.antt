@@ -147,7 +147,7 @@ module _ (w : WorldValue) (c : CampaignValue) (n : ℕ) (u : Unit) (h : HoldingV
 
   -- for a test that the unit passes with the holding h only if it did before
   module _ (test : Unit → Bool) (only : test new_unit ≡ true → test u ≡ true) where
-    -- two units that pass the test in one region are of one faction
+    -- if two units pass the test and are in one region, they are of one faction
     abbrev Agree : Unit → Unit → Type 0
     Agree x y = test x ≡ true → test y ≡ true → x.region ≡ y.region → x.faction ≡ y.faction
 
@@ -182,7 +182,7 @@ module _ (w : WorldValue) (c : CampaignValue) (n : ℕ) (u : Unit) (h : HoldingV
   regrouped : (r a b p q : ℕ) → a + p ≡ b + q → (a + r) + p ≡ (b + r) + q
   regrouped r a b p q e = omega arith
 
-  -- a total changes by what the new holding has more or less of the thing than the old
+  -- giving unit n the holding h changes a thing's total by what h has more or less of it than the old holding
   pub total-unit_amount : (t : Thing) → total supplied t + unit_amount t u.holding ≡ total c t + unit_amount t h
   unfolding total
   total-unit_amount t =

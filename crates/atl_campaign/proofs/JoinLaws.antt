@@ -45,12 +45,12 @@ use Rattle.atl_campaign.proofs.TotalLaws.{total-with_unit}
 two : (x n : ℕ) (b p q : ℤ) → pos x ≡ b → pos n ≡ p +ℤ q → pos (x + n) ≡ (b +ℤ p) +ℤ q
 two x n b p q h g = omega (arith, ints)
 
--- the first unit has 0 of each item, which is what a join books of the item
+-- the first unit of a faction that joins has 0 of each item, which is what the join books of the item
 none : (w : WorldValue) (word : ℕ) (c : CampaignValue) (i : ℕ) → (2 + i == 0) ≡ false → (2 + i == 1) ≡ false → pos (unit_amount (Item i) (first_unit w word c).holding) ≡ share_of (Item i) Money (pos w.rules.start_money) +ℤ share_of (Item i) People (pos 1)
 none w word c i a b =
     ap (λ o. pos (unwrap_or o 0)) (get-empty nat_cmp i) ∙ sym (ap (λ q. cond q (pos w.rules.start_money) (pos 0) +ℤ cond (2 + i == 1) (pos 1) (pos 0)) a ∙ ap (λ q. pos 0 +ℤ cond q (pos 1) (pos 0)) b)
 
--- what the first unit holds of a thing is what a join books of the thing
+-- what the first unit of a faction that joins holds of a thing is what the join books of the thing
 held_booked : (w : WorldValue) (word : ℕ) (c : CampaignValue) (t : Thing) → pos (unit_amount t (first_unit w word c).holding) ≡ share_of t Money (pos w.rules.start_money) +ℤ share_of t People (pos 1)
 held_booked w word c Money = omega (arith, ints)
 held_booked w word c People = refl
@@ -94,7 +94,7 @@ room c h = few (len c.factions) (len c.units) c.next_unit h
 still_free : {V : Type 0} (m : FinMap nat_cmp V) (n k : ℕ) (v : V) → ((q : ℕ) → n ≤ q → get m q ≡ None) → k < n → (q : ℕ) → n ≤ q → get (insert m k v) q ≡ None
 still_free m n k v free below q h = get-insert_other m k q v (λ same. omega arith) ∙ free q h
 
--- a map numbered from 1 without a gap (IsNumbered) stays so once a value is put under the next number
+-- a map numbered from 1 without a gap (IsNumbered) is still so numbered once a value is put under the next number
 still_numbered : {V : Type 0} (m : FinMap nat_cmp V) (n : ℕ) (v : V) → IsNumbered m n → IsNumbered (insert m n v) (n + 1)
 still_numbered m n v old = record {
   first = get-insert_other m n 0 v (λ same. omega (arith, old.count)) ∙ old.first;

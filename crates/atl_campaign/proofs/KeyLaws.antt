@@ -53,7 +53,7 @@ module _ {K : Type 0} {R : K → K → Ordering} (o : IsTotalOrder R) where
   still_apart keys i x h is new apart =
       subst (IsDistinct (eq_by_cmp R)) (ap (λ y. take i keys ++ y ∷ []) is ∙ sym (take_more keys i x h)) (IsDistinct-push (eq_by_cmp_equiv o) (take i keys) x apart new)
 
-  -- a key is among the first i + 1 keys if it is the next or among the first i
+  -- key q is among the first i + 1 keys exactly if it is x, the key at index i, or among the first i
   pub seen_more : (keys : List K) (i : ℕ) (x q : K) → i < length keys → x ≡ get_or keys i x → cond (eq_by_cmp R x q) true (list_any (eq_by_cmp R q) (take i keys)) ≡ list_any (eq_by_cmp R q) (take (i + 1) keys)
   seen_more keys i x q h is =
       ap (λ b. cond b true (list_any (eq_by_cmp R q) (take i keys))) ((eq_by_cmp_equiv o).symm x q) ∙ added (eq_by_cmp R q x) (list_any (eq_by_cmp R q) (take i keys))

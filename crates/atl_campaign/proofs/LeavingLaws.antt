@@ -299,7 +299,7 @@ module _ (w : WorldValue) (c : CampaignValue) (n : ℕ) (u : Unit) (is : get c.u
       low : Every (λ k v. 1 ≤ k) c.units
       low k v there = (old.numbers.units k v there).0
 
-      -- the campaign stays steady, whether n owns the structure s that it is inside or not
+      -- without unit n the campaign stays steady, whether n owns the structure s that it is inside (b) or not
       by_test : (s : Structure) → get c.structures u.structure ≡ Some s → (b : Bool) → is_owned_by (get c.structures u.structure) n ≡ b
           → IsSteady w (if b then with_owner gone_from u.structure (heir c u.structure n) else gone_from)
       by_test s here true t =
@@ -307,7 +307,7 @@ module _ (w : WorldValue) (c : CampaignValue) (n : ℕ) (u : Unit) (is : get c.u
           (steady_left (insert c.structures u.structure (owned_by (heir c u.structure n) s)) (as_handed_on old.owners low s here (is_no_zero c.structures c.next_structure old.next.structures u.structure s here)) old)
       by_test s here false t = steady_left c.structures (as_they_were old.owners low t) old
 
-      -- the campaign stays steady, whether the structure that n is inside is there or not
+      -- without unit n the campaign stays steady, whether the structure that n is inside is there (o) or not
       by_owner : (o : Option Structure) → get c.structures u.structure ≡ o → IsSteady w (if is_owned_by o n then with_owner gone_from u.structure (heir c u.structure n) else gone_from)
       by_owner None here = steady_left c.structures (as_they_were old.owners low (ap (λ o. is_owned_by o n) here)) old
       by_owner (Some s) here = by_test s here (is_owned_by (Some s) n) (ap (λ o. is_owned_by o n) here)
@@ -350,7 +350,7 @@ module _ (w : WorldValue) (c : CampaignValue) (n : ℕ) (u : Unit) (is : get c.u
   pub only_reduced : IsOnlyReduced (without_unit c n)
   only_reduced = subst IsOnlyReduced (sym without-known) (by_test (is_owned_by (get c.structures u.structure) n))
     where
-      -- units and structures alone change, whether the structure gets another owner or not
+      -- only units and structures change when unit n is removed, whether n's structure gets another owner (b) or not
       by_test : (b : Bool) → IsOnlyReduced (if b then with_owner gone_from u.structure (heir c u.structure n) else gone_from)
       by_test true = record { units = refl; factions = refl; regions = refl; books = refl; month = refl; reports = refl }
       by_test false = record { units = refl; factions = refl; regions = refl; books = refl; month = refl; reports = refl }

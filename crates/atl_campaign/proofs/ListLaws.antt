@@ -30,7 +30,7 @@ itself k = elim (nat_cmp k k) as (λ o. nat_cmp k k ≡ o → is_eq o ≡ true) 
 gone : (units : FinMap nat_cmp Unit) (k : ℕ) → get (remove units k) k ≡ None
 gone units k = get-remove nat_cmp_total units k k ∙ ap (λ b. cond b None (get units k)) (itself k)
 
--- if P holds of the new list under k, and of each list under another key, it holds of each list
+-- once a list is put under k, P holds of each list, if it holds of that one, and of each old list under another key
 by_key : (lists : FinMap nat_cmp (List ℕ)) (k : ℕ) (xs : List ℕ) (P : ℕ → List ℕ → Type 0) → P k xs → ((r : ℕ) → k ≢ r → P r (list_of lists r)) → (r : ℕ) → P r (list_of (insert lists k xs) r)
 by_key lists k xs P here there r =
     rw (get-insert nat_cmp_total lists k xs r)
@@ -41,7 +41,7 @@ by_key lists k xs P here there r =
     ] refl)
 
 module _ (belongs_to : Unit → ℕ) where
-  -- the lists have just the units of each key (AreLists), also a new unit once its number is put into its key's list
+  -- lists that have just the units of each key (AreLists) still do once a new unit is put into the list of its key
   pub AreLists-added : (units : FinMap nat_cmp Unit) (lists : FinMap nat_cmp (List ℕ)) (k : ℕ) (u : Unit) → get units k ≡ None → AreLists belongs_to units lists
       → AreLists belongs_to (insert units k u) (insert lists (belongs_to u) (put_number k (list_of lists (belongs_to u))))
   AreLists-added units lists k u fresh old =
@@ -55,7 +55,7 @@ module _ (belongs_to : Unit → ℕ) where
   AreLists-kept units lists k u v is same old r =
       old r ∙ sym (numbers_where-insert_known (λ w. belongs_to w == r) units k u v is (ap (λ q. q == r) same))
 
-  -- if the lists have just the units of each key with u (AreLists), they do without u once it is taken out of its list
+  -- lists with just the units of each key (AreLists), also u, have the others once u is taken out of its key's list
   AreLists-undone : (units : FinMap nat_cmp Unit) (lists : FinMap nat_cmp (List ℕ)) (k : ℕ) (u : Unit) → get units k ≡ None → AreLists belongs_to (insert units k u) lists
       → AreLists belongs_to units (insert lists (belongs_to u) (take_number k (list_of lists (belongs_to u))))
   AreLists-undone units lists k u fresh old =
@@ -64,7 +64,7 @@ module _ (belongs_to : Unit → ℕ) where
       (ap (take_number k) (old own ∙ numbers_where-insert_new (λ v. belongs_to v == own) units k u fresh (same_number own)) ∙ taken_put k _)
       (λ r ne. old r ∙ numbers_where-insert_other (λ v. belongs_to v == r) units k u fresh (other_number own r ne))
 
-  -- the lists have just the units of each key (AreLists) once a removed unit's number is taken out of its key's list
+  -- lists that have just the units of each key (AreLists) still do once a removed unit is taken out of its key's list
   pub AreLists-removed : (units : FinMap nat_cmp Unit) (lists : FinMap nat_cmp (List ℕ)) (k : ℕ) (u : Unit) → get units k ≡ Some u → AreLists belongs_to units lists
       → AreLists belongs_to (remove units k) (insert lists (belongs_to u) (take_number k (list_of lists (belongs_to u))))
   AreLists-removed units lists k u is old =
@@ -120,7 +120,8 @@ none_taken lists key n none k =
 abbrev AreBare : (some all : FinMap nat_cmp (List ℕ)) → Type 0
 AreBare some all = (k : ℕ) → list_of some k ≡ cond (k == 0) [] (list_of all k)
 
--- `some` still has the lists of `all` but that under 0 (AreBare) once f changes one in both, or that under 0 in `all`
+-- if `some` has the lists of `all`, but none under 0 (AreBare), it still does once f changes the list of a key in both,
+-- or in `all` alone where the key is 0
 bare_put : (f : List ℕ → List ℕ) (some all : FinMap nat_cmp (List ℕ)) (key : ℕ) → AreBare some all → AreBare (cond (key == 0) some (insert some key (f (list_of some key)))) (insert all key (f (list_of all key)))
 bare_put f some all key bare =
     elim (cases_eq key 0) [
@@ -155,7 +156,7 @@ bare_inside : (units : FinMap nat_cmp Unit) (some all : FinMap nat_cmp (List ℕ
 bare_inside units some all bare are k = bare k ∙ ap (cond (k == 0) []) (are k)
 
 module _ (units : FinMap nat_cmp Unit) (old new : FinMap nat_cmp (List ℕ)) (n key : ℕ) (u : Unit) (own : u.structure ≡ key) where
-  -- the lists by structure have just the units inside (AreInsideLists), also a new one once it is put into the list of
+  -- the lists by structure still have just the units inside (AreInsideLists) once a new unit is put into the list of
   -- its structure, if it is inside one
   pub AreInsideLists-came : get units n ≡ None → new ≡ listed_apart old n key 0 → AreInsideLists units old → AreInsideLists (insert units n u) new
   AreInsideLists-came fresh put is =
@@ -164,8 +165,8 @@ module _ (units : FinMap nat_cmp Unit) (old new : FinMap nat_cmp (List ℕ)) (n 
       (bare_inside (insert units n u) _ (insert all key (put_number n (list_of all key))) (bare_put (put_number n) old all key (whole_bare units old is))
       (AreLists-came (λ v. v.structure) units all _ n key u own fresh refl (whole_listed units old is)))
 
-  -- the lists by structure have just the units inside (AreInsideLists) once one that is removed is taken out of its
-  -- structure's list, if it is inside one
+  -- the lists by structure still have just the units inside (AreInsideLists) once a unit is removed and taken out of
+  -- the list of its structure, if it is inside one
   pub AreInsideLists-went : get units n ≡ Some u → SameLists new (unlisted_apart old n key 0) → AreInsideLists units old → AreInsideLists (remove units n) new
   AreInsideLists-went there same is k =
       let all = whole units old is in

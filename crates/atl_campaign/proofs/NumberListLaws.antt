@@ -41,7 +41,7 @@ first_of q (n ∷ ns) low =
     passed t others k (inr h) = others k h
 
 module _ {V : Type 0} (p : V → Bool) where
-  -- the numbers of the entries that pass the test
+  -- the numbers of the entries whose values pass the test
   abbrev chosen : List (ℕ × V) → List ℕ
   chosen es = map (λ e. e.0) (filter (λ e. p e.1) es)
 
@@ -55,12 +55,12 @@ module _ {V : Type 0} (p : V → Bool) where
   foremost n ns true h = inl refl
   foremost n ns false h = cc
 
-  -- if the numbers of passing entries are on a list, they are on each list that has all numbers of the first
+  -- if the numbers of the entries that pass are on the list ks, they are on each list ns that has all numbers of ks
   all_further : (ks ns : List ℕ) → ((k : ℕ) → IsListed k ks → IsListed k ns) → (es : List (ℕ × V)) → EachOf (λ n v. p v ≡ true → IsListed n ks) es → EachOf (λ n v. p v ≡ true → IsListed n ns) es
   all_further ks ns more [] h = tt
   all_further ks ns more (e ∷ es) h = (λ t. more e.0 (h.0 t), all_further ks ns more es h.1)
 
-  -- the number of each entry that passes is chosen
+  -- the number of each entry whose value passes is among the chosen ones
   each_listed : (es : List (ℕ × V)) → EachOf (λ n v. p v ≡ true → IsListed n (chosen es)) es
   each_listed [] = tt
   each_listed (e ∷ es) =
@@ -69,18 +69,18 @@ module _ {V : Type 0} (p : V → Bool) where
         all_further (chosen es) (chosen (e ∷ es)) (λ k h. subst (IsListed k) same (further e.0 (chosen es) (p e.1) k h)) es (each_listed es),
       )
 
-  -- a number whose value passes is among numbers_where
+  -- each number of a map whose value passes the test is on the list numbers_where
   pub passing_listed : (m : FinMap nat_cmp V) → Every (λ n v. p v ≡ true → IsListed n (numbers_where p m)) m
   passing_listed m = every-from_each (λ n v. p v ≡ true → IsListed n (numbers_where p m)) m (each_listed (entries m))
 
-  -- a number among numbers_where has a value that passes
+  -- each number on the list numbers_where has a value in the map, which passes the test
   pub listed_passing : (m : FinMap nat_cmp V) (k : ℕ) → IsListed k (numbers_where p m) → (v : V) × (get m k ≡ Some v) × (p v ≡ true)
   listed_passing m k h =
       let (i, l, at) = place_in k 0 (numbers_where p m) h in
       let (v, is, t) = passes-listed p m i 0 l in
       (v, ap (get m) (sym at) ∙ is, t)
 
-  -- where numbers_where is empty, no value passes
+  -- if the list numbers_where is empty, no value of the map passes the test
   pub none_passing : (m : FinMap nat_cmp V) → numbers_where p m ≡ [] → Every (λ n v. p v ≡ false) m
   none_passing m none n v is = false_from_ne_true (p v) (λ t. subst (IsListed n) none (passing_listed m n v is t))
 
@@ -93,6 +93,6 @@ module _ {V : Type 0} (p : V → Bool) where
   true_not_false : {P : Type 0} (b : Bool) → b ≡ true → b ≡ false → P
   true_not_false b t f = cc
 
-  -- where no value passes, numbers_where is empty
+  -- if no value of the map passes the test, the list numbers_where is empty
   pub nothing_listed : (m : FinMap nat_cmp V) → Every (λ n v. p v ≡ false) m → numbers_where p m ≡ []
   nothing_listed m none = none_listed (numbers_where p m) (λ k h. let (v, is, t) = listed_passing m k h in true_not_false (p v) t (none k v is))

@@ -46,7 +46,7 @@ decimal_ends n h = decimal_by_steps (λ _ ds. EndsInDigit ds) one more n h
     more : (n : ℕ) (ds : List ℕ) → 10 ≤ n → EndsInDigit ds → EndsInDigit (ds ++ (48 + n % 10) ∷ [])
     more n ds h e = record { front = ds; last = 48 + n % 10; is = refl; digits = all_digits ds e; least = omega arith; most = omega arith }
 
--- 1 to 40 bytes pass the test of length
+-- 1 to 40 bytes pass is_short, the test of how long a name is
 short : (bs : List ℕ) → 1 ≤ length bs → length bs ≤ 40 → is_short bs ≡ true
 short bs h k = grind (arith, nat_tests)
 

@@ -52,7 +52,7 @@ module _ {V A : Type 0} (f : ℕ × V → List A) where
   flat_insert m k v h = subst (λ es. IsPermutation (f (k, v) ++ flat_map f (entries m)) (flat_map f es)) (sym (entries-insert nat_cmp_total m k v)) (flat_put k v (entries m) (sym (get-entries m k) ∙ h))
 
 module _ {R V : Type 0} (number : R → ℕ) (value : R → V) where
-  -- rows with numbers other than k that have no value in a map still have none once a value is put under k
+  -- rows whose numbers are not k and have no value in a map still have none once a value is put under k
   still_none : (m : FinMap nat_cmp V) (k : ℕ) (v : V) (rows : List R) → AllByRecursion (λ s. number s ≢ k) rows → AllByRecursion (λ s. get m (number s) ≡ None) rows → AllByRecursion (λ s. get (insert m k v) (number s) ≡ None) rows
   still_none m k v [] h n = tt
   still_none m k v (s ∷ rows) h n = (get_other m k (number s) v h.0 ∙ n.0, still_none m k v rows h.1 n.1)
@@ -125,12 +125,12 @@ each_passes p P good (r ∷ rows) h = let parts = and_parts (p r) (list_all p ro
 -- ---- rows and the values under their numbers
 
 module _ {R V : Type 0} (number : R → ℕ) (value : R → V) where
-  -- putting rows with numbers other than k changes nothing under k
+  -- putting rows with numbers other than k into a map changes nothing under k
   put_keep : (rows : List R) (m : FinMap nat_cmp V) (k : ℕ) → AllByRecursion (λ s. number s ≢ k) rows → get (put_rows number value rows m) k ≡ get m k
   put_keep [] m k h = refl
   put_keep (r ∷ rows) m k h = put_keep rows (insert m (number r) (value r)) k h.1 ∙ get_other m (number r) k (value r) (λ e. h.0 (sym e))
 
-  -- each row's value is found under its number once rows with different numbers are put
+  -- once rows with different numbers are put into a map, each row's value is found under its number
   put_found : (rows : List R) (m : FinMap nat_cmp V) → Apart number rows → AllByRecursion (λ r. get (put_rows number value rows m) (number r) ≡ Some (value r)) rows
   put_found [] m h = tt
   put_found (r ∷ rows) m h = (put_keep rows (insert m (number r) (value r)) (number r) h.0 ∙ get_same m (number r) (value r), put_found rows (insert m (number r) (value r)) h.1)
@@ -148,12 +148,12 @@ module _ {R V : Type 0} (number : R → ℕ) (value : R → V) where
   pub each_row : (P : ℕ → V → Type 0) (rows : List R) → Apart number rows → Every P (by_number number value rows) → AllByRecursion (λ r. P (number r) (value r)) rows
   each_row P rows h every = every_row P (by_number number value rows) rows every (rows_found rows h)
 
-  -- a number that has a value still has one once rows are put
+  -- a number that has a value in a map still has one once rows are put into the map
   pub put_there : (rows : List R) (m : FinMap nat_cmp V) (k : ℕ) → IsThere m k → IsThere (put_rows number value rows m) k
   put_there [] m k h = h
   put_there (r ∷ rows) m k h = put_there rows (insert m (number r) (value r)) k (there-insert m (number r) k (value r) h)
 
-  -- the number of each row has a value once the rows are put
+  -- the number of each row has a value once the rows are put into a map
   all_there : (rows : List R) (m : FinMap nat_cmp V) → AllByRecursion (λ r. IsThere (put_rows number value rows m) (number r)) rows
   all_there [] m = tt
   all_there (r ∷ rows) m = (put_there rows (insert m (number r) (value r)) (number r) (there-new m (number r) (value r)), all_there rows (insert m (number r) (value r)))
@@ -162,7 +162,7 @@ module _ {R V : Type 0} (number : R → ℕ) (value : R → V) where
   pub rows_there : (rows : List R) → AllByRecursion (λ r. IsThere (by_number number value rows) (number r)) rows
   rows_there rows = all_there rows empty
 
-  -- a number that has a value once rows are put is that of a row, or had a value before
+  -- a number that has a value once rows are put into a map is that of a row, or had a value before
   came_from : (rows : List R) (m : FinMap nat_cmp V) (n : ℕ) → IsThere (put_rows number value rows m) n → HasNumber number rows n ⊎ IsThere m n
   came_from [] m n h = inr h
   came_from (r ∷ rows) m n h =

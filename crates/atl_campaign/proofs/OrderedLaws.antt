@@ -21,12 +21,12 @@ unfolding put_number
 put_step true n x xs = refl
 put_step false n x xs = let e : 1 + first_not_below n xs ≡ suc (first_not_below n xs) = omega arith in ap (λ i. take i (x ∷ xs) ++ n ∷ drop i (x ∷ xs)) e
 
--- a number is put before a first element that it is at most, else into the rest
+-- put_number puts n in front of a list's first element x if n is at most x, and else into the rest of the list
 pub put_number-cons : (n x : ℕ) (xs : List ℕ) → put_number n (x ∷ xs) ≡ cond (nat_le n x) (n ∷ x ∷ xs) (x ∷ put_number n xs)
 unfolding put_number
 put_number-cons n x xs = put_step (nat_le n x) n x xs
 
--- a number put into the empty list is alone
+-- putting a number into the empty list gives the list of that number alone
 pub put_number-nil : (n : ℕ) → put_number n [] ≡ n ∷ []
 unfolding put_number
 put_number-nil n = refl
@@ -37,7 +37,7 @@ unfolding take_number
 take_step true n x xs = refl
 take_step false n x xs = let e : 1 + first_not_below n xs ≡ suc (first_not_below n xs) = omega arith in ap (remove (x ∷ xs)) e
 
--- take_number removes a first element that n is at most, and else takes n out of the rest
+-- take_number removes a list's first element x if n is at most x, and else takes n out of the rest of the list
 pub take_number-cons : (n x : ℕ) (xs : List ℕ) → take_number n (x ∷ xs) ≡ cond (nat_le n x) xs (x ∷ take_number n xs)
 unfolding take_number
 take_number-cons n x xs = take_step (nat_le n x) n x xs
@@ -93,7 +93,7 @@ ties k = elim (nat_cmp k k) as (λ o. nat_cmp k k ≡ o → is_eq o ≡ true) [
 ] refl
 
 module _ {X : Type 0} (p : X → Bool) where
-  -- the numbers of the entries that pass the test
+  -- the numbers of the entries whose values pass the test
   abbrev chosen : List (ℕ × X) → List ℕ
   chosen es = map (λ e. e.0) (filter (λ e. p e.1) es)
 

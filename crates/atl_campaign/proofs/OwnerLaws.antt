@@ -18,7 +18,7 @@ pub taken_none : (c : MarkedCampaign) (n : ℕ) → get c.value.units n ≡ None
 taken_none c n none = sym (ap (λ m. without c n m (get c.value.units n)) (remove_none c.value.units n none) ∙ ap (without c n c.value.units) none)
 
 -- ---- what becomes of the campaign, but for its marks
--- the value of a choice of marked campaigns is the choice of their values
+-- choosing between two marked campaigns and taking the value is choosing between their values
 by_test : (b : Bool) (c d : MarkedCampaign) → (if b then d else c).value ≡ (if b then d.value else c.value)
 by_test true c d = refl
 by_test false c d = refl
@@ -59,7 +59,7 @@ pub place_none : (c : MarkedCampaign) (n r s : ℕ) → get c.value.units n ≡ 
 unfolding place_marked
 place_none c n r s none = sym (ap (place_marked_at c n r s) none)
 
--- moving a unit without a change of its structure sets where it is (`put_marked`), and no owner
+-- moving a unit that stays in its structure only sets where it is (`put_marked`), and no structure gets another owner
 pub place_stays : (c : MarkedCampaign) (n r s : ℕ) (u : Unit) → get c.value.units n ≡ Some u → (u.structure == s) ≡ true → put_marked c n r s ≡ place_marked c n r s
 unfolding place_marked
 place_stays c n r s u is same = sym (ap (place_marked_at c n r s) is ∙ ap (λ b. if b then put_marked c n r s else handed_marked (handed_marked (put_marked c n r s) u.structure n (heir c.value u.structure n)) s 0 n) same)

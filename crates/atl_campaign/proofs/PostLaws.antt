@@ -29,11 +29,11 @@ marks-report c n text =
 -- ---- the mail that is removed
 
 module _ (marks : FinSet nat_cmp) (mail : FinMap nat_cmp (List ℕ)) where
-  -- after all mail is removed, a faction's mail is marked exactly if it was marked or the faction had mail
+  -- after all mail is removed, a faction's mail is marked exactly if it was marked before or the faction had mail
   either : (k : ℕ) → contains (union marks (from_list (keys mail))) k ≡ (contains marks k || contains_key mail k)
   either k = contains-union nat_cmp_total marks (from_list (keys mail)) k ∙ ap (λ b. contains marks k || b) (contains-from_list nat_cmp_total (keys mail) k ∙ sym (contains_key-keys mail k))
 
-  -- numbers that were marked before all mail is removed are still marked
+  -- each faction whose mail was marked before all mail is removed still has it marked
   all_stay : StaysMarked marks (union marks (from_list (keys mail)))
   all_stay k h = either k ∙ ap (λ b. b || contains_key mail k) h
 

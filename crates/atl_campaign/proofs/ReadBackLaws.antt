@@ -65,7 +65,7 @@ agree {V} m k there back = same_map nat_cmp_total nat_cmp-IsAntisymmetric m k (�
     ] refl)
 
 module _ {R V : Type 0} (number : R → ℕ) (value : R → V) where
-  -- if P holds for every value of a map and for the value of each row, it holds for all once the rows are put in
+  -- if P holds for a map's values and for the value of each row, it holds for every value once the rows are put in
   put_from_each : (P : ℕ → V → Type 0) (rows : List R) (m : FinMap nat_cmp V) → AllByRecursion (λ r. P (number r) (value r)) rows → Every P m → Every P (put_rows number value rows m)
   put_from_each P [] m all old = old
   put_from_each P (r ∷ rows) m all old = put_from_each P rows _ all.1 (every-insert P m (number r) (value r) all.0 old)
@@ -202,17 +202,17 @@ module _ {A : Type 0} (e : A → A → Bool) where
 
   -- lists f x joined, where rows of elements in order differ
   module _ {X : Type 0} (f : X → List A) (Before : X → X → Type 0) (Own : X → A → Type 0) (apart : (x y : X) (a b : A) → Before x y → Own x a → Own y b → e a b ≡ false) (own : (x : X) → AllByRecursion (Own x) (f x)) (one : (x : X) → IsDistinct e (f x)) where
-    -- for a row a that belongs to x, e is false with each row of the elements that come after x
+    -- e is false of a row that belongs to x and of each row that f makes of the elements after x
     against : (x : X) (a : A) (xs : List X) → Own x a → AllByRecursion (Before x) xs → AllByRecursion (λ b. e a b ≡ false) (flat_map f xs)
     against x a [] mine h = tt
     against x a (y ∷ xs) mine h = append_each (λ b. e a b ≡ false) (f y) (flat_map f xs) (these (f y) (own y)) (against x a xs mine h.1)
       where
-        -- for a row a that belongs to x, e is false with each of some rows that belong to y, as x is before y
+        -- e is false of row a, which belongs to x, and of each of the rows bs, which belong to y, as x is before y
         these : (bs : List A) → AllByRecursion (Own y) bs → AllByRecursion (λ b. e a b ≡ false) bs
         these [] all = tt
         these (b ∷ bs) all = (apart x y a b h.0 mine all.0, these bs all.1)
 
-    -- for each of some rows that belong to x, e is false with each row of the elements that come after x
+    -- e is false of each of some rows that belong to x and of each row that f makes of the elements after x
     all_against : (x : X) (xs : List X) (rows : List A) → AllByRecursion (Own x) rows → AllByRecursion (Before x) xs → AllByRecursion (λ a. AllByRecursion (λ b. e a b ≡ false) (flat_map f xs)) rows
     all_against x xs [] mine h = tt
     all_against x xs (a ∷ rows) mine h = (against x a xs mine.0 h, all_against x xs rows mine.1 h)
@@ -244,7 +244,7 @@ pub entries_rise : {V : Type 0} (m : FinMap nat_cmp V) → Rise (entries m)
 entries_rise m = rise_sorted (entries m) (sorted m)
 
 module _ {V R : Type 0} (row : ℕ → V → R) (e : R → R → Bool) (apart : (n k : ℕ) (v u : V) → n < k → e (row n v) (row k u) ≡ false) where
-  -- for the row of number n, e is false with the row of each entry of a higher number
+  -- e is false of the row of number n and of the row of each entry with a higher number
   others : (n : ℕ) (v : V) (es : List (ℕ × V)) → AllByRecursion (λ f. n < f.0) es → AllByRecursion (λ r. e (row n v) r ≡ false) (rows_by row es)
   others n v [] h = tt
   others n v (f ∷ es) h = (apart n f.0 v f.1 h.0, others n v es h.1)

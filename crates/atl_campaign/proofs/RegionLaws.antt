@@ -27,13 +27,13 @@ use Rattle.atl_records.proofs.EveryLaws.{every-insert, there-insert}
 -- ---- other regions, other books
 
 module _ (w : WorldValue) (c : CampaignValue) (regions : FinMap nat_cmp Region) (books : BooksValue) where
-  -- the campaign with other regions and other books
+  -- the campaign with the given regions and the given books in place of its own
   abbrev stocked : CampaignValue
   stocked = record c { regions = regions; books = books }
 
   module _ (few : len regions ≡ len c.regions) (there : (n : ℕ) → IsThere c.regions n ↔ IsThere regions n)
       (within : Every (λ n r. IsRegion w n r) regions) (marketed : Every (λ n r. AreOfMarkets w n r.stocks) regions) (booked : AreBooks (things_of w) books) where
-    -- counts and numbers stay in range (AreInRange) with other regions and books that are in range
+    -- counts and numbers stay in their ranges (AreInRange) with the given regions and books, which are in range
     stocked-numbers : AreInRange w c → AreInRange w stocked
     stocked-numbers old = record {
       month = old.month;
@@ -50,7 +50,8 @@ module _ (w : WorldValue) (c : CampaignValue) (regions : FinMap nat_cmp Region) 
       books = booked;
     }
 
-    -- all that is named by number exists with other regions of the same numbers, with stocks of their markets only
+    -- all that is named by number still exists (AreKnown) with the given regions, which have the same numbers, and
+    -- stocks of their markets only
     stocked-known : AreKnown w c → AreKnown w stocked
     stocked-known old = record {
       regions = λ n. (λ h. (old.regions n).0 ((there n).1 h), λ h. (there n).0 ((old.regions n).1 h));
@@ -60,8 +61,8 @@ module _ (w : WorldValue) (c : CampaignValue) (regions : FinMap nat_cmp Region) 
       posts = old.posts;
     }
 
-    -- the campaign stays steady with other regions of the same numbers, in range and with stocks of their markets only,
-    -- and with other books of the world's things
+    -- the campaign stays steady with the given regions, which have the same numbers, are in range and have stocks of
+    -- their markets only, and with the given books of the world's things
     stocked-steady : IsSteady w c → IsSteady w stocked
     stocked-steady old = record {
       numbers = stocked-numbers old.numbers;
@@ -78,11 +79,11 @@ module _ (w : WorldValue) (c : CampaignValue) (regions : FinMap nat_cmp Region) 
 -- ---- a region
 
 module _ {V : Type 0} where
-  -- a map has as many values as before once one is replaced
+  -- a map in which one value is replaced by another still has as many values
   pub same_len : (m : FinMap nat_cmp V) (n : ℕ) (u v : V) → get m n ≡ Some u → len (insert m n v) ≡ len m
   same_len m n u v is = len-insert nat_cmp_total m n v ∙ ap (λ o. cond (is_some o) (len m) (len m + 1)) is
 
-  -- a number that has a value once another value is put under an old number had one before
+  -- a number that has a value in a map once another number's value, or its own, is replaced had one before
   there_again : (m : FinMap nat_cmp V) (k n : ℕ) (u v : V) → get m k ≡ Some u → IsThere (insert m k v) n → IsThere m n
   there_again m k n u v is (x, put) =
       elim (nat_cmp n k) as (λ o. nat_cmp n k ≡ o → cond (is_eq o) (Some v) (get m n) ≡ Some x → IsThere m n) [

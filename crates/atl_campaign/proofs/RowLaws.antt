@@ -28,7 +28,7 @@ sort_rows_one n sort = amount_rows_one (λ r. r.amount) (has_row n sort) (λ i a
 
 -- ---- rows of the books
 
--- the rows of the books for two lists of accounts (entries with things), one after the other, are those for both lists
+-- the rows of the books for the accounts `some` and then `others` are those for `some` and then those for `others`
 pub rows_under-append : (books : BooksValue) (some others : List Account) → rows_under books (some ++ others) ≡ rows_under books some ++ rows_under books others
 rows_under-append books [] others = refl
 rows_under-append books (a ∷ some) others =

@@ -53,7 +53,7 @@ module _ {V : Type 0} (P : ℕ → V → Type 0) where
     λ each. absurd (none_from_all_within (λ e. ¬ (P e.0 e.1)) es (λ k d least inside never. never (each_at es k d each inside)) found),
   )
 
-  -- an entry with its value instead of the borrow
+  -- the number and the value of an entry that has a borrow of the value
   abbrev shown : ℕ × Bor V → ℕ × V
   shown e = (e.0, e.1.now)
 

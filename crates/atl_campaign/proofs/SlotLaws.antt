@@ -88,7 +88,7 @@ module _ {V : Type 0} where
   vacant_slot : (s : slab.Slab V) (j k : ℕ) → j ≡ k → slab.get s k ≡ None → is_some (slab.get s j) ≡ true → ⊥
   vacant_slot s j k same vacant h = false≢true (sym (ap is_some (ap (slab.get s) same ∙ vacant)) ∙ h)
 
-  -- slabs with the same values give the same entries
+  -- two slabs with the same values give the same numbers with values for the same index entries
   lodged_same : (es : List (ℕ × ℕ)) (s t : slab.Slab V) → slab.SameValues s t → slot_entries es t ≡ slot_entries es s
   lodged_same [] s t same = refl
   lodged_same (e ∷ es) s t same = ap (λ o. slot_entry_at e.0 o (slot_entries es t)) (same e.1) ∙ ap (slot_entry_at e.0 (slab.get s e.1)) (lodged_same es s t same)
@@ -174,7 +174,7 @@ module _ {V : Type 0} where
       (λ apart. kept s t k None (get i q) u (λ j h same. apart (held.by_one q n k (h ∙ ap Some same) is)))
       ∙ sym (get-remove nat_cmp_total (values_of i s) n q ∙ ap (cond (eq_by_cmp nat_cmp q n) None) (get_values i s held q)))
 
-  -- a slab with the same values gives the same map of values
+  -- an index leads to the same map of values in two slabs with the same values
   pub nothing_changed : (i : FinMap nat_cmp ℕ) (s t : slab.Slab V) → slab.SameValues s t → values_of i t ≡ values_of i s
   nothing_changed i s t same = ap from_entries (lodged_same (entries i) s t same)
 
@@ -182,14 +182,14 @@ module _ {V : Type 0} where
   pub HaveOwnSlots-same : (i : FinMap nat_cmp ℕ) (s t : slab.Slab V) → slab.SameValues s t → HaveOwnSlots i s → HaveOwnSlots i t
   HaveOwnSlots-same i s t same held = record { in_use = λ n k h. ap is_some (same k) ∙ held.in_use n k h; by_one = held.by_one }
 
-  -- a slab with a value put into a vacant slot and taken out again has the same values
+  -- once a value is put into a vacant slot and taken out again, the slab has the values that it had before
   pub put_back : (s t r : slab.Slab V) (k : ℕ) (x : V) → slab.get s k ≡ None → slab.Updates s t k (Some x) → slab.Updates t r k None → slab.SameValues s r
   put_back s t r k x vacant u v j = elim (cases_eq j k) [
     | inl same ↦ ap (slab.get r) same ∙ v.changed ∙ sym (ap (slab.get s) same ∙ vacant)
     | inr apart ↦ v.others j apart ∙ u.others j apart
   ]
 
-  -- a slot in use is one of the slab's
+  -- the number of a slot in use is below how many slots the slab has
   inside : (s : slab.Slab V) (k : ℕ) → is_some (slab.get s k) ≡ true → k < length s.slots
   inside s k h = elim (cases_lt k (length s.slots)) [
     | inl l ↦ l

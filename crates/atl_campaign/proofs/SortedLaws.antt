@@ -8,7 +8,7 @@ use Rattle.atl_campaign.specs.Ordered.{IsSorted, put_number, take_number}
 use Rattle.atl_campaign.proofs.OrderedLaws.{put_number-cons, put_number-nil, take_number-cons, take_number-nil}
 use Rattle.atl_campaign.proofs.OrderLaws.{each_so}
 
--- a number that is at most each of a list is at most the one at an index
+-- if x is at most each number of a list, it is at most the one at index i
 least : (x : ℕ) (xs : List ℕ) (i d : ℕ) → AllByRecursion (λ y. x ≤ y) xs → i < length xs → x ≤ get_or xs i d
 least x [] i d h l = absurd (omega arith)
 least x (y ∷ xs) zero d h l = h.0
@@ -32,7 +32,7 @@ parted n xs h i j d le l e = lower (get_or xs i d) (get_or xs j d) n (rises xs i
 
 -- ---- a number put in
 
--- a number at most n and at most each of a list is at most each once n is put in
+-- if x is at most n and at most each number of a list, it still is at most each once n is put in
 put_least : (x n : ℕ) (xs : List ℕ) → x ≤ n → AllByRecursion (λ y. x ≤ y) xs → AllByRecursion (λ y. x ≤ y) (put_number n xs)
 put_least x n [] le h = subst (AllByRecursion (λ y. x ≤ y)) (sym (put_number-nil n)) (le, tt)
 put_least x n (y ∷ xs) le h = subst (AllByRecursion (λ y. x ≤ y)) (sym (put_number-cons n y xs)) (either (put_least x n xs le h.1) (nat_le n y))
@@ -58,7 +58,7 @@ IsSorted-put n (x ∷ xs) h = subst IsSorted (sym (put_number-cons n x xs)) (eit
 
 -- ---- a number taken out
 
--- a number that is at most each of a list still is once a number is taken out
+-- if x is at most each number of a list, it still is once a number is taken out
 take_least : (x n : ℕ) (xs : List ℕ) → AllByRecursion (λ y. x ≤ y) xs → AllByRecursion (λ y. x ≤ y) (take_number n xs)
 take_least x n [] h = subst (AllByRecursion (λ y. x ≤ y)) (sym (take_number-nil n)) tt
 take_least x n (y ∷ xs) h = subst (AllByRecursion (λ y. x ≤ y)) (sym (take_number-cons n y xs)) (either (take_least x n xs h.1) (nat_le n y))

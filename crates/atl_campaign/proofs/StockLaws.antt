@@ -14,12 +14,12 @@ use Rattle.atl_campaign.specs.Totals.{total}
 use Rattle.atl_records.proofs.HoldingLaws.{every_amount, set_other, set_same}
 use Rattle.atl_campaign.proofs.RegionLaws.{steady-region, total-region}
 
--- the region with another stock of an item
+-- the region with its stock of an item set to the given amount
 abbrev pub restocked : Region → (item amount : ℕ) → Region
 restocked r item amount = record r { stocks = with_amount_of r.stocks item amount }
 
 module _ (w : WorldValue) (n : ℕ) (r : Region) (item amount : ℕ) where
-  -- a region's peasants, money and stocks stay in range (IsRegion) with another stock of an item up to its market's
+  -- a region's peasants, money and stocks stay in range (IsRegion) once an item's stock is set, up to its market's
   -- limit
   pub IsRegion-stock : amount ≤ stock_limit w n item → IsRegion w n r → IsRegion w n (restocked r item amount)
   IsRegion-stock few old = record {
@@ -28,12 +28,12 @@ module _ (w : WorldValue) (n : ℕ) (r : Region) (item amount : ℕ) where
     stocks = every_amount (λ i x. (1 ≤ x) × (x ≤ stock_limit w n i)) r.stocks item amount (λ some. (some, few)) old.stocks;
   }
 
-  -- a region still has stocks of its markets only (AreOfMarkets) with another stock of one of them
+  -- a region still has stocks of its markets only (AreOfMarkets) once the stock of an item with a market there is set
   pub AreOfMarkets-stock : IsSome (market_of w n item) → AreOfMarkets w n r.stocks → AreOfMarkets w n (restocked r item amount).stocks
   AreOfMarkets-stock there old = every_amount (λ i x. IsSome (market_of w n i)) r.stocks item amount (λ _. there) old
 
 module _ (c : CampaignValue) (n item amount : ℕ) (r : Region) (is : get c.regions n ≡ Some r) where
-  -- the campaign stays steady with another stock of an item in a region, up to the limit of its market there
+  -- the campaign stays steady when the stock of an item in a region is set, up to the limit of its market there
   pub steady-stock : (w : WorldValue) → IsSome (market_of w n item) → amount ≤ stock_limit w n item → IsSteady w c → IsSteady w (with_stock c n item amount)
   steady-stock w there few old =
       steady-region (λ q. restocked q item amount) c n r is w (IsRegion-stock w n r item amount few (old.numbers.regions n r is)) (AreOfMarkets-stock w n r item amount there (old.known.markets n r is)) old
@@ -42,7 +42,7 @@ module _ (c : CampaignValue) (n item amount : ℕ) (r : Region) (is : get c.regi
   pub total-stock : total (with_stock c n item amount) (Item item) + amount_of r.stocks item ≡ total c (Item item) + amount
   total-stock = total-region (λ q. restocked q item amount) c n r is (Item item) ∙ ap (λ k. total c (Item item) + k) (set_same r.stocks item amount)
 
-  -- numbers that are equal with the same number added are equal
+  -- a and b are equal if they are with the same number k added to both
   alone : (a b k : ℕ) → a + k ≡ b + k → a ≡ b
   alone a b k e = omega (arith, e)
 
