@@ -51,7 +51,7 @@ add-requires-2 c =
     rw (c.add.ensures, c.amount_number.ensures, c.amount_number-2.ensures)
     (fits_amount things (record marks { numbers = amount_marked marks.numbers Joining Money }) Joining People (omega (arith, rows)) (more_marked things marks Joining Money (omega (arith, rows)) c.self-2.invariant.amounts))
 
--- at the end of enroll the lists are those of the units, and there is room to mark each amount of the books
+-- at the end of enroll the lists by region, faction and structure are those of the units, and each amount can be marked
 pub invariant_of-self-3 : goal.invariant_of-self-3
 invariant_of-self-3 c =
     let books : c.self-2.inside.books ≡ c.args.self.now.value.books = ap (λ (m : MarkedCampaign). m.value.books) c.self-2.view_is ∙ ap (λ (s : CampaignValue). s.books) c.in-Ok.ensures.ok ∙ ap (λ (m : MarkedCampaign). m.value.books) c.self.view_is in

@@ -6,12 +6,12 @@ use Rattle.atl_campaign.specs.Roster.{Roster, skill_marked_at}
 use Rattle.atl_campaign.proofs.ListLaws.{AreUnitLists-set}
 use Rattle.atl_campaign.proofs.campaign.Campaign.set_days.Goals as goal
 
--- if nothing but the mark of a skill changed, or nothing at all, the units are the same
+-- two rosters have the same units, if they are equal, or the second is the first with a skill of unit n marked
 same_values : (r s : Roster) (n skill : ℕ) → (s ≡ r) ⊎ (s ≡ skill_marked_at r n skill) → s.values ≡ r.values
 same_values r s n skill (inl e) = ap (λ (t : Roster). t.values) e
 same_values r s n skill (inr e) = ap (λ (t : Roster). t.values) e
 
--- after set_days the lists are still those of the units, as no region, faction or structure of a unit changed
+-- after set_days the lists by region, faction and structure are still those of the units: none of these three changed
 pub invariant_of-self : goal.invariant_of-self
 invariant_of-self c = record {
   unit_lists =

@@ -6,12 +6,12 @@ use Rattle.atl_campaign.specs.Roster.{Roster, item_marked_at}
 use Rattle.atl_campaign.proofs.ListLaws.{AreUnitLists-set}
 use Rattle.atl_campaign.proofs.campaign.Campaign.set_item.Goals as goal
 
--- if nothing but the mark of an item changed, or nothing at all, the units are the same
+-- two rosters have the same units, if they are equal, or the second is the first with an item of unit n marked
 same_values : (r s : Roster) (n item : ℕ) → (s ≡ r) ⊎ (s ≡ item_marked_at r n item) → s.values ≡ r.values
 same_values r s n item (inl e) = ap (λ (t : Roster). t.values) e
 same_values r s n item (inr e) = ap (λ (t : Roster). t.values) e
 
--- after set_item the lists are still those of the units, as no region, faction or structure of a unit changed
+-- after set_item the lists by region, faction and structure are still those of the units: none of these three changed
 pub invariant_of-self : goal.invariant_of-self
 invariant_of-self c = record {
   unit_lists =

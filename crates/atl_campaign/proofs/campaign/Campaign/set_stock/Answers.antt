@@ -1,7 +1,7 @@
 use Rattle.std.proofs.Common.{inl, inr, refl}
 use Rattle.atl_campaign.proofs.campaign.Campaign.set_stock.Goals as goal
 
--- set_stock marks that stock alone or all stocks of the region, if the amount changes, and nothing else
+-- if a stock becomes another amount, set_stock marks it, alone or with all stocks of its region, and nothing else
 pub returns-clause-marks : goal.returns-clause-marks
 returns-clause-marks c =
     elim c.mark_stock.ensures.marks [

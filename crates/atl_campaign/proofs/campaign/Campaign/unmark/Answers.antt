@@ -2,7 +2,7 @@ use Rattle.std.proofs.Common.{refl}
 use Rattle.atl_campaign.proofs.AmountMarkLaws.{none_marked}
 use Rattle.atl_campaign.proofs.campaign.Campaign.unmark.Goals as goal
 
--- after unmark the lists are still those of the units, and there is room to mark each amount of the books
+-- after unmark the lists by region, faction and structure are still those of the units, and each amount can be marked
 pub invariant_of-self : goal.invariant_of-self
 invariant_of-self c =
     record {

@@ -6,7 +6,8 @@ use Rattle.atl_campaign.proofs.AmountMarkLaws.{none_marked}
 use Rattle.atl_campaign.proofs.FromRowLaws.{put-books}
 use Rattle.atl_campaign.proofs.campaign.assembling.assemble.Goals as goal
 
--- assemble returns a campaign with its invariant: the lists are those of the units, and each amount can be marked
+-- assemble returns a campaign with its invariant: the lists by region, faction and structure are those of the units,
+-- and each amount of the books can be marked
 pub invariant_of-result : goal.invariant_of-result
 invariant_of-result c =
     let things = 2 + length c.items.result.now in

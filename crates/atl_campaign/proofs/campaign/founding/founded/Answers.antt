@@ -16,7 +16,7 @@ pub founding_books-requires-clause-few : goal.founding_books-requires-clause-few
 founding_books-requires-clause-few c =
     rw (c.in_ok-regions.ensures, c.regions.ensures.value, entries-mapped founded_region c.args.world.now.regions) (simp length-map (omega (arith, len-entries c.args.world.now.regions, c.regions.ensures.world.few_regions)))
 
--- founded returns a campaign with its invariant: the lists are those of no units, and each amount can be marked
+-- founded returns a campaign with its invariant: no unit is in a list, and each amount of the books can be marked
 pub invariant_of-campaign : goal.invariant_of-campaign
 invariant_of-campaign c =
     let things = 2 + length c.items.result.now in

@@ -28,7 +28,7 @@ returns-in-Ok c =
       taken = ap as_map c.remove.ensures ∙ map-without places n c.in-Ok.place c.self.invariant stands ∙ ap (λ m. remove m n) c.self.view_is;
     }
 
--- where the number has no entry, remove returns None, and the index is the same as without the number
+-- where the number has no entry, remove returns None, and the index stays as it is, which is without the number
 pub returns-in-Err : goal.returns-in-Err
 returns-in-Err c =
     let places = c.self.inside.places in
