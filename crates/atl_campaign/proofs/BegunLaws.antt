@@ -178,15 +178,15 @@ marks-raised c s =
 -- ---- more of a structure is done
 
 module _ (w : WorldValue) (c : CampaignValue) (k : ℕ) (s : Structure) (done : ℕ) (is : get c.structures k ≡ Some s) where
-  -- structure s with `done` as the number for how much of it is done
+  -- structure s, but with `done` of it done
   abbrev further : Structure
   further = record s { done = done }
 
-  -- the campaign with structure k replaced by s with `done` done
+  -- the campaign in which structure k is s, but with `done` of it done
   abbrev pub built : CampaignValue
   built = record c { structures = insert c.structures k further }
 
-  -- with_done gives the campaign with structure k replaced by s with `done` done (`built`)
+  -- with_done gives the campaign in which structure k is s, but with `done` of it done (`built`)
   pub built_is : with_done c k done ≡ built
   built_is = ap (λ m. record c { structures = m }) (changed-known (λ x. record x { done = done }) c.structures k s is)
 

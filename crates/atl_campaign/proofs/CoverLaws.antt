@@ -107,7 +107,7 @@ both_stay : (a b c d : Bool) → (a ≡ true → b ≡ true) → (c ≡ true →
 both_stay true b c d one two h = ap (λ x. x || d) (one refl)
 both_stay false b c d one two h = ap (λ x. b || x) (two h) ∙ or-true b
 
--- if an or is false, both its parts are false
+-- if `a || b` is false, so are a and b
 neither : (a b : Bool) → (a || b) ≡ false → (a ≡ false) × (b ≡ false)
 neither true b h = absurd (true≢false h)
 neither false b h = (refl, h)
@@ -127,7 +127,7 @@ module _ (goods : FinSet nat_cmp) (things : Things) (n thing : ℕ) where
       ap (λ (o : Option (FinMap nat_cmp (Prim.Unit {0}))). is_some (get (unwrap_or o map.empty) t)) (get-insert nat_cmp_total things n (map.insert (group_of things n) thing tt) k)
       ∙ by_unit (eq_by_cmp nat_cmp k n)
     where
-      -- a thing that is put in if b is true is there if b is true or it was there
+      -- where a mark is put in if b is true, and o is what was there, a mark is there if b is true or o has one
       by_thing : (b : Bool) (o : Option (Prim.Unit {0})) → is_some (cond b (Some tt) o) ≡ (b || is_some o)
       by_thing true o = refl
       by_thing false o = refl
@@ -142,7 +142,7 @@ module _ (goods : FinSet nat_cmp) (things : Things) (n thing : ℕ) where
   pub thing_stays : ThingsStayMarked goods things goods (with_thing things n thing)
   thing_stays k t = both_stay (contains goods k) (contains goods k) (is_some (get (group_of things k) t)) (is_some (get (group_of (with_thing things n thing) k) t)) (λ h. h) (λ h. put_in k t ∙ by_unit h (eq_by_cmp nat_cmp k n) refl)
     where
-      -- a thing t of unit k that was marked still is, whether k is n or not
+      -- thing t of unit or region k, which was marked alone, still is, whether k is n (b) or not
       by_unit : is_some (get (group_of things k) t) ≡ true → (b : Bool) → eq_by_cmp nat_cmp k n ≡ b → cond b (eq_by_cmp nat_cmp t thing || is_some (get (group_of things n) t)) (is_some (get (group_of things k) t)) ≡ true
       by_unit h true e = ap (λ q. eq_by_cmp nat_cmp t thing || is_some (get (group_of things q) t)) (sym (same_key k n e)) ∙ ap (λ b. eq_by_cmp nat_cmp t thing || b) h ∙ or-true (eq_by_cmp nat_cmp t thing)
       by_unit h false e = h

@@ -80,7 +80,7 @@ min_low low n most h k = grind arith
 min_high : (n high most : ℕ) → n ≤ high → min n most ≤ high
 min_high n high most h = grind arith
 
--- a row's number from low to high is read as one from low to high, also where it is read as `most`, at least low
+-- a row's number from low to high is read as one from low to high, if the largest that is read, `most`, is at least low
 pub in_range : (low high most : ℕ) (z : ℤ) → low ≤ most → is_from low high z ≡ true → (low ≤ clamp most z) × (clamp most z ≤ high)
 in_range low high most (pos n) h e =
     let parts = and_parts (nat_le low n) (nat_le n high) e in

@@ -15,6 +15,7 @@ module _ {A : Type 0} (xs : List A) (free place : ℕ) where
   count = omega arith
 
   -- ---- the elements before an index moved, towards it or away from it
+
   -- moving the elements between the free slots and an index up by one removes the element at that index from the list
   pub closed : free + place < length xs → drop (free + 1) (copy_within xs free (free + place) (free + 1)) ≡ remove (drop free xs) place
   closed l =
@@ -30,14 +31,15 @@ module _ {A : Type 0} (xs : List A) (free place : ℕ) where
       (set_at (take place (drop free xs)) (get_or xs (free - 1 + place) x) (drop (free + place) xs) x place (length-take-le place (drop free xs) long) ∙ ap (λ ys. take place (drop free xs) ++ x ∷ ys) (sym (drop-drop place free xs)))
 
   -- ---- the elements after an index moved
-  -- removing from the vector at an index past its free slots removes from the list after these slots
+
+  -- removing an element past the free slots from the vector removes it from the list that follows these slots
   pub removed : free + place ≤ length xs → drop free (remove xs (free + place)) ≡ remove (drop free xs) place
   removed l =
       let long : free ≤ length (take (free + place) xs) = omega (arith, length-take-le (free + place) xs l) in
       let behind : suc (free + place) ≡ free + suc place = omega arith in
       drop-append-le free (take (free + place) xs) (drop (suc (free + place)) xs) long ∙ rw (drop-take free place xs, behind) (ap (λ ys. take place (drop free xs) ++ ys) (sym (drop-drop (suc place) free xs)))
 
-  -- inserting into the vector at an index past its free slots inserts into the list after these slots
+  -- inserting an element past the free slots into the vector inserts it into the list that follows these slots
   pub inserted : (x : A) → free + place ≤ length xs → drop free (insert xs (free + place) x) ≡ insert (drop free xs) place x
   inserted x l =
       let long : free ≤ length (take (free + place) xs) = omega (arith, length-take-le (free + place) xs l) in

@@ -19,7 +19,7 @@ module _ {R : Type 0} (test : R → Bool) where
   first_kept P r rows true e one all = (one e, all)
   first_kept P r rows false e one all = all
 
-  -- P holds of the filtered rows, if it holds of each row that passes
+  -- P holds of the filtered rows, if it holds of each row that passes the test
   pub kept : (P : R → Type 0) (rows : List R) → AllByRecursion (λ r. test r ≡ true → P r) rows → AllByRecursion P (filter test rows)
   kept P [] all = tt
   kept P (r ∷ rows) all = first_kept P r (filter test rows) (test r) refl all.0 (kept P rows all.1)
@@ -29,7 +29,7 @@ module _ {R : Type 0} (test : R → Bool) where
   first_unkept P r rows true e all = (λ _. all.0, all.1)
   first_unkept P r rows false e all = (λ passes. absurd (false≢true (sym e ∙ passes)), all)
 
-  -- if P holds of the filtered rows, it holds of each row that passes
+  -- if P holds of the filtered rows, it holds of each row that passes the test
   pub unkept : (P : R → Type 0) (rows : List R) → AllByRecursion P (filter test rows) → AllByRecursion (λ r. test r ≡ true → P r) rows
   unkept P [] all = tt
   unkept P (r ∷ rows) all = let first = first_unkept P r (filter test rows) (test r) refl all in (first.0, unkept P rows first.1)
@@ -123,7 +123,7 @@ module _ {R U : Type 0} (group : R → ℕ) (number : U → ℕ) where
       (IsPermutation-trans (mine ++ theirs) (mine ++ left) rows (IsPermutation-append_right mine theirs left (by_group units left apart.1 of))
       (IsPermutation-sym rows (mine ++ left) (IsPermutation-filter_both (λ r. group r == n) (λ r. not (group r == n)) (λ r. refl) rows)))
 
-  -- lists that are permutations group by group are permutations together
+  -- if f u and g u are the same rows in some order for each unit u, so are the rows of f and of g for all units, joined
   each_group : (f g : U → List R) → ((u : U) → IsPermutation (f u) (g u)) → (units : List U) → IsPermutation (flat_map f units) (flat_map g units)
   each_group f g same [] = IsPermutation-refl []
   each_group f g same (u ∷ units) = IsPermutation-append (f u) (g u) (flat_map f units) (flat_map g units) (same u) (each_group f g same units)

@@ -21,11 +21,11 @@ pub record MayHave (w : WorldValue) (h : HoldingValue) : Type 0 where
   pub limits : IsHolding h
   -- the holding's name keeps the rule of names
   pub name : IsTrue (name_ok h.name)
-  -- each listed item exists in the world
+  -- each item that the holding lists exists in the world
   pub items : Every (λ i amount. i < length w.items) h.items
-  -- each listed skill exists in the world
+  -- each skill that the holding lists exists in the world
   pub skills : Every (λ s days. s < length w.skills) h.days
-  -- each listed skill has at least 1 day, and at most most_days for each of the men
+  -- each skill that the holding lists has at least 1 day, and at most most_days for each of the holding's men
   pub days : Every (λ s days. (1 ≤ days) × (days ≤ most_days * h.men)) h.days
 
 -- the holding of a unit of a steady campaign is one that a unit may have (MayHave)

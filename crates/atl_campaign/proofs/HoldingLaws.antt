@@ -35,16 +35,16 @@ pub record MayHold (w : WorldValue) (u : Unit) (h : HoldingValue) : Type 0 where
   pub limits : IsHolding h
   -- the holding's name keeps the rule of names
   pub name : IsTrue (name_ok h.name)
-  -- each listed item exists in the world
+  -- each item that the holding lists exists in the world
   pub items : Every (λ i amount. i < length w.items) h.items
-  -- each listed skill exists in the world
+  -- each skill that the holding lists exists in the world
   pub skills : Every (λ s days. s < length w.skills) h.days
-  -- each listed skill has at least 1 day, and at most most_days for each of the men
+  -- each skill that the holding lists has at least 1 day, and at most most_days for each of the holding's men
   pub days : Every (λ s days. (1 ≤ days) × (days ≤ most_days * h.men)) h.days
   -- the unit guards with the holding only if the unit guarded before
   pub guard : guards (record u { holding = h }) ≡ true → guards u ≡ true
 
--- a unit of a steady campaign may hold any money up to the limit
+-- a unit of a steady campaign may get any money up to holding_limit, with the rest of its holding unchanged (MayHold)
 pub may_hold_money : (w : WorldValue) (c : CampaignValue) (n money : ℕ) (u : Unit) → get c.units n ≡ Some u → money ≤ holding_limit → IsSteady w c → MayHold w u (record u.holding { money = money })
 may_hold_money w c n money u is most steady =
     let place = steady.known.units n u is in
@@ -58,7 +58,7 @@ may_hold_money w c n money u is most steady =
       guard = λ g. g;
     }
 
--- the structure of the first unit, or of the second where the first is not there
+-- the structure that the first unit is inside, or the second where None is given for the first
 abbrev pub structure_in : Option Unit → Unit → ℕ
 structure_in (Some y) z = y.structure
 structure_in None z = z.structure
@@ -76,7 +76,7 @@ module _ (w : WorldValue) (c : CampaignValue) (n : ℕ) (u : Unit) (h : HoldingV
   free_apart : (k : ℕ) → get c.units k ≡ None → k ≢ n
   free_apart k free same = none_some u (sym free ∙ ap (get c.units) same ∙ is)
 
-  -- the campaign's numbers stay in range when unit n gets the holding h, if h is within the limits
+  -- counts and numbers stay in their ranges (AreInRange) when unit n gets the holding h, if h is within the limits
   pub numbers_kept : IsHolding h → AreInRange w c → AreInRange w supplied
   numbers_kept limits old = record {
     month = old.month;

@@ -98,6 +98,7 @@ module _ {X : Type 0} where
       ∙ sym (finmap.get-insert nat_cmp_total (from_entries es) n v q ∙ ap (cond (eq_by_cmp nat_cmp q n) (Some v)) (finmap.get-from_entries nat_cmp_total es q)))
 
 -- ---- what the index has under a number
+
 -- an option that is not Some is None
 pub nothing : {X : Type 0} (o : Option X) → is_some o ≡ false → o ≡ None
 nothing None h = refl
@@ -143,6 +144,7 @@ pub get-stands : (ps : List IndexEntry) (n i : ℕ) (d : IndexEntry) → IsSorte
 get-stands ps n i d s h = ap (λ m. finmap.get m n) (put_again ps n i d s h) ∙ there_itself (as_map (remove ps i)) n (get_or ps i d).slot
 
 -- ---- an entry that is inserted
+
 -- inserting an index entry where its number belongs puts it into the map of the entries
 pub map-added : (ps : List IndexEntry) (n i k : ℕ) → IsSorted ps → BelongsAt (index_numbers ps) n i → as_map (insert ps i (record { number = n; slot = k })) ≡ finmap.insert (as_map ps) n k
 map-added ps n i k s b =
@@ -153,6 +155,7 @@ pub rising-added : (ps : List IndexEntry) (n i k : ℕ) → IsSorted ps → Belo
 rising-added ps n i k s b = rw (map-insert (λ (p : IndexEntry). p.number) ps i (record { number = n; slot = k })) (rising-insert (index_numbers ps) n i s b)
 
 -- ---- an entry that is removed
+
 -- removing the index entry with a number removes the number from the map of the entries
 pub map-without : (ps : List IndexEntry) (n i : ℕ) → IsSorted ps → IsAt (index_numbers ps) n i → as_map (remove ps i) ≡ finmap.remove (as_map ps) n
 map-without ps n i s h =
@@ -168,6 +171,7 @@ pub map-missing : (ps : List IndexEntry) (n i : ℕ) → IsSorted ps → Belongs
 map-missing ps n i s b = sym (remove_none (as_map ps) n (get-belongs ps n i s b))
 
 -- ---- the whole index
+
 -- the empty list of index entries is sorted
 pub rising-none : IsSorted []
 rising-none = rising-empty
@@ -181,6 +185,7 @@ pub len-places : (ps : List IndexEntry) → IsSorted ps → finmap.len (as_map p
 len-places ps s = len_of (slots_of ps) (rw (keys_are ps) s) ∙ length-map ps (λ (p : IndexEntry). (p.number, p.slot))
 
 -- ---- the index that a search gives: of a number, or where it belongs
+
 -- if the binary search for a number finds an index, the index entry there has the number (IsAt)
 pub found-by_search : (ps : List IndexEntry) (n : ℕ) (r : Result ℕ ℕ) → IsSearchInRange r (length ps) → IsBinarySearchResult (λ p. nat_cmp p.number n) ps r → IfOk r (λ i. IsAt (index_numbers ps) n i)
 found-by_search ps n (Ok i) l h =

@@ -23,7 +23,7 @@ listed_is_inside s units k listed =
 pub inside_is_listed : (s : ℕ) (units : FinMap nat_cmp Unit) → s ≢ 0 → Every (λ k v. v.structure ≡ s → IsListed k (numbers_inside s units)) units
 inside_is_listed s units some k v is inside = rw (other_number s 0 some) (passing_listed (λ u. u.structure == s) units k v is (ap (λ q. q == s) inside ∙ same_number s))
 
--- two maps of units with the same units inside a structure give it the same list
+-- two maps of units give structure s the same list of units inside, if units of the same numbers are inside it in both
 pub inside_as_before : (s : ℕ) (units others : FinMap nat_cmp Unit) → numbers_where (λ u. u.structure == s) others ≡ numbers_where (λ u. u.structure == s) units → numbers_inside s others ≡ numbers_inside s units
 inside_as_before s units others same = ap (λ ns. cond (s == 0) [] ns) same
 

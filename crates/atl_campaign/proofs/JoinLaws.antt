@@ -78,7 +78,7 @@ joining_small w c sound =
 
 -- ---- the numbers
 
--- a value put under a new number is one value more
+-- a map has one value more once a value is put under a new number
 len_new : {V : Type 0} (m : FinMap nat_cmp V) (k : ℕ) (v : V) → get m k ≡ None → len (insert m k v) ≡ len m + 1
 len_new m k v h = len-insert nat_cmp_total m k v ∙ ap (λ o. cond (is_some o) (len m) (len m + 1)) h
 
@@ -117,7 +117,7 @@ some_put : {P : Type 0} (n : ℕ) (xs : List ℕ) → put_number n xs ≡ [] →
 unfolding put_number
 some_put n xs e = absurd (omega (arith, ap length e, length-append (take (first_not_below n xs) xs) (n ∷ drop (first_not_below n xs) xs)))
 
--- a name that is not taken is no faction's joined name
+-- if name_taken is false of a name, no faction joined under this name
 untaken : (c : CampaignValue) (name : List ℕ) → name_taken c name ≡ false → Every (λ n f. f.joined_as ≢ name) c.factions
 untaken c name h n f is same =
     let differs = every-from_none (λ (g : Faction). pointwise nat_eq g.joined_as name) c.factions h n f is in
@@ -162,7 +162,8 @@ module _ (w : WorldValue) (name pass : List ℕ) (word : ℕ) (c : CampaignValue
         books = AreBooks-after_booking (things_of w) one Joining People (pos 1) (AreBooks-after_booking (things_of w) c.books Joining Money (pos w.rules.start_money) old.books (omega arith)) (omega arith);
       }
 
-  -- names and pass texts still keep their rules (AreNamed) once a faction joined, if its own do and its name is free
+  -- names and pass texts still keep their rules (AreNamed) once a faction joined, if its own name and pass text do, and
+  -- the name is not taken
   joined-names : is_full c ≡ false → name_taken c name ≡ false → IsTrue (name_ok name) → IsTrue (pass_ok pass) → AreNamed c → AreNamed (joined w name pass word c)
   unfolding joined
   joined-names full free named passes old =

@@ -204,7 +204,7 @@ module _ (w : WorldValue) (c : CampaignValue) (n : ℕ) (u : Unit) (is : get c.u
             let t : (y.owner == n) ≡ true = (let eq : y.owner ≡ n = same ∙ own in grind (arith, nat_tests)) in
             absurd (true≢false (sym t ∙ f))
           where
-            -- the owner of a structure if it is Some, else the owner of another
+            -- the owner of the structure in an option, or of another structure where the option is None
             owner_in : Option Structure → Structure → ℕ
             owner_in (Some z) d = z.owner
             owner_in None d = d.owner
@@ -357,7 +357,7 @@ module _ (w : WorldValue) (c : CampaignValue) (n : ℕ) (u : Unit) (is : get c.u
 
 -- ---- what is marked
 
--- a change of a structure, with its mark, marks all that changes (MarksChanges)
+-- a change of a structure, with the structure marked, marks all that changes (MarksChanges)
 pub marks-structure : (f : Structure → Structure) (c : MarkedCampaign) (n : ℕ) → MarksChanges c (record { value = structure_changed f c.value n; marks = mark_structure c n })
 marks-structure f c n =
     let after : FinMap nat_cmp Structure → Option Structure → MarkedCampaign = λ m o. record { value = record c.value { structures = m }; marks = record c.marks { structures = marked_with c.marks.structures n o } } in
@@ -371,7 +371,7 @@ marks-structure f c n =
 pub marks-after_handover : (c : MarkedCampaign) (s from to : ℕ) → MarksChanges c (handed_marked c s from to)
 marks-after_handover c s from to = by_test (is_owned_by (get c.value.structures s) from)
   where
-    -- all that changes is marked (MarksChanges), whether the structure gets another owner or not
+    -- handing structure s on marks all that changes (MarksChanges), whether it gets another owner (b) or not
     by_test : (b : Bool) → MarksChanges c (if b then record { value = with_owner c.value s to; marks = mark_structure c s } else c)
     by_test true = marks-structure (owned_by to) c s
     by_test false = marks-refl c
@@ -380,7 +380,7 @@ marks-after_handover c s from to = by_test (is_owned_by (get c.value.structures 
 pub marks-taken : (c : MarkedCampaign) (n : ℕ) → MarksChanges c (taken_marked c n)
 marks-taken c n = by_unit (get c.value.units n) refl
   where
-    -- all that changes is marked (MarksChanges), whether unit n is there or not
+    -- removing unit n marks all that changes (MarksChanges), whether the unit is there (o) or not
     by_unit : (o : Option Unit) → get c.value.units n ≡ o → MarksChanges c (taken_marked c n)
     by_unit None is = subst (MarksChanges c) (taken_none c n is) (marks-refl c)
     by_unit (Some u) is =

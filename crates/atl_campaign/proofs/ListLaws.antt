@@ -98,7 +98,7 @@ listed_else lists k xs r = by_key lists k xs (λ q ys. k ≢ q → ys ≡ list_o
 pub listed_there : (lists : FinMap nat_cmp (List ℕ)) (k : ℕ) (xs : List ℕ) → list_of (insert lists k xs) k ≡ xs
 listed_there lists k xs = ap (λ o. unwrap_or o []) (get-insert nat_cmp_total lists k xs k ∙ ap (λ b. cond b (Some xs) (get lists k)) (itself k))
 
--- lists that have just the units of each key (AreLists) do so again once a number is put into one and taken out again
+-- lists that have just the units of each key (AreLists) have them again once a number is put into one and taken out
 pub AreLists-undone_at : (belongs_to : Unit → ℕ) (units : FinMap nat_cmp Unit) (old mid new : FinMap nat_cmp (List ℕ)) (n key : ℕ) → mid ≡ insert old key (put_number n (list_of old key)) → SameLists new (insert mid key (take_number n (list_of mid key)))
     → AreLists belongs_to units old → AreLists belongs_to units new
 AreLists-undone_at belongs_to units old mid new n key put same is =
@@ -180,11 +180,12 @@ AreInsideLists-kept units lists n u v there same is =
     bare_inside (insert units n v) lists (whole units lists is) (whole_bare units lists is) (AreLists-kept (λ w. w.structure) units _ n u v there same (whole_listed units lists is))
 
 -- ---- nobody is listed
+
 -- where there are no units, empty lists have just the units of each key (AreLists)
 nobody_listed : (belongs_to : Unit → ℕ) → AreLists belongs_to empty empty
 nobody_listed belongs_to k = ap (λ o. unwrap_or o []) (get-empty nat_cmp k) ∙ sym (ap (λ es. map (λ e. e.0) (filter (λ e. belongs_to e.1 == k) es)) entries-empty)
 
--- an empty map of lists has the lists of an empty one, and none under 0 (AreBare)
+-- an empty map of lists has the lists of an empty one, and an empty list under 0 (AreBare)
 nobody_bare : AreBare empty empty
 nobody_bare k = elim (k == 0) as (λ b. list_of empty k ≡ cond b [] (list_of empty k)) [
   | true ↦ ap (λ o. unwrap_or o []) (get-empty nat_cmp k)
@@ -256,8 +257,8 @@ module _ (belongs_to : Unit → ℕ) where
       (subst (λ q. AreLists belongs_to (insert units n v) (unlisted_apart (listed_apart old n to q) n q to)) own
       (subst (λ q. AreLists belongs_to (insert units n v) (unlisted_apart (listed_apart old n q (belongs_to u)) n (belongs_to u) q)) goes (relisted units old n u v is lists))))
 
-  -- lists that have just the units of each key (AreLists) do so again once a number is put under a key and taken out
-  -- again, or neither where the key is `other`
+  -- lists that have just the units of each key (AreLists) have them again once a number is put under a key and taken
+  -- out again, or neither where the key is `other`
   pub AreLists-apart : (units : FinMap nat_cmp Unit) (old mid new : FinMap nat_cmp (List ℕ)) (n key other : ℕ) → mid ≡ listed_apart old n key other → SameLists new (unlisted_apart mid n key other) → AreLists belongs_to units old → AreLists belongs_to units new
   AreLists-apart units old mid new n key other put same is =
       elim (key == other) as (λ b. mid ≡ cond b old (insert old key (put_number n (list_of old key))) → SameLists new (cond b mid (insert mid key (take_number n (list_of mid key)))) → AreLists belongs_to units new) [

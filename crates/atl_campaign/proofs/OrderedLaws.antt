@@ -15,6 +15,7 @@ use Rattle.atl_campaign.specs.Ordered.{first_not_below, put_number, take_number}
 use Rattle.atl_records.proofs.EveryLaws.{is_true, none_some}
 
 -- ---- put_number and take_number as recursions
+
 -- n is put in front of a first element x if n is at most x (t), and else into the rest of the list
 put_step : (t : Bool) (n x : ℕ) (xs : List ℕ) → take (cond (not t) (1 + first_not_below n xs) 0) (x ∷ xs) ++ n ∷ drop (cond (not t) (1 + first_not_below n xs) 0) (x ∷ xs) ≡ cond t (n ∷ x ∷ xs) (x ∷ put_number n xs)
 unfolding put_number
@@ -65,6 +66,7 @@ taken_put n (x ∷ xs) =
     ] refl
 
 -- ---- the numbers whose values pass a test
+
 -- if comparing k with q gives less, k is less than q
 pub below : (k q : ℕ) → is_lt (nat_cmp k q) ≡ true → k < q
 below k q h =
@@ -114,7 +116,7 @@ module _ {X : Type 0} (p : X → Bool) where
         | Greater ↦ λ l g. chosen-cons p e (put nat_cmp k v es) ∙ later_step k e.0 (p e.1) (chosen es) (chosen (put nat_cmp k v es)) (ranked k e.0 Greater (sym l)) (chosen-put_new k v h es (and_parts _ _ s).1 g) ∙ ap (put_number k) (sym (chosen-cons p e es))
       ] refl g
 
-  -- inserting a new value that passes the test puts its number into the list of passing numbers
+  -- inserting a value that passes the test under a new number puts the number into the list numbers_where
   pub numbers_where-insert_new : (m : FinMap nat_cmp X) (k : ℕ) (v : X) → get m k ≡ None → p v ≡ true → numbers_where p (insert m k v) ≡ put_number k (numbers_where p m)
   numbers_where-insert_new m k v fresh h =
       ap chosen (entries-insert nat_cmp_total m k v) ∙ chosen-put_new k v h (entries m) (is_true _ (entries_sorted m)) (sym (get-entries m k) ∙ fresh)
@@ -123,7 +125,7 @@ module _ {X : Type 0} (p : X → Bool) where
   removed : (m : FinMap nat_cmp X) (k : ℕ) → get (keyed.remove m k) k ≡ None
   removed m k = get-remove nat_cmp_total m k k ∙ ap (λ b. cond b None (get m k)) (ties k)
 
-  -- replacing a value that passed by one that does not takes its number out of the list of passing numbers
+  -- replacing a value that passed the test by one that doesn't takes its number out of the list numbers_where
   pub numbers_where-lost : (m : FinMap nat_cmp X) (k : ℕ) (u v : X) → get m k ≡ Some u → p u ≡ true → p v ≡ false → numbers_where p (insert m k v) ≡ take_number k (numbers_where p m)
   numbers_where-lost m k u v is passed fails =
       let base = keyed.remove m k in
@@ -131,7 +133,7 @@ module _ {X : Type 0} (p : X → Bool) where
       let after : numbers_where p (insert m k v) ≡ numbers_where p base = ap (numbers_where p) (put_over m k v) ∙ numbers_where-insert_other p base k v (removed m k) fails in
       after ∙ sym (taken_put k (numbers_where p base)) ∙ ap (take_number k) (sym before)
 
-  -- replacing a value that did not pass by one that does puts its number into the list of passing numbers
+  -- replacing a value that didn't pass the test by one that does puts its number into the list numbers_where
   pub numbers_where-gained : (m : FinMap nat_cmp X) (k : ℕ) (u v : X) → get m k ≡ Some u → p u ≡ false → p v ≡ true → numbers_where p (insert m k v) ≡ put_number k (numbers_where p m)
   numbers_where-gained m k u v is failed passes =
       let base = keyed.remove m k in

@@ -18,6 +18,7 @@ pub taken_none : (c : MarkedCampaign) (n : ℕ) → get c.value.units n ≡ None
 taken_none c n none = sym (ap (λ m. without c n m (get c.value.units n)) (remove_none c.value.units n none) ∙ ap (without c n c.value.units) none)
 
 -- ---- what becomes of the campaign, but for its marks
+
 -- choosing between two marked campaigns and taking the value is choosing between their values
 by_test : (b : Bool) (c d : MarkedCampaign) → (if b then d else c).value ≡ (if b then d.value else c.value)
 by_test true c d = refl
@@ -54,6 +55,7 @@ unfolding gone_marked without_unit
 gone-what c n = gone_at c n (get c.value.units n)
 
 -- ---- where the unit is known
+
 -- moving a unit that is not there changes nothing
 pub place_none : (c : MarkedCampaign) (n r s : ℕ) → get c.value.units n ≡ None → c ≡ place_marked c n r s
 unfolding place_marked

@@ -118,7 +118,7 @@ module _ (f : Region → Region) (c : CampaignValue) (n : ℕ) (r : Region) (is 
   pub region-changed : get (region_changed f c n).regions n ≡ Some (f r)
   region-changed = ap (λ m. get m n) (changed-known f c.regions n r is) ∙ get-insert_same c.regions n (f r)
 
-  -- the campaign stays steady if the changed region is in range, with stocks of its markets
+  -- the campaign stays steady when f changes region n, if f r is in range (IsRegion), with stocks of its markets only
   pub steady-region : (w : WorldValue) → IsRegion w n (f r) → AreOfMarkets w n (f r).stocks → IsSteady w c → IsSteady w (region_changed f c n)
   steady-region w within marketed old =
       subst (λ (m : FinMap nat_cmp Region). IsSteady w (record c { regions = m })) (sym (changed-known f c.regions n r is))
@@ -152,7 +152,7 @@ pub total-amount : (c : CampaignValue) (e : Entry) (u t : Thing) (n : ℤ) → t
 unfolding total
 total-amount c e u t n = refl
 
--- booking an amount changes no amount whose number (`amount_number`) is another
+-- booking an amount changes no amount of the books that has another number (`amount_number`)
 pub amount-other : (books : BooksValue) (e f : Entry) (t u : Thing) (n : ℤ) → amount_number e t ≢ amount_number f u → amount_in (after_booking books f u n) e t ≡ amount_in books e t
 amount-other books e f t u n apart =
     elim (cases_account (e, t) (f, u)) [

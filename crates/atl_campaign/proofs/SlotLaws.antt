@@ -59,7 +59,7 @@ module _ {V : Type 0} where
   pub all_in_use : (i : FinMap nat_cmp ℕ) (s : slab.Slab V) → HaveOwnSlots i s → AreInUse (entries i) s
   all_in_use i s held = each-from_every (λ n k. is_some (slab.get s k) ≡ true) i held.in_use
 
-  -- the value under a number is the one in the slot that it leads to
+  -- the map of values (values_of) has under a number the value in the slot to which the index leads from the number
   pub get_values : (i : FinMap nat_cmp ℕ) (s : slab.Slab V) → HaveOwnSlots i s → (q : ℕ) → get (values_of i s) q ≡ through s (get i q)
   get_values i s held q =
       get-from_entries nat_cmp_total (slot_entries (entries i) s) q
@@ -99,6 +99,7 @@ module _ {V : Type 0} where
   kept s t k x (Some j) u h = u.others j (h j refl)
 
   -- ---- a value changed in its slot
+
   -- the numbers of an index still lead to distinct slots in use (HaveOwnSlots) when the value in one changes
   pub HaveOwnSlots-changed : (i : FinMap nat_cmp ℕ) (s t : slab.Slab V) (k : ℕ) (x : V) → slab.Updates s t k (Some x) → HaveOwnSlots i s → HaveOwnSlots i t
   HaveOwnSlots-changed i s t k x u held = record {
@@ -119,6 +120,7 @@ module _ {V : Type 0} where
       ∙ sym (get-insert nat_cmp_total (values_of i s) n x q ∙ ap (cond (eq_by_cmp nat_cmp q n) (Some x)) (get_values i s held q)))
 
   -- ---- a value put in
+
   -- the numbers of an index still lead to distinct slots in use (HaveOwnSlots) when a vacant slot is used for a number
   pub HaveOwnSlots-added : (i : FinMap nat_cmp ℕ) (s t : slab.Slab V) (n k : ℕ) (x : V) → slab.Updates s t k (Some x) → slab.get s k ≡ None → HaveOwnSlots i s → HaveOwnSlots (insert i n k) t
   HaveOwnSlots-added i s t n k x u vacant held = record {
@@ -149,6 +151,7 @@ module _ {V : Type 0} where
       ∙ sym (get-insert nat_cmp_total (values_of i s) n x q ∙ ap (cond (eq_by_cmp nat_cmp q n) (Some x)) (get_values i s held q)))
 
   -- ---- a value taken out
+
   -- the numbers of an index still lead to distinct slots in use (HaveOwnSlots) when a number and its slot are given up
   pub HaveOwnSlots-removed : (i : FinMap nat_cmp ℕ) (s t : slab.Slab V) (n k : ℕ) → slab.Updates s t k None → get i n ≡ Some k → HaveOwnSlots i s → HaveOwnSlots (remove i n) t
   HaveOwnSlots-removed i s t n k u is held = record {
@@ -178,7 +181,7 @@ module _ {V : Type 0} where
   pub nothing_changed : (i : FinMap nat_cmp ℕ) (s t : slab.Slab V) → slab.SameValues s t → values_of i t ≡ values_of i s
   nothing_changed i s t same = ap from_entries (lodged_same (entries i) s t same)
 
-  -- the numbers of an index lead to distinct slots in use (HaveOwnSlots) in a slab with the same values too
+  -- the numbers of an index lead to distinct slots in use (HaveOwnSlots) in slab t too, if t has the same values as s
   pub HaveOwnSlots-same : (i : FinMap nat_cmp ℕ) (s t : slab.Slab V) → slab.SameValues s t → HaveOwnSlots i s → HaveOwnSlots i t
   HaveOwnSlots-same i s t same held = record { in_use = λ n k h. ap is_some (same k) ∙ held.in_use n k h; by_one = held.by_one }
 
@@ -241,8 +244,8 @@ module _ {V : Type 0} where
   pub IsArena-changed : (i : FinMap nat_cmp ℕ) (s : slab.Slab V) (k : ℕ) (w : V) → is_some (slab.get s k) ≡ true → IsArena i s → IsArena i (slab.with_value s k w)
   IsArena-changed i s k w used held = record { slots_used = HaveOwnSlots-changed i s (slab.with_value s k w) k w (written s k w used) held.slots_used; none_idle = len_written s k w used ∙ held.none_idle }
 
-  -- each number has a slot of its own, and no other slot is in use (IsArena), in a slab with the same values too, if it
-  -- has as many slots in use
+  -- an index and a slab that are an arena (IsArena) are one too with another slab that has the same values, and as many
+  -- slots in use
   pub IsArena-same : (i : FinMap nat_cmp ℕ) (s t : slab.Slab V) → slab.SameValues s t → slab.slab_len t ≡ slab.slab_len s → IsArena i s → IsArena i t
   IsArena-same i s t same as_many held = record { slots_used = HaveOwnSlots-same i s t same held.slots_used; none_idle = as_many ∙ held.none_idle }
 
@@ -260,6 +263,7 @@ pub lent_same : {N W D E : Type 0} (n : N) (F G : W → D) → ((w : W) → F w 
 lent_same n F G h j = inl (n, λ w. h w j)
 
 -- ---- sorted by number
+
 -- a number below all entries is less than each of their numbers
 rise : {V : Type 0} (k : ℕ) (es : List (ℕ × V)) → below_all nat_cmp k es ≡ true → AllByRecursion (λ n. nat_cmp k n ≡ Less) (keys_of es)
 rise k [] h = tt

@@ -15,6 +15,7 @@ use Rattle.atl_campaign.specs.UnitRoom.{AreUnits}
 use Rattle.atl_campaign.specs.Roster.{Roster}
 
 -- ---- what is marked
+
 -- if c implies d, b or c implies b or d
 either : (b c d : Bool) → (c ≡ true → d ≡ true) → (b || c) ≡ true → (b || d) ≡ true
 either true c d h e = refl
