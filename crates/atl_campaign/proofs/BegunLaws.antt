@@ -99,8 +99,8 @@ module _ (w : WorldValue) (c : CampaignValue) (s : Structure) (fresh : IsFresh w
     posts = old.known.posts;
   }
 
-  -- once a structure is begun, factions and structures are still numbered without a gap, and units below their next
-  -- number (AreNumbered)
+  -- once a structure is begun, factions and structures are still numbered without a gap, and all units have numbers
+  -- below the next unit number (AreNumbered)
   next_kept : AreNumbered raised
   next_kept =
       let numbered = old.next.structures in
@@ -235,8 +235,8 @@ module _ (w : WorldValue) (c : CampaignValue) (k : ℕ) (s : Structure) (done : 
     apart_free : (j : ℕ) → get c.structures j ≡ None → get built.structures j ≡ None
     apart_free j none = get-insert_other c.structures k j further (λ same. none_some s (sym none ∙ ap (get c.structures) same ∙ is)) ∙ none
 
-    -- after building on a structure, factions and structures are still numbered without a gap, and units below their
-    -- next number (AreNumbered)
+    -- after building on a structure, factions and structures are still numbered without a gap, and all units have
+    -- numbers below the next unit number (AreNumbered)
     next_built : AreNumbered built
     next_built = record {
       factions = was.next.factions;

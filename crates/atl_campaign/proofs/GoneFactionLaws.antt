@@ -87,7 +87,7 @@ module _ (c : CampaignValue) (n : ℕ) (x : Faction) (is : get c.factions n ≡ 
     posts = posted-there there old.posts;
   }
 
-  -- factions and structures stay numbered without a gap, and units below their next number, when faction n is set gone
+  -- with faction n set gone, factions and structures stay numbered without a gap, and units below the next unit number
   next_kept : AreNumbered c → AreNumbered left
   next_kept old = record {
     factions = record { first = none_kept 0 old.factions.first; count = old.factions.count ∙ ap (λ l. l + 1) (sym (same_len c.factions n x (as_gone x) is)); free = λ k l. none_kept k (old.factions.free k l) };

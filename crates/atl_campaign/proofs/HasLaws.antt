@@ -110,18 +110,19 @@ same a b = eq_by_cmp key_cmp a b
 pub ties_itself : (k : Key) → same k k ≡ true
 ties_itself k = (eq_by_cmp_equiv (then_total (then_total (on_total (λ (t : Key). t.0) int_cmp_total) (on_total (λ (t : Key). t.1) int_cmp_total)) (on_total (λ (t : Key). t.2) int_cmp_total))).refl k
 
--- no two rows of `has` of unit n and one sort are of one thing, if no two rows have equal keys
+-- no two rows of `has` of unit n and one sort are of one thing, if keys are read as they are, and no two are equal
 pub things_apart : (n sort : ℕ) (has : List StoredHas) → AllByRecursion HasWholeKey has → IsDistinct same (map has_key has) → Apart thing_of (filter (is_of n sort) has)
 things_apart n sort = group.things_apart has_key same ties_itself thing_of (is_of n sort) HasWholeKey (same_key n sort)
 
--- the goods of one sort read for unit n are written as the rows of unit n and that sort, in some order, if no two rows
--- have equal keys
+-- the goods of one sort read for unit n are written as the rows of unit n and that sort, in some order, if each row is
+-- exact (IsExact), and no two have equal keys
 sort_order : (n sort : ℕ) (has : List StoredHas) → AllByRecursion IsExact has → IsDistinct same (map has_key has) → IsPermutation (rows_of_sort n sort (entries (things_had n sort has))) (filter (is_of n sort) has)
 sort_order n sort has all d =
     lines_order thing_of amount_of (has_row n sort) (λ h. not (is_zero h.amount)) (filter (is_of n sort) has) (things_apart n sort has (each_so IsExact HasWholeKey (λ h one. one.keys) has all) d)
     (each_so (λ h. IsExact h × (is_of n sort h ≡ true)) (λ h. (has_row n sort (thing_of h) (amount_of h) ≡ h) × (not (is_zero h.amount) ≡ true)) (λ h had. (same_row n sort h (had.0.keys, had.1) had.0.amount, ap not had.0.some)) (filter (is_of n sort) has) (group.all_mine has_key same ties_itself thing_of (is_of n sort) IsExact has all))
 
--- the items and days read for unit n are written as the rows of unit n, in some order, if no two rows have equal keys
+-- the items and days read for unit n are written as the rows of unit n, in some order, if each row is exact (IsExact)
+-- and of one of the two sorts, and no two have equal keys
 unit_order : (n : ℕ) (has : List StoredHas) → AllByRecursion (λ h. (as_u32 h.sort ≡ 0) ⊎ (as_u32 h.sort ≡ 1)) has → AllByRecursion IsExact has → IsDistinct same (map has_key has)
     → IsPermutation (rows_of_sort n 0 (entries (things_had n 0 has)) ++ rows_of_sort n 1 (entries (things_had n 1 has))) (rows_of_unit n has)
 unit_order n has sorts all d =
@@ -134,8 +135,8 @@ unit_order n has sorts all d =
 abbrev unit_lines : ℕ × Unit → List StoredHas
 unit_lines e = held_rows e.0 e.1.holding
 
--- units assembled from rows are written as the same rows of `has`, in some order, if no two of these have equal keys,
--- and each is of one of the units
+-- units assembled from rows are written as the same rows of `has`, in some order, if the units have different numbers,
+-- and each row of `has` is exact (IsExact), of one of the units, and of a key of its own
 pub has_order : (has : List StoredHas) (units : List StoredUnit) → Apart (λ r. as_u32 r.number) units → AllByRecursion (IsOfUnits units) has → AllByRecursion IsExact has → IsDistinct same (map has_key has)
     → IsPermutation (has_rows (entries (by_number (λ r. as_u32 r.number) (unit_of has) units))) has
 has_order has units apart of all d =

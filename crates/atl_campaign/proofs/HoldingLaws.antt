@@ -105,7 +105,7 @@ module _ (w : WorldValue) (c : CampaignValue) (n : ℕ) (u : Unit) (h : HoldingV
     posts = old.posts;
   }
 
-  -- factions and structures stay numbered without a gap, and units below their next number, with h held by unit n
+  -- with h held by unit n, factions and structures stay numbered without a gap, and units below the next unit number
   pub next_kept : AreNumbered c → AreNumbered supplied
   next_kept old = record {
     factions = old.factions;

@@ -207,7 +207,7 @@ module _ (w : WorldValue) (name pass : List ℕ) (word : ℕ) (c : CampaignValue
         posts = posted-there (λ n. there-insert c.factions c.next_faction n member) old.posts;
       }
 
-  -- once a faction joined, factions and structures still are numbered without a gap, and units below their next number
+  -- after a join, factions and structures are still numbered without a gap, and units below the next unit number
   joined-next : AreNumbered c → AreNumbered (joined w name pass word c)
   unfolding joined
   joined-next old = record {

@@ -46,13 +46,13 @@ module _ (w : WorldValue) (c : CampaignValue) (n : ℕ) (u : Unit) (is : get c.u
 
   -- structures that differ from the campaign's at most in owners, who are among the units left
   pub record AreReowned (structures : FinMap nat_cmp Structure) : Type 0 where
-    -- there are as many structures as the campaign has
+    -- there are as many of the given structures as the campaign has
     pub count : len structures ≡ len c.structures
-    -- each of the structures is the campaign's of the same number, but perhaps for its owner
+    -- each of the given structures is the campaign's of the same number, but perhaps for its owner
     pub back : Every (λ k x. (y : Structure) × (o : ℕ) × (get c.structures k ≡ Some y) × (owned_by o y ≡ x)) structures
-    -- each of the campaign's structures is there under its number, but perhaps for its owner
+    -- each of the campaign's structures is among the given ones under its number, but perhaps for its owner
     pub forth : Every (λ k y. (o : ℕ) × (get structures k ≡ Some (owned_by o y))) c.structures
-    -- each of the structures is owned by a unit inside it that is left, or by nobody where none of these is inside
+    -- each of the given structures is owned by a unit left inside it, or by nobody where no unit is left inside
     pub owned : Every (λ k x. IsOwned (reduced structures) k x) structures
 
   module _ (structures : FinMap nat_cmp Structure) (re : AreReowned structures) where
@@ -113,7 +113,7 @@ module _ (w : WorldValue) (c : CampaignValue) (n : ℕ) (u : Unit) (is : get c.u
           owner = λ some. let (v, here, inside) = (re.owned k x there).owned some in (v, here);
         }
 
-    -- factions and structures stay numbered without a gap, and units below their next number, once unit n is removed
+    -- once unit n is removed, factions and structures stay numbered without a gap, and units below the next unit number
     next_left : AreNumbered c → AreNumbered after
     next_left old = record {
       factions = old.factions;

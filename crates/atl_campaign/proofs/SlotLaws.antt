@@ -59,7 +59,7 @@ module _ {V : Type 0} where
   pub all_in_use : (i : FinMap nat_cmp ℕ) (s : slab.Slab V) → HaveOwnSlots i s → AreInUse (entries i) s
   all_in_use i s held = each-from_every (λ n k. is_some (slab.get s k) ≡ true) i held.in_use
 
-  -- the map of values (values_of) has under a number the value in the slot to which the index leads from the number
+  -- where each number has its own slot, the map of values has under a number the value in the number's slot
   pub get_values : (i : FinMap nat_cmp ℕ) (s : slab.Slab V) → HaveOwnSlots i s → (q : ℕ) → get (values_of i s) q ≡ through s (get i q)
   get_values i s held q =
       get-from_entries nat_cmp_total (slot_entries (entries i) s) q

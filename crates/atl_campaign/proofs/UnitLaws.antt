@@ -16,7 +16,7 @@ use Rattle.atl_campaign.specs.Roster.{Roster}
 
 -- ---- what is marked
 
--- if c implies d, b or c implies b or d
+-- if c implies d, `b || c` implies `b || d`
 either : (b c d : Bool) → (c ≡ true → d ≡ true) → (b || c) ≡ true → (b || d) ≡ true
 either true c d h e = refl
 either false c d h e = h e
@@ -26,7 +26,7 @@ either_there : {V : Type 0} (b : Bool) (v : V) (o : Option V) (d : Bool) → (is
 either_there true v o d h e = refl
 either_there false v o d h e = h e
 
--- `b or d` is true if d is
+-- `b || d` is true if d is
 more : (b d : Bool) → d ≡ true → (b || d) ≡ true
 more true d e = refl
 more false d e = e
@@ -192,7 +192,7 @@ pub record IsWider (units : FinMap nat_cmp Unit) (marks more : RoomySet) : Type 
   -- the wider set has room for the numbers it has, for all units, and for one unit more
   pub room : set.len marks.numbers + (len units + 1) ≤ more.room
 
--- a dirty set with room for one unit more (IsWider) has room for the units with a new one
+-- a dirty set with room for one unit more (IsWider) has room for its numbers and for all units, a new one included
 room_inserted : (units : FinMap nat_cmp Unit) (marks more : RoomySet) (n : ℕ) (w : Unit) → IsWider units marks more → set.len more.numbers + len (insert units n w) ≤ more.room
 room_inserted units marks more n w h = let l = one_more units n w in let as_many = ap set.len h.same in omega (arith, h.room, l, as_many)
 

@@ -6,7 +6,7 @@ use Rattle.atl_records.proofs.EveryLaws.{same_number, other_number}
 use Rattle.atl_campaign.proofs.OwnerLaws.{place-what, place_none, place_stays, place_leaves}
 use Rattle.atl_campaign.proofs.campaign.Campaign.place.Goals as goal
 
--- where there is no such unit, place changes nothing, as with_place and place_marked define
+-- where no unit has the given number, place changes nothing, as with_place and place_marked define
 pub returns-in-None : goal.returns-in-None
 returns-in-None c =
     let is = place_none c.args.self.now c.args.number c.args.region c.args.structure (sym (c.in-None.ensures ∙ ap (λ (m : MarkedCampaign). get m.value.units c.args.number) c.self.view_is)) in

@@ -5,7 +5,7 @@ use Rattle.atl_campaign.specs.Campaign.{MarkedCampaign}
 use Rattle.atl_campaign.proofs.OwnerLaws.{gone-what, gone_none, gone_some}
 use Rattle.atl_campaign.proofs.campaign.Campaign.remove_unit.Goals as goal
 
--- where there is no such unit, remove_unit changes nothing, as without_unit and gone_marked define
+-- where no unit has the given number, remove_unit changes nothing, as without_unit and gone_marked define
 pub returns-in-None : goal.returns-in-None
 returns-in-None c =
     let is = gone_none c.args.self.now c.args.number (sym (c.in-None.ensures ∙ ap (λ (m : MarkedCampaign). get m.value.units c.args.number) c.self.view_is)) in

@@ -18,7 +18,7 @@ returns-in-Ok c =
     let stands : IsAt (index_numbers places) n c.in-Ok.place = rw c.as_slice-places.ensures at c.in-Ok.ensures.found in
     ap (λ (ps : List IndexEntry). Some (get_or ps c.in-Ok.place none).slot) c.as_slice-places.ensures ∙ sym (get-stands places n c.in-Ok.place none c.self.invariant stands) ∙ ap (λ m. get m n) c.self.view_is
 
--- where the number has no entry, the number leads to no slot
+-- where the number has no entry, get returns None: the number leads to no slot
 pub returns-in-Err : goal.returns-in-Err
 returns-in-Err c =
     let places = c.self.inside.places in

@@ -26,13 +26,13 @@ invariant_of-self c =
     rw (c.if-remove.ensures.taken, c.add.ensures, c.add-then-remove.ensures, c.add-then-remove-2.ensures)
     (AreUnits-gone c.self.inside.units c.self.inside.marks c.self.inside.rows c.self.inside.goods c.self.inside.items c.self.inside.skills c.args.number (sym c.if-remove.ensures.there) c.self.invariant)
 
--- where there is no such unit, there is still room for all marks, and a unit of which a part is marked is marked
+-- where no unit has the given number, there is still room for all marks, and a unit of which a part is marked is marked
 pub invariant_of-self-else-remove : goal.invariant_of-self-else-remove
 invariant_of-self-else-remove c =
     let none = nothing (get c.self.inside.units c.args.number) (sym c.if-remove.ensures.there) in
     rw (c.if-remove.ensures.taken, remove_none c.self.inside.units c.args.number none) c.self.invariant
 
--- where there is no such unit, remove changes nothing, as without_unit_at defines
+-- where no unit has the given number, remove changes nothing, as without_unit_at defines
 pub returns-else-remove : goal.returns-else-remove
 returns-else-remove c =
     let units = c.self.inside.units in
