@@ -1,5 +1,4 @@
--- Laws of MarksAmounts: a dirty set of the books has only amounts of the first `things` things, and room for all of
--- these.
+-- Laws of MarksAmounts: the dirty set of the books has only amounts of the first `things` things, and room for all.
 use Rattle.std.proofs.Common.{◌≡◌, ℕ, ◌*◌, ◌<◌, ◌≤◌, Bool, true, ◌||◌, sym, ◌∙◌, subst, refl, arith}
 use Rattle.std.proofs.lemmas.Bool.{false≢true}
 use Rattle.std.specs.declared.cmp.Ordering.TheVariants.{Less, Equal, Greater}

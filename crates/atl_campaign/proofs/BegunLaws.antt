@@ -153,7 +153,7 @@ module _ (w : WorldValue) (c : CampaignValue) (s : Structure) (fresh : IsFresh w
     guarded = old.guarded;
   }
 
-  -- no total changes when a structure is begun
+  -- the total of each thing stays as it is when a structure is begun
   pub total_raised : (t : Thing) → total raised t ≡ total c t
   unfolding total
   total_raised t = refl
@@ -286,7 +286,7 @@ module _ (w : WorldValue) (c : CampaignValue) (k : ℕ) (s : Structure) (done : 
       guarded = was.guarded;
     }
 
-    -- no total changes when more of a structure is done
+    -- the total of each thing stays as it is when more of a structure is done
     pub total_built : (t : Thing) → total built t ≡ total c t
     unfolding total
     total_built t = refl

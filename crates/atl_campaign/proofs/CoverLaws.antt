@@ -121,7 +121,7 @@ pub apart_by_whole : (goods : FinSet nat_cmp) (things : Things) (n k t : ℕ) �
 apart_by_whole goods things n k t free = apart_by goods n k (neither (contains (insert goods n) k) (is_some (get (group_of things k) t)) free).0
 
 module _ (goods : FinSet nat_cmp) (things : Things) (n thing : ℕ) where
-  -- once `thing` of unit or region n is marked, t of k is marked alone if it is that one or was so before
+  -- once `thing` of unit or region n is marked, thing t of k has a mark of its own if it is that one or had one before
   put_in : (k t : ℕ) → is_some (get (group_of (with_thing things n thing) k) t) ≡ cond (eq_by_cmp nat_cmp k n) (eq_by_cmp nat_cmp t thing || is_some (get (group_of things n) t)) (is_some (get (group_of things k) t))
   put_in k t =
       ap (λ (o : Option (FinMap nat_cmp (Prim.Unit {0}))). is_some (get (unwrap_or o map.empty) t)) (get-insert nat_cmp_total things n (map.insert (group_of things n) thing tt) k)
@@ -138,11 +138,11 @@ module _ (goods : FinSet nat_cmp) (things : Things) (n thing : ℕ) where
       by_unit true = ap is_some (get-insert nat_cmp_total (group_of things n) thing tt t) ∙ by_thing (eq_by_cmp nat_cmp t thing) (get (group_of things n) t)
       by_unit false = refl
 
-  -- each item, skill or stock that was marked still is once one more is marked alone
+  -- each item, skill or stock that was marked still is once one more gets a mark of its own
   pub thing_stays : ThingsStayMarked goods things goods (with_thing things n thing)
   thing_stays k t = both_stay (contains goods k) (contains goods k) (is_some (get (group_of things k) t)) (is_some (get (group_of (with_thing things n thing) k) t)) (λ h. h) (λ h. put_in k t ∙ by_unit h (eq_by_cmp nat_cmp k n) refl)
     where
-      -- thing t of unit or region k, which was marked alone, still is, whether k is n (b) or not
+      -- thing t of unit or region k, which had a mark of its own, still has one, whether k is n (b) or not
       by_unit : is_some (get (group_of things k) t) ≡ true → (b : Bool) → eq_by_cmp nat_cmp k n ≡ b → cond b (eq_by_cmp nat_cmp t thing || is_some (get (group_of things n) t)) (is_some (get (group_of things k) t)) ≡ true
       by_unit h true e = ap (λ q. eq_by_cmp nat_cmp t thing || is_some (get (group_of things q) t)) (sym (same_key k n e)) ∙ ap (λ b. eq_by_cmp nat_cmp t thing || b) h ∙ or-true (eq_by_cmp nat_cmp t thing)
       by_unit h false e = h
@@ -361,7 +361,7 @@ module _ (c : MarkedCampaign) (n item amount : ℕ) where
   abbrev stocked : Region → Region
   stocked r = record r { stocks = with_amount_of r.stocks item amount }
 
-  -- the campaign with the given regions
+  -- the campaign c with the given regions in place of its own
   abbrev with_regions : FinMap nat_cmp Region → CampaignValue
   with_regions m = record c.value { regions = m }
 

@@ -141,7 +141,7 @@ module _ (c : CampaignValue) (n : ℕ) (x : Faction) (is : get c.factions n ≡ 
 pub none-gone : (c : CampaignValue) (n : ℕ) → get c.factions n ≡ None → with_gone c n ≡ c
 none-gone c n is = ap (λ o. record c { factions = changed_at as_gone c.factions n o }) is
 
--- no total changes when a faction is set gone
+-- the total of each thing stays as it is when a faction is set gone
 pub total-gone : (c : CampaignValue) (n : ℕ) (t : Thing) → total (with_gone c n) t ≡ total c t
 unfolding total
 total-gone c n t = refl

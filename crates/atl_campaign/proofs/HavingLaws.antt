@@ -35,7 +35,7 @@ may_have w c n u is steady =
     record { limits = (steady.numbers.units n u is).1; name = steady.names.units n u is; items = place.items; skills = place.skills; days = steady.days n u is }
 
 module _ (w : WorldValue) (c : CampaignValue) (n : ℕ) (u : Unit) (h : HoldingValue) (is : get c.units n ≡ Some u) where
-  -- the unit with the holding h
+  -- unit u with the holding h in place of its own
   abbrev new_unit : Unit
   new_unit = record u { holding = h }
 

@@ -64,7 +64,7 @@ structure_in (Some y) z = y.structure
 structure_in None z = z.structure
 
 module _ (w : WorldValue) (c : CampaignValue) (n : ℕ) (u : Unit) (h : HoldingValue) (is : get c.units n ≡ Some u) where
-  -- the unit with the holding h
+  -- unit u with the holding h in place of its own
   abbrev new_unit : Unit
   new_unit = record u { holding = h }
 

@@ -223,7 +223,7 @@ module _ (w : WorldValue) (c : CampaignValue) (n : ℕ) (u : Unit) (is : get c.u
       abbrev handed_on : FinMap nat_cmp Structure
       handed_on = insert c.structures u.structure (owned_by next mine)
 
-      -- the units inside unit n's structure
+      -- the numbers of the units inside unit n's structure
       abbrev among : List ℕ
       among = numbers_inside u.structure c.units
 
@@ -282,7 +282,7 @@ module _ (w : WorldValue) (c : CampaignValue) (n : ℕ) (u : Unit) (is : get c.u
 
   -- ---- the campaign without the unit
 
-  -- the campaign without unit n, with structures as they were
+  -- the campaign without unit n, in which no structure gets another owner
   abbrev gone_from : CampaignValue
   gone_from = record c { units = left }
 

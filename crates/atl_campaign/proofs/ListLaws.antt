@@ -90,7 +90,7 @@ module _ (belongs_to : Unit → ℕ) (units : FinMap nat_cmp Unit) (old new : Fi
       AreLists-same belongs_to (remove units n) (insert old key (take_number n (list_of old key))) new same
       (subst (λ k. AreLists belongs_to (remove units n) (insert old k (take_number n (list_of old k)))) own (AreLists-removed belongs_to units old n u there is))
 
--- a list put under a key changes none under another
+-- putting a list under a key changes no list under another key
 pub listed_else : (lists : FinMap nat_cmp (List ℕ)) (k : ℕ) (xs : List ℕ) (r : ℕ) → k ≢ r → list_of (insert lists k xs) r ≡ list_of lists r
 listed_else lists k xs r = by_key lists k xs (λ q ys. k ≢ q → ys ≡ list_of lists q) (λ apart. absurd (apart refl)) (λ q _ _. refl) r
 

@@ -10,11 +10,11 @@ use Rattle.std.proofs.Math.Seq.{get_or-append_seam}
 use Rattle.atl_world.specs.Names.{name_ok, is_name_byte, is_short, has_no_edge_space}
 use Rattle.atl_records.specs.Limits.{last_unit}
 
--- a decimal digit is a byte of names
+-- a decimal digit is a byte that may be in a name
 digit_ok : (d : ℕ) → 48 ≤ d → d ≤ 57 → is_name_byte d ≡ true
 digit_ok d h k = grind (arith, nat_tests)
 
--- bytes of names, the last of which is a digit
+-- bytes that may all be in a name, the last of which is a decimal digit
 record EndsInDigit (ds : List ℕ) : Type 0 where
   -- the bytes before the last one
   front : List ℕ
@@ -29,16 +29,16 @@ record EndsInDigit (ds : List ℕ) : Type 0 where
   -- the last byte is not above 57, the digit 9
   most : last ≤ 57
 
--- bytes that end in a digit are all bytes of names
+-- bytes that end in a digit (EndsInDigit) may all be in a name
 all_digits : (ds : List ℕ) → EndsInDigit ds → list_all is_name_byte ds ≡ true
 all_digits ds e =
     ap (list_all is_name_byte) e.is ∙ list_all-append is_name_byte e.front (e.last ∷ []) ∙ both_true e.digits (both_true (digit_ok e.last e.least e.most) refl)
 
--- a decimal number ends in a digit
+-- the bytes of a decimal number below 2^64 end in a digit (EndsInDigit)
 decimal_ends : (n : ℕ) → n < 2 ^ 64 → EndsInDigit (decimal n)
 decimal_ends n h = decimal_by_steps (λ _ ds. EndsInDigit ds) one more n h
   where
-    -- a number below 10 is one digit
+    -- a number below 10 is written as one byte, a digit, so its bytes end in a digit (EndsInDigit)
     one : (n : ℕ) → n < 10 → EndsInDigit ((48 + n) ∷ [])
     one n h = record { front = []; last = 48 + n; is = refl; digits = refl; least = omega arith; most = omega arith }
 

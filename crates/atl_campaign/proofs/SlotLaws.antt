@@ -38,7 +38,7 @@ module _ {V : Type 0} where
   through s None = None
   through s (Some k) = slab.get s k
 
-  -- with an entry of n put in front, looking up q gives that entry's value if q is n, else what the rest gives
+  -- with an entry of n put in front of `rest`, looking up q gives that entry's value if q is n, else what `rest` gives
   find_entry_step : (n q : ℕ) (o : Option V) (rest : List (ℕ × V)) → is_some o ≡ true → find nat_cmp q (slot_entry_at n o rest) ≡ cond (eq_by_cmp nat_cmp q n) o (find nat_cmp q rest)
   find_entry_step n q None rest h = absurd (false≢true h)
   find_entry_step n q (Some v) rest h = refl
