@@ -11,7 +11,7 @@ use Rattle.atl_records.specs.declared.books.Entry.{Entry}
 use Rattle.atl_records.specs.declared.books.Thing.{Thing}
 use Rattle.atl_records.specs.Books.{amount_number}
 
--- marked single things by owner: numbers of items or of skills by unit, or of items in stock by region
+-- what is marked one by one: the numbers of items or of skills by unit, or of items in stock by region
 abbrev pub Things : Type 0
 Things = map.FinMap nat_cmp (map.FinMap nat_cmp (Prim.Unit {0}))
 
@@ -39,7 +39,7 @@ pub record Marks : Type 0 where
   pub markets : FinSet nat_cmp
   -- the numbers of the regions all of whose stocks are marked
   pub stocks : FinSet nat_cmp
-  -- the items whose stocks are marked alone, by region
+  -- the stocks that are marked one by one: the items' numbers, by the region's number
   pub stock_items : Things
   -- the numbers of the units of which something is marked
   pub units : FinSet nat_cmp
@@ -47,9 +47,9 @@ pub record Marks : Type 0 where
   pub rows : FinSet nat_cmp
   -- the numbers of the units all of whose items and days are marked
   pub goods : FinSet nat_cmp
-  -- the items that are marked alone, by unit
+  -- the items that are marked one by one: their numbers, by the unit's number
   pub items : Things
-  -- the skills whose days are marked alone, by unit
+  -- the skills whose days are marked one by one: their numbers, by the unit's number
   pub skills : Things
   -- the numbers of the structures that are marked
   pub structures : FinSet nat_cmp
@@ -92,7 +92,7 @@ marks_code =
     })
     (λ _. refl)
 
--- whether an item or skill of a unit, or a stock of a region, is marked: alone, or with all goods of unit or region
+-- whether an item or skill of a unit, or a stock of a region, is marked: by itself, or with all of its unit or region
 abbrev pub is_thing_marked : FinSet nat_cmp → Things → ℕ → ℕ → Bool
 is_thing_marked goods things n thing = contains goods n || is_some (map.get (group_of things n) thing)
 

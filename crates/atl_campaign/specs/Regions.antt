@@ -24,7 +24,7 @@ pub record MarkedRegions : Type 0 where
   pub markets : set.FinSet nat_cmp
   -- the numbers of the regions all of whose stocks are marked
   pub stocks : set.FinSet nat_cmp
-  -- the items whose stocks are marked alone, by region
+  -- the stocks that are marked one by one: the items' numbers, by the region's number
   pub items : Things
 
 -- for proofs alone: regions with marks encoded as nested pairs of their fields

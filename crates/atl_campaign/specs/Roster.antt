@@ -21,9 +21,9 @@ pub record Roster : Type 0 where
   pub rows : set.FinSet nat_cmp
   -- the numbers of the units all of whose items and days are marked
   pub goods : set.FinSet nat_cmp
-  -- the items that are marked alone, by unit
+  -- the items that are marked one by one: their numbers, by the unit's number
   pub items : Things
-  -- the skills whose days are marked alone, by unit
+  -- the skills whose days are marked one by one: their numbers, by the unit's number
   pub skills : Things
 
 -- for proofs alone: units with marks (Roster) encoded as nested pairs of their fields

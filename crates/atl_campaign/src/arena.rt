@@ -177,6 +177,7 @@ impl<'a, V> Model for SlotEntries<'a, V> {
 
 /// Yields each number with the value in its slot, in rising order of the numbers.
 impl<'a, V> Iterator for SlotEntries<'a, V> {
+    // A number, and the value under it.
     type Item = (u32, &'a V);
 
     ghost use Rattle.std.specs.Iterator.{YieldsFirstBy, item_count};
@@ -185,6 +186,7 @@ impl<'a, V> Iterator for SlotEntries<'a, V> {
 
     ghost remaining = { item_count (λ s. s) };
 
+    /// The next number with its value; None after the last.
     fn next(&mut self) -> Option<(u32, &'a V)> {
         match self.places.next() {
             Some(place) => match self.slots.get(place.slot) {

@@ -205,7 +205,7 @@ fn report_rows(alloc: Global, campaign: &Campaign) -> Result<Sequence<StoredRepo
     Ok(rows)
 }
 
-/// The row of one item, or of the days of one skill, of a unit.
+/// The row of `has` for an item, or for the days of study of a skill, that a unit has.
 fn has_row(number: u32, sort: u32, thing: u32, amount: u32) -> StoredHas
     ensures { result ≡ has_row number sort thing amount }
 {
@@ -257,7 +257,7 @@ fn has_rows(alloc: Global, campaign: &Campaign) -> Result<Sequence<StoredHas>, A
     Ok(rows)
 }
 
-/// The row of the stock of an item in a region.
+/// The row of `market` for the stock of an item in a region.
 fn market_row(region: u32, item: u32, stock: u32) -> StoredMarket
     ensures { result ≡ market_row region item stock }
 {
@@ -311,7 +311,7 @@ fn market_rows(
     }
 }
 
-/// The row of what is booked of a thing under an entry.
+/// The row of `books` for the amount that is booked of a thing under an entry.
 fn books_row(entry: Entry, thing: Thing, amount: i64) -> StoredBooks
     ensures { result ≡ books_row entry thing amount }
 {

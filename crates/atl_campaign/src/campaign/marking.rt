@@ -50,8 +50,8 @@ impl Campaign {
         self.regions.marked_stocks()
     }
 
-    /// The single stocks that are marked, by the numbers of their regions and of their items, in
-    /// rising order. It takes no memory.
+    /// The stocks that are marked one by one: the items' numbers by the region's number, in rising
+    /// order. It takes no memory.
     pub fn marked_stock_items(&self) -> Entries<'_, Numbered<()>>
         ensures { result ≡ map.entries self.now.marks.stock_items }
     {
@@ -82,16 +82,16 @@ impl Campaign {
         self.units.marked_goods()
     }
 
-    /// The single items that are marked, by the numbers of their units, in rising order. Items of
-    /// units that are gone are among them. It takes no memory.
+    /// The items that are marked one by one: their numbers by the unit's number, in rising order.
+    /// Items of units that are gone are among them. It takes no memory.
     pub fn marked_items(&self) -> Entries<'_, Numbered<()>>
         ensures { result ≡ map.entries self.now.marks.items }
     {
         self.units.marked_items()
     }
 
-    /// The single skills that are marked, by the numbers of their units, in rising order. Skills of
-    /// units that are gone are among them. It takes no memory.
+    /// The skills that are marked one by one: their numbers by the unit's number, in rising order.
+    /// Skills of units that are gone are among them. It takes no memory.
     pub fn marked_skills(&self) -> Entries<'_, Numbered<()>>
         ensures { result ≡ map.entries self.now.marks.skills }
     {
