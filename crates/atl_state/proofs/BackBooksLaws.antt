@@ -64,11 +64,11 @@ says_itself books =
     let one = same_account e f t u (omega arith) (same_size (thing_index t) (thing_index u) thing) in
     sym (ap (λ (a : Account). amount_in books a.0 a.1) one) ∙ amount_is books e t z is)
 
--- if two books have the same rows in some order, each amount listed in the one is that in the other
+-- if books a and b have the same rows, in any order, each amount listed in a is also what b has for its entry and thing
 some_said : (a b : BooksValue) → IsPermutation (books_rows a) (books_rows b) → (e : Entry) (t : Thing) (z : ℤ) → get a.amounts (e, t) ≡ Some z → amount_in b e t ≡ z
 some_said a b h e t z is = line_at a (Says b) (each_back (Says b) (books_rows a) (books_rows b) h (says_itself b)) e t z is e t refl refl
 
--- if two books have the same rows in some order, they have the same amounts
+-- if two books have the same rows, in any order, they have the same amount for each entry and thing
 same_amounts : (a b : BooksValue) → IsPermutation (books_rows a) (books_rows b) → (e : Entry) (t : Thing) → amount_in a e t ≡ amount_in b e t
 same_amounts a b h e t =
     elim (get a.amounts (e, t)) as (λ o. get a.amounts (e, t) ≡ o → unwrap_or o (pos 0) ≡ amount_in b e t) [

@@ -60,7 +60,7 @@ small_enough m most few every n v there = let here = every n v there in omega (a
 
 -- ---- one row
 
--- a flag is read back from its row
+-- a flag that is written into a row as 0 or 1 is read as the same flag
 flag_back : (b : Bool) → is_set (flag b) ≡ b
 flag_back true = refl
 flag_back false = refl
@@ -86,13 +86,13 @@ region_back markets n r few p m stocks =
 
 -- a structure's kind fits 16 bits, and its region, owner and how much is done 32
 pub record StructureFits (s : Structure) : Type 0 where
-  -- the kind fits 16 bits
+  -- the number of the structure's kind fits 16 bits
   pub kind : s.kind ≤ most_u16
-  -- the region's number fits 32 bits
+  -- the number of the structure's region fits 32 bits
   pub region : s.region ≤ most_u32
-  -- how much is done fits 32 bits
+  -- how much of the structure is done fits 32 bits
   pub done : s.done ≤ most_u32
-  -- the owner's number fits 32 bits
+  -- the number of the structure's owner fits 32 bits
   pub owner : s.owner ≤ most_u32
 
 -- a structure is read back from its row, if its numbers fit (StructureFits)
@@ -106,15 +106,15 @@ structure_back n s h =
 
 -- a unit's faction, region, structure, men and money fit 32 bits
 pub record UnitFits (u : Unit) : Type 0 where
-  -- the faction's number fits 32 bits
+  -- the number of the unit's faction fits 32 bits
   pub faction : u.faction ≤ most_u32
-  -- the region's number fits 32 bits
+  -- the number of the unit's region fits 32 bits
   pub region : u.region ≤ most_u32
-  -- the structure's number fits 32 bits
+  -- the number of the unit's structure fits 32 bits
   pub structure : u.structure ≤ most_u32
-  -- the number of men fits 32 bits
+  -- the number of the unit's men fits 32 bits
   pub men : u.holding.men ≤ most_u32
-  -- the money fits 32 bits
+  -- the unit's money fits 32 bits
   pub money : u.holding.money ≤ most_u32
 
 -- a unit is read back from its row and its goods, if its numbers fit 32 bits

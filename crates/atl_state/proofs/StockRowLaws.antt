@@ -20,18 +20,18 @@ use Rattle.atl_campaign.proofs.OrderLaws.{Apart, HasNumber, each_so, flat_order}
 
 -- the region and the item of a row of a market fit 32 bits, so both are read as they are
 pub record HasWholeKey (m : StoredMarket) : Type 0 where
-  -- the region's number fits 32 bits
+  -- the number of the row's region fits 32 bits
   pub region : IsWhole m.region
-  -- the item's number fits 32 bits
+  -- the number of the row's item fits 32 bits
   pub item : IsWhole m.item
 
 -- the region, the item and the stock of a row of a market fit 32 bits, and the stock is not 0
 pub record IsExact (m : StoredMarket) : Type 0 where
-  -- the region and the item fit 32 bits
+  -- the region and the item of the row fit 32 bits
   pub keys : HasWholeKey m
-  -- the stock fits 32 bits
+  -- the stock of the row fits 32 bits
   pub stock : IsWhole m.stock
-  -- the stock is not 0
+  -- the stock of the row is not 0
   pub some : is_zero m.stock ≡ false
 
 -- the item's number in a row of a market, as it is read

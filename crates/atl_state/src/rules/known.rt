@@ -147,7 +147,8 @@ fn is_somewhere(campaign: &Campaign, unit: &Unit) -> bool
     is_faction(campaign, unit.faction) && is_region(campaign, unit.region)
 }
 
-/// Whether the world has a unit's items and skills, and its structure is 0 or one of its region.
+/// Whether the world has all items and skills of a unit, and the unit's structure is 0 (none) or
+/// exists in the unit's region.
 fn has_known_goods(world: &World, campaign: &Campaign, unit: &Unit) -> bool
     ensures { IsTrue result ↔
         ((unit.now.structure ≢ 0
@@ -160,16 +161,16 @@ fn has_known_goods(world: &World, campaign: &Campaign, unit: &Unit) -> bool
     is_inside_here(campaign, unit) && holds_known(world, &unit.holding)
 }
 
-/// Whether a unit's faction, region, items and skills exist, and its structure is 0 or one of its
-/// region.
+/// Whether a unit's faction, region, items and skills exist, and the unit's structure is 0 (none)
+/// or exists in the unit's region.
 fn is_placed(world: &World, campaign: &Campaign, unit: &Unit) -> bool
     ensures { IsTrue result ↔ (IsPlaced world.now campaign.now.value unit.now) }
 {
     is_somewhere(campaign, unit) && has_known_goods(world, campaign, unit)
 }
 
-/// Whether each unit's faction, region, items and skills exist, and its structure is 0 or one of
-/// its region.
+/// Whether each unit's faction, region, items and skills exist, and the unit's structure is 0
+/// (none) or exists in the unit's region.
 fn are_placed(world: &World, campaign: &Campaign) -> bool
     ensures { IsTrue result ↔
         (Every (λ n u. IsPlaced world.now campaign.now.value u) campaign.now.value.units) }
