@@ -213,7 +213,7 @@ pub record AreRowsNamed (p : Parts) : Type 0 where
 
 -- ---- what rows say of other rows
 
--- whether a row of `has` is of a unit that is there
+-- whether a row of `has` is of a unit that the campaign has
 abbrev pub is_of_unit : CampaignValue → StoredHas → Bool
 is_of_unit c r = is_some (get c.units (as_u32 r.unit))
 

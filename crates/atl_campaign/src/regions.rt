@@ -163,8 +163,8 @@ impl Regions {
         self.rows.mark_present(&self.values, number);
     }
 
-    /// Marks one stock of a region, if there is such a region, or all its stocks where there is no
-    /// memory for that mark.
+    /// Marks the stock of an item in a region, if there is such a region, or all its stocks where
+    /// there is no memory for that mark.
     fn mark_item(&mut self, alloc: Global, number: u32, item: u32)
         ensures { (self.new ≡ with_item_marked self.old number item) ⊎ (self.new
             ≡ with_stocks_marked self.old number) }

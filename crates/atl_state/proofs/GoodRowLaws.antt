@@ -69,7 +69,7 @@ flag_back false = refl
 pub read16 : (n : ℕ) → n ≤ most_u16 → as_u16 (pos n) ≡ n
 read16 n h = min_small n most_u16 h
 
--- a faction is read back from its row, if its number fits 32 bits
+-- a faction that is under its own number, of 32 bits, is read back from its row
 faction_back : (n : ℕ) (f : Faction) → n ≤ most_u32 → f.number ≡ n → faction_of (faction_row n f) ≡ f
 faction_back n f few is =
     let number = read_whole n few ∙ sym is in
@@ -133,7 +133,7 @@ unit_back has n u few h items days =
 -- ---- a table with a key of one number
 
 module _ {V R : Type 0} (row : ℕ → V → R) (key : R → ℤ) (value : R → V) (keyed : (n : ℕ) (v : V) → key (row n v) ≡ pos n) (m : FinMap nat_cmp V) (few : Every (λ n v. n ≤ most_u32) m) (rows : List R) (h : IsPermutation (rows_by row (entries m)) rows) where
-  -- the rows of two numbers, the first below the second, have different keys
+  -- if number n is below k, the rows made for n and k have different keys
   apart : (n k : ℕ) (v u : V) → n < k → same (one_key (key (row n v))) (one_key (key (row k u))) ≡ false
   apart n k v u l = ap (λ z. same (one_key z) (one_key (key (row k u)))) (keyed n v) ∙ ap (λ z. same (one_key (pos n)) (one_key z)) (keyed k u) ∙ apart_numbers n k l
 
@@ -153,17 +153,17 @@ module _ {V R : Type 0} (row : ℕ → V → R) (key : R → ℤ) (value : R →
 
 -- ---- the campaign's own row
 
--- a list of one row, each row of which is x, is x alone
+-- a list of length 1 of which each row is x is the list of x alone
 single : {R : Type 0} (x : R) (rows : List R) → length rows ≡ 1 → AllByRecursion (λ r. r ≡ x) rows → rows ≡ x ∷ []
 single x [] l all = absurd (omega (arith, l))
 single x (r ∷ []) l all = ap (λ s. s ∷ []) all.0
 single x (r ∷ s ∷ rows) l all = absurd (omega (arith, l))
 
--- a list of one row, in any order, is that list
+-- if `rows` are the list of x alone in some order, they are that list
 pub only_row : {R : Type 0} (x : R) (rows : List R) → IsPermutation (x ∷ []) rows → rows ≡ x ∷ []
 only_row x rows h = single x rows (length_permutation (x ∷ []) rows h) (each_permuted (λ r. r ≡ x) (x ∷ []) rows h (refl, tt))
 
--- an empty list, in any order, is empty
+-- if `rows` are the empty list in some order, they are the empty list
 pub none_listed : {R : Type 0} (rows : List R) → IsPermutation [] rows → rows ≡ []
 none_listed [] h = refl
 none_listed (r ∷ rows) h = let count = length_permutation [] (r ∷ rows) h in absurd (omega (arith, count))

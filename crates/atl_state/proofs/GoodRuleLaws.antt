@@ -328,7 +328,7 @@ module _ (f : Format) (w : WorldValue) (world : IsWorld w) (c : CampaignValue) (
   keeps Books = (of_books, said Balances good.sound.balances)
   keeps Mail = (said IsMail good.sound.mail, said AreReported good.reported)
 
--- checking the rows of a good campaign gives that campaign, or reports that memory ran out
+-- an answer of the form `Checks` gives a good campaign's rows that campaign back, or is Memory (`GivesBack`)
 pub gives_back : (f : Format) (w : WorldValue) → IsWorld w → (p : Parts) (r : Result MarkedCampaign CheckFault) → Checks f w p r → GivesBack f w p r
 gives_back f w world p (Ok m) h = λ c good fits rows. sym (row.state_back w world m.value h.good f h.fits p h.rows) ∙ row.state_back w world c good f fits p rows
 gives_back f w world p (Err (Damaged r)) h = λ c good fits rows. h.broken (keeps f w world c good fits p rows r)

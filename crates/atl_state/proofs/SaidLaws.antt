@@ -168,7 +168,7 @@ is_of_itself h =
     let sort : (as_u32 h.sort == as_u32 h.sort) ≡ true = grind (arith, nat_tests) in
     ap (λ b. b && (as_u32 h.sort == as_u32 h.sort)) unit ∙ sort
 
--- the size of a kind, or most_size where there is no kind, is at most most_size
+-- if the kind in an option has at most size most_size, so has the option: the size of its kind, or most_size for None
 size_small : (o : Option Kind) → ((x : Kind) → o ≡ Some x → x.size ≤ most_size) → option_map_or (λ (x : Kind). x.size) o most_size ≤ most_size
 size_small None h = omega arith
 size_small (Some x) h = h x refl
@@ -184,7 +184,7 @@ market_there : (regions : FinMap nat_cmp RegionPlan) (i : ℕ) (n : ℕ) (o : Op
 market_there regions i n None is e = absurd (false≢true e)
 market_there regions i n (Some q) is e = let found = some_there (get q.markets i) e in (q, found.0, is, found.1)
 
--- the limit of a market, or most_amount where there is no market, is at most most_amount
+-- if the market in an option has at most limit most_amount, so has the option: its market's limit, most_amount for None
 limit_small : (o : Option Market) → ((m : Market) → o ≡ Some m → m.limit ≤ most_amount) → option_map_or (λ (m : Market). m.limit) o most_amount ≤ most_amount
 limit_small None h = omega arith
 limit_small (Some m) h = h m refl

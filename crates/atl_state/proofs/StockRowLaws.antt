@@ -54,8 +54,7 @@ IsStockIn n m = HasWholeKey m × (is_in n m ≡ true)
 its_region : (n : ℕ) (m : StoredMarket) → IsStockIn n m → m.region ≡ pos n
 its_region n m (keys, of) = keys.region ∙ ap pos (is_same (as_u32 m.region) n of)
 
--- the row that is written for region n, and the item and stock read from a row of region n, is that row, if the stock
--- fits 32 bits (IsWhole)
+-- a row of region n is the row that is written for n and the item and stock read from it, if its stock fits 32 bits
 same_row : (n : ℕ) (m : StoredMarket) → IsStockIn n m → IsWhole m.stock → market_row n (item_of m) (stock_of m) ≡ m
 same_row n m here stock = λ i. record { region = sym (its_region n m here) i; item = sym here.0.item i; stock = sym stock i }
 
@@ -66,11 +65,12 @@ same_key n m k a b e =
     let item = b.0.item ∙ sym (ap pos e) ∙ sym a.0.item in
     λ i. (region i, item i, pos 0)
 
--- no two rows of region n are of one item, if the keys of all rows differ
+-- no two rows of region n are of one item, if the keys of all rows differ and fit 32 bits
 pub items_apart : (n : ℕ) (markets : List StoredMarket) → AllByRecursion HasWholeKey markets → IsDistinct same (map market_key markets) → Apart item_of (filter (is_in n) markets)
 items_apart n = group.things_apart market_key same ties_itself item_of (is_in n) HasWholeKey (same_key n)
 
--- the stocks read for region n are written as the rows of region n, in some order, if all keys differ
+-- if all rows are exact (`IsExact`) and their keys differ, the stocks read for region n are written as its rows, in
+-- some order
 stock_order : (n : ℕ) (markets : List StoredMarket) → AllByRecursion IsExact markets → IsDistinct same (map market_key markets) → IsPermutation (stock_rows n (entries (stocks_of n markets))) (filter (is_in n) markets)
 stock_order n markets all d =
     lines_order item_of stock_of (market_row n) (λ m. not (is_zero m.stock)) (filter (is_in n) markets) (items_apart n markets (each_so IsExact HasWholeKey (λ m one. one.keys) markets all) d)
@@ -80,7 +80,8 @@ stock_order n markets all d =
 abbrev region_lines : ℕ × Region → List StoredMarket
 region_lines e = stock_rows e.0 (entries e.1.stocks)
 
--- regions assembled from rows are written as the same rows of `market`, in some order, if keys differ and regions exist
+-- if rows of `market` are exact (`IsExact`), of listed regions, and differ in keys, the regions read are written as
+-- them again
 pub market_order : (markets : List StoredMarket) (regions : List StoredRegion) → Apart (λ r. as_u32 r.number) regions → AllByRecursion (λ m. HasNumber (λ r. as_u32 r.number) regions (as_u32 m.region)) markets → AllByRecursion IsExact markets → IsDistinct same (map market_key markets)
     → IsPermutation (market_rows Second (entries (by_number (λ r. as_u32 r.number) (region_of markets) regions))) markets
 market_order markets regions apart of all d =
