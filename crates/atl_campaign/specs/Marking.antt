@@ -15,7 +15,7 @@ use Rattle.atl_campaign.specs.Campaign.{MarkedCampaign, with_owner}
 use Rattle.atl_campaign.specs.Regions.{MarkedRegions, region_to_restock}
 use Rattle.atl_campaign.specs.Roster.{Roster}
 
--- the marks of a campaign, put together from those of its parts
+-- the marks of a campaign, put together from those of its factions, regions, units and so on, and of the campaign row
 abbrev pub marks_of_parts : (factions : FinSet nat_cmp) → MarkedRegions → Roster → (structures mail reports books : FinSet nat_cmp) → Bool → Marks
 marks_of_parts factions regions units structures mail reports books row = record {
   factions = factions;
@@ -35,7 +35,7 @@ marks_of_parts factions regions units structures mail reports books row = record
   row = row;
 }
 
--- the marks m with unit n, its row and all its goods marked too; unchanged if u is None
+-- the marks m with unit n, its row and all its goods marked too; unchanged if the unit given is None
 abbrev pub whole_marked : Marks → ℕ → Option Unit → Marks
 whole_marked m n u = record m { units = marked_with m.units n u; rows = marked_with m.rows n u; goods = marked_with m.goods n u }
 
@@ -125,7 +125,7 @@ handed_marked c s from to = if is_owned_by (get c.value.structures s) from then 
 abbrev pub put_marked : MarkedCampaign → ℕ → ℕ → ℕ → MarkedCampaign
 put_marked c n r s = record { value = placed c.value n r s; marks = mark_unit_row c n }
 
--- the campaign with the given unit n put in region r and structure s, with the marks of that; unchanged for None
+-- `place_marked` once unit n is looked up: unit n is put in region r and structure s; nothing changes if it is None
 abbrev pub place_marked_at : MarkedCampaign → ℕ → ℕ → ℕ → Option Unit → MarkedCampaign
 place_marked_at c n r s None = c
 place_marked_at c n r s (Some u) = if u.structure == s then put_marked c n r s else handed_marked (handed_marked (put_marked c n r s) u.structure n (heir c.value u.structure n)) s 0 n
@@ -138,7 +138,7 @@ place_marked c n r s = place_marked_at c n r s (get c.value.units n)
 abbrev pub taken_marked : MarkedCampaign → ℕ → MarkedCampaign
 taken_marked c n = record { value = record c.value { units = remove c.value.units n }; marks = mark_unit c n }
 
--- the campaign without the given unit n, with its structure handed over, and the marks of that; unchanged for None
+-- `gone_marked` once unit n is looked up: it is removed, and its structure handed over; nothing changes if it is None
 abbrev pub gone_marked_at : MarkedCampaign → ℕ → Option Unit → MarkedCampaign
 gone_marked_at c n None = c
 gone_marked_at c n (Some u) = handed_marked (taken_marked c n) u.structure n (heir c.value u.structure n)

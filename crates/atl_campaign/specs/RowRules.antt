@@ -102,7 +102,7 @@ Key = ℤ × ℤ × ℤ
 abbrev pub key_cmp : Key → Key → Ordering
 key_cmp a b = ordering_then (ordering_then (int_cmp a.0 b.0) (int_cmp a.1 b.1)) (int_cmp a.2 b.2)
 
--- the key with n as its first number, for tables whose key is one number
+-- the key whose first number is n, and whose others are 0, for tables whose key is one number
 abbrev pub one_key : ℤ → Key
 one_key n = (n, pos 0, pos 0)
 
@@ -200,7 +200,7 @@ faction_named r = (name_ok r.joined_as && name_ok r.name) && pass_ok r.pass
 abbrev pub are_named : Parts → Bool
 are_named p = ((pass_ok (campaign_row_of p).pass && list_all faction_named p.factions) && list_all (λ r. name_ok r.name) p.units) && list_all (λ r. name_ok r.name) p.structures
 
--- no two factions joined under the same name
+-- the names that factions joined under are distinct in the given rows of `faction`
 abbrev pub AreJoinedNamesDistinct : List StoredFaction → Type 0
 AreJoinedNamesDistinct rows = IsDistinct (eq_by_cmp (slice_cmp nat_cmp)) (map (λ r. r.joined_as) rows)
 

@@ -32,7 +32,8 @@ pub(crate) struct ListKeys {
     pub(crate) structure: u32,
 }
 
-/// The keys of the lists that a unit is in: the faction, region and structure that it has itself.
+/// The keys of the lists that a unit is in: the numbers of its faction, its region and its
+/// structure.
 pub(crate) fn list_keys_of(unit: &Unit) -> ListKeys
     ensures { result ≡ list_keys_of unit.now }
 {

@@ -272,7 +272,7 @@ module _ (w : WorldValue) (world : IsWorld w) (c : CampaignValue) (good : IsGood
   }
 
   module _ (f : Format) (fits : Fits f c) (p : Parts) (rows : AreRowsOf f c p) where
-    -- the rows of `campaign` are the campaign row of the good campaign alone, in any order
+    -- the rows of `campaign` are, in some order, the list of the good campaign's campaign row alone
     head_listed : IsPermutation (campaign_row f c ∷ []) p.campaign
     unfolding rows_of
     head_listed = rows.campaign

@@ -86,7 +86,7 @@ module _ (faction : ℕ → Option ℕ) where
   first_holds m z ms first h n x (inl same) is = same_value x z (sym is ∙ ap faction same ∙ first)
   first_holds m z ms first h n x (inr mine) is = like_holder z ms h n x mine is
 
-  -- a number that has a faction is in the rest of a list, if the first number has none
+  -- if a list's first number has no faction, each number of the list that has one is in the rest
   not_first : (m : ℕ) (ms : List ℕ) → faction m ≡ None → (n x : ℕ) → In n (m ∷ ms) → faction n ≡ Some x → In n ms
   not_first m ms none n x (inl same) is = none_some x (sym none ∙ ap faction (sym same) ∙ is)
   not_first m ms none n x (inr mine) is = mine

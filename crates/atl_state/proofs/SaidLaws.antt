@@ -168,7 +168,7 @@ is_of_itself h =
     let sort : (as_u32 h.sort == as_u32 h.sort) ≡ true = grind (arith, nat_tests) in
     ap (λ b. b && (as_u32 h.sort == as_u32 h.sort)) unit ∙ sort
 
--- if the kind in an option has at most size most_size, so has the option: the size of its kind, or most_size for None
+-- the size that an option gives (its kind's, or most_size for None) is at most most_size, if its kind's is
 size_small : (o : Option Kind) → ((x : Kind) → o ≡ Some x → x.size ≤ most_size) → option_map_or (λ (x : Kind). x.size) o most_size ≤ most_size
 size_small None h = omega arith
 size_small (Some x) h = h x refl
@@ -184,7 +184,7 @@ market_there : (regions : FinMap nat_cmp RegionPlan) (i : ℕ) (n : ℕ) (o : Op
 market_there regions i n None is e = absurd (false≢true e)
 market_there regions i n (Some q) is e = let found = some_there (get q.markets i) e in (q, found.0, is, found.1)
 
--- if the market in an option has at most limit most_amount, so has the option: its market's limit, most_amount for None
+-- the limit that an option gives (its market's, or most_amount for None) is at most most_amount, if its market's is
 limit_small : (o : Option Market) → ((m : Market) → o ≡ Some m → m.limit ≤ most_amount) → option_map_or (λ (m : Market). m.limit) o most_amount ≤ most_amount
 limit_small None h = omega arith
 limit_small (Some m) h = h m refl
@@ -197,7 +197,7 @@ small_limit w world n i = limit_small (market_of w n i) (λ m is. of_market (mar
     some_same : (a b : Market) → Some a ≡ Some b → a ≡ b
     some_same a b e = cc
 
-    -- a market that is found has a limit of at most most_amount
+    -- the market found for region n and item i has a limit of at most most_amount
     of_market : (found : (q : RegionPlan) × (m : Market) × (get w.regions n ≡ Some q) × (get q.markets i ≡ Some m)) (m : Market) → market_of w n i ≡ Some m → m.limit ≤ most_amount
     of_market found m is =
         let there = ap (option_and_then (λ (q : RegionPlan). get q.markets i)) found.2 in

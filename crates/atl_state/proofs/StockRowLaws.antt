@@ -80,8 +80,8 @@ stock_order n markets all d =
 abbrev region_lines : ℕ × Region → List StoredMarket
 region_lines e = stock_rows e.0 (entries e.1.stocks)
 
--- if rows of `market` are exact (`IsExact`), of listed regions, and differ in keys, the regions read are written as
--- them again
+-- if rows of `market` are exact (`IsExact`), of listed regions, and differ in keys, the regions read with them are
+-- written as these rows, in some order
 pub market_order : (markets : List StoredMarket) (regions : List StoredRegion) → Apart (λ r. as_u32 r.number) regions → AllByRecursion (λ m. HasNumber (λ r. as_u32 r.number) regions (as_u32 m.region)) markets → AllByRecursion IsExact markets → IsDistinct same (map market_key markets)
     → IsPermutation (market_rows Second (entries (by_number (λ r. as_u32 r.number) (region_of markets) regions))) markets
 market_order markets regions apart of all d =

@@ -120,7 +120,7 @@ impl Campaign {
         self.reports.marked_numbers()
     }
 
-    /// Whether an amount of the books is marked.
+    /// Whether the amount of a thing under an entry of the books is marked.
     pub fn is_amount_marked(&self, entry: Entry, thing: Thing) -> bool
         requires { thing_index thing < self.now.value.books.things }
         ensures { result ≡ set.contains self.now.marks.books (amount_number entry thing) }

@@ -95,7 +95,8 @@ fn have_known_markets(world: &World, campaign: &Campaign) -> bool
     campaign.regions().all(|(number, region)| has_known_markets(world, number, region))
 }
 
-/// Whether the campaign's regions are exactly the world's, and their stocks are of their markets.
+/// Whether the campaign's regions are exactly the world's, and each item in stock has a market
+/// there.
 fn are_stocks_known(world: &World, campaign: &Campaign) -> bool
     ensures { IsTrue result ↔
         (((n : ℕ) → IsThere campaign.now.value.regions n ↔ IsThere world.now.regions n)
@@ -258,9 +259,9 @@ fn are_posts_known(campaign: &Campaign) -> bool
     are_mail_known(campaign) && are_reports_known(campaign)
 }
 
-/// Whether all that the campaign names by number exists, its regions are exactly the world's, with
-/// stocks of their markets alone, and each unit's structure is in the unit's region. It takes no
-/// memory.
+/// Whether all that the campaign names by number exists, its regions are exactly the world's, each
+/// item in stock has a market in its region, and each unit's structure is in the unit's region. It
+/// takes no memory.
 pub(crate) fn are_known(world: &World, campaign: &Campaign) -> bool
     ensures { IsTrue result ↔ (AreKnown world.now campaign.now.value) }
 {

@@ -6,12 +6,12 @@ use Rattle.std.proofs.lemmas.Map.Keys.{IsDistinct-from_sorted}
 use Rattle.atl_campaign.proofs.KeyLaws.{stands_twice, still_apart, seen_more}
 use Rattle.atl_state.proofs.row_rules.keys.are_distinct.Goals as goal
 
--- `insert` says `r`, which is `not b`: if it is false, b is true (the value was in the set before)
+-- if r is `not b` and false, b is true: a value that `insert` doesn't call new was in the set before
 not_new : (b r : Bool) → r ≡ not b → r ≡ false → b ≡ true
 not_new true r h e = refl
 not_new false r h e = sym e ∙ h
 
--- `insert` says `r`, which is `not b`: if it is true, b is false (the value was not in the set before)
+-- if r is `not b` and true, b is false: a value that `insert` calls new wasn't in the set before
 is_new : (b r : Bool) → r ≡ not b → r ≡ true → b ≡ false
 is_new true r h e = sym e ∙ h
 is_new false r h e = refl
