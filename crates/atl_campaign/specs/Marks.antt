@@ -98,20 +98,20 @@ is_thing_marked goods things n thing = contains goods n || is_some (map.get (gro
 
 -- a unit is marked if its row, all its goods, or one of its items or skills is marked
 pub record AreWithin (units rows goods : FinSet nat_cmp) (items skills : Things) : Type 0 where
-  -- a unit whose row is marked is marked
+  -- a unit whose row is marked is marked itself (it is in `units`)
   pub rows_within : (n : ℕ) → contains rows n ≡ true → contains units n ≡ true
-  -- a unit all of whose goods are marked is marked
+  -- a unit all of whose goods are marked is marked itself (it is in `units`)
   pub goods_within : (n : ℕ) → contains goods n ≡ true → contains units n ≡ true
-  -- a unit that has an entry in `items` is marked
+  -- a unit of which items are marked one by one (it has an entry in `items`) is marked itself
   pub items_within : (n : ℕ) → is_some (map.get items n) ≡ true → contains units n ≡ true
-  -- a unit that has an entry in `skills` is marked
+  -- a unit of which skills are marked one by one (it has an entry in `skills`) is marked itself
   pub skills_within : (n : ℕ) → is_some (map.get skills n) ≡ true → contains units n ≡ true
 
 -- a region is in `markets` if all its stocks are marked, or one of them is
 pub record AreStocksWithin (markets stocks : FinSet nat_cmp) (stock_items : Things) : Type 0 where
-  -- a region all of whose stocks are marked is in `markets`
+  -- a region all of whose stocks are marked is one of which a stock is marked (it is in `markets`)
   pub stocks_within : (n : ℕ) → contains stocks n ≡ true → contains markets n ≡ true
-  -- a region that has an entry in `stock_items` is in `markets`
+  -- a region of which stocks are marked one by one (it has an entry in `stock_items`) is in `markets`
   pub items_within : (n : ℕ) → is_some (map.get stock_items n) ≡ true → contains markets n ≡ true
 
 -- nothing is marked

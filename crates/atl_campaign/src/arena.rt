@@ -105,8 +105,8 @@ impl<V: Drop> Arena<V> {
         }
     }
 
-    /// Puts a value under a number, instead of the one that is there. Without memory for it nothing
-    /// changes.
+    /// Puts a value under a number, in place of the one that is there, if any. Without memory for
+    /// it nothing changes.
     pub(crate) fn put(&mut self, number: u32, value: V) -> Result<(), AllocError>
         ensures ok { OnOk result (self.new ≡ map.insert self.old number value) }
         ensures err { OnErr result (self.new ≡ self.old) }

@@ -217,7 +217,8 @@ fn has_row(number: u32, sort: u32, thing: u32, amount: u32) -> StoredHas
     }
 }
 
-/// Adds a row for each thing of one sort, items or skills, of which a unit has more than 0.
+/// Adds a row of `has` for each thing of one sort, items or skills, of which a unit has more than
+/// 0.
 fn add_sort(
     rows: &mut Sequence<StoredHas>,
     number: u32,
@@ -234,7 +235,7 @@ fn add_sort(
     Ok(())
 }
 
-/// Adds the rows of a unit's items, and then of its days of study.
+/// Adds the rows of `has` for a unit's items, and then those for its days of study.
 fn add_held(
     rows: &mut Sequence<StoredHas>,
     number: u32,
@@ -268,7 +269,7 @@ fn market_row(region: u32, item: u32, stock: u32) -> StoredMarket
     }
 }
 
-/// Adds a row for each stock of a region that is not 0.
+/// Adds a row of `market` for each stock of a region that is not 0.
 fn add_stocks(
     rows: &mut Sequence<StoredMarket>,
     region: u32,
@@ -322,7 +323,8 @@ fn books_row(entry: Entry, thing: Thing, amount: i64) -> StoredBooks
     }
 }
 
-/// Adds a row for each amount of an entry that is not 0. `things` is how many things are booked.
+/// Adds a row of `books` for each amount under an entry that is not 0. `things` is how many things
+/// the books have.
 fn add_entry(
     rows: &mut Sequence<StoredBooks>,
     books: &Books,
@@ -344,7 +346,8 @@ fn add_entry(
     Ok(())
 }
 
-/// Adds a row for each amount of the given entries that is not 0, one entry after another.
+/// Adds a row of `books` for each amount under the given entries that is not 0, one entry after
+/// another.
 fn add_entries(
     rows: &mut Sequence<StoredBooks>,
     books: &Books,
@@ -362,7 +365,7 @@ fn add_entries(
     Ok(())
 }
 
-/// A row for each amount of the books that is not 0.
+/// A row of `books` for each amount of the books that is not 0.
 fn books_rows(alloc: Global, books: &Books) -> Result<Sequence<StoredBooks>, AllocError>
     ensures { IfOk result (λ rows. rows ≡ books_rows books.now) }
 {

@@ -85,7 +85,7 @@ pub(crate) fn roster_of(alloc: Global, parts: &Parts) -> Result<Units, AllocErro
     Units::of(alloc, units)
 }
 
-/// The lists of the given units by region, faction and structure.
+/// For each region, faction and structure the list of its units, made of the given units.
 pub(crate) fn lists_of(alloc: Global, units: &Units) -> Result<UnitLists, AllocError>
     ensures { IfOk result (λ lists. AreUnitLists units.now.values lists) }
 {
