@@ -114,7 +114,7 @@ pub record AreStocksWithin (markets stocks : FinSet nat_cmp) (stock_items : Thin
   -- a region of which stocks are marked one by one (it has an entry in `stock_items`) is in `markets`
   pub items_within : (n : ℕ) → is_some (map.get stock_items n) ≡ true → contains markets n ≡ true
 
--- nothing is marked
+-- the marks of a campaign of which nothing is marked
 abbrev pub no_marks : Marks
 no_marks = record {
   factions = empty;

@@ -72,7 +72,7 @@ region_in_range r = is_from 0 most_amount r.peasants && is_from 0 most_amount r.
 abbrev pub unit_in_range : StoredUnit → Bool
 unit_in_range r = ((is_from 1 last_unit r.number && is_from 1 men_limit r.men) && is_from 0 holding_limit r.money) && is_from 0 1 r.guard
 
--- whether a row of `has` is of sort 1 (a skill: rule 6 is for its days), or of sort 0 (an item) from 1 to 999,999,999
+-- whether a row of `has` is of a skill (sort 1), whose days rule 6 judges, or of 1 to 999,999,999 of an item (sort 0)
 abbrev pub has_in_range : StoredHas → Bool
 has_in_range r = is_from 1 1 r.sort || (is_from 0 0 r.sort && is_from 1 holding_limit r.amount)
 

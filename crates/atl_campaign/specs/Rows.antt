@@ -98,7 +98,7 @@ held_rows n h = rows_of_sort n 0 (entries h.items) ++ rows_of_sort n 1 (entries 
 abbrev pub has_rows : List (ℕ × Unit) → List StoredHas
 has_rows es = flat_map (λ e. held_rows e.0 e.1.holding) es
 
--- a row of `books` for each of the given accounts, with its amount
+-- a row of `books` for each of the given accounts (an entry and a thing), with its amount
 abbrev pub amounts_rows : List (Account × ℤ) → List StoredBooks
 amounts_rows xs = map (λ x. books_row x.0.0 x.0.1 x.1) xs
 
@@ -159,6 +159,6 @@ pub record AreSameRows (some others : Parts) : Type 0 where
 abbrev pub AreRowsOf : Format → CampaignValue → Parts → Type 0
 AreRowsOf f c parts = AreSameRows (rows_of f c) parts
 
--- For proofs alone: a row of `books` for each of the given accounts whose amount is not 0.
+-- For proofs alone: a row of `books` for each of the given accounts (an entry and a thing) whose amount is not 0.
 abbrev pub rows_under : BooksValue → List Account → List StoredBooks
 rows_under books accounts = amounts_rows (listed_of (λ a. amount_in books a.0 a.1) accounts)
