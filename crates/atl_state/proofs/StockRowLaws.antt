@@ -18,14 +18,14 @@ use Rattle.atl_campaign.proofs.GroupLaws.{gathered, lines_order}
 use Rattle.atl_campaign.proofs.HasLaws.{IsWhole, same, ties_itself}
 use Rattle.atl_campaign.proofs.OrderLaws.{Apart, HasNumber, each_so, flat_order}
 
--- the region and the item of a row of a market fit 32 bits, so both are read as they are
+-- the region and the item of a row of `market` fit 32 bits, so both are read as they are
 pub record HasWholeKey (m : StoredMarket) : Type 0 where
   -- the number of the row's region fits 32 bits
   pub region : IsWhole m.region
   -- the number of the row's item fits 32 bits
   pub item : IsWhole m.item
 
--- the region, the item and the stock of a row of a market fit 32 bits, and the stock is not 0
+-- the region, the item and the stock of a row of `market` fit 32 bits, and the stock is not 0
 pub record IsExact (m : StoredMarket) : Type 0 where
   -- the region and the item of the row fit 32 bits
   pub keys : HasWholeKey m
@@ -34,23 +34,23 @@ pub record IsExact (m : StoredMarket) : Type 0 where
   -- the stock of the row is not 0
   pub some : is_zero m.stock ≡ false
 
--- the item's number in a row of a market, as it is read
+-- the item's number in a row of `market`, as it is read
 abbrev item_of : StoredMarket → ℕ
 item_of m = as_u32 m.item
 
--- the stock in a row of a market, as it is read
+-- the stock in a row of `market`, as it is read
 abbrev stock_of : StoredMarket → ℕ
 stock_of m = as_u32 m.stock
 
--- whether a row of a market is of region n
+-- whether a row of `market` is of region n
 abbrev pub is_in : ℕ → StoredMarket → Bool
 is_in n m = as_u32 m.region == n
 
--- a row of a market is of region n, and its region and item fit 32 bits (HasWholeKey)
+-- a row of `market` is of region n, and its region and item fit 32 bits (HasWholeKey)
 abbrev IsStockIn : ℕ → StoredMarket → Type 0
 IsStockIn n m = HasWholeKey m × (is_in n m ≡ true)
 
--- a row of a market that is of region n (IsStockIn) has n as its region
+-- a row of `market` that is of region n (IsStockIn) has n as its region
 its_region : (n : ℕ) (m : StoredMarket) → IsStockIn n m → m.region ≡ pos n
 its_region n m (keys, of) = keys.region ∙ ap pos (is_same (as_u32 m.region) n of)
 
@@ -58,7 +58,7 @@ its_region n m (keys, of) = keys.region ∙ ap pos (is_same (as_u32 m.region) n 
 same_row : (n : ℕ) (m : StoredMarket) → IsStockIn n m → IsWhole m.stock → market_row n (item_of m) (stock_of m) ≡ m
 same_row n m here stock = λ i. record { region = sym (its_region n m here) i; item = sym here.0.item i; stock = sym stock i }
 
--- rows of markets of one region and item have the same key
+-- rows of `market` of one region and item have the same key
 same_key : (n : ℕ) (m k : StoredMarket) → IsStockIn n m → IsStockIn n k → item_of m ≡ item_of k → ◌≡◌ {A = Key} (market_key k) (market_key m)
 same_key n m k a b e =
     let region = its_region n k b ∙ sym (its_region n m a) in

@@ -31,7 +31,7 @@ use std::fmt;
 #[derive(Drop, Clone, Copy, Debug, PartialEq, Eq)]
 pub enum Rule {
     /// There is one campaign row, with the id 1 and the format that is asked for. In the first
-    /// format there are no rows of markets.
+    /// format there are no rows of `market`.
     OneRow = 1,
     /// Keys differ, each number is in its range, and there are not too many rows.
     Ranges = 2,
