@@ -85,7 +85,7 @@ mark_stock c n item amount =
     let region = region_to_restock c.value.regions n item amount in
     record c.marks { markets = marked_with c.marks.markets n region; stock_items = thing_marked c.marks.stock_items n item region }
 
--- the marks after a stock was set without memory for its own mark: if it was another, all of its region are marked too
+-- like `mark_stock`, where there is no memory for the stock's own mark: all stocks of its region are marked instead
 abbrev pub mark_all_stocks : MarkedCampaign → (region item : ℕ) → ℕ → Marks
 mark_all_stocks c n item amount =
     let region = region_to_restock c.value.regions n item amount in

@@ -311,7 +311,7 @@ module _ (f : Format) (w : WorldValue) (p : Parts) (k : RowsKeep f w p) where
       let guard = flag_whole r.guard parts.guard in
       λ i. record { number = sym (unit_number r h).0 i; faction = sym faction i; name = r.name; region = sym region i; structure = sym structure i; men = sym men i; money = sym money i; guard = guard i }
 
-  -- all that each row of a unit names exists
+  -- all that each row of `unit` names exists
   units_placed : AllByRecursion (λ r. IsPlaced w (campaign_of w p) (unit_of p.has r)) p.units
   unfolding campaign_of
   units_placed = each_row (λ r. as_u32 r.number) (unit_of p.has) (λ n u. IsPlaced w (campaign_of w p) u) p.units units_apart k.known.units
@@ -338,7 +338,7 @@ module _ (f : Format) (w : WorldValue) (p : Parts) (k : RowsKeep f w p) where
       let done = (from_range 1 (size_of w (as_u16 r.kind)) r.done (omega arith) (and_parts (is_from 1 most_structures r.number) (is_from 1 (size_of w (as_u16 r.kind)) r.done) h).1).0 in
       λ i. record { number = sym (structure_number r h).0 i; kind = sym kind i; name = r.name; region = sym region i; done = sym done i; owner = sym owner i }
 
-  -- all that each row of a structure names exists
+  -- all that each row of `structure` names exists
   structures_built : AllByRecursion (λ r. IsBuilt w (campaign_of w p) (structure_of r)) p.structures
   unfolding campaign_of
   structures_built = each_row (λ r. as_u32 r.number) structure_of (λ n s. IsBuilt w (campaign_of w p) s) p.structures structures_apart k.known.structures
