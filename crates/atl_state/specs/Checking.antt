@@ -80,7 +80,7 @@ pub record IsChecked (f : Format) (w : WorldValue) (p : Parts) (c : MarkedCampai
   pub rows : AreRowsOf f c.value p
   -- the format can hold the campaign
   pub fits : Fits f c.value
-  -- the campaign is good
+  -- the campaign is good: all rules of specs/Good of atl_campaign hold of it (`IsGood`)
   pub good : IsGood w c.value
   -- nothing of the campaign is marked
   pub marks : c.marks ≡ no_marks
