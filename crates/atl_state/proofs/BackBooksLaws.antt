@@ -32,8 +32,7 @@ rows_each : (P : StoredBooks → Type 0) (es : List (Account × ℤ)) → AllByR
 rows_each P [] h = tt
 rows_each P (x ∷ es) h = (h.0, rows_each P es h.1)
 
--- if P holds for all rows of a list of accounts (an entry and a thing) with amounts, it holds for the row of each of
--- them
+-- if P holds for all rows of a list of accounts (an entry and a thing) with amounts, it holds for the row of each
 each_row : (P : StoredBooks → Type 0) (es : List (Account × ℤ)) → AllByRecursion P (amounts_rows es) → AllByRecursion (λ x. P (books_row x.0.0 x.0.1 x.1)) es
 each_row P [] h = tt
 each_row P (x ∷ es) h = (h.0, each_row P es h.1)
@@ -105,8 +104,7 @@ entries_apart [] h = tt
 entries_apart (x ∷ es) h = let parts = and_parts (below_all account_cmp x.0 es) (is_sorted account_cmp es) h in (others_apart x es parts.0, entries_apart es parts.1)
 
 module _ (things : ℕ) (few : things ≤ 4294967294) (books : BooksValue) (are : AreBooks things books) where
-  -- each row of the books is read as an account (an entry and a thing) of the books' things, its amount not 0
-  -- (IsBooked)
+  -- each row of the books is read as an account (an entry and a thing) of theirs, with an amount not 0 (IsBooked)
   pub lines_booked : AllByRecursion (IsBooked things) (books_rows books)
   lines_booked =
       lines_each books (IsBooked things) (λ e t z is.

@@ -80,8 +80,7 @@ module _ (faction : ℕ → Option ℕ) where
   abbrev Alike : List ℕ → Type 0
   Alike ns = (n k x y : ℕ) → In n ns → In k ns → faction n ≡ Some x → faction k ≡ Some y → x ≡ y
 
-  -- if a list passes one_holder with the first number's faction, this is the faction of each of its numbers that has
-  -- one
+  -- if a list passes one_holder with the first number's faction, each of its numbers that has a faction has that one
   first_holds : (m z : ℕ) (ms : List ℕ) → faction m ≡ Some z → one_holder faction (Some z) ms ≡ true → (n x : ℕ) → In n (m ∷ ms) → faction n ≡ Some x → x ≡ z
   first_holds m z ms first h n x (inl same) is = same_value x z (sym is ∙ ap faction same ∙ first)
   first_holds m z ms first h n x (inr mine) is = like_holder z ms h n x mine is
@@ -109,8 +108,7 @@ module _ (faction : ℕ → Option ℕ) where
   fits_on None m ms same fits n x y mine is first = same n m x y (inr mine) (inl refl) is first
   fits_on (Some z) m ms same fits n x y mine is held = fits n x y (inr mine) is held
 
-  -- a list passes one_holder with a holder, or with None, if its numbers' factions are the same (Alike), and are it
-  -- (Fits)
+  -- a list passes one_holder with a holder, or None, if its numbers' factions are the same (Alike) and that one (Fits)
   hold : (holder : Option ℕ) (ns : List ℕ) → Alike ns → Fits holder ns → one_holder faction holder ns ≡ true
   hold holder [] same fits = refl
   hold holder (m ∷ ms) same fits =
