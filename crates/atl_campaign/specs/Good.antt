@@ -302,7 +302,7 @@ pub record IsSound (w : WorldValue) (c : CampaignValue) : Type 0 where
 
 -- a good campaign, as it is between commands: a sound one in which each faction has a report
 pub record IsGood (w : WorldValue) (c : CampaignValue) : Type 0 where
-  -- the campaign is sound: it keeps all rules of a good one, but for its reports (`IsSound`)
+  -- the campaign is sound: it keeps all rules of a good one, but maybe that each faction has a report (`IsSound`)
   pub sound : IsSound w c
   -- each faction has a report
   pub reported : AreReported c

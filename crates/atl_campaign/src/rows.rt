@@ -217,8 +217,7 @@ fn has_row(number: u32, sort: u32, thing: u32, amount: u32) -> StoredHas
     }
 }
 
-/// Adds a row of `has` for each thing of one sort, items or skills, of which a unit has more than
-/// 0.
+/// Adds a row of `has` for each thing of a sort, items or skills, of which a unit has more than 0.
 fn add_sort(
     rows: &mut Sequence<StoredHas>,
     number: u32,
