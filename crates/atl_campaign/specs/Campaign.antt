@@ -18,8 +18,8 @@ use Rattle.atl_records.specs.Books.{BooksValue, after_booking, books_code, no_am
 use Rattle.atl_records.specs.Holdings.{with_amount_of}
 use Rattle.atl_campaign.specs.Marks.{Marks, marks_code, no_marks}
 
--- A campaign: month last closed, the moderator's pass text, next numbers, the books, and all else by number.
--- Mail and reports are by the numbers of their factions.
+-- A campaign: its month, pass text, next numbers and books, and its factions, regions, units, structures, mail and
+-- reports by number. Mail and reports are by the numbers of their factions.
 pub record CampaignValue : Type 0 where
   -- the number of the month last closed; 0 before the first
   pub month : ℕ

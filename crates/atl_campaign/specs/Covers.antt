@@ -12,7 +12,7 @@ use Rattle.atl_campaign.specs.Marks.{Marks, Things, is_thing_marked}
 use Rattle.atl_campaign.specs.Campaign.{CampaignValue, MarkedCampaign}
 use Rattle.atl_campaign.specs.Stocks.{stock_of}
 
--- both maps have the same value, or both none, under each number that is not marked
+-- both maps have the same value, or both none, under each number that is not in the given dirty set
 abbrev pub SameBut : {V : Type 0} → FinSet nat_cmp → FinMap nat_cmp V → FinMap nat_cmp V → Type 0
 SameBut marks before after = (n : ℕ) → contains marks n ≡ false → get after n ≡ get before n
 
@@ -24,17 +24,17 @@ unstocked r = record r { stocks = empty }
 abbrev pub bare : Unit → Unit
 bare u = record u { holding = record u.holding { items = empty; days = empty } }
 
--- the items of a unit; none for None
+-- the amounts of a unit's items, by the items' numbers; no amounts where None is given for the unit
 abbrev pub items_under : Option Unit → FinMap nat_cmp ℕ
 items_under None = empty
 items_under (Some u) = u.holding.items
 
--- the days of study of a unit, by skill; none for None
+-- a unit's days of study, by the skills' numbers; no days where None is given for the unit
 abbrev pub days_under : Option Unit → FinMap nat_cmp ℕ
 days_under None = empty
 days_under (Some u) = u.holding.days
 
--- both maps of units have the same amount of each item or skill (`under` picks which) that is not marked
+-- each unit has the same in both maps of each item, or of each skill (`under` picks which), that is not marked
 abbrev pub SameThings : FinSet nat_cmp → Things → (Option Unit → FinMap nat_cmp ℕ) → FinMap nat_cmp Unit → FinMap nat_cmp Unit → Type 0
 SameThings goods things under before after = (n thing : ℕ) → is_thing_marked goods things n thing ≡ false → get (under (get after n)) thing ≡ get (under (get before n)) thing
 
@@ -44,34 +44,34 @@ own_row c = (c.month, (c.pass, (c.next_faction, (c.next_unit, c.next_structure))
 
 -- all that is not marked in m is the same in the campaigns before and after
 pub record Covers (m : Marks) (before after : CampaignValue) : Type 0 where
-  -- a faction that is not marked is the same, or is missing in both
+  -- a faction that is not marked is the same in both campaigns, or is in neither
   pub factions : SameBut m.factions before.factions after.factions
-  -- A region whose row is not marked is the same but for its stocks, or is missing in both.
+  -- A region whose row is not marked is the same in both campaigns but for its stocks, or is in neither.
   pub regions : (n : ℕ) → contains m.regions n ≡ false → option_map unstocked (get after.regions n) ≡ option_map unstocked (get before.regions n)
-  -- A stock that is not marked is the same.
+  -- A stock that is not marked is the same in both campaigns.
   pub stocks : (n item : ℕ) → is_thing_marked m.stocks m.stock_items n item ≡ false → stock_of after n item ≡ stock_of before n item
-  -- a structure that is not marked is the same, or is missing in both
+  -- a structure that is not marked is the same in both campaigns, or is in neither
   pub structures : SameBut m.structures before.structures after.structures
-  -- the mail of a faction whose mail is not marked is the same, or is missing in both
+  -- the mail of a faction whose mail is not marked is the same in both campaigns, or is in neither
   pub mail : SameBut m.mail before.mail after.mail
-  -- the report of a faction whose report is not marked is the same, or is missing in both
+  -- the report of a faction whose report is not marked is the same in both campaigns, or is in neither
   pub reports : SameBut m.reports before.reports after.reports
-  -- A unit whose row is not marked is the same but for its goods, or is missing in both.
+  -- A unit whose row is not marked is the same in both campaigns but for its goods, or is in neither.
   pub units : (n : ℕ) → contains m.rows n ≡ false → option_map bare (get after.units n) ≡ option_map bare (get before.units n)
-  -- what a unit has of an item that is not marked is the same, or is missing in both
+  -- what a unit has of an item that is not marked is the same in both campaigns, or is in neither
   pub items : SameThings m.goods m.items items_under before.units after.units
-  -- the days that a unit has of a skill that is not marked are the same, or are missing in both
+  -- the days that a unit has of a skill that is not marked are the same in both campaigns, or are in neither
   pub days : SameThings m.goods m.skills days_under before.units after.units
-  -- an amount of the books that is not marked is the same
+  -- an amount of the books that is not marked is the same in both campaigns
   pub books : (e : Entry) (t : Thing) → contains m.books (amount_number e t) ≡ false → amount_in after.books e t ≡ amount_in before.books e t
-  -- the month, the pass text and the next numbers are the same if the campaign row is not marked
+  -- the month, the pass text and the next numbers are the same in both campaigns if the campaign row is not marked
   pub row : m.row ≡ false → own_row after ≡ own_row before
 
--- each number that was marked before is marked after
+-- each number in the first dirty set is in the second: what was marked before some changes is marked after them
 abbrev pub StaysMarked : FinSet nat_cmp → FinSet nat_cmp → Type 0
 StaysMarked before after = (n : ℕ) → contains before n ≡ true → contains after n ≡ true
 
--- each item, skill or stock that was marked, alone or with all of its unit or region, still is
+-- each item, skill or stock that was marked, by itself or with all of its unit or region, is marked after
 abbrev pub ThingsStayMarked : (goods : FinSet nat_cmp) (things : Things) (goods_after : FinSet nat_cmp) (things_after : Things) → Type 0
 ThingsStayMarked goods things goods_after things_after = (n thing : ℕ) → is_thing_marked goods things n thing ≡ true → is_thing_marked goods_after things_after n thing ≡ true
 
@@ -81,7 +81,7 @@ pub record StayMarked (before after : Marks) : Type 0 where
   pub factions : StaysMarked before.factions after.factions
   -- each region whose row was marked has its row marked after
   pub regions : StaysMarked before.regions after.regions
-  -- each region of which a stock was marked is in `markets` after
+  -- each region of which a stock was marked is still one of which a stock is marked (`markets`)
   pub markets : StaysMarked before.markets after.markets
   -- each stock that was marked, alone or with all of its region, is marked after
   pub stocks : ThingsStayMarked before.stocks before.stock_items after.stocks after.stock_items
@@ -91,7 +91,7 @@ pub record StayMarked (before after : Marks) : Type 0 where
   pub mail : StaysMarked before.mail after.mail
   -- each faction whose report was marked has its report marked after
   pub reports : StaysMarked before.reports after.reports
-  -- each unit of which something was marked is in `units` after
+  -- each unit of which something was marked is still one of which something is marked (`units`)
   pub units : StaysMarked before.units after.units
   -- each unit whose row was marked has its row marked after
   pub rows : StaysMarked before.rows after.rows

@@ -113,7 +113,7 @@ put_amounts (r ∷ rs) books = put_amounts rs (with_books_row books r)
 abbrev pub no_campaign_row : StoredCampaignRow
 no_campaign_row = record { id = pos 0; format = pos 0; month = pos 0; next_faction = pos 0; next_unit = pos 0; next_structure = pos 0; pass = [] }
 
--- the campaign row: the first row of the table `campaign`
+-- the campaign row: the first row of the table `campaign`, or `no_campaign_row` where the table is empty
 abbrev pub campaign_row_of : Parts → StoredCampaignRow
 campaign_row_of p = slice_index_or p.campaign 0 no_campaign_row
 

@@ -162,11 +162,11 @@ pub record AreKnown (w : WorldValue) (c : CampaignValue) : Type 0 where
 
 -- the numbers of the map are exactly those from 1 to `next - 1`
 pub record IsNumbered {V : Type 0} (m : FinMap nat_cmp V) (next : ℕ) : Type 0 where
-  -- the number 0 is free
+  -- the map has nothing under the number 0
   pub first : get m 0 ≡ None
-  -- the next number is one above how many entries there are
+  -- `next` is one above how many entries the map has
   pub count : next ≡ len m + 1
-  -- the next number and all above it are free
+  -- the map has nothing under `next` or any number above it
   pub free : (n : ℕ) → next ≤ n → get m n ≡ None
 
 -- factions and structures are numbered from 1 without a gap, and no unit has the next unit number or a greater one
@@ -280,14 +280,14 @@ pub record IsSteady (w : WorldValue) (c : CampaignValue) : Type 0 where
 
 -- a steady campaign in which all guard flags set in a region are of one faction, also those of units without men
 pub record IsEarly (w : WorldValue) (c : CampaignValue) : Type 0 where
-  -- the campaign is steady
+  -- the campaign is steady: it keeps the rules that hold also within a month (`IsSteady`)
   pub steady : IsSteady w c
   -- all units of a region whose guard flags are set, with men or without, are of one faction
   pub flags : AreOfOneFaction (λ u. u.holding.guard) c
 
 -- a campaign that keeps all rules of a good one, but that factions may lack reports, as one that has just joined does
 pub record IsSound (w : WorldValue) (c : CampaignValue) : Type 0 where
-  -- the campaign is steady
+  -- the campaign is steady: it keeps the rules that hold also within a month (`IsSteady`)
   pub steady : IsSteady w c
   -- each unit has at least one man
   pub men : HaveMen c
@@ -302,7 +302,7 @@ pub record IsSound (w : WorldValue) (c : CampaignValue) : Type 0 where
 
 -- a good campaign, as it is between commands: a sound one in which each faction has a report
 pub record IsGood (w : WorldValue) (c : CampaignValue) : Type 0 where
-  -- the campaign is sound
+  -- the campaign is sound: it keeps all rules of a good one, but maybe that each faction has a report (`IsSound`)
   pub sound : IsSound w c
   -- each faction has a report
   pub reported : AreReported c

@@ -32,7 +32,7 @@ home_of w word = slice_index (land_of w) (word % length (land_of w))
 abbrev pub new_faction : ℕ → List ℕ → List ℕ → Faction
 new_faction number name pass = record { number = number; joined_as = name; name = name; pass = pass; gone = false }
 
--- the unit of a faction that joins: one man with the start money and nothing else
+-- the unit of a faction that joins: one man with the start money, in the region picked by `word`, a word of the dice
 abbrev pub first_unit : WorldValue → ℕ → CampaignValue → Unit
 first_unit w word c = record {
   faction = c.next_faction;

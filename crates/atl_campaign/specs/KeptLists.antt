@@ -12,11 +12,11 @@ use Rattle.atl_campaign.specs.Campaign.{numbers_inside}
 use Rattle.atl_campaign.specs.declared.lists.ListKeys.{ListKeys}
 use Rattle.atl_campaign.specs.declared.lists.UnitLists.{UnitLists}
 
--- the list under a key, which is empty where there is none
+-- the list of numbers that `lists` has under key k; the empty list where it has none
 abbrev pub list_of : FinMap nat_cmp (List ℕ) → ℕ → List ℕ
 list_of lists k = unwrap_or (get lists k) []
 
--- the list under each key has the numbers of the units that belong to the key, in rising order
+-- `lists` has under each key the numbers of the units with this key (`belongs_to` gives a unit's), in rising order
 abbrev pub AreLists : (Unit → ℕ) → FinMap nat_cmp Unit → FinMap nat_cmp (List ℕ) → Type 0
 AreLists belongs_to units lists = (k : ℕ) → list_of lists k ≡ numbers_where (λ u. belongs_to u == k) units
 
@@ -24,11 +24,11 @@ AreLists belongs_to units lists = (k : ℕ) → list_of lists k ≡ numbers_wher
 abbrev pub SameLists : FinMap nat_cmp (List ℕ) → FinMap nat_cmp (List ℕ) → Type 0
 SameLists new old = (k : ℕ) → list_of new k ≡ list_of old k
 
--- the lists with n put into the list of `key`, unless `key` is `other`
+-- the lists with n put into the list of `key`, unless `key` is `other`: where n is already, or 0, which has no list
 abbrev pub listed_apart : FinMap nat_cmp (List ℕ) → ℕ → ℕ → ℕ → FinMap nat_cmp (List ℕ)
 listed_apart lists n key other = if key == other then lists else insert lists key (put_number n (list_of lists key))
 
--- the lists with n taken out of the list of `key`, unless `key` is `other`
+-- the lists with n taken out of the list of `key`, unless `key` is `other`: where n stays, or 0, which has no list
 abbrev pub unlisted_apart : FinMap nat_cmp (List ℕ) → ℕ → ℕ → ℕ → FinMap nat_cmp (List ℕ)
 unlisted_apart lists n key other = if key == other then lists else insert lists key (take_number n (list_of lists key))
 
@@ -75,7 +75,7 @@ RelistsUnit n from to old new = (units : FinMap nat_cmp Unit) (u v : Unit) → l
 
 -- only amounts of the first `things` things are marked, and the dirty set has room for all amounts of these things
 pub record MarksAmounts (things : ℕ) (marks : RoomySet) : Type 0 where
-  -- the dirty set has room for the amounts of all 16 entries for each of the things
+  -- the dirty set of the books has room for the amounts of all 16 entries, for each of the things
   pub room : entry_count * things ≤ marks.room
   -- only amounts of the first `things` things are marked
   pub numbers : AreOfThings things marks.numbers

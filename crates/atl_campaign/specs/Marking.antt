@@ -15,7 +15,7 @@ use Rattle.atl_campaign.specs.Campaign.{MarkedCampaign, with_owner}
 use Rattle.atl_campaign.specs.Regions.{MarkedRegions, region_to_restock}
 use Rattle.atl_campaign.specs.Roster.{Roster}
 
--- the marks of a campaign, put together from those of its parts
+-- the marks of a campaign, put together from those of its factions, regions, units and so on, and of the campaign row
 abbrev pub marks_of_parts : (factions : FinSet nat_cmp) → MarkedRegions → Roster → (structures mail reports books : FinSet nat_cmp) → Bool → Marks
 marks_of_parts factions regions units structures mail reports books row = record {
   factions = factions;
@@ -35,7 +35,7 @@ marks_of_parts factions regions units structures mail reports books row = record
   row = row;
 }
 
--- the marks m with unit n, its row and all its goods marked too; unchanged if u is None
+-- the marks m with unit n, its row and all its goods marked too; unchanged if the unit given is None
 abbrev pub whole_marked : Marks → ℕ → Option Unit → Marks
 whole_marked m n u = record m { units = marked_with m.units n u; rows = marked_with m.rows n u; goods = marked_with m.goods n u }
 
@@ -43,23 +43,23 @@ whole_marked m n u = record m { units = marked_with m.units n u; rows = marked_w
 abbrev pub mark_unit : MarkedCampaign → ℕ → Marks
 mark_unit c n = whole_marked c.marks n (get c.value.units n)
 
--- the marks after unit n was added: it, its row and all its goods
+-- the marks after unit n was added: it, its row and all its goods are marked too
 abbrev pub mark_unit_added : MarkedCampaign → ℕ → Marks
 mark_unit_added c n = record c.marks { units = insert c.marks.units n; rows = insert c.marks.rows n; goods = insert c.marks.goods n }
 
--- the marks after a unit was added under the next unit number: it, its row, all its goods and the campaign row
+-- the marks after a unit was added under the next number: it, its row, its goods and the campaign row are marked too
 abbrev pub mark_unit_begun : MarkedCampaign → Marks
 mark_unit_begun c = record (mark_unit_added c c.value.next_unit) { row = true }
 
--- the marks after the row of unit n changed: the unit and its row, and none of its goods
+-- the marks after the row of unit n changed, if it is there: it and its row are marked too, and none of its goods
 abbrev pub mark_unit_row : MarkedCampaign → ℕ → Marks
 mark_unit_row c n = record c.marks { units = marked_with c.marks.units n (get c.value.units n); rows = marked_with c.marks.rows n (get c.value.units n) }
 
--- the marks after an item of unit n changed: the unit and that item, neither its row nor another of its goods
+-- the marks after an item of unit n changed, if the unit is there: the unit and that item are marked too, not its row
 abbrev pub mark_item : MarkedCampaign → ℕ → ℕ → Marks
 mark_item c n item = record c.marks { units = marked_with c.marks.units n (get c.value.units n); items = thing_marked c.marks.items n item (get c.value.units n) }
 
--- the marks after a skill of unit n changed: the unit and that skill, neither its row nor another of its goods
+-- the marks after a skill of unit n changed, if the unit is there: the unit and that skill are marked too, not its row
 abbrev pub mark_skill : MarkedCampaign → ℕ → ℕ → Marks
 mark_skill c n skill = record c.marks { units = marked_with c.marks.units n (get c.value.units n); skills = thing_marked c.marks.skills n skill (get c.value.units n) }
 
@@ -71,31 +71,31 @@ item_marked c n item = record c { marks = mark_item c n item }
 abbrev pub skill_marked : MarkedCampaign → ℕ → ℕ → MarkedCampaign
 skill_marked c n skill = record c { marks = mark_skill c n skill }
 
--- the marks after faction n changed, where it is there
+-- the marks after faction n changed: it is marked too, if it is there
 abbrev pub mark_faction : MarkedCampaign → ℕ → Marks
 mark_faction c n = record c.marks { factions = marked_with c.marks.factions n (get c.value.factions n) }
 
--- the marks after the row of region n changed: its row, and none of its stocks
+-- the marks after the row of region n changed: its row is marked too, if it is there, and none of its stocks
 abbrev pub mark_region : MarkedCampaign → ℕ → Marks
 mark_region c n = record c.marks { regions = marked_with c.marks.regions n (get c.value.regions n) }
 
--- the marks after one stock was set: that stock alone of its region, if the amount is another than before
+-- the marks after a stock was set: if its amount was another before, that stock is marked too, and no other stock
 abbrev pub mark_stock : MarkedCampaign → (region item : ℕ) → ℕ → Marks
 mark_stock c n item amount =
     let region = region_to_restock c.value.regions n item amount in
     record c.marks { markets = marked_with c.marks.markets n region; stock_items = thing_marked c.marks.stock_items n item region }
 
--- the marks after one stock was set without memory for its own mark: all stocks of its region, if the amount is another
+-- like `mark_stock`, where there is no memory for the stock's own mark: all stocks of its region are marked instead
 abbrev pub mark_all_stocks : MarkedCampaign → (region item : ℕ) → ℕ → Marks
 mark_all_stocks c n item amount =
     let region = region_to_restock c.value.regions n item amount in
     record c.marks { markets = marked_with c.marks.markets n region; stocks = marked_with c.marks.stocks n region }
 
--- what setting a stock marks: it alone or, where there is no memory for that mark, all stocks of its region
+-- the last argument is the marks after a stock was set: `mark_stock`, or `mark_all_stocks` without memory for that mark
 abbrev pub MarksStock : MarkedCampaign → (region item : ℕ) → ℕ → Marks → Type 0
 MarksStock c n item amount m = (m ≡ mark_stock c n item amount) ⊎ (m ≡ mark_all_stocks c n item amount)
 
--- the marks after structure n changed, where it is there
+-- the marks after structure n changed: it is marked too, if it is there
 abbrev pub mark_structure : MarkedCampaign → ℕ → Marks
 mark_structure c n = record c.marks { structures = marked_with c.marks.structures n (get c.value.structures n) }
 
@@ -103,15 +103,15 @@ mark_structure c n = record c.marks { structures = marked_with c.marks.structure
 abbrev pub mark_campaign_row : MarkedCampaign → Marks
 mark_campaign_row c = record c.marks { row = true }
 
--- the marks after a structure was added under the next structure number: it, and the campaign row
+-- the marks after a structure was added under the next structure number: it and the campaign row are marked too
 abbrev pub mark_structure_begun : MarkedCampaign → Marks
 mark_structure_begun c = record c.marks { structures = insert c.marks.structures c.value.next_structure; row = true }
 
--- the marks after something was booked: the amount of that entry and thing
+-- the marks after something was booked: the amount of that entry and thing is marked too
 abbrev pub mark_amount : MarkedCampaign → Entry → Thing → Marks
 mark_amount c e t = record c.marks { books = amount_marked c.marks.books e t }
 
--- the marks after all mail was removed: the mail of each faction that had some
+-- the marks after all mail was removed: the mail of each faction that had some is marked too
 abbrev pub mark_all_mail : MarkedCampaign → Marks
 mark_all_mail c = record c.marks { mail = union c.marks.mail (from_list (keys c.value.mail)) }
 
@@ -125,7 +125,7 @@ handed_marked c s from to = if is_owned_by (get c.value.structures s) from then 
 abbrev pub put_marked : MarkedCampaign → ℕ → ℕ → ℕ → MarkedCampaign
 put_marked c n r s = record { value = placed c.value n r s; marks = mark_unit_row c n }
 
--- the campaign with the given unit n put in region r and structure s, with the marks of that; unchanged for None
+-- `place_marked` once unit n is looked up: unit n is put in region r and structure s; nothing changes if it is None
 abbrev pub place_marked_at : MarkedCampaign → ℕ → ℕ → ℕ → Option Unit → MarkedCampaign
 place_marked_at c n r s None = c
 place_marked_at c n r s (Some u) = if u.structure == s then put_marked c n r s else handed_marked (handed_marked (put_marked c n r s) u.structure n (heir c.value u.structure n)) s 0 n
@@ -138,7 +138,7 @@ place_marked c n r s = place_marked_at c n r s (get c.value.units n)
 abbrev pub taken_marked : MarkedCampaign → ℕ → MarkedCampaign
 taken_marked c n = record { value = record c.value { units = remove c.value.units n }; marks = mark_unit c n }
 
--- the campaign without the given unit n, with its structure handed over, and the marks of that; unchanged for None
+-- `gone_marked` once unit n is looked up: it is removed, and its structure handed over; nothing changes if it is None
 abbrev pub gone_marked_at : MarkedCampaign → ℕ → Option Unit → MarkedCampaign
 gone_marked_at c n None = c
 gone_marked_at c n (Some u) = handed_marked (taken_marked c n) u.structure n (heir c.value u.structure n)
@@ -149,15 +149,15 @@ gone_marked c n = gone_marked_at c n (get c.value.units n)
 
 -- ---- mail, reports and joining
 
--- the marks after a report of faction n was stored
+-- the marks after a report of faction n was stored: the report of faction n is marked too
 abbrev pub mark_report : MarkedCampaign → ℕ → Marks
 mark_report c n = record c.marks { reports = insert c.marks.reports n }
 
--- the marks after a mailing of faction n was stored
+-- the marks after a mailing of faction n was stored: the mail of faction n is marked too
 abbrev pub mark_mail : MarkedCampaign → ℕ → Marks
 mark_mail c n = record c.marks { mail = insert c.marks.mail n }
 
--- the marks after a join: the faction, its unit with row and goods, the two amounts booked, and the campaign row
+-- the marks after a join: faction, unit with row and goods, two amounts booked, and the campaign row are marked too
 abbrev pub mark_join : MarkedCampaign → Marks
 mark_join c = record c.marks {
   factions = insert c.marks.factions c.value.next_faction;

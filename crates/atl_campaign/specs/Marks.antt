@@ -11,7 +11,7 @@ use Rattle.atl_records.specs.declared.books.Entry.{Entry}
 use Rattle.atl_records.specs.declared.books.Thing.{Thing}
 use Rattle.atl_records.specs.Books.{amount_number}
 
--- marked single things by owner: numbers of items or of skills by unit, or of items in stock by region
+-- what is marked one by one: the numbers of items or of skills by unit, or of items in stock by region
 abbrev pub Things : Type 0
 Things = map.FinMap nat_cmp (map.FinMap nat_cmp (Prim.Unit {0}))
 
@@ -39,7 +39,7 @@ pub record Marks : Type 0 where
   pub markets : FinSet nat_cmp
   -- the numbers of the regions all of whose stocks are marked
   pub stocks : FinSet nat_cmp
-  -- the items whose stocks are marked alone, by region
+  -- the stocks that are marked one by one: the items' numbers, by the region's number
   pub stock_items : Things
   -- the numbers of the units of which something is marked
   pub units : FinSet nat_cmp
@@ -47,9 +47,9 @@ pub record Marks : Type 0 where
   pub rows : FinSet nat_cmp
   -- the numbers of the units all of whose items and days are marked
   pub goods : FinSet nat_cmp
-  -- the items that are marked alone, by unit
+  -- the items that are marked one by one: their numbers, by the unit's number
   pub items : Things
-  -- the skills whose days are marked alone, by unit
+  -- the skills whose days are marked one by one: their numbers, by the unit's number
   pub skills : Things
   -- the numbers of the structures that are marked
   pub structures : FinSet nat_cmp
@@ -92,29 +92,29 @@ marks_code =
     })
     (λ _. refl)
 
--- whether an item or skill of a unit, or a stock of a region, is marked: alone, or with all goods of unit or region
+-- whether an item or skill of a unit, or a stock of a region, is marked: by itself, or with all of its unit or region
 abbrev pub is_thing_marked : FinSet nat_cmp → Things → ℕ → ℕ → Bool
 is_thing_marked goods things n thing = contains goods n || is_some (map.get (group_of things n) thing)
 
 -- a unit is marked if its row, all its goods, or one of its items or skills is marked
 pub record AreWithin (units rows goods : FinSet nat_cmp) (items skills : Things) : Type 0 where
-  -- a unit whose row is marked is marked
+  -- a unit whose row is marked is marked itself (it is in `units`)
   pub rows_within : (n : ℕ) → contains rows n ≡ true → contains units n ≡ true
-  -- a unit all of whose goods are marked is marked
+  -- a unit all of whose goods are marked is marked itself (it is in `units`)
   pub goods_within : (n : ℕ) → contains goods n ≡ true → contains units n ≡ true
-  -- a unit that has an entry in `items` is marked
+  -- a unit of which items are marked one by one (it has an entry in `items`) is marked itself
   pub items_within : (n : ℕ) → is_some (map.get items n) ≡ true → contains units n ≡ true
-  -- a unit that has an entry in `skills` is marked
+  -- a unit of which skills are marked one by one (it has an entry in `skills`) is marked itself
   pub skills_within : (n : ℕ) → is_some (map.get skills n) ≡ true → contains units n ≡ true
 
 -- a region is in `markets` if all its stocks are marked, or one of them is
 pub record AreStocksWithin (markets stocks : FinSet nat_cmp) (stock_items : Things) : Type 0 where
-  -- a region all of whose stocks are marked is in `markets`
+  -- a region all of whose stocks are marked is one of which a stock is marked (it is in `markets`)
   pub stocks_within : (n : ℕ) → contains stocks n ≡ true → contains markets n ≡ true
-  -- a region that has an entry in `stock_items` is in `markets`
+  -- a region of which stocks are marked one by one (it has an entry in `stock_items`) is in `markets`
   pub items_within : (n : ℕ) → is_some (map.get stock_items n) ≡ true → contains markets n ≡ true
 
--- nothing is marked
+-- the marks of a campaign of which nothing is marked
 abbrev pub no_marks : Marks
 no_marks = record {
   factions = empty;

@@ -18,7 +18,7 @@ first_other ns leaving = first_or_zero (filter (λ n. not (n == leaving)) ns)
 abbrev pub heir : CampaignValue → ℕ → ℕ → ℕ
 heir c s leaving = first_other (numbers_inside s c.units) leaving
 
--- the owner of the given structure s once unit `leaving` has left it; 0 for None
+-- the owner of structure s, which is given too, once unit `leaving` has left it; 0 if None is given, for no structure
 abbrev pub owner_after_at : CampaignValue → ℕ → ℕ → Option Structure → ℕ
 owner_after_at c s leaving None = 0
 owner_after_at c s leaving (Some x) = if x.owner == leaving then heir c s leaving else x.owner
@@ -40,7 +40,7 @@ after_handover c s from to = if is_owned_by (get c.structures s) from then with_
 abbrev pub placed : CampaignValue → ℕ → ℕ → ℕ → CampaignValue
 placed c n r s = unit_changed (λ u. record u { region = r; structure = s }) c n
 
--- the campaign with the given unit n put in region r and structure s, and owners set (`with_place`); unchanged for None
+-- `with_place` once unit n is looked up: unit n is put in region r and structure s; nothing changes if it is None
 abbrev pub with_place_at : CampaignValue → ℕ → ℕ → ℕ → Option Unit → CampaignValue
 with_place_at c n r s None = c
 with_place_at c n r s (Some u) = if u.structure == s then placed c n r s else after_handover (after_handover (placed c n r s) u.structure n (heir c u.structure n)) s 0 n
@@ -50,7 +50,7 @@ with_place_at c n r s (Some u) = if u.structure == s then placed c n r s else af
 unfoldable pub with_place : CampaignValue → ℕ → ℕ → ℕ → CampaignValue
 with_place c n r s = with_place_at c n r s (get c.units n)
 
--- the campaign without the given unit n; a structure that it owned gets its next owner; unchanged for None
+-- `without_unit` once unit n is looked up: a structure that it owned gets its next owner; nothing changes if it is None
 abbrev pub without_unit_at : CampaignValue → ℕ → Option Unit → CampaignValue
 without_unit_at c n None = c
 without_unit_at c n (Some u) = after_handover (record c { units = remove c.units n }) u.structure n (heir c u.structure n)

@@ -24,7 +24,7 @@ pub record MarkedRegions : Type 0 where
   pub markets : set.FinSet nat_cmp
   -- the numbers of the regions all of whose stocks are marked
   pub stocks : set.FinSet nat_cmp
-  -- the items whose stocks are marked alone, by region
+  -- the stocks that are marked one by one: the items' numbers, by the region's number
   pub items : Things
 
 -- for proofs alone: regions with marks encoded as nested pairs of their fields
@@ -37,7 +37,7 @@ regions_code =
     (λ p. record { values = p.0; rows = p.1.0; markets = p.1.1.0; stocks = p.1.1.1.0; items = p.1.1.1.1 })
     (λ _. refl)
 
--- regions of which nothing is marked
+-- the given regions, with nothing marked
 abbrev pub unmarked_regions : map.FinMap nat_cmp Region → MarkedRegions
 unmarked_regions values = record { values = values; rows = set.empty; markets = set.empty; stocks = set.empty; items = map.empty }
 

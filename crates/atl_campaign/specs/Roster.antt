@@ -21,9 +21,9 @@ pub record Roster : Type 0 where
   pub rows : set.FinSet nat_cmp
   -- the numbers of the units all of whose items and days are marked
   pub goods : set.FinSet nat_cmp
-  -- the items that are marked alone, by unit
+  -- the items that are marked one by one: their numbers, by the unit's number
   pub items : Things
-  -- the skills whose days are marked alone, by unit
+  -- the skills whose days are marked one by one: their numbers, by the unit's number
   pub skills : Things
 
 -- for proofs alone: units with marks (Roster) encoded as nested pairs of their fields
@@ -36,7 +36,7 @@ roster_code =
     (λ p. record { values = p.0; marks = p.1.0; rows = p.1.1.0; goods = p.1.1.1.0; items = p.1.1.1.1.0; skills = p.1.1.1.1.1 })
     (λ _. refl)
 
--- units of which nothing is marked
+-- the roster of the given units, with nothing marked
 abbrev pub unmarked_units : map.FinMap nat_cmp Unit → Roster
 unmarked_units values = record { values = values; marks = set.empty; rows = set.empty; goods = set.empty; items = map.empty; skills = map.empty }
 
@@ -72,7 +72,7 @@ item_marked_at r n item = record r { marks = marked_with r.marks n (map.get r.va
 abbrev pub skill_marked_at : Roster → ℕ → ℕ → Roster
 skill_marked_at r n skill = record r { marks = marked_with r.marks n (map.get r.values n); skills = thing_marked r.skills n skill (map.get r.values n) }
 
--- the roster without the given unit n, which is marked with its row and all its goods; unchanged for None
+-- the roster without unit n, which is given too, and is marked with its row and all its goods; unchanged if it is None
 abbrev pub gone_at : Roster → ℕ → Option Unit → Roster
 gone_at r n None = r
 gone_at r n (Some u) = record (all_marked r n) { values = map.remove r.values n }

@@ -72,7 +72,7 @@ region_in_range r = is_from 0 most_amount r.peasants && is_from 0 most_amount r.
 abbrev pub unit_in_range : StoredUnit → Bool
 unit_in_range r = ((is_from 1 last_unit r.number && is_from 1 men_limit r.men) && is_from 0 holding_limit r.money) && is_from 0 1 r.guard
 
--- whether a row of `has` is of sort 1, or of sort 0 with an amount of 1 to 999,999,999; rule 6 is for days (sort 1)
+-- whether a row of `has` is of a skill (sort 1), whose days rule 6 judges, or of 1 to 999,999,999 of an item (sort 0)
 abbrev pub has_in_range : StoredHas → Bool
 has_in_range r = is_from 1 1 r.sort || (is_from 0 0 r.sort && is_from 1 holding_limit r.amount)
 
@@ -102,7 +102,7 @@ Key = ℤ × ℤ × ℤ
 abbrev pub key_cmp : Key → Key → Ordering
 key_cmp a b = ordering_then (ordering_then (int_cmp a.0 b.0) (int_cmp a.1 b.1)) (int_cmp a.2 b.2)
 
--- the key with n as its first number, for tables whose key is one number
+-- the key whose first number is n, and whose others are 0, for tables whose key is one number
 abbrev pub one_key : ℤ → Key
 one_key n = (n, pos 0, pos 0)
 
@@ -200,7 +200,7 @@ faction_named r = (name_ok r.joined_as && name_ok r.name) && pass_ok r.pass
 abbrev pub are_named : Parts → Bool
 are_named p = ((pass_ok (campaign_row_of p).pass && list_all faction_named p.factions) && list_all (λ r. name_ok r.name) p.units) && list_all (λ r. name_ok r.name) p.structures
 
--- no two factions joined under the same name
+-- the names that factions joined under are distinct in the given rows of `faction`
 abbrev pub AreJoinedNamesDistinct : List StoredFaction → Type 0
 AreJoinedNamesDistinct rows = IsDistinct (eq_by_cmp (slice_cmp nat_cmp)) (map (λ r. r.joined_as) rows)
 
@@ -213,7 +213,7 @@ pub record AreRowsNamed (p : Parts) : Type 0 where
 
 -- ---- what rows say of other rows
 
--- whether a row of `has` is of a unit that is there
+-- whether a row of `has` is of a unit that the campaign has
 abbrev pub is_of_unit : CampaignValue → StoredHas → Bool
 is_of_unit c r = is_some (get c.units (as_u32 r.unit))
 

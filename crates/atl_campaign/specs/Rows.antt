@@ -98,7 +98,7 @@ held_rows n h = rows_of_sort n 0 (entries h.items) ++ rows_of_sort n 1 (entries 
 abbrev pub has_rows : List (ℕ × Unit) → List StoredHas
 has_rows es = flat_map (λ e. held_rows e.0 e.1.holding) es
 
--- a row of `books` for each of the given accounts, with its amount
+-- a row of `books` for each of the given accounts (an entry and a thing), with its amount
 abbrev pub amounts_rows : List (Account × ℤ) → List StoredBooks
 amounts_rows xs = map (λ x. books_row x.0.0 x.0.1 x.1) xs
 
@@ -132,33 +132,33 @@ rows_of f c = record {
   markets = market_rows f (entries c.regions);
 }
 
--- two sets of tables have the same rows in each table, in any order
+-- the parts `some` and `others` have the same rows in each table, in any order
 pub record AreSameRows (some others : Parts) : Type 0 where
-  -- both have the same rows of `campaign`, in any order
+  -- `some` and `others` have the same rows of `campaign`, in any order
   pub campaign : IsPermutation some.campaign others.campaign
-  -- both have the same rows of `faction`, in any order
+  -- `some` and `others` have the same rows of `faction`, in any order
   pub factions : IsPermutation some.factions others.factions
-  -- both have the same rows of `region`, in any order
+  -- `some` and `others` have the same rows of `region`, in any order
   pub regions : IsPermutation some.regions others.regions
-  -- both have the same rows of `unit`, in any order
+  -- `some` and `others` have the same rows of `unit`, in any order
   pub units : IsPermutation some.units others.units
-  -- both have the same rows of `has`, in any order
+  -- `some` and `others` have the same rows of `has`, in any order
   pub has : IsPermutation some.has others.has
-  -- both have the same rows of `structure`, in any order
+  -- `some` and `others` have the same rows of `structure`, in any order
   pub structures : IsPermutation some.structures others.structures
-  -- both have the same rows of `mail`, in any order
+  -- `some` and `others` have the same rows of `mail`, in any order
   pub mail : IsPermutation some.mail others.mail
-  -- both have the same rows of `report`, in any order
+  -- `some` and `others` have the same rows of `report`, in any order
   pub reports : IsPermutation some.reports others.reports
-  -- both have the same rows of `books`, in any order
+  -- `some` and `others` have the same rows of `books`, in any order
   pub books : IsPermutation some.books others.books
-  -- both have the same rows of `market`, in any order
+  -- `some` and `others` have the same rows of `market`, in any order
   pub markets : IsPermutation some.markets others.markets
 
 -- `parts` are the rows of a campaign in a format, each once, in any order
 abbrev pub AreRowsOf : Format → CampaignValue → Parts → Type 0
 AreRowsOf f c parts = AreSameRows (rows_of f c) parts
 
--- For proofs alone: a row of `books` for each of the given accounts whose amount is not 0.
+-- For proofs alone: a row of `books` for each of the given accounts (an entry and a thing) whose amount is not 0.
 abbrev pub rows_under : BooksValue → List Account → List StoredBooks
 rows_under books accounts = amounts_rows (listed_of (λ a. amount_in books a.0 a.1) accounts)

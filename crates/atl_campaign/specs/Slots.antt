@@ -6,7 +6,7 @@ use Rattle.slab.specs.Slab as slab
 use Rattle.atl_records.specs.Every.{EachOf}
 
 module _ {V : Type 0} where
-  -- the entries `rest` with n and the given value in front; `rest` alone for None
+  -- the entries `rest` with n and the given value in front, or `rest` alone if the value is None
   abbrev pub slot_entry_at : ℕ → Option V → List (ℕ × V) → List (ℕ × V)
   slot_entry_at n None rest = rest
   slot_entry_at n (Some v) rest = (n, v) ∷ rest

@@ -15,6 +15,6 @@ total c t = sum_over (λ u. unit_amount t u.holding) c.units + sum_over (λ r. r
 abbrev pub IsCountable : CampaignValue → Type 0
 IsCountable c = len c.units + len c.regions ≤ 1000000
 
--- for each thing the total is the sum of the amounts that are booked under its entries
+-- the total of each thing in the campaign equals the sum of its amounts in the books, under all entries
 abbrev pub Balances : CampaignValue → Type 0
 Balances c = (t : Thing) → pos (total c t) ≡ booked c.books t

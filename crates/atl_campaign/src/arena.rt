@@ -105,8 +105,8 @@ impl<V: Drop> Arena<V> {
         }
     }
 
-    /// Puts a value under a number, instead of the one that is there. Without memory for it nothing
-    /// changes.
+    /// Puts a value under a number, in place of the one that is there, if any. Without memory for
+    /// it nothing changes.
     pub(crate) fn put(&mut self, number: u32, value: V) -> Result<(), AllocError>
         ensures ok { OnOk result (self.new ≡ map.insert self.old number value) }
         ensures err { OnErr result (self.new ≡ self.old) }
@@ -177,6 +177,7 @@ impl<'a, V> Model for SlotEntries<'a, V> {
 
 /// Yields each number with the value in its slot, in rising order of the numbers.
 impl<'a, V> Iterator for SlotEntries<'a, V> {
+    // A number, and the value under it.
     type Item = (u32, &'a V);
 
     ghost use Rattle.std.specs.Iterator.{YieldsFirstBy, item_count};
@@ -185,6 +186,7 @@ impl<'a, V> Iterator for SlotEntries<'a, V> {
 
     ghost remaining = { item_count (λ s. s) };
 
+    /// The next number with its value; None after the last.
     fn next(&mut self) -> Option<(u32, &'a V)> {
         match self.places.next() {
             Some(place) => match self.slots.get(place.slot) {

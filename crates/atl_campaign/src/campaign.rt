@@ -64,8 +64,8 @@ impl Drop for Campaign {
     }
 }
 
-/// Clauses see a campaign as its value and its marks. The lists are those of its units, and there
-/// is room to mark each amount of the books.
+/// Clauses see a campaign as its value and its marks. The lists have just its units, by region,
+/// faction and structure, and there is room to mark each amount of the books.
 impl Model for Campaign {
     ghost use Rattle.atl_campaign.specs.Campaign.{MarkedCampaign, marked_code};
     ghost use Rattle.atl_campaign.specs.KeptLists.{AreKept};

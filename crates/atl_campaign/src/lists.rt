@@ -32,7 +32,8 @@ pub(crate) struct ListKeys {
     pub(crate) structure: u32,
 }
 
-/// Gives the keys of the lists that a unit is in, which it has itself.
+/// The keys of the lists that a unit is in: the numbers of its faction, its region and its
+/// structure.
 pub(crate) fn list_keys_of(unit: &Unit) -> ListKeys
     ensures { result ≡ list_keys_of unit.now }
 {
@@ -146,8 +147,8 @@ fn relist_inside(
     Ok(())
 }
 
-/// Puts a number into the list under `key`, unless `key` is `other`. Without memory for it nothing
-/// changes.
+/// Puts a number into the list under `key`, unless `key` is `other`: the key whose list it is in
+/// already, or 0, which has no list. Without memory for it nothing changes.
 fn list_apart(
     alloc: Global,
     lists: &mut Numbered<Numbers>,
@@ -164,7 +165,8 @@ fn list_apart(
     list_number(alloc, lists, key, number)
 }
 
-/// Takes a number out of the list under `key`, unless `key` is `other`. It takes no memory.
+/// Takes a number out of the list under `key`, unless `key` is `other`: the key in whose list it is
+/// to stay, or 0, which has no list. It takes no memory.
 fn unlist_apart(lists: &mut Numbered<Numbers>, number: u32, key: u32, other: u32)
     ensures { SameLists lists.new (unlisted_apart lists.old number key other) }
 {

@@ -136,7 +136,8 @@ impl Regions {
         self.stocks.iter()
     }
 
-    /// The single stocks that are marked, by region and item, in rising order.
+    /// The stocks that are marked one by one: the items' numbers by the region's number, in rising
+    /// order.
     pub(crate) fn marked_stock_items(&self) -> Entries<'_, Numbered<()>>
         ensures { result ≡ map.entries self.now.items }
     {
@@ -162,8 +163,8 @@ impl Regions {
         self.rows.mark_present(&self.values, number);
     }
 
-    /// Marks one stock of a region, if there is such a region, or all its stocks where there is no
-    /// memory for that mark.
+    /// Marks the stock of an item in a region, if there is such a region, or all its stocks where
+    /// there is no memory for that mark.
     fn mark_item(&mut self, alloc: Global, number: u32, item: u32)
         ensures { (self.new ≡ with_item_marked self.old number item) ⊎ (self.new
             ≡ with_stocks_marked self.old number) }
@@ -180,8 +181,8 @@ impl Regions {
         self.stocks.mark_present(&self.values, number);
     }
 
-    /// Marks one stock of a region, if it is another than `amount`. Where there is no memory for
-    /// that mark, all stocks of the region are marked.
+    /// Marks the stock of an item in a region, unless it is `amount` already. Where there is no
+    /// memory for that mark, all stocks of the region are marked.
     pub(crate) fn mark_stock(&mut self, alloc: Global, number: u32, item: u32, amount: u32)
         ensures marks { MarksStockAt self.old self.new number item amount }
         ensures values { self.new.values ≡ self.old.values }

@@ -31,7 +31,7 @@ pub fn is_set(number: i64) -> bool
     number != 0
 }
 
-/// The campaign row, in tables with exactly one.
+/// The campaign row of parts that have exactly one.
 pub fn campaign_row_of(parts: &Parts) -> &StoredCampaignRow
     requires { length parts.now.campaign ≡ 1 }
     ensures { result.now ≡ campaign_row_of parts.now }

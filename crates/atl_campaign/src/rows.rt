@@ -205,7 +205,7 @@ fn report_rows(alloc: Global, campaign: &Campaign) -> Result<Sequence<StoredRepo
     Ok(rows)
 }
 
-/// The row of one item, or of the days of one skill, of a unit.
+/// The row of `has` for an item, or for the days of study of a skill, that a unit has.
 fn has_row(number: u32, sort: u32, thing: u32, amount: u32) -> StoredHas
     ensures { result ≡ has_row number sort thing amount }
 {
@@ -217,7 +217,7 @@ fn has_row(number: u32, sort: u32, thing: u32, amount: u32) -> StoredHas
     }
 }
 
-/// Adds a row for each thing of one sort, items or skills, of which a unit has more than 0.
+/// Adds a row of `has` for each thing of a sort, items or skills, of which a unit has more than 0.
 fn add_sort(
     rows: &mut Sequence<StoredHas>,
     number: u32,
@@ -234,7 +234,7 @@ fn add_sort(
     Ok(())
 }
 
-/// Adds the rows of a unit's items, and then of its days of study.
+/// Adds the rows of `has` for a unit's items, and then those for its days of study.
 fn add_held(
     rows: &mut Sequence<StoredHas>,
     number: u32,
@@ -257,7 +257,7 @@ fn has_rows(alloc: Global, campaign: &Campaign) -> Result<Sequence<StoredHas>, A
     Ok(rows)
 }
 
-/// The row of the stock of an item in a region.
+/// The row of `market` for the stock of an item in a region.
 fn market_row(region: u32, item: u32, stock: u32) -> StoredMarket
     ensures { result ≡ market_row region item stock }
 {
@@ -268,7 +268,7 @@ fn market_row(region: u32, item: u32, stock: u32) -> StoredMarket
     }
 }
 
-/// Adds a row for each stock of a region that is not 0.
+/// Adds a row of `market` for each stock of a region that is not 0.
 fn add_stocks(
     rows: &mut Sequence<StoredMarket>,
     region: u32,
@@ -311,7 +311,7 @@ fn market_rows(
     }
 }
 
-/// The row of what is booked of a thing under an entry.
+/// The row of `books` for the amount that is booked of a thing under an entry.
 fn books_row(entry: Entry, thing: Thing, amount: i64) -> StoredBooks
     ensures { result ≡ books_row entry thing amount }
 {
@@ -322,7 +322,8 @@ fn books_row(entry: Entry, thing: Thing, amount: i64) -> StoredBooks
     }
 }
 
-/// Adds a row for each amount of an entry that is not 0. `things` is how many things are booked.
+/// Adds a row of `books` for each amount under an entry that is not 0. `things` is how many things
+/// the books have.
 fn add_entry(
     rows: &mut Sequence<StoredBooks>,
     books: &Books,
@@ -344,7 +345,8 @@ fn add_entry(
     Ok(())
 }
 
-/// Adds a row for each amount of the given entries that is not 0, one entry after another.
+/// Adds a row of `books` for each amount under the given entries that is not 0, one entry after
+/// another.
 fn add_entries(
     rows: &mut Sequence<StoredBooks>,
     books: &Books,
@@ -362,7 +364,7 @@ fn add_entries(
     Ok(())
 }
 
-/// A row for each amount of the books that is not 0.
+/// A row of `books` for each amount of the books that is not 0.
 fn books_rows(alloc: Global, books: &Books) -> Result<Sequence<StoredBooks>, AllocError>
     ensures { IfOk result (λ rows. rows ≡ books_rows books.now) }
 {

@@ -108,7 +108,7 @@ impl Units {
         self.units.len()
     }
 
-    /// The number of units of which something is marked. Units that are gone are among them.
+    /// How many units have a mark, on whatever of them. Units that are gone count too.
     pub(crate) fn marked(&self) -> usize
         ensures value { result ≡ set.len self.now.marks }
         ensures small { result ≤ most_map_entries }
@@ -139,14 +139,14 @@ impl Units {
         self.goods.iter()
     }
 
-    /// The single items that are marked, by unit, in rising order.
+    /// The items that are marked one by one: their numbers by the unit's number, in rising order.
     pub(crate) fn marked_items(&self) -> Entries<'_, Numbered<()>>
         ensures { result ≡ map.entries self.now.items }
     {
         self.items.iter()
     }
 
-    /// The single skills that are marked, by unit, in rising order.
+    /// The skills that are marked one by one: their numbers by the unit's number, in rising order.
     pub(crate) fn marked_skills(&self) -> Entries<'_, Numbered<()>>
         ensures { result ≡ map.entries self.now.skills }
     {

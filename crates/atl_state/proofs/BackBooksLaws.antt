@@ -1,4 +1,4 @@
--- Laws of reading books back: the rows that books are written as, in any order, give the same books again.
+-- Laws of reading books back: their rows, each of an account (an entry and a thing), in any order give the same books.
 use Rattle.std.proofs.Common.{◌≡◌, ℕ, ◌+◌, ◌≤◌, List, [], ◌∷◌, true, false, Some, None, refl, sym, ap, ◌∙◌, arith}
 use Rattle.std.specs.Prelude.{pos, ℤ, unwrap_or}
 use Rattle.std.specs.List.{AllByRecursion, IsDistinct}
@@ -27,12 +27,12 @@ use Rattle.atl_campaign.proofs.HasLaws.{same}
 
 -- ---- each row
 
--- if P holds for the row that each account and amount of a list is written as, it holds for all rows of the list
+-- if P holds for the row of each account (an entry and a thing) in a list with its amount, it holds for all of its rows
 rows_each : (P : StoredBooks → Type 0) (es : List (Account × ℤ)) → AllByRecursion (λ x. P (books_row x.0.0 x.0.1 x.1)) es → AllByRecursion P (amounts_rows es)
 rows_each P [] h = tt
 rows_each P (x ∷ es) h = (h.0, rows_each P es h.1)
 
--- if P holds for all rows of a list of accounts and amounts, it holds for the row that each of them is written as
+-- if P holds for all rows of a list of accounts (an entry and a thing) with amounts, it holds for the row of each
 each_row : (P : StoredBooks → Type 0) (es : List (Account × ℤ)) → AllByRecursion P (amounts_rows es) → AllByRecursion (λ x. P (books_row x.0.0 x.0.1 x.1)) es
 each_row P [] h = tt
 each_row P (x ∷ es) h = (h.0, each_row P es h.1)
@@ -64,11 +64,11 @@ says_itself books =
     let one = same_account e f t u (omega arith) (same_size (thing_index t) (thing_index u) thing) in
     sym (ap (λ (a : Account). amount_in books a.0 a.1) one) ∙ amount_is books e t z is)
 
--- if two books have the same rows in some order, each amount listed in the one is that in the other
+-- if books a and b have the same rows, in any order, each amount listed in a is also what b has for its entry and thing
 some_said : (a b : BooksValue) → IsPermutation (books_rows a) (books_rows b) → (e : Entry) (t : Thing) (z : ℤ) → get a.amounts (e, t) ≡ Some z → amount_in b e t ≡ z
 some_said a b h e t z is = line_at a (Says b) (each_back (Says b) (books_rows a) (books_rows b) h (says_itself b)) e t z is e t refl refl
 
--- if two books have the same rows in some order, they have the same amounts
+-- if two books have the same rows, in any order, they have the same amount for each entry and thing
 same_amounts : (a b : BooksValue) → IsPermutation (books_rows a) (books_rows b) → (e : Entry) (t : Thing) → amount_in a e t ≡ amount_in b e t
 same_amounts a b h e t =
     elim (get a.amounts (e, t)) as (λ o. get a.amounts (e, t) ≡ o → unwrap_or o (pos 0) ≡ amount_in b e t) [
@@ -81,11 +81,11 @@ same_amounts a b h e t =
 
 -- ---- the rows of books in any order
 
--- an account is not less than itself
+-- an account (an entry and a thing) is not less than itself
 less_itself : (a : Account) → is_lt (account_cmp a a) ≡ false
 less_itself a = ap is_lt (tied_itself account_total a)
 
--- the key of an account's row differs from the keys of the rows of all higher accounts
+-- the key of the row of an account (an entry and a thing) differs from those of the rows of all higher accounts
 others_apart : (x : Account × ℤ) (es : List (Account × ℤ)) → below_all account_cmp x.0 es ≡ true → AllByRecursion (λ r. same (books_key (books_row x.0.0 x.0.1 x.1)) (books_key r) ≡ false) (amounts_rows es)
 others_apart x [] h = tt
 others_apart x (y ∷ es) h =
@@ -97,14 +97,14 @@ others_apart x (y ∷ es) h =
       others_apart x es parts.1,
     )
 
--- the rows of accounts in rising order have distinct keys
+-- the rows of accounts (an entry and a thing) in rising order have distinct keys
 entries_apart : (es : List (Account × ℤ)) → is_sorted account_cmp es ≡ true → IsDistinct (λ a b. same (books_key a) (books_key b)) (amounts_rows es)
 unfolding IsDistinct
 entries_apart [] h = tt
 entries_apart (x ∷ es) h = let parts = and_parts (below_all account_cmp x.0 es) (is_sorted account_cmp es) h in (others_apart x es parts.0, entries_apart es parts.1)
 
 module _ (things : ℕ) (few : things ≤ 4294967294) (books : BooksValue) (are : AreBooks things books) where
-  -- each row of the books is read as an account of the books' things, with an amount not 0 (IsBooked)
+  -- each row of the books is read as an account (an entry and a thing) of theirs, with an amount not 0 (IsBooked)
   pub lines_booked : AllByRecursion (IsBooked things) (books_rows books)
   lines_booked =
       lines_each books (IsBooked things) (λ e t z is.
@@ -125,7 +125,7 @@ module _ (things : ℕ) (few : things ≤ 4294967294) (books : BooksValue) (are 
     pub books_keys : HaveKeys books_key rows
     books_keys = keys_permuted books_key (books_rows books) rows h (entries_apart (entries books.amounts) (amounts_sorted books.amounts))
 
-    -- each row of the books, in any order, is read as an account of their things, with an amount not 0 (IsBooked)
+    -- each row of the books, in any order, is read as an account (an entry and a thing), its amount not 0 (IsBooked)
     pub all_booked : AllByRecursion (IsBooked things) rows
     all_booked = each_permuted (IsBooked things) (books_rows books) rows h lines_booked
 

@@ -29,12 +29,12 @@ module _ {X R : Type 0} (P : R → Type 0) (f : X → List R) where
 -- ---- the rows of all groups
 
 module _ {U R : Type 0} (f : ℕ × U → List R) (P : R → Type 0) where
-  -- if P holds for all rows of each number and value of some entries, it holds for all rows of each entry as a pair
+  -- from EachOf (over number n and value u) to all entries as pairs: P holds for all rows that f makes of an entry
   of_each : (es : List (ℕ × U)) → EachOf (λ n u. AllByRecursion P (f (n, u))) es → AllByRecursion (λ e. AllByRecursion P (f e)) es
   of_each [] h = tt
   of_each (e ∷ es) h = (h.0, of_each es h.1)
 
-  -- if P holds for all rows of each entry as a pair, it holds for all rows of each number and value of the entries
+  -- from all entries as pairs to EachOf (over number n and value u): P holds for all rows that f makes of an entry
   each_of : (es : List (ℕ × U)) → AllByRecursion (λ e. AllByRecursion P (f e)) es → EachOf (λ n u. AllByRecursion P (f (n, u))) es
   each_of [] h = tt
   each_of (e ∷ es) h = (h.0, each_of es h.1)
@@ -62,7 +62,7 @@ module _ {R : Type 0} (none : R → Bool) (row : ℕ → ℕ → R) (m : FinMap 
   pub each_line : (P : R → Type 0) → AllByRecursion P lines → Every (λ i a. none (row i a) ≡ false → P (row i a)) m
   each_line P h i a is some = every_row row (λ r. not (none r) ≡ true → P r) m (unkept (λ r. not (none r)) P (rows_by row (entries m)) h) i a is (not_from_false (none (row i a)) some)
 
-  -- the rows of a map of amounts (`lines`) are distinct by e, if e is false for the rows of a lower and a higher number
+  -- the rows of a map of amounts (`lines`) are distinct by test e, if it fails for rows of a lower and a higher number
   pub lines_apart : (e : R → R → Bool) → ((i k a b : ℕ) → i < k → e (row i a) (row k b) ≡ false) → IsDistinct e lines
   lines_apart e apart = filter_apart (λ r. not (none r)) e (rows_by row (entries m)) (rows_apart row e apart (entries m) (entries_rise m))
 

@@ -40,12 +40,12 @@ sort_apart n sort m =
     lines_apart none (has_row n sort) m (λ a b. same (has_key a) (has_key b)) (λ i k a b l. apart_keys (has_key (has_row n sort i a)) (has_key (has_row n sort k b)) (λ keys. let one = same_size i k keys.third in omega arith))
 
 module _ (units : FinMap nat_cmp Unit) where
-  -- if P holds for the row of each amount, not 0, that a unit has, it holds for each row of `has`
+  -- if P holds for the row of each amount, not 0, that a unit of the map has, it holds for each row of `has` of the map
   pub has_each : (P : StoredHas → Type 0) → Every (λ n u. (s : ℕ) → s < 2 → Every (λ i a. is_zero (pos a) ≡ false → P (has_row n s i a)) (goods_of s u)) units → AllByRecursion P (has_rows (entries units))
   has_each P h = groups_each held P units (λ n u is.
       append_each P (rows_of_sort n 0 (entries u.holding.items)) (rows_of_sort n 1 (entries u.holding.days)) (lines_each none (has_row n 0) u.holding.items P (h n u is 0 (omega arith))) (lines_each none (has_row n 1) u.holding.days P (h n u is 1 (omega arith))))
 
-  -- if P holds for each row of `has`, it holds for the row of each amount, not 0, that a unit has
+  -- if P holds for each row of `has` of a map, it holds for the row of each amount, not 0, that a unit of the map has
   pub each_had : (P : StoredHas → Type 0) → AllByRecursion P (has_rows (entries units)) → Every (λ n u. (s : ℕ) → s < 2 → Every (λ i a. is_zero (pos a) ≡ false → P (has_row n s i a)) (goods_of s u)) units
   each_had P h n u is = of_sort (each_appended P (rows_of_sort n 0 (entries u.holding.items)) (rows_of_sort n 1 (entries u.holding.days)) (each_group held P units h n u is))
     where
@@ -121,7 +121,7 @@ module _ (units : FinMap nat_cmp Unit) where
         let both = and_parts (as_u32 (pos k) == n) (as_u32 (pos s) == sort) e in
         record { unit = sym (read_whole k few) ∙ is_same (as_u32 (pos k)) n both.0; kind = sym (read_whole s (omega arith)) ∙ is_same (as_u32 (pos s)) sort both.1 }
 
-    -- a row that is made for unit n and sort s is read as one of unit n and sort s
+    -- a row of `has` made for unit n, of 32 bits, and sort s is read as one of unit n and sort s
     of_itself : (n s i a : ℕ) → n ≤ most_u32 → s < 2 → is_of n s (has_row n s i a) ≡ true
     of_itself n s i a few l =
         let unit : (as_u32 (pos n) == n) ≡ true = let e = read_whole n few in grind (arith, nat_tests) in

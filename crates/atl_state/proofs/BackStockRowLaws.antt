@@ -41,16 +41,16 @@ nonzero a l = grind (arith, nat_tests)
 some_same : (r s : Region) → Some r ≡ Some s → r ≡ s
 some_same r s e = cc
 
--- a row that is made for a stock of region n is read as one of region n
+-- a row of `market` made for a stock of region n, of 32 bits, is read as one of region n
 in_itself : (n i a : ℕ) → n ≤ most_u32 → is_in n (market_row n i a) ≡ true
 in_itself n i a few = let e = read_whole n few in grind (arith, nat_tests)
 
 module _ (regions : FinMap nat_cmp Region) where
-  -- if P holds for the row of every stock that is not 0, it holds for each row of `market`
+  -- if P holds for the row of every stock, not 0, of the map's regions, it holds for each row of `market` of the map
   pub stocks_each : (P : StoredMarket → Type 0) → Every (λ n r. Every (λ i a. is_zero (pos a) ≡ false → P (market_row n i a)) r.stocks) regions → AllByRecursion P (market_rows Second (entries regions))
   stocks_each P h = groups_each stocked P regions (λ n r is. lines_each none (market_row n) r.stocks P (h n r is))
 
-  -- if P holds for each row of `market`, it holds for the row of every stock that is not 0
+  -- if P holds for each row of `market` of a map, it holds for the row of every stock, not 0, of the map's regions
   each_stock : (P : StoredMarket → Type 0) → AllByRecursion P (market_rows Second (entries regions)) → Every (λ n r. Every (λ i a. is_zero (pos a) ≡ false → P (market_row n i a)) r.stocks) regions
   each_stock P h n r is = each_line none (market_row n) r.stocks P (each_group stocked P regions h n r is)
 

@@ -1,4 +1,5 @@
--- Laws of the rows of books: books that are assembled from rows with distinct keys have these rows, in some order.
+-- Laws of rows of `books`, each of an account (an entry and a thing): books that are assembled from rows with
+-- distinct keys have these rows, in some order.
 use Rattle.std.proofs.Common.{◌≡◌, ◌≢◌, ℕ, ◌≤◌, ◌<◌, ◌+◌, ◌-◌, ◌++◌, List, [], ◌∷◌, true, false, cond, map, Some, None, refl, sym, ap, subst, ◌∙◌, arith, inl, inr}
 use Rattle.std.specs.Prelude.{pos, ℤ, nat_lt}
 use Rattle.std.specs.declared.cmp.Ordering.TheVariants.{Less, Equal, Greater}
@@ -27,7 +28,7 @@ use Rattle.atl_campaign.proofs.HasLaws.{IsWhole, same, ties_itself}
 
 -- ---- one more amount
 
--- putting an amount under an account that has none yet adds one entry; the order of entries may differ
+-- putting an amount under an account that has none yet adds the pair of both to the list, whose order may differ
 put_new : (a : Account) (z : ℤ) (es : List (Account × ℤ)) → find account_cmp a es ≡ None → IsPermutation (put account_cmp a z es) ((a, z) ∷ es)
 put_new a z [] h = IsPermutation-refl ((a, z) ∷ [])
 put_new a z (e ∷ es) h =
@@ -38,7 +39,7 @@ put_new a z (e ∷ es) h =
           IsPermutation-trans (e ∷ put account_cmp a z es) (e ∷ (a, z) ∷ es) ((a, z) ∷ e ∷ es) (IsPermutation-append_right (e ∷ []) (put account_cmp a z es) ((a, z) ∷ es) (put_new a z es is)) (IsPermutation-middle (e ∷ []) (a, z) es)
     ] h
 
--- the row of `books` for an account with its amount
+-- the row of `books` for an account (an entry and a thing) with its amount
 abbrev line : Account × ℤ → StoredBooks
 line x = books_row x.0.0 x.0.1 x.1
 
@@ -51,7 +52,7 @@ one_amount books a z none some =
 
 -- ---- the amounts of rows, one after another
 
--- a row of `books` is read as an account of the first `things` things, and its amount is not 0
+-- a row of `books` is read as an account (an entry and a thing) of the first `things` things, and its amount is not 0
 pub record IsBooked (things : ℕ) (r : StoredBooks) : Type 0 where
   -- the account, which is an entry and a thing, that the row is read as
   pub account : Account
@@ -98,7 +99,7 @@ with_booked_row things books r are h =
     ∙ ap (λ b. cond b (with_amount books h.account.0 (thing_at (as_u32 r.thing)) r.amount) books) few
     ∙ ap (λ t. with_amount books h.account.0 t r.amount) h.numbered
 
--- the key of an account's row
+-- the key of the row of `books` that is written for an account
 abbrev key_of : Account → Key
 key_of a = books_key (books_row a.0 a.1 (pos 0))
 
@@ -106,7 +107,7 @@ key_of a = books_key (books_row a.0 a.1 (pos 0))
 its_key : (things : ℕ) (r : StoredBooks) (h : IsBooked things r) → ◌≡◌ {A = Key} (key_of h.account) (books_key r)
 its_key things r h = ap books_key h.row
 
--- two rows with different keys that are read as accounts (IsBooked) are read as different ones
+-- two rows with different keys that are read as accounts (IsBooked) are read as different accounts
 accounts_apart : (things : ℕ) (r s : StoredBooks) (h : IsBooked things r) (k : IsBooked things s) → same (books_key r) (books_key s) ≡ false → eq_by_cmp account_cmp k.account h.account ≡ false
 accounts_apart things r s h k differ =
     elim (cases_account k.account h.account) [

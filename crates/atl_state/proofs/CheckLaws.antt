@@ -86,7 +86,7 @@ module _ (f : Format) (w : WorldValue) (p : Parts) where
         | inr apart ↦ before s (omega arith)
       ]
 
-  -- if the rules below r are kept and r is decided to be broken, r is the first broken rule
+  -- if the rules below r are kept, and b, which decides whether r is kept, is false, r is the first broken rule
   pub first_broken : (r : Rule) (b : Bool) → KeepsRulesBelow f w p (rule_number r) → Decides b (KeepsRule f w p r) → b ≡ false → IsFirstBroken f w p r
   first_broken r b before d e = record { before = before; broken = λ holds. false≢true (sym e ∙ d.1 holds) }
 

@@ -60,7 +60,7 @@ small_enough m most few every n v there = let here = every n v there in omega (a
 
 -- ---- one row
 
--- a flag is read back from its row
+-- a flag that is written into a row as 0 or 1 is read as the same flag
 flag_back : (b : Bool) → is_set (flag b) ≡ b
 flag_back true = refl
 flag_back false = refl
@@ -69,7 +69,7 @@ flag_back false = refl
 pub read16 : (n : ℕ) → n ≤ most_u16 → as_u16 (pos n) ≡ n
 read16 n h = min_small n most_u16 h
 
--- a faction is read back from its row, if its number fits 32 bits
+-- a faction that is under its own number, of 32 bits, is read back from its row
 faction_back : (n : ℕ) (f : Faction) → n ≤ most_u32 → f.number ≡ n → faction_of (faction_row n f) ≡ f
 faction_back n f few is =
     let number = read_whole n few ∙ sym is in
@@ -86,13 +86,13 @@ region_back markets n r few p m stocks =
 
 -- a structure's kind fits 16 bits, and its region, owner and how much is done 32
 pub record StructureFits (s : Structure) : Type 0 where
-  -- the kind fits 16 bits
+  -- the number of the structure's kind fits 16 bits
   pub kind : s.kind ≤ most_u16
-  -- the region's number fits 32 bits
+  -- the number of the structure's region fits 32 bits
   pub region : s.region ≤ most_u32
-  -- how much is done fits 32 bits
+  -- how much of the structure is done fits 32 bits
   pub done : s.done ≤ most_u32
-  -- the owner's number fits 32 bits
+  -- the number of the structure's owner fits 32 bits
   pub owner : s.owner ≤ most_u32
 
 -- a structure is read back from its row, if its numbers fit (StructureFits)
@@ -106,15 +106,15 @@ structure_back n s h =
 
 -- a unit's faction, region, structure, men and money fit 32 bits
 pub record UnitFits (u : Unit) : Type 0 where
-  -- the faction's number fits 32 bits
+  -- the number of the unit's faction fits 32 bits
   pub faction : u.faction ≤ most_u32
-  -- the region's number fits 32 bits
+  -- the number of the unit's region fits 32 bits
   pub region : u.region ≤ most_u32
-  -- the structure's number fits 32 bits
+  -- the number of the unit's structure fits 32 bits
   pub structure : u.structure ≤ most_u32
-  -- the number of men fits 32 bits
+  -- the number of the unit's men fits 32 bits
   pub men : u.holding.men ≤ most_u32
-  -- the money fits 32 bits
+  -- the unit's money fits 32 bits
   pub money : u.holding.money ≤ most_u32
 
 -- a unit is read back from its row and its goods, if its numbers fit 32 bits
@@ -133,7 +133,7 @@ unit_back has n u few h items days =
 -- ---- a table with a key of one number
 
 module _ {V R : Type 0} (row : ℕ → V → R) (key : R → ℤ) (value : R → V) (keyed : (n : ℕ) (v : V) → key (row n v) ≡ pos n) (m : FinMap nat_cmp V) (few : Every (λ n v. n ≤ most_u32) m) (rows : List R) (h : IsPermutation (rows_by row (entries m)) rows) where
-  -- the rows of two numbers, the first below the second, have different keys
+  -- if number n is below k, the rows made for n and k have different keys
   apart : (n k : ℕ) (v u : V) → n < k → same (one_key (key (row n v))) (one_key (key (row k u))) ≡ false
   apart n k v u l = ap (λ z. same (one_key z) (one_key (key (row k u)))) (keyed n v) ∙ ap (λ z. same (one_key (pos n)) (one_key z)) (keyed k u) ∙ apart_numbers n k l
 
@@ -153,17 +153,17 @@ module _ {V R : Type 0} (row : ℕ → V → R) (key : R → ℤ) (value : R →
 
 -- ---- the campaign's own row
 
--- a list of one row, each row of which is x, is x alone
+-- a list of length 1 of which each row is x is the list of x alone
 single : {R : Type 0} (x : R) (rows : List R) → length rows ≡ 1 → AllByRecursion (λ r. r ≡ x) rows → rows ≡ x ∷ []
 single x [] l all = absurd (omega (arith, l))
 single x (r ∷ []) l all = ap (λ s. s ∷ []) all.0
 single x (r ∷ s ∷ rows) l all = absurd (omega (arith, l))
 
--- a list of one row, in any order, is that list
+-- if `rows` are the list of x alone in some order, they are that list
 pub only_row : {R : Type 0} (x : R) (rows : List R) → IsPermutation (x ∷ []) rows → rows ≡ x ∷ []
 only_row x rows h = single x rows (length_permutation (x ∷ []) rows h) (each_permuted (λ r. r ≡ x) (x ∷ []) rows h (refl, tt))
 
--- an empty list, in any order, is empty
+-- if `rows` are the empty list in some order, they are the empty list
 pub none_listed : {R : Type 0} (rows : List R) → IsPermutation [] rows → rows ≡ []
 none_listed [] h = refl
 none_listed (r ∷ rows) h = let count = length_permutation [] (r ∷ rows) h in absurd (omega (arith, count))
@@ -272,7 +272,7 @@ module _ (w : WorldValue) (world : IsWorld w) (c : CampaignValue) (good : IsGood
   }
 
   module _ (f : Format) (fits : Fits f c) (p : Parts) (rows : AreRowsOf f c p) where
-    -- the rows of `campaign` are the campaign row of the good campaign alone, in any order
+    -- the rows of `campaign` are, in some order, the list of the good campaign's campaign row alone
     head_listed : IsPermutation (campaign_row f c ∷ []) p.campaign
     unfolding rows_of
     head_listed = rows.campaign

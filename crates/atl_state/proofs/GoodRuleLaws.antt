@@ -90,7 +90,7 @@ same_text a b = eq_by_cmp (slice_cmp nat_cmp) a b
 text_apart : (a b : List ℕ) → a ≢ b → same_text a b ≡ false
 text_apart a b h = elim (same_text a b) as (λ t. same_text a b ≡ t → same_text a b ≡ false) [ true ↦ λ e. absurd (h ((bytes_eq-Decides a b).0 (sym (is_eq-slice_cmp a b) ∙ e))) | false ↦ λ e. e ] refl
 
--- a faction's joined name differs from those of rows of factions with other names
+-- a faction's joined name compares unequal to those in the rows of listed factions, if all of these have other names
 others_named : (f : Faction) (es : List (ℕ × Faction)) → EachOf (λ n g. f.joined_as ≢ g.joined_as) es → AllByRecursion (λ (r : StoredFaction). same_text f.joined_as r.joined_as ≡ false) (rows_by faction_row es)
 others_named f [] h = tt
 others_named f (e ∷ es) h = (text_apart f.joined_as e.1.joined_as h.0, others_named f es h.1)
@@ -328,7 +328,7 @@ module _ (f : Format) (w : WorldValue) (world : IsWorld w) (c : CampaignValue) (
   keeps Books = (of_books, said Balances good.sound.balances)
   keeps Mail = (said IsMail good.sound.mail, said AreReported good.reported)
 
--- checking the rows of a good campaign gives that campaign, or reports that memory ran out
+-- an answer that `Checks` allows is, for the rows of a good campaign, that campaign or Memory (`GivesBack`)
 pub gives_back : (f : Format) (w : WorldValue) → IsWorld w → (p : Parts) (r : Result MarkedCampaign CheckFault) → Checks f w p r → GivesBack f w p r
 gives_back f w world p (Ok m) h = λ c good fits rows. sym (row.state_back w world m.value h.good f h.fits p h.rows) ∙ row.state_back w world c good f fits p rows
 gives_back f w world p (Err (Damaged r)) h = λ c good fits rows. h.broken (keeps f w world c good fits p rows r)

@@ -30,16 +30,16 @@ position_of n (m ∷ ms) (inl same) = (0, omega arith, sym same)
 position_of n (m ∷ ms) (inr h) = let (i, l, is) = position_of n ms h in (suc i, omega (arith, l), is)
 
 module _ {V : Type 0} (p : V → Bool) where
-  -- the numbers of the entries that pass the test
+  -- the numbers of the entries whose values pass the test p
   abbrev chosen : List (ℕ × V) → List ℕ
   chosen es = map (λ e. e.0) (filter (λ e. p e.1) es)
 
-  -- a number in a list is still in it when k is put in front, or not
+  -- a number in a list is still in it when k is put in front (if b is true), or nothing is (if b is false)
   behind : (b : Bool) (n k : ℕ) (ns : List ℕ) → In n ns → In n (cond b (k ∷ ns) ns)
   behind true n k ns h = inr h
   behind false n k ns h = h
 
-  -- the number of a value that is found in entries and passes the test is among the numbers of those that pass (chosen)
+  -- if a value is found in entries and passes the test, its number is among those that pass (`chosen`)
   chosen_in : (es : List (ℕ × V)) (n : ℕ) (v : V) → find nat_cmp n es ≡ Some v → p v ≡ true → In n (chosen es)
   chosen_in [] n v is h = none_some v is
   chosen_in (e ∷ es) n v is h =
@@ -63,14 +63,14 @@ module _ {V : Type 0} (p : V → Bool) where
 same_value : (x y : ℕ) → Some x ≡ Some y → x ≡ y
 same_value x y e = cc
 
--- two options agree if their values, where both have one, are equal
+-- the test `agree` of two options is true, if their values, where both have one, are equal
 agree_true : (a b : Option ℕ) → ((x y : ℕ) → a ≡ Some x → b ≡ Some y → x ≡ y) → agree a b ≡ true
 agree_true None b h = refl
 agree_true (Some x) None h = refl
 agree_true (Some x) (Some y) h = (Decides-eqb x y).1 (h x y refl refl)
 
 module _ (faction : ℕ → Option ℕ) where
-  -- if a list passes one_holder with holder x, each faction of its numbers is x
+  -- if a list passes one_holder with holder x, x is the faction of each of its numbers that has one
   like_holder : (x : ℕ) (ns : List ℕ) → one_holder faction (Some x) ns ≡ true → (n y : ℕ) → In n ns → faction n ≡ Some y → y ≡ x
   like_holder x [] h n y mine is = absurd mine
   like_holder x (m ∷ ms) h n y (inl same) is = (Decides-eqb y x).0 (ap (λ o. agree o (Some x)) (sym (ap faction (sym same) ∙ is)) ∙ (and_parts _ _ h).0)
@@ -80,12 +80,12 @@ module _ (faction : ℕ → Option ℕ) where
   abbrev Alike : List ℕ → Type 0
   Alike ns = (n k x y : ℕ) → In n ns → In k ns → faction n ≡ Some x → faction k ≡ Some y → x ≡ y
 
-  -- if a list passes one_holder with the first number's faction, each faction of its numbers is that one
+  -- if a list passes one_holder with the first number's faction, each of its numbers that has a faction has that one
   first_holds : (m z : ℕ) (ms : List ℕ) → faction m ≡ Some z → one_holder faction (Some z) ms ≡ true → (n x : ℕ) → In n (m ∷ ms) → faction n ≡ Some x → x ≡ z
   first_holds m z ms first h n x (inl same) is = same_value x z (sym is ∙ ap faction same ∙ first)
   first_holds m z ms first h n x (inr mine) is = like_holder z ms h n x mine is
 
-  -- a number that has a faction is in the rest of a list, if the first number has none
+  -- if a list's first number has no faction, each number of the list that has one is in the rest
   not_first : (m : ℕ) (ms : List ℕ) → faction m ≡ None → (n x : ℕ) → In n (m ∷ ms) → faction n ≡ Some x → In n ms
   not_first m ms none n x (inl same) is = none_some x (sym none ∙ ap faction (sym same) ∙ is)
   not_first m ms none n x (inr mine) is = mine
@@ -99,16 +99,16 @@ module _ (faction : ℕ → Option ℕ) where
         | Some z ↦ λ first rest. first_holds m z ms first rest n x a is ∙ sym (first_holds m z ms first rest k y b js)
       ] refl (and_parts _ _ h).1
 
-  -- each faction of the list's numbers is the holder, if there is one
+  -- if there is a holder, it is the faction of each number in the list that has one
   abbrev Fits : Option ℕ → List ℕ → Type 0
   Fits holder ns = (n x y : ℕ) → In n ns → faction n ≡ Some x → holder ≡ Some y → x ≡ y
 
-  -- if each faction of a list is the holder, if any (Fits), each of its rest is that or else the first number's faction
+  -- if a list is Alike and Fits a holder, its rest Fits that holder, or the first number's faction if there is none
   fits_on : (holder : Option ℕ) (m : ℕ) (ms : List ℕ) → Alike (m ∷ ms) → Fits holder (m ∷ ms) → Fits (option_or holder (faction m)) ms
   fits_on None m ms same fits n x y mine is first = same n m x y (inr mine) (inl refl) is first
   fits_on (Some z) m ms same fits n x y mine is held = fits n x y (inr mine) is held
 
-  -- a list passes one_holder, if its numbers that have a faction have the same, which is the holder, if there is one
+  -- a list passes one_holder with a holder, or None, if its numbers' factions are the same (Alike) and that one (Fits)
   hold : (holder : Option ℕ) (ns : List ℕ) → Alike ns → Fits holder ns → one_holder faction holder ns ≡ true
   hold holder [] same fits = refl
   hold holder (m ∷ ms) same fits =

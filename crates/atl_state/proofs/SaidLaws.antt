@@ -161,14 +161,14 @@ whole_not_zero : (z : ℤ) → IsWhole z → 1 ≤ as_u32 z → is_zero z ≡ fa
 whole_not_zero (pos n) whole h = let apart : n ≢ 0 = λ e. let zero_read : as_u32 (pos n) ≡ 0 = ap (λ m. as_u32 (pos m)) e in omega arith in grind (arith, nat_tests)
 whole_not_zero (negsuc n) whole h = refl
 
--- a row of goods passes the test (is_of) of being of the unit and of the sort (items or skills) that it names
+-- a row of `has` passes the test (is_of) of being of the unit and of the sort (items or skills) that it names
 is_of_itself : (h : StoredHas) → is_of (as_u32 h.unit) (as_u32 h.sort) h ≡ true
 is_of_itself h =
     let unit : (as_u32 h.unit == as_u32 h.unit) ≡ true = grind (arith, nat_tests) in
     let sort : (as_u32 h.sort == as_u32 h.sort) ≡ true = grind (arith, nat_tests) in
     ap (λ b. b && (as_u32 h.sort == as_u32 h.sort)) unit ∙ sort
 
--- the size of a kind, or most_size where there is no kind, is at most most_size
+-- the size that an option gives (its kind's, or most_size for None) is at most most_size, if its kind's is
 size_small : (o : Option Kind) → ((x : Kind) → o ≡ Some x → x.size ≤ most_size) → option_map_or (λ (x : Kind). x.size) o most_size ≤ most_size
 size_small None h = omega arith
 size_small (Some x) h = h x refl
@@ -184,7 +184,7 @@ market_there : (regions : FinMap nat_cmp RegionPlan) (i : ℕ) (n : ℕ) (o : Op
 market_there regions i n None is e = absurd (false≢true e)
 market_there regions i n (Some q) is e = let found = some_there (get q.markets i) e in (q, found.0, is, found.1)
 
--- the limit of a market, or most_amount where there is no market, is at most most_amount
+-- the limit that an option gives (its market's, or most_amount for None) is at most most_amount, if its market's is
 limit_small : (o : Option Market) → ((m : Market) → o ≡ Some m → m.limit ≤ most_amount) → option_map_or (λ (m : Market). m.limit) o most_amount ≤ most_amount
 limit_small None h = omega arith
 limit_small (Some m) h = h m refl
@@ -197,7 +197,7 @@ small_limit w world n i = limit_small (market_of w n i) (λ m is. of_market (mar
     some_same : (a b : Market) → Some a ≡ Some b → a ≡ b
     some_same a b e = cc
 
-    -- a market that is found has a limit of at most most_amount
+    -- the market found for region n and item i has a limit of at most most_amount
     of_market : (found : (q : RegionPlan) × (m : Market) × (get w.regions n ≡ Some q) × (get q.markets i ≡ Some m)) (m : Market) → market_of w n i ≡ Some m → m.limit ≤ most_amount
     of_market found m is =
         let there = ap (option_and_then (λ (q : RegionPlan). get q.markets i)) found.2 in
@@ -219,7 +219,7 @@ module _ (f : Format) (w : WorldValue) (p : Parts) (k : RowsKeep f w p) where
   faction_number : (r : StoredFaction) → faction_in_range r ≡ true → (IsWhole r.number) × (as_u32 r.number ≤ last_faction)
   faction_number r h = let range = from_range 1 last_faction r.number (omega arith) (and_parts (is_from 1 last_faction r.number) (is_from 0 1 r.gone) h).0 in (range.0, range.2)
 
-  -- no two rows of factions have the same number
+  -- no two rows of `faction` have the same number
   pub factions_apart : Apart (λ r. as_u32 r.number) p.factions
   factions_apart = Apart-keys faction_key (λ r. as_u32 r.number) same (λ r. IsWhole r.number) (λ r s. one_apart r.number s.number) p.factions (each_passes faction_in_range (λ r. IsWhole r.number) (λ r h. (faction_number r h).0) p.factions ranges.factions) k.range.keys.factions
 
@@ -233,7 +233,7 @@ module _ (f : Format) (w : WorldValue) (p : Parts) (k : RowsKeep f w p) where
       let gone = flag_whole r.gone (and_parts (is_from 1 last_faction r.number) (is_from 0 1 r.gone) h).1 in
       λ i. record { number = sym (faction_number r h).0 i; joined_as = r.joined_as; name = r.name; pass = r.pass; gone = gone i }
 
-  -- the factions assembled from the rows are written as just the rows of factions, in some order
+  -- the factions assembled from the rows are written as just the rows of `faction`, in some order
   factions_said : IsPermutation (rows_by faction_row (entries (by_number (λ r. as_u32 r.number) faction_of p.factions))) p.factions
   factions_said = rows_order (λ r. as_u32 r.number) faction_of faction_row p.factions factions_apart (each_passes faction_in_range (λ r. faction_row (as_u32 r.number) (faction_of r) ≡ r) same_faction p.factions ranges.factions)
 
@@ -243,13 +243,13 @@ module _ (f : Format) (w : WorldValue) (p : Parts) (k : RowsKeep f w p) where
   unfolding campaign_of
   few_regions n there = let known = (k.known.regions n).0 there in (k.world.regions n known.0 known.1).number_most
 
-  -- the numbers in the rows of regions fit 32 bits, so they are read as they are (IsWhole)
+  -- the numbers in the rows of `region` fit 32 bits, so they are read as they are (IsWhole)
   regions_whole : AllByRecursion (λ r. IsWhole r.number) p.regions
   regions_whole =
       each_so (λ r. IsThere (by_number (λ r. as_u32 r.number) (region_of p.markets) p.regions) (as_u32 r.number)) (λ r. IsWhole r.number) (λ r there. let few = few_regions (as_u32 r.number) there in whole_below r.number (omega arith)) p.regions
       (rows_there (λ r. as_u32 r.number) (region_of p.markets) p.regions)
 
-  -- no two rows of regions have the same number
+  -- no two rows of `region` have the same number
   regions_apart : Apart (λ r. as_u32 r.number) p.regions
   regions_apart = Apart-keys region_key (λ r. as_u32 r.number) same (λ r. IsWhole r.number) (λ r s. one_apart r.number s.number) p.regions regions_whole k.range.keys.regions
 
@@ -261,7 +261,7 @@ module _ (f : Format) (w : WorldValue) (p : Parts) (k : RowsKeep f w p) where
       let money = (from_range 0 most_amount r.money (omega arith) parts.1).0 in
       λ i. record { number = sym number i; peasants = sym peasants i; money = sym money i }
 
-  -- the regions assembled from the rows are written as just the rows of regions, in some order
+  -- the regions assembled from the rows are written as just the rows of `region`, in some order
   regions_said : IsPermutation (rows_by region_row (entries (by_number (λ r. as_u32 r.number) (region_of p.markets) p.regions))) p.regions
   regions_said =
       rows_order (λ r. as_u32 r.number) (region_of p.markets) region_row p.regions regions_apart
@@ -272,7 +272,7 @@ module _ (f : Format) (w : WorldValue) (p : Parts) (k : RowsKeep f w p) where
   unit_number : (r : StoredUnit) → unit_in_range r ≡ true → (IsWhole r.number) × (as_u32 r.number ≤ last_unit)
   unit_number r h = let range = from_range 1 last_unit r.number (omega arith) (unit_ranges r h).number in (range.0, range.2)
 
-  -- no two rows of units have the same number
+  -- no two rows of `unit` have the same number
   units_apart : Apart (λ r. as_u32 r.number) p.units
   units_apart = Apart-keys unit_key (λ r. as_u32 r.number) same (λ r. IsWhole r.number) (λ r s. one_apart r.number s.number) p.units (each_passes unit_in_range (λ r. IsWhole r.number) (λ r h. (unit_number r h).0) p.units ranges.units) k.range.keys.units
 
@@ -284,7 +284,7 @@ module _ (f : Format) (w : WorldValue) (p : Parts) (k : RowsKeep f w p) where
   structure_number : (r : StoredStructure) → structure_in_range w r ≡ true → (IsWhole r.number) × (as_u32 r.number ≤ most_structures)
   structure_number r h = let range = from_range 1 most_structures r.number (omega arith) (and_parts (is_from 1 most_structures r.number) (is_from 1 (size_of w (as_u16 r.kind)) r.done) h).0 in (range.0, range.2)
 
-  -- no two rows of structures have the same number
+  -- no two rows of `structure` have the same number
   structures_apart : Apart (λ r. as_u32 r.number) p.structures
   structures_apart =
       Apart-keys structure_key (λ r. as_u32 r.number) same (λ r. IsWhole r.number) (λ r s. one_apart r.number s.number) p.structures (each_passes (structure_in_range w) (λ r. IsWhole r.number) (λ r h. (structure_number r h).0) p.structures ranges.structures)
@@ -311,12 +311,12 @@ module _ (f : Format) (w : WorldValue) (p : Parts) (k : RowsKeep f w p) where
       let guard = flag_whole r.guard parts.guard in
       λ i. record { number = sym (unit_number r h).0 i; faction = sym faction i; name = r.name; region = sym region i; structure = sym structure i; men = sym men i; money = sym money i; guard = guard i }
 
-  -- all that each row of a unit names exists
+  -- all that each row of `unit` names exists
   units_placed : AllByRecursion (λ r. IsPlaced w (campaign_of w p) (unit_of p.has r)) p.units
   unfolding campaign_of
   units_placed = each_row (λ r. as_u32 r.number) (unit_of p.has) (λ n u. IsPlaced w (campaign_of w p) u) p.units units_apart k.known.units
 
-  -- the units assembled from the rows are written as just the rows of units, in some order
+  -- the units assembled from the rows are written as just the rows of `unit`, in some order
   units_said : IsPermutation (rows_by unit_row (entries (by_number (λ r. as_u32 r.number) (unit_of p.has) p.units))) p.units
   units_said =
       rows_order (λ r. as_u32 r.number) (unit_of p.has) unit_row p.units units_apart
@@ -338,12 +338,12 @@ module _ (f : Format) (w : WorldValue) (p : Parts) (k : RowsKeep f w p) where
       let done = (from_range 1 (size_of w (as_u16 r.kind)) r.done (omega arith) (and_parts (is_from 1 most_structures r.number) (is_from 1 (size_of w (as_u16 r.kind)) r.done) h).1).0 in
       λ i. record { number = sym (structure_number r h).0 i; kind = sym kind i; name = r.name; region = sym region i; done = sym done i; owner = sym owner i }
 
-  -- all that each row of a structure names exists
+  -- all that each row of `structure` names exists
   structures_built : AllByRecursion (λ r. IsBuilt w (campaign_of w p) (structure_of r)) p.structures
   unfolding campaign_of
   structures_built = each_row (λ r. as_u32 r.number) structure_of (λ n s. IsBuilt w (campaign_of w p) s) p.structures structures_apart k.known.structures
 
-  -- the structures assembled from the rows are written as just the rows of structures, in some order
+  -- the structures assembled from the rows are written as just the rows of `structure`, in some order
   structures_said : IsPermutation (rows_by structure_row (entries (by_number (λ r. as_u32 r.number) structure_of p.structures))) p.structures
   structures_said =
       rows_order (λ r. as_u32 r.number) structure_of structure_row p.structures structures_apart
@@ -351,7 +351,7 @@ module _ (f : Format) (w : WorldValue) (p : Parts) (k : RowsKeep f w p) where
       (each_passes (structure_in_range w) (λ r. structure_in_range w r ≡ true) (λ r h. h) p.structures ranges.structures) structures_built)
 
   -- ---- mail and reports
-  -- the faction numbers in the rows of mail fit 32 bits, so they are read as they are (IsWhole)
+  -- the faction numbers in the rows of `mail` fit 32 bits, so they are read as they are (IsWhole)
   mail_whole : AllByRecursion (λ r. IsWhole r.faction) p.mail
   unfolding campaign_of
   mail_whole =
@@ -359,14 +359,14 @@ module _ (f : Format) (w : WorldValue) (p : Parts) (k : RowsKeep f w p) where
       (λ r there. let few = there_below (by_number (λ r. as_u32 r.number) faction_of p.factions) (as_u32 r.faction) last_faction few_factions (k.known.posts.mail (as_u32 r.faction) there.0 there.1) in whole_below r.faction (omega arith)) p.mail
       (rows_there (λ r. as_u32 r.faction) (λ r. r.text) p.mail)
 
-  -- the mail assembled from the rows is written as just the rows of mail, in some order
+  -- the mail assembled from the rows is written as just the rows of `mail`, in some order
   mail_said : IsPermutation (rows_by mail_row (entries (by_number (λ r. as_u32 r.faction) (λ r. r.text) p.mail))) p.mail
   mail_said =
       rows_order (λ r. as_u32 r.faction) (λ r. r.text) mail_row p.mail
       (Apart-keys mail_key (λ r. as_u32 r.faction) same (λ r. IsWhole r.faction) (λ r s. one_apart r.faction s.faction) p.mail mail_whole k.range.keys.mail)
       (each_so (λ r. IsWhole r.faction) (λ r. mail_row (as_u32 r.faction) r.text ≡ r) (λ r whole. λ i. record { faction = sym whole i; text = r.text }) p.mail mail_whole)
 
-  -- the faction numbers in the rows of reports fit 32 bits, so they are read as they are (IsWhole)
+  -- the faction numbers in the rows of `report` fit 32 bits, so they are read as they are (IsWhole)
   reports_whole : AllByRecursion (λ r. IsWhole r.faction) p.reports
   unfolding campaign_of
   reports_whole =
@@ -374,7 +374,7 @@ module _ (f : Format) (w : WorldValue) (p : Parts) (k : RowsKeep f w p) where
       (λ r there. let few = there_below (by_number (λ r. as_u32 r.number) faction_of p.factions) (as_u32 r.faction) last_faction few_factions (k.known.posts.reports (as_u32 r.faction) there.0 there.1) in whole_below r.faction (omega arith)) p.reports
       (rows_there (λ r. as_u32 r.faction) (λ r. r.text) p.reports)
 
-  -- the reports assembled from the rows are written as just the rows of reports, in some order
+  -- the reports assembled from the rows are written as just the rows of `report`, in some order
   reports_said : IsPermutation (rows_by report_row (entries (by_number (λ r. as_u32 r.faction) (λ r. r.text) p.reports))) p.reports
   reports_said =
       rows_order (λ r. as_u32 r.faction) (λ r. r.text) report_row p.reports
@@ -386,11 +386,11 @@ module _ (f : Format) (w : WorldValue) (p : Parts) (k : RowsKeep f w p) where
   abbrev units : FinMap nat_cmp Unit
   units = by_number (λ r. as_u32 r.number) (unit_of p.has) p.units
 
-  -- a row of goods is of a skill's days (sort 1), or of an item (sort 0) with an amount from 1 to holding_limit
+  -- a row of `has` is of a skill's days (sort 1), or of an item (sort 0) with an amount from 1 to holding_limit
   abbrev SortOf : StoredHas → Type 0
   SortOf h = (as_u32 h.sort ≡ 1) ⊎ ((as_u32 h.sort ≡ 0) × (is_from 1 holding_limit h.amount ≡ true))
 
-  -- a row of goods in range has a sort of 32 bits, and is of skills, or of items with an amount in range (SortOf)
+  -- a row of `has` in range has a sort of 32 bits, and is of skills, or of items with an amount in range (SortOf)
   sort_of : (h : StoredHas) → has_in_range h ≡ true → IsWhole h.sort × SortOf h
   sort_of h e =
       elim (or_cases (is_from 1 1 h.sort) (is_from 0 0 h.sort && is_from 1 holding_limit h.amount) e) [
@@ -401,11 +401,11 @@ module _ (f : Format) (w : WorldValue) (p : Parts) (k : RowsKeep f w p) where
             (range.0, inr (omega (arith, range.1, range.2), parts.1))
       ]
 
-  -- the items of a unit assembled are those that the rows of goods say
+  -- the items of a unit assembled from rows are those that the rows of `has` say it has
   their_items : Every (λ n u. u.holding.items ≡ things_had n 0 p.has) units
   their_items = by_number-every (λ r. as_u32 r.number) (unit_of p.has) (λ n u. u.holding.items ≡ things_had n 0 p.has) unit_in_range (λ r h. refl) p.units ranges.units
 
-  -- the days of a unit assembled are those that the rows of goods say
+  -- the days of study of a unit assembled from rows are those that the rows of `has` say it has
   their_days : Every (λ n u. u.holding.days ≡ things_had n 1 p.has) units
   their_days = by_number-every (λ r. as_u32 r.number) (unit_of p.has) (λ n u. u.holding.days ≡ things_had n 1 p.has) unit_in_range (λ r h. refl) p.units ranges.units
 
@@ -413,16 +413,16 @@ module _ (f : Format) (w : WorldValue) (p : Parts) (k : RowsKeep f w p) where
   their_men : Every (λ n u. u.holding.men ≤ men_limit) units
   their_men = by_number-every (λ r. as_u32 r.number) (unit_of p.has) (λ n u. u.holding.men ≤ men_limit) unit_in_range (λ r h. (in_range 1 men_limit most_u32 r.men (omega arith) (unit_ranges r h).men).1) p.units ranges.units
 
-  -- the item or skill of a row of goods is among what all rows of goods of this sort (0 items, 1 skills) give unit n
+  -- the item or skill of a row of `has` is among what all rows of `has` of this sort (0 items, 1 skills) give unit n
   abbrev ThingThere : ℕ → ℕ → StoredHas → Type 0
   ThingThere n sort h = IsThere (things_had n sort p.has) (as_u32 h.thing)
 
-  -- the item or skill of each row of goods is among what all rows of goods of its sort (items or skills) give its unit
+  -- the item or skill of each row of `has` is among what all rows of `has` of its sort (items or skills) give its unit
   things_there : AllByRecursion (λ h. (n : ℕ) → (sort : ℕ) → is_of n sort h ≡ true → ThingThere n sort h) p.has
   things_there = all_forall (λ n h. (sort : ℕ) → is_of n sort h ≡ true → ThingThere n sort h) p.has (λ n. all_forall (λ sort h. is_of n sort h ≡ true → ThingThere n sort h) p.has (λ sort.
       unkept (is_of n sort) (ThingThere n sort) p.has (rows_there (λ h. as_u32 h.thing) (λ h. as_u32 h.amount) (filter (is_of n sort) p.has))))
 
-  -- the unit of each row of goods exists
+  -- the unit of each row of `has` exists
   held_units : AllByRecursion (λ h. IsThere units (as_u32 h.unit)) p.has
   unfolding campaign_of
   held_units = each_passes (is_of_unit (campaign_of w p)) (λ h. IsThere units (as_u32 h.unit)) (λ h e. some_there (get units (as_u32 h.unit)) e) p.has k.held
@@ -443,12 +443,12 @@ module _ (f : Format) (w : WorldValue) (p : Parts) (k : RowsKeep f w p) where
       let below = placed.items thing v at in
       omega arith
 
-  -- the sort of a row of goods in range (SortOf) is 1 (skills) or 0 (items)
+  -- the sort of a row of `has` in range (SortOf) is 1 (skills) or 0 (items)
   either_sort : (h : StoredHas) → SortOf h → (as_u32 h.sort ≡ 1) ⊎ (as_u32 h.sort ≡ 0)
   either_sort h (inl skill) = inl skill
   either_sort h (inr item) = inr item.0
 
-  -- the unit, sort and thing of a row of goods in range, whose unit exists, fit 32 bits (HasWholeKey)
+  -- the unit, sort and thing of a row of `has` in range, whose unit exists, fit 32 bits (HasWholeKey)
   keyed : (h : StoredHas) → (IsThere units (as_u32 h.unit)) × (has_in_range h ≡ true) → ((n : ℕ) → (sort : ℕ) → is_of n sort h ≡ true → ThingThere n sort h) → HasWholeKey h
   keyed h (there, range) thing =
       let unit_few = there_below units (as_u32 h.unit) last_unit few_units there in
@@ -456,28 +456,28 @@ module _ (f : Format) (w : WorldValue) (p : Parts) (k : RowsKeep f w p) where
       let thing_few = few_things (as_u32 h.unit) (as_u32 h.sort) (as_u32 h.thing) there (either_sort h sort.1) (thing (as_u32 h.unit) (as_u32 h.sort) (is_of_itself h)) in
       record { unit = whole_below h.unit (omega arith); sort = sort.0; thing = whole_below h.thing thing_few }
 
-  -- the unit of a row of goods exists, and the row is in range
+  -- the unit of a row of `has` exists, and the row is in range
   abbrev Placed : StoredHas → Type 0
   Placed h = (IsThere units (as_u32 h.unit)) × (has_in_range h ≡ true)
 
-  -- the unit of each row of goods exists, and each row is in range (Placed)
+  -- the unit of each row of `has` exists, and each row is in range (Placed)
   all_placed : AllByRecursion Placed p.has
   all_placed = each_with (λ h. IsThere units (as_u32 h.unit)) (λ h. has_in_range h ≡ true) Placed (λ h a b. (a, b)) p.has held_units (each_passes has_in_range (λ h. has_in_range h ≡ true) (λ h e. e) p.has ranges.has)
 
-  -- the unit, sort and thing of each row of goods fit 32 bits (HasWholeKey)
+  -- the unit, sort and thing of each row of `has` fit 32 bits (HasWholeKey)
   all_keyed : AllByRecursion HasWholeKey p.has
   all_keyed = each_with Placed (λ h. (n : ℕ) → (sort : ℕ) → is_of n sort h ≡ true → ThingThere n sort h) HasWholeKey keyed p.has all_placed things_there
 
-  -- the amount of a row of goods is found under its item or skill among what all rows of this sort give unit n
+  -- the amount of a row of `has` is found under its item or skill among what all rows of this sort give unit n
   abbrev IsFound : ℕ → ℕ → StoredHas → Type 0
   IsFound n sort h = get (things_had n sort p.has) (as_u32 h.thing) ≡ Some (as_u32 h.amount)
 
-  -- the amount of each row of goods is found under its item or skill among what all rows of its sort give its unit
+  -- the amount of each row of `has` is found under its item or skill among what all rows of its sort give its unit
   all_found : AllByRecursion (λ h. (n : ℕ) → (sort : ℕ) → is_of n sort h ≡ true → IsFound n sort h) p.has
   all_found = all_forall (λ n h. (sort : ℕ) → is_of n sort h ≡ true → IsFound n sort h) p.has (λ n. all_forall (λ sort h. is_of n sort h ≡ true → IsFound n sort h) p.has (λ sort.
       unkept (is_of n sort) (IsFound n sort) p.has (rows_found (λ h. as_u32 h.thing) (λ h. as_u32 h.amount) (filter (is_of n sort) p.has) (things_apart n sort p.has all_keyed k.range.keys.has))))
 
-  -- the amount of a row of goods fits 32 bits (IsWhole) and is not 0
+  -- the amount of a row of `has` fits 32 bits (IsWhole) and is not 0
   exact_of : (h : StoredHas) → IsThere units (as_u32 h.unit) → SortOf h → ((n : ℕ) → (sort : ℕ) → is_of n sort h ≡ true → IsFound n sort h) → IsWhole h.amount × (is_zero h.amount ≡ false)
   unfolding campaign_of
   exact_of h there (inl skill) found =
@@ -491,28 +491,28 @@ module _ (f : Format) (w : WorldValue) (p : Parts) (k : RowsKeep f w p) where
       let range = from_range 1 holding_limit h.amount (omega arith) item.1 in
       (range.0, whole_not_zero h.amount range.0 range.1)
 
-  -- the unit of a row of goods exists, the row is in range (Placed), and its key fits 32 bits (HasWholeKey)
+  -- the unit of a row of `has` exists, the row is in range (Placed), and its key fits 32 bits (HasWholeKey)
   abbrev KeyedPlaced : StoredHas → Type 0
   KeyedPlaced h = HasWholeKey h × Placed h
 
-  -- the unit, sort, thing and amount of a row of goods fit 32 bits, and the amount is not 0 (IsExact)
+  -- the unit, sort, thing and amount of a row of `has` fit 32 bits, and the amount is not 0 (IsExact)
   exact : (h : StoredHas) → KeyedPlaced h → ((n : ℕ) → (sort : ℕ) → is_of n sort h ≡ true → IsFound n sort h) → IsExact h
   exact h (keys, (there, range)) found = let amount = exact_of h there (sort_of h range).1 found in record { keys = keys; amount = amount.0; some = amount.1 }
 
-  -- the unit, sort, thing and amount of each row of goods fit 32 bits, and the amount is not 0 (IsExact)
+  -- the unit, sort, thing and amount of each row of `has` fit 32 bits, and the amount is not 0 (IsExact)
   all_exact : AllByRecursion IsExact p.has
   all_exact = each_with KeyedPlaced (λ h. (n : ℕ) → (sort : ℕ) → is_of n sort h ≡ true → IsFound n sort h) IsExact exact p.has (each_with HasWholeKey Placed KeyedPlaced (λ h a b. (a, b)) p.has all_keyed all_placed) all_found
 
-  -- a row of goods in range is of a unit that has a row, and of sort 0 (items) or 1 (skills)
+  -- a row of `has` in range is of a unit that has a row, and of sort 0 (items) or 1 (skills)
   of_units : (h : StoredHas) → Placed h → IsOfUnits p.units h
   of_units h (there, range) = (row_of (λ r. as_u32 r.number) (unit_of p.has) p.units (as_u32 h.unit) there, turned h (sort_of h range).1)
     where
-      -- a row of goods in range (SortOf) is of sort 0 (items) or 1 (skills)
+      -- a row of `has` in range (SortOf) is of sort 0 (items) or 1 (skills)
       turned : (h : StoredHas) → SortOf h → (as_u32 h.sort ≡ 0) ⊎ (as_u32 h.sort ≡ 1)
       turned h (inl skill) = inr skill
       turned h (inr item) = inl item.0
 
-  -- the goods of the units assembled from the rows are written as just the rows of goods, in some order
+  -- the goods of the units assembled from the rows are written as just the rows of `has`, in some order
   has_said : IsPermutation (has_rows (entries units)) p.has
   has_said = has_order p.has p.units units_apart (each_so Placed (IsOfUnits p.units) of_units p.has all_placed) all_exact k.range.keys.has
 
@@ -521,7 +521,7 @@ module _ (f : Format) (w : WorldValue) (p : Parts) (k : RowsKeep f w p) where
   abbrev regions : FinMap nat_cmp Region
   regions = by_number (λ r. as_u32 r.number) (region_of p.markets) p.regions
 
-  -- the region, item and stock of a row of a market in range fit 32 bits, and the stock is not 0 (IsExact)
+  -- the region, item and stock of a row of `market` in range fit 32 bits, and the stock is not 0 (IsExact)
   exact_market : (m : StoredMarket) → is_of_market w m ≡ true → market_in_range w m ≡ true → market.IsExact m
   exact_market m named range =
       let found = market_there w.regions (as_u32 m.item) (as_u32 m.region) (get w.regions (as_u32 m.region)) refl named in
@@ -533,13 +533,13 @@ module _ (f : Format) (w : WorldValue) (p : Parts) (k : RowsKeep f w p) where
       let stock = from_range 1 (stock_limit w (as_u32 m.region) (as_u32 m.item)) m.stock (omega (arith, limit_few)) range in
       record { keys = record { region = whole_below m.region (omega arith); item = whole_below m.item (omega arith) }; stock = stock.0; some = whole_not_zero m.stock stock.0 stock.1 }
 
-  -- the region, item and stock of each row of a market fit 32 bits, and the stock is not 0 (IsExact)
+  -- the region, item and stock of each row of `market` fit 32 bits, and the stock is not 0 (IsExact)
   exact_markets : AllByRecursion market.IsExact p.markets
   exact_markets =
       each_with (λ m. is_of_market w m ≡ true) (λ m. market_in_range w m ≡ true) market.IsExact exact_market p.markets (each_passes (is_of_market w) (λ m. is_of_market w m ≡ true) (λ m e. e) p.markets k.stocked)
       (each_passes (market_in_range w) (λ m. market_in_range w m ≡ true) (λ m e. e) p.markets ranges.markets)
 
-  -- the region of each row of a market is one of the rows' regions
+  -- the region of each row of `market` has a row of `region`
   of_regions : AllByRecursion (λ m. HasNumber (λ r. as_u32 r.number) p.regions (as_u32 m.region)) p.markets
   unfolding campaign_of
   of_regions =
@@ -547,11 +547,11 @@ module _ (f : Format) (w : WorldValue) (p : Parts) (k : RowsKeep f w p) where
       let found = market_there w.regions (as_u32 m.item) (as_u32 m.region) (get w.regions (as_u32 m.region)) refl e in
       row_of (λ r. as_u32 r.number) (region_of p.markets) p.regions (as_u32 m.region) ((k.known.regions (as_u32 m.region)).1 (found.0, found.2))) p.markets k.stocked
 
-  -- the first format has no rows of markets
+  -- the first format has no rows of `market`
   pub none_in_first : f ≡ First → p.markets ≡ []
   none_in_first is = no_rows p.markets (ap (λ g. are_of_format g p.markets) (sym is) ∙ k.format)
 
-  -- the stocks assembled from the rows are written as just the rows of markets, in some order; none in the first format
+  -- the stocks assembled from the rows are written as just the rows of `market`, in some order (First: none)
   markets_said : IsPermutation (market_rows f (entries regions)) p.markets
   markets_said = elim f as (λ g. f ≡ g → IsPermutation (market_rows g (entries regions)) p.markets) [
     | First ↦ λ is. subst (λ rows. IsPermutation [] rows) (sym (none_in_first is)) (IsPermutation-refl [])
@@ -577,7 +577,7 @@ module _ (f : Format) (w : WorldValue) (p : Parts) (k : RowsKeep f w p) where
       let most = few_entries f in
       (from_le 1 n parts.0, omega (arith, few, most))
 
-  -- a row of books that keeps the rules is read as an amount, not 0, of one of the world's things (IsBooked)
+  -- a row of `books` that keeps the rules is read as an amount, not 0, of one of the world's things (IsBooked)
   its_account : (r : StoredBooks) → is_booked f w r ≡ true → books_in_range (books_bound p) r ≡ true → IsBooked (things_of w) r
   its_account r h range =
       let parts = and_parts (is_entry_in f (as_u32 r.entry)) (nat_lt (as_u32 r.thing) (things_of w)) h in
@@ -588,13 +588,13 @@ module _ (f : Format) (w : WorldValue) (p : Parts) (k : RowsKeep f w p) where
       let some = not_zero r.amount (not-true (is_zero r.amount) (and_parts (not (is_zero r.amount)) (is_within (books_bound p) r.amount) range).0) in
       booked_row (things_of w) r (whole_below r.entry (omega arith)) (whole_below r.thing (omega arith)) entry.0 entry.1 there some
 
-  -- each row of books is read as an amount, not 0, of one of the world's things (IsBooked)
+  -- each row of `books` is read as an amount, not 0, of one of the world's things (IsBooked)
   pub all_booked : AllByRecursion (IsBooked (things_of w)) p.books
   all_booked =
       each_with (λ r. is_booked f w r ≡ true) (λ r. books_in_range (books_bound p) r ≡ true) (IsBooked (things_of w)) its_account p.books (each_passes (is_booked f w) (λ r. is_booked f w r ≡ true) (λ r h. h) p.books k.booked)
       (each_passes (books_in_range (books_bound p)) (λ r. books_in_range (books_bound p) r ≡ true) (λ r h. h) p.books ranges.books)
 
-  -- the books assembled from the rows are written as just the rows of books, in some order
+  -- the books assembled from the rows are written as just the rows of `books`, in some order
   pub books_said : IsPermutation (books_rows (put_amounts p.books (no_amounts (things_of w)))) p.books
   books_said =
       books_order (things_of w) p.books all_booked k.range.keys.books

@@ -18,59 +18,59 @@ use Rattle.atl_campaign.proofs.GroupLaws.{gathered, lines_order}
 use Rattle.atl_campaign.proofs.HasLaws.{IsWhole, same, ties_itself}
 use Rattle.atl_campaign.proofs.OrderLaws.{Apart, HasNumber, each_so, flat_order}
 
--- the region and the item of a row of a market fit 32 bits, so both are read as they are
+-- the region and the item of a row of `market` fit 32 bits, so both are read as they are
 pub record HasWholeKey (m : StoredMarket) : Type 0 where
-  -- the region's number fits 32 bits
+  -- the number of the row's region fits 32 bits
   pub region : IsWhole m.region
-  -- the item's number fits 32 bits
+  -- the number of the row's item fits 32 bits
   pub item : IsWhole m.item
 
--- the region, the item and the stock of a row of a market fit 32 bits, and the stock is not 0
+-- the region, the item and the stock of a row of `market` fit 32 bits, and the stock is not 0
 pub record IsExact (m : StoredMarket) : Type 0 where
-  -- the region and the item fit 32 bits
+  -- the region and the item of the row fit 32 bits
   pub keys : HasWholeKey m
-  -- the stock fits 32 bits
+  -- the stock of the row fits 32 bits
   pub stock : IsWhole m.stock
-  -- the stock is not 0
+  -- the stock of the row is not 0
   pub some : is_zero m.stock ≡ false
 
--- the item's number in a row of a market, as it is read
+-- the item's number in a row of `market`, as it is read
 abbrev item_of : StoredMarket → ℕ
 item_of m = as_u32 m.item
 
--- the stock in a row of a market, as it is read
+-- the stock in a row of `market`, as it is read
 abbrev stock_of : StoredMarket → ℕ
 stock_of m = as_u32 m.stock
 
--- whether a row of a market is of region n
+-- whether a row of `market` is of region n
 abbrev pub is_in : ℕ → StoredMarket → Bool
 is_in n m = as_u32 m.region == n
 
--- a row of a market is of region n, and its region and item fit 32 bits (HasWholeKey)
+-- a row of `market` is of region n, and its region and item fit 32 bits (HasWholeKey)
 abbrev IsStockIn : ℕ → StoredMarket → Type 0
 IsStockIn n m = HasWholeKey m × (is_in n m ≡ true)
 
--- a row of a market that is of region n (IsStockIn) has n as its region
+-- a row of `market` that is of region n (IsStockIn) has n as its region
 its_region : (n : ℕ) (m : StoredMarket) → IsStockIn n m → m.region ≡ pos n
 its_region n m (keys, of) = keys.region ∙ ap pos (is_same (as_u32 m.region) n of)
 
--- the row that is written for region n, and the item and stock read from a row of region n, is that row, if the stock
--- fits 32 bits (IsWhole)
+-- a row of region n is the row that is written for n and the item and stock read from it, if its stock fits 32 bits
 same_row : (n : ℕ) (m : StoredMarket) → IsStockIn n m → IsWhole m.stock → market_row n (item_of m) (stock_of m) ≡ m
 same_row n m here stock = λ i. record { region = sym (its_region n m here) i; item = sym here.0.item i; stock = sym stock i }
 
--- rows of markets of one region and item have the same key
+-- rows of `market` of one region and item have the same key
 same_key : (n : ℕ) (m k : StoredMarket) → IsStockIn n m → IsStockIn n k → item_of m ≡ item_of k → ◌≡◌ {A = Key} (market_key k) (market_key m)
 same_key n m k a b e =
     let region = its_region n k b ∙ sym (its_region n m a) in
     let item = b.0.item ∙ sym (ap pos e) ∙ sym a.0.item in
     λ i. (region i, item i, pos 0)
 
--- no two rows of region n are of one item, if the keys of all rows differ
+-- no two rows of region n are of one item, if the keys of all rows differ and fit 32 bits
 pub items_apart : (n : ℕ) (markets : List StoredMarket) → AllByRecursion HasWholeKey markets → IsDistinct same (map market_key markets) → Apart item_of (filter (is_in n) markets)
 items_apart n = group.things_apart market_key same ties_itself item_of (is_in n) HasWholeKey (same_key n)
 
--- the stocks read for region n are written as the rows of region n, in some order, if all keys differ
+-- if all rows are exact (`IsExact`) and their keys differ, the stocks read for region n are written as its rows, in
+-- some order
 stock_order : (n : ℕ) (markets : List StoredMarket) → AllByRecursion IsExact markets → IsDistinct same (map market_key markets) → IsPermutation (stock_rows n (entries (stocks_of n markets))) (filter (is_in n) markets)
 stock_order n markets all d =
     lines_order item_of stock_of (market_row n) (λ m. not (is_zero m.stock)) (filter (is_in n) markets) (items_apart n markets (each_so IsExact HasWholeKey (λ m one. one.keys) markets all) d)
@@ -80,7 +80,8 @@ stock_order n markets all d =
 abbrev region_lines : ℕ × Region → List StoredMarket
 region_lines e = stock_rows e.0 (entries e.1.stocks)
 
--- regions assembled from rows are written as the same rows of `market`, in some order, if keys differ and regions exist
+-- if rows of `market` are exact (`IsExact`), of listed regions, and differ in keys, the regions read with them are
+-- written as these rows, in some order
 pub market_order : (markets : List StoredMarket) (regions : List StoredRegion) → Apart (λ r. as_u32 r.number) regions → AllByRecursion (λ m. HasNumber (λ r. as_u32 r.number) regions (as_u32 m.region)) markets → AllByRecursion IsExact markets → IsDistinct same (map market_key markets)
     → IsPermutation (market_rows Second (entries (by_number (λ r. as_u32 r.number) (region_of markets) regions))) markets
 market_order markets regions apart of all d =

@@ -57,14 +57,14 @@ KeepsRulesBelow f w p n = (r : Rule) → rule_number r < n → KeepsRule f w p r
 
 -- the rows break rule r, and keep all rules before it
 pub record IsFirstBroken (f : Format) (w : WorldValue) (p : Parts) (r : Rule) : Type 0 where
-  -- the rows keep all rules with lower numbers
+  -- the rows keep all rules whose numbers are below that of r
   pub before : KeepsRulesBelow f w p (rule_number r)
-  -- the rows break the rule
+  -- the rows break rule r
   pub broken : ¬ KeepsRule f w p r
 
 -- a campaign uses no markets: nothing is in stock, and no amount is booked under the entries of markets
 pub record IsWithoutMarkets (c : CampaignValue) : Type 0 where
-  -- nothing is in stock
+  -- no region has anything in stock
   pub stocks : HasNoStocks c
   -- no amount is booked under the entries of markets
   pub entries : (e : Entry) (t : Thing) → first_entry_count ≤ entry_index e → amount_in c.books e t ≡ pos 0
@@ -80,7 +80,7 @@ pub record IsChecked (f : Format) (w : WorldValue) (p : Parts) (c : MarkedCampai
   pub rows : AreRowsOf f c.value p
   -- the format can hold the campaign
   pub fits : Fits f c.value
-  -- the campaign is good
+  -- the campaign is good: all rules of specs/Good of atl_campaign hold of it (`IsGood`)
   pub good : IsGood w c.value
   -- nothing of the campaign is marked
   pub marks : c.marks ≡ no_marks

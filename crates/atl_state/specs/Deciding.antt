@@ -11,7 +11,7 @@ use Rattle.atl_records.specs.Every.{EachOf}
 
 -- structure n has no owner (0), or its owner is a unit inside it
 pub record HasOwnerInside (c : CampaignValue) (n : ℕ) (s : Structure) : Type 0 where
-  -- an owner other than 0 is a unit of the campaign, and inside the structure
+  -- if the structure's owner isn't 0, it is a unit of the campaign that is inside the structure
   pub owned : s.owner ≢ 0 → (u : Unit) × (get c.units s.owner ≡ Some u) × (u.structure ≡ n)
 
 -- the faction of unit n, if the unit exists and guards its region, else None

@@ -31,7 +31,7 @@ use std::fmt;
 #[derive(Drop, Clone, Copy, Debug, PartialEq, Eq)]
 pub enum Rule {
     /// There is one campaign row, with the id 1 and the format that is asked for. In the first
-    /// format there are no rows of markets.
+    /// format there are no rows of `market`.
     OneRow = 1,
     /// Keys differ, each number is in its range, and there are not too many rows.
     Ranges = 2,
@@ -193,8 +193,8 @@ fn keeps_books(format: Format, world: &World, parts: &Parts, campaign: &Campaign
     are_booked(format, world, parts) && are_balanced(world, campaign)
 }
 
-/// Whether rows keep rule 12: mail is in order, and each faction has a report. The campaign is the
-/// one read from the rows.
+/// Whether rows keep rule 12: each mail is a mailing of a faction that isn't gone, and each faction
+/// has a report. The campaign is the one read from the rows.
 fn keeps_mail(world: &World, parts: &Parts, campaign: &Campaign) -> bool
     requires { campaign.now.value ≡ campaign_of world.now parts.now }
     ensures { IsTrue result ↔

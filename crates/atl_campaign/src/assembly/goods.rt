@@ -31,7 +31,7 @@ fn put_thing(units: &mut Arena<Unit>, row: &StoredHas) -> Result<(), AllocError>
     }
 }
 
-/// Puts the amounts of rows of `has` into their units, row by row; the rows are in their ranges.
+/// Puts the amounts of rows of `has`, which are in their ranges, into their units, row by row.
 pub(super) fn put_things(units: &mut Arena<Unit>, rows: &[StoredHas]) -> Result<(), AllocError>
     requires { list_all has_in_range rows.now ≡ true }
     ensures { OnOk result (units.new ≡ give (λ r. as_u32 r.unit) with_has_row rows.now units.old) }

@@ -18,7 +18,8 @@ use atl_records::{Faction, Region, Structure};
 use atl_world::{MarkedMap, Numbered, Sequence, Text};
 use std::alloc::{AllocError, Global};
 
-/// The factions that rows of `faction` say, by number. Names and pass texts keep their rules.
+/// The factions that rows of `faction` say, by number. Their names and pass texts have to keep
+/// their rules.
 pub(crate) fn factions_of(
     alloc: Global,
     rows: &[StoredFaction],
@@ -61,7 +62,7 @@ pub(crate) fn regions_of(
     Ok(regions)
 }
 
-/// The structures that rows of `structure` say, by number. Names keep the name rule.
+/// The structures that rows of `structure` say, by number. Their names have to keep the name rule.
 pub(crate) fn structures_of(
     alloc: Global,
     rows: &[StoredStructure],
@@ -116,8 +117,8 @@ pub(crate) struct CampaignMaps {
     pub(crate) reports: MarkedMap<Text>,
 }
 
-/// The factions that rows of `faction` say, by number, with nothing marked. Names and pass texts
-/// keep their rules.
+/// The factions that rows of `faction` say, by number, with nothing marked. Their names and pass
+/// texts have to keep their rules.
 fn unmarked_factions(
     alloc: Global,
     rows: &[StoredFaction],
@@ -143,8 +144,8 @@ fn unmarked_regions(
     Regions::of(alloc, regions)
 }
 
-/// The structures that rows of `structure` say, by number, with nothing marked. Names keep the name
-/// rule.
+/// The structures that rows of `structure` say, by number, with nothing marked. Their names have to
+/// keep the name rule.
 fn unmarked_structures(
     alloc: Global,
     rows: &[StoredStructure],
@@ -176,7 +177,7 @@ fn unmarked_reports(alloc: Global, rows: &[StoredReport]) -> Result<MarkedMap<Te
 }
 
 /// The factions, regions, structures, mail and reports that are read from rows, with nothing
-/// marked. Names and pass texts keep their rules. AllocError without memory.
+/// marked. Names and pass texts have to keep their rules. AllocError without memory.
 pub(crate) fn campaign_maps_of(alloc: Global, parts: &Parts) -> Result<CampaignMaps, AllocError>
     requires factions { list_all faction_named parts.now.factions ≡ true }
     requires structures { list_all (λ r. name_ok r.name) parts.now.structures ≡ true }

@@ -11,7 +11,7 @@ use atl_records::{Faction, Region, Structure};
 use atl_world::{Numbered, Sequence, Text};
 use std::alloc::{AllocError, Global};
 
-/// The text of a name's bytes, which keep the name rule.
+/// The text of a name's bytes, which have to keep the name rule.
 pub(super) fn name_of(alloc: Global, bytes: &Sequence<u8>) -> Result<Text, AllocError>
     requires { name_ok bytes.now ≡ true }
     ensures { IfOk result (λ name. name ≡ bytes.now) }
@@ -19,7 +19,7 @@ pub(super) fn name_of(alloc: Global, bytes: &Sequence<u8>) -> Result<Text, Alloc
     Text::from_utf8(alloc, bytes.as_slice())
 }
 
-/// The text of a pass text's bytes, which keep the rule of pass texts.
+/// The text of a pass text's bytes, which have to keep the rule of pass texts.
 pub(crate) fn pass_of(alloc: Global, bytes: &Sequence<u8>) -> Result<Text, AllocError>
     requires { pass_ok bytes.now ≡ true }
     ensures { IfOk result (λ pass. pass ≡ bytes.now) }
@@ -27,7 +27,7 @@ pub(crate) fn pass_of(alloc: Global, bytes: &Sequence<u8>) -> Result<Text, Alloc
     Text::from_utf8(alloc, bytes.as_slice())
 }
 
-/// The faction that a row of `faction` says; its names and pass text keep their rules.
+/// The faction that a row of `faction` says. Its names and pass text have to keep their rules.
 pub(super) fn faction_of(alloc: Global, row: &StoredFaction) -> Result<Faction, AllocError>
     requires { faction_named row.now ≡ true }
     ensures { IfOk result (λ faction. faction ≡ faction_of row.now) }
@@ -55,7 +55,7 @@ pub(super) fn bare_region(alloc: Global, row: &StoredRegion) -> Region
     }
 }
 
-/// The structure that a row of `structure` says; its name keeps the name rule.
+/// The structure that a row of `structure` says. Its name has to keep the name rule.
 pub(super) fn structure_of(alloc: Global, row: &StoredStructure) -> Result<Structure, AllocError>
     requires { name_ok row.now.name ≡ true }
     ensures { IfOk result (λ structure. structure ≡ structure_of row.now) }

@@ -19,8 +19,8 @@ use atl_records::{Holding, Unit};
 use atl_world::Numbered;
 use std::alloc::{AllocError, Global};
 
-/// The unit that a row of `unit` says, without items and days of study. Its name keeps the name
-/// rule, and its numbers are in their ranges.
+/// The unit that a row of `unit` says, without items and days of study. Its name has to keep the
+/// name rule, and its numbers have to be in their ranges.
 fn bare_unit(alloc: Global, row: &StoredUnit) -> Result<Unit, AllocError>
     requires named { name_ok row.now.name ≡ true }
     requires range { unit_in_range row.now ≡ true }
@@ -54,7 +54,7 @@ fn bare_units(alloc: Global, rows: &[StoredUnit]) -> Result<Arena<Unit>, AllocEr
 }
 
 /// The units that rows of `unit` say, by number, with the items and days of study that rows of
-/// `has` say. Names keep the name rule, and numbers are in their ranges.
+/// `has` say. Names have to keep the name rule, and numbers have to be in their ranges.
 pub(crate) fn units_of(
     alloc: Global,
     rows: &[StoredUnit],
@@ -72,7 +72,7 @@ pub(crate) fn units_of(
 }
 
 /// The units that rows of `unit` and `has` say, with items and days of study, and nothing marked.
-/// Names keep the name rule, and numbers are in their ranges.
+/// Names have to keep the name rule, and numbers have to be in their ranges.
 pub(crate) fn roster_of(alloc: Global, parts: &Parts) -> Result<Units, AllocError>
     requires named { list_all (λ r. name_ok r.name) parts.now.units ≡ true }
     requires range { list_all unit_in_range parts.now.units ≡ true }
@@ -85,7 +85,7 @@ pub(crate) fn roster_of(alloc: Global, parts: &Parts) -> Result<Units, AllocErro
     Units::of(alloc, units)
 }
 
-/// The lists of the given units by region, faction and structure.
+/// For each region, faction and structure the list of its units, made of the given units.
 pub(crate) fn lists_of(alloc: Global, units: &Units) -> Result<UnitLists, AllocError>
     ensures { IfOk result (λ lists. AreUnitLists units.now.values lists) }
 {

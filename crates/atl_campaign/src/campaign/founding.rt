@@ -21,7 +21,8 @@ use atl_records::{Books, ENTRY_COUNT, Entry, FIRST_ITEM, Region, Thing};
 use atl_world::{Marks, Numbered, RegionPlan, Text, World};
 use std::alloc::{AllocError, Global};
 
-/// The regions of a campaign right after founding, with nothing in stock and nothing marked.
+/// The regions of a campaign right after founding, as the world plans them, with nothing in stock
+/// and nothing marked.
 fn make_regions(alloc: Global, plans: &Numbered<RegionPlan>) -> Result<Regions, AllocError>
     ensures { IfOk result (λ regions. regions
         ≡ unmarked_regions (mapped founded_region plans.now)) }
@@ -38,7 +39,8 @@ fn make_regions(alloc: Global, plans: &Numbered<RegionPlan>) -> Result<Regions, 
     Regions::of(alloc, regions)
 }
 
-/// The books right after founding, of this many things: what the regions hold, under Founding.
+/// The books of `things` things right after founding: the money and the people that the regions
+/// have, under the entry Founding.
 fn founding_books(alloc: Global, things: usize, regions: &Regions) -> Result<Books, AllocError>
     requires few { length (map.entries regions.now.values) ≤ most_regions }
     requires some { 2 ≤ things }

@@ -94,7 +94,7 @@ fn make_faction(alloc: Global, number: u32, name: &[u8], pass: &[u8]) -> Result<
     })
 }
 
-/// Books the money and the one man of a faction that joins, under Joining.
+/// Books the money and the one man of a faction that joins, under the entry Joining.
 fn book_joining(books: &mut Books, money: u32)
     requires things { 2 ≤ books.old.things }
     requires money { IsSmall (amount_in books.old Joining Money) }

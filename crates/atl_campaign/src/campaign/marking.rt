@@ -50,8 +50,8 @@ impl Campaign {
         self.regions.marked_stocks()
     }
 
-    /// The single stocks that are marked, by the numbers of their regions and of their items, in
-    /// rising order. It takes no memory.
+    /// The stocks that are marked one by one: the items' numbers by the region's number, in rising
+    /// order. It takes no memory.
     pub fn marked_stock_items(&self) -> Entries<'_, Numbered<()>>
         ensures { result ≡ map.entries self.now.marks.stock_items }
     {
@@ -82,16 +82,16 @@ impl Campaign {
         self.units.marked_goods()
     }
 
-    /// The single items that are marked, by the numbers of their units, in rising order. Items of
-    /// units that are gone are among them. It takes no memory.
+    /// The items that are marked one by one: their numbers by the unit's number, in rising order.
+    /// Items of units that are gone are among them. It takes no memory.
     pub fn marked_items(&self) -> Entries<'_, Numbered<()>>
         ensures { result ≡ map.entries self.now.marks.items }
     {
         self.units.marked_items()
     }
 
-    /// The single skills that are marked, by the numbers of their units, in rising order. Skills of
-    /// units that are gone are among them. It takes no memory.
+    /// The skills that are marked one by one: their numbers by the unit's number, in rising order.
+    /// Skills of units that are gone are among them. It takes no memory.
     pub fn marked_skills(&self) -> Entries<'_, Numbered<()>>
         ensures { result ≡ map.entries self.now.marks.skills }
     {
@@ -120,7 +120,7 @@ impl Campaign {
         self.reports.marked_numbers()
     }
 
-    /// Whether an amount of the books is marked.
+    /// Whether the amount of a thing under an entry of the books is marked.
     pub fn is_amount_marked(&self, entry: Entry, thing: Thing) -> bool
         requires { thing_index thing < self.now.value.books.things }
         ensures { result ≡ set.contains self.now.marks.books (amount_number entry thing) }

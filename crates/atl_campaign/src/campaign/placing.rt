@@ -36,7 +36,8 @@ impl Campaign {
         }
     }
 
-    /// The next owner of a structure once its owner leaves: the lowest other unit inside, or 0.
+    /// The next owner of a structure when its owner `leaving` leaves: the lowest-numbered other
+    /// unit inside, or 0 where there is none.
     fn heir(&self, structure: u32, leaving: u32) -> u32
         ensures { result ≡ heir self.now.value structure leaving }
     {

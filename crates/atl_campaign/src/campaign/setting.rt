@@ -1,4 +1,4 @@
-//! Calls that set one entry of a campaign. Where no faction, region, unit or structure has the
+//! Calls that set one value of a campaign. Where no faction, region, unit or structure has the
 //! number given, nothing changes. Only `set_stock`, `set_item` and `set_days` take memory.
 ghost use Rattle.std.specs.Prelude.{◌≡◌, ◌≤◌, ◌<◌, ◌⊎◌, ◌+ℤ◌, IsOk, OnErr, OnOk};
 ghost use Rattle.std.specs.Int.{w64};

@@ -12,7 +12,8 @@ use atl_campaign::Campaign;
 use atl_records::Thing;
 use atl_world::World;
 
-/// Whether the total of a thing over all units and regions equals the sum booked of it.
+/// Whether the total of a thing over all units and regions equals the sum booked of it under all
+/// entries.
 fn is_balanced(campaign: &Campaign, thing: Thing) -> bool
     requires few { IsCountable campaign.now.value }
     requires there { thing_index thing < campaign.now.value.books.things }

@@ -6,7 +6,7 @@ ghost use Rattle.atl_campaign.specs.Campaign.{numbers_of};
 use atl_campaign::Campaign;
 use atl_records::Faction;
 
-/// Whether a faction is gone exactly where it has no unit.
+/// Whether a faction is gone and has no unit, or is not gone and has one.
 fn is_gone_without(campaign: &Campaign, number: u32, faction: &Faction) -> bool
     ensures { IsTrue result ↔
         ((faction.now.gone ≡ true → numbers_of number campaign.now.value.units ≡ [])
@@ -15,7 +15,8 @@ fn is_gone_without(campaign: &Campaign, number: u32, faction: &Faction) -> bool
     faction.gone == campaign.of_faction(number).is_empty()
 }
 
-/// Whether each faction is gone exactly where it has no unit. It takes no memory.
+/// Whether each faction without units is gone, and each faction with units is not. It takes no
+/// memory.
 pub(crate) fn are_gone(campaign: &Campaign) -> bool
     ensures { IsTrue result ↔ (GoneHaveNone campaign.now.value × UnitlessAreGone campaign.now.value) }
 {

@@ -43,8 +43,8 @@ fn has_one_holder(campaign: &Campaign, region: u32) -> bool
     true
 }
 
-/// Whether at most one faction guards each region, where the regions of all units are there. It
-/// takes no memory.
+/// Whether in each region all units that guard are of one faction. The region of each unit has to
+/// exist. It takes no memory.
 pub(crate) fn are_guarded(campaign: &Campaign) -> bool
     requires { Every (λ n u. IsThere campaign.now.value.regions u.region) campaign.now.value.units }
     ensures { IsTrue result ↔ (AreOfOneFaction guards campaign.now.value) }

@@ -95,7 +95,8 @@ fn have_known_markets(world: &World, campaign: &Campaign) -> bool
     campaign.regions().all(|(number, region)| has_known_markets(world, number, region))
 }
 
-/// Whether the campaign's regions are exactly the world's, and their stocks are of their markets.
+/// Whether the campaign's regions are exactly the world's, and each item in stock has a market
+/// there.
 fn are_stocks_known(world: &World, campaign: &Campaign) -> bool
     ensures { IsTrue result ↔
         (((n : ℕ) → IsThere campaign.now.value.regions n ↔ IsThere world.now.regions n)
@@ -147,7 +148,8 @@ fn is_somewhere(campaign: &Campaign, unit: &Unit) -> bool
     is_faction(campaign, unit.faction) && is_region(campaign, unit.region)
 }
 
-/// Whether the world has a unit's items and skills, and its structure is 0 or one of its region.
+/// Whether the world has all items and skills of a unit, and the unit's structure is 0 (none) or
+/// exists in the unit's region.
 fn has_known_goods(world: &World, campaign: &Campaign, unit: &Unit) -> bool
     ensures { IsTrue result ↔
         ((unit.now.structure ≢ 0
@@ -160,16 +162,16 @@ fn has_known_goods(world: &World, campaign: &Campaign, unit: &Unit) -> bool
     is_inside_here(campaign, unit) && holds_known(world, &unit.holding)
 }
 
-/// Whether a unit's faction, region, items and skills exist, and its structure is 0 or one of its
-/// region.
+/// Whether a unit's faction, region, items and skills exist, and the unit's structure is 0 (none)
+/// or exists in the unit's region.
 fn is_placed(world: &World, campaign: &Campaign, unit: &Unit) -> bool
     ensures { IsTrue result ↔ (IsPlaced world.now campaign.now.value unit.now) }
 {
     is_somewhere(campaign, unit) && has_known_goods(world, campaign, unit)
 }
 
-/// Whether each unit's faction, region, items and skills exist, and its structure is 0 or one of
-/// its region.
+/// Whether each unit's faction, region, items and skills exist, and the unit's structure is 0
+/// (none) or exists in the unit's region.
 fn are_placed(world: &World, campaign: &Campaign) -> bool
     ensures { IsTrue result ↔
         (Every (λ n u. IsPlaced world.now campaign.now.value u) campaign.now.value.units) }
@@ -257,9 +259,9 @@ fn are_posts_known(campaign: &Campaign) -> bool
     are_mail_known(campaign) && are_reports_known(campaign)
 }
 
-/// Whether all that the campaign names by number exists, its regions are exactly the world's, with
-/// stocks of their markets alone, and each unit's structure is in the unit's region. It takes no
-/// memory.
+/// Whether all that the campaign names by number exists, its regions are exactly the world's, each
+/// item in stock has a market in its region, and each unit's structure is in the unit's region. It
+/// takes no memory.
 pub(crate) fn are_known(world: &World, campaign: &Campaign) -> bool
     ensures { IsTrue result ↔ (AreKnown world.now campaign.now.value) }
 {

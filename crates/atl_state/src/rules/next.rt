@@ -14,7 +14,8 @@ fn are_between<V>(mut entries: Entries<'_, V>, least: u32, next: u32) -> bool
     entries.all(|(number, _)| least <= number && number < next)
 }
 
-/// Whether a next number is one more than a count.
+/// Whether the next number `next` is one more than `count`, how many factions or structures there
+/// are.
 fn is_next_above(next: u32, count: usize) -> bool
     ensures { IsTrue result ↔ (next ≡ count + 1) }
 {

@@ -10,7 +10,7 @@ use Rattle.atl_state.proofs.checking.check_holders.Goals as goal
 pub are_guarded-requires : goal.are_guarded-requires
 are_guarded-requires c = subst (λ (s : CampaignValue). Every (λ n u. IsThere s.regions u.region) s.units) (sym c.requires.what) (places-said c.args.format c.args.world.now c.args.parts.now c.requires.before)
 
--- rows that pass the tests of rules 8 to 12 keep all twelve rules
+-- rows that keep rules 1 to 7, and pass the tests of rules 8 to 12, keep all twelve rules
 pub returns : goal.returns
 returns c =
     let w = c.args.world.now in

@@ -6,17 +6,17 @@ use Rattle.std.proofs.lemmas.Map.Keys.{IsDistinct-from_sorted}
 use Rattle.atl_campaign.proofs.KeyLaws.{stands_twice, still_apart, seen_more}
 use Rattle.atl_state.proofs.row_rules.keys.are_distinct.Goals as goal
 
--- if r is `not b`, and r is false, b is true
+-- if r is `not b` and false, b is true: a value that `insert` doesn't call new was in the set before
 not_new : (b r : Bool) → r ≡ not b → r ≡ false → b ≡ true
 not_new true r h e = refl
 not_new false r h e = sym e ∙ h
 
--- if r is `not b`, and r is true, b is false
+-- if r is `not b` and true, b is false: a value that `insert` calls new wasn't in the set before
 is_new : (b r : Bool) → r ≡ not b → r ≡ true → b ≡ false
 is_new true r h e = sym e ∙ h
 is_new false r h e = refl
 
--- values that rise are distinct
+-- if the values rise, are_distinct returns true, and they are distinct
 pub returns-then-are_sorted : goal.returns-then-are_sorted
 returns-then-are_sorted g c = (λ _. IsDistinct-from_sorted g.K.Ord.cmp c.args.keys.now (c.are_sorted.ensures c.if-are_sorted.true), λ _. refl)
 
@@ -25,7 +25,7 @@ pub loop-key-init : goal.loop-key-init
 unfolding IsDistinct
 loop-key-init g c = record { seen = λ q. ap (list_any (eq_by_cmp g.K.Ord.cmp q)) c.new-seen.ensures.empty; apart = tt }
 
--- if a value was seen before, the values are not distinct
+-- if a value was seen before, are_distinct returns false, and the values are not distinct
 pub returns-then-not-branch : goal.returns-then-not-branch
 returns-then-not-branch g c = (
   λ e. absurd (false≢true e),

@@ -1,7 +1,7 @@
 use Rattle.std.proofs.Common.{rules}
 use Rattle.atl_state.proofs.rules.known.is_placed.Goals as goal
 
--- if a unit's faction and region exist, is_placed returns whether its goods and its structure, unless 0, do
+-- if a unit's faction and region exist, is_placed returns whether the unit's items, skills and structure, unless 0, do
 pub returns-then-is_somewhere : goal.returns-then-is_somewhere
 returns-then-is_somewhere c = (
   λ r.

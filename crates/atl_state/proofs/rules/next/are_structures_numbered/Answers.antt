@@ -3,7 +3,8 @@ use Rattle.std.proofs.lemmas.Bool.{false≢true}
 use Rattle.atl_campaign.proofs.RuleLaws.{numbered, each_numbered}
 use Rattle.atl_state.proofs.rules.next.are_structures_numbered.Goals as goal
 
--- if the structures' numbers are from 1 to below the next one, there is no gap exactly if the next is their count + 1
+-- if the structures' numbers are from 1 to below the next one, are_structures_numbered returns whether there is no gap:
+-- whether the next one is their count + 1
 pub returns-then-are_between : goal.returns-then-are_between
 returns-then-are_between c =
     let what = c.args.campaign.now.value in
@@ -11,7 +12,7 @@ returns-then-are_between c =
     let behind = rw (c.structure_count.ensures, c.next_structure-next.ensures) at c.is_next_above.ensures in
     (λ r. numbered what.structures what.next_structure (within.0 (search rules)) (behind.0 r), λ is. behind.1 is.count)
 
--- if a number of the structures is 0, or not below the next number, the structures aren't numbered without a gap
+-- if a number of the structures is 0, or not below the next number, are_structures_numbered returns false
 pub returns-else-are_between : goal.returns-else-are_between
 returns-else-are_between c =
     let what = c.args.campaign.now.value in

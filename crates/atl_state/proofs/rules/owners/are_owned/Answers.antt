@@ -31,13 +31,13 @@ have_owners c all n s is = record { owned = (all n s is).owned }
 are_with_owners : (c : CampaignValue) → AreOwned c → AreWithOwners c
 are_with_owners c all m u there s is none = (all u.structure s is).ownerless none m u there (λ i. u.structure)
 
--- if each owner is nobody or a unit inside, rule 8 is kept exactly if no unit is inside an ownerless structure
+-- if each owner is nobody or a unit inside, are_owned returns whether no unit is inside an ownerless structure
 pub returns-then-are_owners_inside : goal.returns-then-are_owners_inside
 returns-then-are_owners_inside c =
     let what = c.args.campaign.now.value in
     (λ r. together what (c.are_owners_inside.ensures.0 (search rules)) (c.are_with_owners.ensures.0 r), λ all. c.are_with_owners.ensures.1 (are_with_owners what all))
 
--- if an owner is neither nobody nor a unit inside, rule 8 is broken
+-- if an owner is neither nobody nor a unit inside, are_owned returns false
 pub returns-else-are_owners_inside : goal.returns-else-are_owners_inside
 returns-else-are_owners_inside c =
     let fails : c.are_owners_inside.result ≡ false = search rules in
