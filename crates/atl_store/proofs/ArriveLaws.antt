@@ -1,4 +1,4 @@
--- Laws from single statements to the tables: a row put into a numbered table, and an amount of the books written.
+-- Laws on what single statements make of a table: a row put under its number, and an amount of the books written.
 use Rattle.std.proofs.Common.{◌≡◌, ◌≢◌, ◌⊎◌, ◌+◌, ℕ, ℤ, pos, false, cond, List, [], ◌∷◌, take, Some, None, Less, Equal, Greater, refl, sym, ap, ◌∙◌, subst, inl, inr, arith}
 use Rattle.std.specs.Prelude.{◌↔◌}
 use Rattle.std.specs.Ordering.{nat_cmp, is_eq, int_eq}
@@ -31,7 +31,7 @@ use Rattle.atl_sql.specs.Inside.{Puts, Drops}
 
 -- ---- one entry more in a map
 
--- two numbers that are not equal are not equal by the order of numbers
+-- if two numbers aren't equal, comparing them (`nat_cmp`) doesn't give Equal
 other : (k n : ℕ) → k ≢ n → is_eq (nat_cmp k n) ≡ false
 other k n apart = elim (nat_cmp k n) as (λ o. nat_cmp k n ≡ o → is_eq o ≡ false) [
   | Less ↦ λ _. refl
@@ -76,7 +76,7 @@ put_rows line numbered rows news m n v was made r = (
   ]),
 )
 
--- inserting a new unit without items and skills leaves the rows of the table `has`
+-- the rows of `has` for some units are also those for these units and a new one without items and skills
 pub no_goods : (rows : List Row) (units : FinMap nat_cmp Unit) (n : ℕ) (u : Unit) → get units n ≡ None → ((sort : ThingKind) → things_of sort u.holding ≡ empty) → Is rows (HasRowsOf units) → Is rows (HasRowsOf (insert units n u))
 no_goods rows units n u fresh bare was r = (
   λ there.
@@ -95,11 +95,11 @@ no_goods rows units n u fresh bare was r = (
 -- ---- one amount of the books
 
 module _ (c : CampaignValue) (e : Entry) (t : Thing) where
-  -- the row of `books` of this entry and thing
+  -- the row of `books` with the campaign's amount of this entry and thing
   abbrev row : Row
   row = books_row (entry_index e + 1) (thing_index t) (amount_in c.books e t)
 
-  -- writing the campaign's amount turns the rows of books `A` into those of `B`, if `B` has it and is else as `A`
+  -- writing the campaign's amount turns the rows of books `A` into those of `B`, if `B` is `A` with this amount in it
   pub settled_rows : (A B : BooksValue) (S : Set) → amount_in B e t ≡ amount_in c.books e t
       → ((f : Entry) (u : Thing) → (entry_index f ≢ entry_index e) ⊎ (thing_index u ≢ thing_index t) → amount_in B f u ≡ amount_in A f u)
       → ((r : Row) → S r ↔ BooksRowsOf A r) → (r : Row) → settled c e t S r ↔ BooksRowsOf B r
@@ -132,7 +132,7 @@ module _ (c : CampaignValue) (e : Entry) (t : Thing) where
         | inr entries ↦ inl entries
       ]
 
-      -- the row of any other amount of `B` was in `S`, and has another key than the written amount
+      -- the row in `B` of an amount of another entry or thing was in `S`, and has another key than the written amount
       kept_row : (f : Entry) (u : Thing) → amount_in B f u ≢ pos 0 → r ≡ books_row (entry_index f + 1) (thing_index u) (amount_in B f u) → (entry_index f ≢ entry_index e) ⊎ (thing_index u ≢ thing_index t)
           → S r × (take 2 r ≢ books_key (entry_index e + 1) (thing_index t))
       kept_row f u some is far = (
