@@ -102,7 +102,7 @@ have_some w c good n u is Item thing amount there = let range = (good.sound.stea
 have_some w c good n u is Skill thing amount there = let range = good.sound.steady.days n u is thing amount there in λ none. omega (arith, range.0, none)
 
 module _ (rows : List Row) (m k : FinMap nat_cmp Unit) (a : Is rows (HasRowsOf m)) (b : Is rows (HasRowsOf k)) where
-  -- each item or skill of unit `n` in `m` has the same amount in `k`, if one table `has` has exactly the rows of each map
+  -- each item or skill of unit `n` in `m` has the same amount in `k`, if one table `has` has the rows of each map
   things_there : HaveSome m → (n : ℕ) (u v : Unit) → get m n ≡ Some u → get k n ≡ Some v → (sort : ThingKind) → Every (λ thing amount. get (things_of sort v.holding) thing ≡ Some amount) (things_of sort u.holding)
   things_there some n u v is there sort thing amount has =
       let row = has_row n (sort_number sort) thing amount in

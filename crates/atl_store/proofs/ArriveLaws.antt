@@ -125,7 +125,7 @@ module _ (c : CampaignValue) (e : Entry) (t : Thing) where
     ],
   )
     where
-      -- two amounts with different keys differ in the entry or in the thing
+      -- two amounts of the books with different keys differ in their entry or in their thing
       apart : (f : Entry) (u : Thing) → ◌≢◌ {A = Row} (books_key (entry_index f + 1) (thing_index u)) (books_key (entry_index e + 1) (thing_index t)) → (entry_index f ≢ entry_index e) ⊎ (thing_index u ≢ thing_index t)
       apart f u differs = elim (cases_eq (entry_index f) (entry_index e)) [
         | inl entries ↦ inr (λ things. differs (ap (λ k. books_key (k + 1) (thing_index u)) entries ∙ ap (books_key (entry_index e + 1)) things))
@@ -144,11 +144,11 @@ module _ (c : CampaignValue) (e : Entry) (t : Thing) where
 
 -- the statements that write an amount of the books (`OfAmount`)
 module _ (c : CampaignValue) (e : Entry) (t : Thing) (n k : ℕ) (entry : n ≡ entry_index e + 1) (thing : k ≡ thing_index t) where
-  -- the upsert of the row of an amount other than 0 is the statement that writes the amount (`OfAmount`)
+  -- the upsert of the row of a booked amount other than 0 is the statement that writes the amount (`OfAmount`)
   pub amount_put : (z : ℤ) → z ≡ amount_in c.books e t → z ≢ pos 0 → OfAmount c e t (upsert books_table 2) (books_row n k z)
   amount_put z amount some = rw (entry, thing, amount) (puts_amount (λ zero. some (amount ∙ zero)))
 
-  -- the DELETE of the row of an amount that is 0 is the statement that writes the amount (`OfAmount`)
+  -- the DELETE of the row of a booked amount that is 0 is the statement that writes the amount (`OfAmount`)
   pub amount_taken : amount_in c.books e t ≡ pos 0 → OfAmount c e t (deletion books_table 2) (books_key n k)
   amount_taken zero = rw (entry, thing) (drops_amount zero)
 
@@ -165,7 +165,7 @@ amount_changes c e t sql params (drops_amount zero) = drops_row Books (
 
 -- an amount is written: its row is put, or deleted if the amount is 0
 module _ (c : CampaignValue) (e : Entry) (t : Thing) (n k : ℕ) (entry : n ≡ entry_index e + 1) (thing : k ≡ thing_index t) (old new : Database) where
-  -- putting the row of an amount that is not 0 writes the amount (`WritesAmount`)
+  -- putting the row of an amount of the books that is not 0 writes the amount (`WritesAmount`)
   pub settles_by_put : (z : ℤ) → z ≡ amount_in c.books e t → z ≢ pos 0 → Puts books_table 2 (books_row n k z) old new → WritesAmount c e t old new
   settles_by_put z amount some did =
       let lines : amount_lines c e t ≡ books_row n k z ∷ [] = amount_is c e t n k z entry thing amount some in
@@ -178,7 +178,7 @@ module _ (c : CampaignValue) (e : Entry) (t : Thing) (n k : ℕ) (entry : n ≡ 
         others = did.others;
       }
 
-  -- deleting the row of an amount that is 0 writes the amount (`WritesAmount`)
+  -- deleting the row of an amount of the books that is 0 writes the amount (`WritesAmount`)
   pub settles_by_drop : amount_in c.books e t ≡ pos 0 → Drops books_table 2 (books_key n k) old new → WritesAmount c e t old new
   settles_by_drop none did =
       let keys : books_key n k ≡ books_key (entry_index e + 1) (thing_index t) = rw (entry, thing) refl in

@@ -13,7 +13,7 @@ use Rattle.atl_records.specs.Every.{IsThere}
 use Rattle.atl_campaign.specs.Good.{HasNoStocks, IsGood}
 use Rattle.atl_records.specs.declared.records.Region.{Region}
 
--- a region of a campaign with nothing in stock has no stock entry
+-- a region of a campaign with nothing in stock has no stock of any item
 nothing_in_stock : (c : CampaignValue) → HasNoStocks c → (n : ℕ) (r : Region) → get c.regions n ≡ Some r → (i amount : ℕ) → ¬ (get r.stocks i ≡ Some amount)
 nothing_in_stock c bare n r is i amount there = let e = sym (get-empty {X = ℕ} nat_cmp i) ∙ ap (λ (m : FinMap nat_cmp ℕ). get m i) (sym (bare n r is)) ∙ there in absurd cc
 
@@ -24,7 +24,7 @@ module _ (v : WorldValue) (regions : FinMap nat_cmp RegionPlan) (c : CampaignVal
   abbrev w : WorldValue
   w = record v { regions = regions }
 
-  -- a campaign with nothing in stock that is good in `v` is good in `w`, if in both the same numbers are regions, and land
+  -- with nothing in stock, a campaign good in `v` is good in `w`, if both have regions and land under the same numbers
   good_with : ((n : ℕ) → is_land_at w n ≡ is_land_at v n) → ((n : ℕ) → IsThere v.regions n → IsThere regions n) → ((n : ℕ) → IsThere regions n → IsThere v.regions n) → IsGood v c → IsGood w c
   good_with land ahead back good =
       let steady = good.sound.steady in

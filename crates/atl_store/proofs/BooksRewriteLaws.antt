@@ -58,7 +58,7 @@ module _ (marks : FinSet nat_cmp) where
   abbrev marked : ℕ → ℕ → Bool
   marked e t = contains marks (entry_count * t + e)
 
-  -- a row is of a marked amount of an entry in `e ∷ es` exactly if it is of a marked amount of `e`, or of an entry in `es`
+  -- a row of a marked amount has an entry in `e ∷ es` exactly if its entry is `e` or is in `es`
   pub next_entry : (e : ℕ) (es : List ℕ) (things : ℕ → Bool) (r : Row)
       → of_amounts marks (is_among (e ∷ es)) things r ≡ (of_amounts marks (is_number e) things r || of_amounts marks (is_among es) things r)
   next_entry e es things r =
@@ -66,7 +66,7 @@ module _ (marks : FinSet nat_cmp) where
       let rest : ℕ → ℕ → Bool = λ k t. is_among es k && (things t && marked k t) in
       accounts_same (λ k t. is_among (e ∷ es) k && (things t && marked k t)) (λ k t. one k t || rest k t) (λ k t. and-or_distrib_right (is_number e k) (is_among es k) (things t && marked k t)) r ∙ accounts_either one rest r
 
-  -- a row is of a marked amount of a thing in `t ∷ ts` exactly if it is of a marked amount of `t`, or of a thing in `ts`
+  -- a row of a marked amount has a thing in `t ∷ ts` exactly if its thing is `t` or is in `ts`
   pub next_thing : (entries : ℕ → Bool) (t : ℕ) (ts : List ℕ) (r : Row)
       → of_amounts marks entries (is_among (t ∷ ts)) r ≡ (of_amounts marks entries (is_number t) r || of_amounts marks entries (is_among ts) r)
   next_thing entries t ts r =
@@ -104,7 +104,7 @@ module _ (marks : FinSet nat_cmp) where
   beyond from (suc count) i past =
       ap (λ b. b || is_among (range_with_len (from + 1) count) i) (false_from_ne_true (eq_by_cmp nat_cmp i from) (λ is. absurd (omega (arith, past, tied i from is)))) ∙ beyond (from + 1) count i (omega (arith, past))
 
-  -- a number is among the first `count` exactly if it is below `count`
+  -- a number is among the first `count` numbers exactly if it is below `count`
   among_first : (count e : ℕ) → is_among (range_with_len 0 count) e ≡ nat_le (suc e) count
   among_first count e = elim (cases_lt e count) [
     | inl less ↦ in_range 0 count e (omega arith) (omega (arith, less)) ∙ sym (counted less)
@@ -123,7 +123,7 @@ module _ (marks : FinSet nat_cmp) where
   each_entry : (e : ℕ) → is_among (map entry_index all_entries) e ≡ nat_le (suc e) entry_count
   each_entry e = among_first entry_count e
 
-  -- if all marks are of the first `things` things, the test for marked amounts of these finds each marked row of `books`
+  -- if all marks are of the first `things` things, the test for their marked amounts finds the marked rows of `books`
   pub all_amounts : (things : ℕ) → AreOfThings things marks → (r : Row)
       → of_amounts marks (is_among (map entry_index all_entries)) (is_among (range_with_len 0 things)) r ≡ amount_marked marks r
   all_amounts things few r = accounts_same (λ e t. is_among (map entry_index all_entries) e && (is_among (range_with_len 0 things) t && marked e t)) (is_marked_amount marks) same r

@@ -37,7 +37,7 @@ use Rattle.atl_store.proofs.WholeLaws.{inside_then, inside_weaker}
 
 -- ---- one booking changes one amount
 
--- booking one amount leaves the amounts of other entries and things
+-- booking an amount leaves the amount of each other entry or thing as it is
 beside_booked : (books : BooksValue) (e : Entry) (t : Thing) (n : ℤ) (f : Entry) (u : Thing) → (entry_index f ≢ entry_index e) ⊎ (thing_index u ≢ thing_index t) → amount_in (after_booking books e t n) f u ≡ amount_in books f u
 beside_booked books e t n f u far = other_amount books e t (amount_in books e t +ℤ n) f u (elim far [ inl entries ↦ apart_entries (f, u) (e, t) entries | inr things ↦ apart_things (f, u) (e, t) things ])
 
@@ -119,7 +119,7 @@ put_campaign_row rows news text before after was made r = (
 abbrev PutsNewcomer : ℕ → Faction → ℕ → Unit → CampaignValue → List ℕ → Database → Database → Type 0
 PutsNewcomer n f m u after world = Both (PutsCampaignRow (campaign_row_of after) world) (Both (Puts faction_table 1 (faction_line n f)) (Puts unit_table 1 (unit_line m u)))
 
--- The report's row is put, and the two amounts of the books are written.
+-- The report's row is put, and the two amounts under joining, of money and people, are written into `books`.
 abbrev PutsReportAndAmounts : ℕ → List ℕ → CampaignValue → Database → Database → Type 0
 PutsReportAndAmounts n report after = Both (Puts report_table 1 (report_row n report)) (Both (WritesAmount after Joining Money) (WritesAmount after Joining People))
 
@@ -135,7 +135,7 @@ settled_on c e t rows news S was is r = (
 )
 
 module _ (n : ℕ) (f : Faction) (m : ℕ) (u : Unit) (report : List ℕ) (after : CampaignValue) (found : IsFound after n f m u report) where
-  -- `put_newcomer` (`PutsNewcomer`) and then `put_report_and_amounts` (`PutsReportAndAmounts`) are together the write of a join (`WritesJoin`)
+  -- `PutsNewcomer` and then `PutsReportAndAmounts` are together the write of a join (`WritesJoin`)
   joins : (world : List ℕ) (a b d : Database) → PutsNewcomer n f m u after world a b → PutsReportAndAmounts n report after b d → WritesJoin n after a d
   joins world a b d enrolls reports before text was =
       let x = enrolls.0 in

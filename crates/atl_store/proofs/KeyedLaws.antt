@@ -35,36 +35,36 @@ use Rattle.atl_store.proofs.LoadLaws.{keyed_by, keyed_shown}
 -- ---- rows by a number that each of them has in a column
 
 module _ {A : Type 0} (shown : A → Row) (number : A → ℤ) (at : ℕ) (is : (a : A) → column (shown a) at ≡ Int (number a)) where
-  -- equality of the columns that show the numbers is equality of the numbers
+  -- the rows shown for `a` and `b` are equal in the column `at` exactly if the numbers of `a` and `b` are equal
   same_test : (a b : A) → is_eq (value_cmp (column (shown a) at) (column (shown b) at)) ≡ int_eq (number a) (number b)
   same_test a b = ap (λ v. is_eq (value_cmp v (column (shown b) at))) (is a) ∙ ap (λ v. is_eq (value_cmp (Int (number a)) v)) (is b) ∙ ap is_eq (value_cmp-Int (number a) (number b))
 
-  -- a number that differs from all others is shown by a different value from each of theirs
+  -- if the number of `a` differs from those of all of `xs`, its row differs from theirs in the column `at`
   each_apart : (a : A) (xs : List A) → AllByRecursion (λ n. int_eq (number a) n ≡ false) (map number xs) → AllByRecursion (λ r. is_eq (value_cmp (column (shown a) at) (column r at)) ≡ false) (map shown xs)
   each_apart a [] all = tt
   each_apart a (x ∷ xs) all = (same_test a x ∙ all.0, each_apart a xs all.1)
 
-  -- different numbers are shown by different values of the column
+  -- if the numbers of `xs` all differ, their rows all differ in the column `at`
   columns_apart : (xs : List A) → IsDistinct int_eq (map number xs) → IsDistinct (λ a b. is_eq (value_cmp (column a at) (column b at))) (map shown xs)
   unfolding IsDistinct
   columns_apart [] apart = tt
   columns_apart (x ∷ xs) apart = (each_apart x xs apart.0, columns_apart xs apart.1)
 
-  -- the numbers are shown as integers
+  -- the rows of `xs` have integers in the column `at`
   are_ints : (xs : List A) → AllByRecursion (λ r. is_int (column r at) ≡ true) (map shown xs)
   are_ints [] = tt
   are_ints (x ∷ xs) = (ap is_int (is x), are_ints xs)
 
-  -- different numbers are shown as different integers (`HaveKeys`)
+  -- if the numbers of `xs` all differ, their rows have different integers in the column `at` (`HaveKeys`)
   numbers_keys : (xs : List A) → IsDistinct int_eq (map number xs) → HaveKeys at (map shown xs)
   numbers_keys xs apart = record { apart = columns_apart xs apart; ints = are_ints xs }
 
-  -- a number shown differently from others differs from each
+  -- if the row of `a` differs from those of all of `xs` in the column `at`, its number differs from theirs
   each_number_apart : (a : A) (xs : List A) → AllByRecursion (λ r. is_eq (value_cmp (column (shown a) at) (column r at)) ≡ false) (map shown xs) → AllByRecursion (λ n. int_eq (number a) n ≡ false) (map number xs)
   each_number_apart a [] all = tt
   each_number_apart a (x ∷ xs) all = (sym (same_test a x) ∙ all.0, each_number_apart a xs all.1)
 
-  -- numbers that are shown differently differ
+  -- if the rows of `xs` all differ in the column `at`, their numbers all differ
   numbers_apart : (xs : List A) → IsDistinct (λ a b. is_eq (value_cmp (column a at) (column b at))) (map shown xs) → IsDistinct int_eq (map number xs)
   unfolding IsDistinct
   numbers_apart [] apart = tt
@@ -72,7 +72,7 @@ module _ {A : Type 0} (shown : A → Row) (number : A → ℤ) (at : ℕ) (is : 
 
 -- ---- rows of the entries of a map, with the numbers in the first column
 
--- two different numbers differ by the equality of integers
+-- two different numbers fail the test for equal integers (`int_eq`)
 differ : (m n : ℕ) → m ≢ n → int_eq (pos m) (pos n) ≡ false
 differ m n apart = elim (cases_Bool (int_eq (pos m) (pos n))) [ inl same ↦ absurd (apart (grind (ints, arith))) | inr differs ↦ differs ]
 
@@ -98,7 +98,7 @@ one_keys row n is = record { apart = (tt, tt); ints = (ap is_int is, tt) }
 
 -- ---- the rows of a part, as its listing shows them
 
--- mapping by two functions is mapping by their composition
+-- mapping by `f` and then by `g` is mapping by `h`, if `h` does what `f` and then `g` do
 pub mapped_twice : {X Y Z : Type 0} (f : X → Y) (g : Y → Z) (h : X → Z) → ((x : X) → g (f x) ≡ h x) → (xs : List X) → map g (map f xs) ≡ map h xs
 mapped_twice f g h same [] = refl
 mapped_twice f g h same (x ∷ xs) = ap (λ y. y ∷ map g (map f xs)) (same x) ∙ ap (λ ys. h x ∷ ys) (mapped_twice f g h same xs)
@@ -107,7 +107,7 @@ mapped_twice f g h same (x ∷ xs) = ap (λ y. y ∷ map g (map f xs)) (same x) 
 abbrev placed_row : Part → Row → Row
 placed_row part r = visible (table_of part) r ++ rowid r ∷ []
 
--- a row that is shown with its rowid is, without the rowid, the visible row
+-- a row that is shown with its rowid is, without the rowid, the row as its table shows it (`visible`)
 cut_row : (part : Part) (r : Row) → take (width part) (placed_row part r) ≡ visible (table_of part) r
 cut_row Own r = refl
 cut_row part r = refl

@@ -28,7 +28,7 @@ use Rattle.atl_sql.proofs.RowsLaws.{asked_rows}
 use Rattle.atl_sql.proofs.SelectLaws.{reads_part}
 use Rattle.atl_sql.proofs.SelectingLaws.{never_other}
 
--- a list whose image is one element has one element
+-- a list that mapping by `f` turns into a list of one element has one element
 pub one_mapped : {A B : Type 0} (f : A → B) (xs : List A) (y : B) → map f xs ≡ y ∷ [] → (x : A) × (xs ≡ x ∷ []) × (f x ≡ y)
 one_mapped f [] y is = absurd (let k = is in cc)
 one_mapped f (x ∷ []) y is = (x, refl, let k = is in cc)

@@ -277,7 +277,7 @@ module _ (f : Format) (db : Trees) (text : List ℕ) (p : Parts) (c : CampaignVa
         | inr is ↦ let keys = (by_part part.0 part.1).1 is in numbers_keyed part.0 db keys.0 is keys.1 keys.2
       ])
 
--- in the second format, holding a campaign's rows in each part is holding the campaign
+-- tables that hold a campaign in the second format (`HoldsIn`) hold it (`Holds`)
 pub holds_all : (db : Trees) (text : List ℕ) (c : CampaignValue) → HoldsIn Second db text c → Holds db text c
 holds_all db text c holds = record { rows = λ part. holds.rows part (every_part part) }
 

@@ -26,7 +26,7 @@ pub record Stores (db : Trees) (text : List ℕ) (c : CampaignValue) : Type 0 wh
   pub schema : Schema
   -- the schema has all tables of a campaign
   pub begins : HasAll schema
-  -- the trees list the schema and obey it, and the rowids in the ten tables are integers, no two alike
+  -- the trees list the schema and obey it, and in each of the ten tables the rowids are integers, no two alike
   pub sound : IsSoundDatabase schema db
   -- the tables hold exactly the rows of the text and the campaign
   pub rows : Holds db text c

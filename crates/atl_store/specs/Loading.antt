@@ -75,12 +75,12 @@ rows_read text p Reports = map report_stored p.reports
 rows_read text p Books = map books_values p.books
 rows_read text p Markets = map market_values p.markets
 
--- The tables of a format have exactly these rows, each as often as it is here.
--- There is no row here of a part that the format doesn't have.
+-- The tables of a format have exactly the rows in `p`, each as often as `p` has it.
+-- In `p` there is no row of a part that the format doesn't have.
 pub record HaveRows (f : Format) (db : Trees) (text : List ℕ) (p : Parts) : Type 0 where
-  -- the table of each part of the format has exactly the rows of this part
+  -- the table of each part of the format has exactly the part's rows in `p`
   pub rows : (part : Part) → Has (parts_in f) part → IsPermutation (rows_in (table_of part) db) (rows_read text p part)
-  -- there is no row here of a part that the format lacks
+  -- `p` has no row of a part that the format lacks
   pub none : (part : Part) → ¬ Has (parts_in f) part → rows_read text p part ≡ []
 
 -- ---- the first rule
@@ -127,7 +127,7 @@ forms_of Markets = market_forms
 abbrev pub other_parts : Format → List Part
 other_parts f = drop 1 (parts_in f)
 
--- the SELECTs of the other parts, each with the forms of its columns
+-- the SELECTs of all parts of a format but the campaign row, each with the forms of its columns
 abbrev pub other_selects : Format → List (List ℕ × List Form)
 other_selects f = map (λ part. ((listing_of part).select, forms_of part)) (other_parts f)
 
@@ -186,7 +186,7 @@ module _ {S : Type 0} (g : Ghosts S) (old : Held S) where
       pub select : List ℕ × List Form
       -- the SELECT is one of the list
       pub one : Has selects select
-      -- the rows that the SELECT of `campaign` shows
+      -- the rows that this SELECT shows
       pub rows : List Row
       -- the SELECT shows `rows`
       pub told : SelectShows select.0 rows

@@ -35,13 +35,13 @@ pub(crate) trait Grouped: NumberedRow {
     // The part's key is the number and `more` columns.
     ghost is_key: { key_of part ≡ suc more };
 
-    // The rows of a thing with a number, as a list.
+    // The rows that a unit or region of this number has in the table, as a list.
     ghost lines: { ℕ → Self → List SqlRow };
 
     // The set of rows that the table has to have for a campaign.
     ghost wanted: { CampaignValue → SqlRow → Type 0 };
 
-    // The numbers whose rows are marked.
+    // The numbers of the units, or regions, whose rows of the table are all marked.
     ghost marks: { Marks → FinSet nat_cmp };
 
     // Each wanted row is a row of the part.
