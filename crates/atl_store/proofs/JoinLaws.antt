@@ -45,17 +45,17 @@ beside_booked books e t n f u far = other_amount books e t (amount_in books e t 
 
 -- The campaign after a join: that before it with this faction, unit and report, and with money and people booked.
 record IsArrival (n : ℕ) (f : Faction) (m : ℕ) (u : Unit) (report : List ℕ) (before after : CampaignValue) : Type 0 where
-  -- the faction is added
+  -- the join adds the faction `f` under the number `n`
   factions : after.factions ≡ insert before.factions n f
-  -- the unit is added
+  -- the join adds the unit `u` under the number `m`
   units : after.units ≡ insert before.units m u
-  -- the faction's report is stored
+  -- the faction's report is stored under the number `n`
   reports : after.reports ≡ insert before.reports n report
-  -- no unit had the new unit's number
+  -- before the join no unit had the new unit's number
   fresh : get before.units m ≡ None
   -- the new unit has no items and no skills
   bare : (sort : ThingKind) → things_of sort u.holding ≡ empty
-  -- the books after the first of the two amounts is booked
+  -- the books once the money is booked under joining, and not yet the people
   half : BooksValue
   -- the money under joining is in `half` what it is afterwards
   money : amount_in half Joining Money ≡ amount_in after.books Joining Money

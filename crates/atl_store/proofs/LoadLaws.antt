@@ -1,4 +1,4 @@
--- Laws on rowids that a SELECT shows: they are different integers exactly if those of the tree are.
+-- Laws on rowids that a SELECT shows: they are integers, no two alike, exactly if those of the table's tree are.
 use Rattle.std.proofs.Common.{◌≡◌, ℕ, false, List, [], ◌∷◌, map, Ordering, Less, Equal, Greater, refl, sym, ap, ◌∙◌}
 use Rattle.std.specs.List.{AllByRecursion, IsDistinct}
 use Rattle.std.specs.List.Sorted.{IsPermutation}

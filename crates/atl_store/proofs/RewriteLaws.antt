@@ -39,7 +39,7 @@ chosen_step false false W M N same = same
 pub record Remaining (table : Table) (Wanted : Set) (rest all : Row → Bool) (old now : Database) : Type 0 where
   -- once the rows that `rest` chooses are the wanted ones, all that `all` chooses are
   pub rows : (r : Row) → Chosen (rest r) (Wanted r) (Has (rows_in table now.trees) r) ↔ Chosen (all r) (Wanted r) (Has (rows_in table old.trees) r)
-  -- the other tables are unchanged
+  -- every table but `table` is unchanged
   pub others : (t : Table) → Has all_tables t → t.tree ≢ table.tree → now.trees t.tree ≡ old.trees t.tree
 
 module _ (table : Table) (Wanted : Set) where

@@ -1,4 +1,4 @@
--- Laws on changes to the tables of a campaign's parts: changes to some leave the others.
+-- Laws on changes to the tables of a campaign's parts: a change of some tables leaves the others as they are.
 use Rattle.std.proofs.Common.{◌≡◌, ◌&&◌, ◌++◌, Bool, true, List, [], ◌∷◌, map, refl, sym, ap, ◌∙◌, subst, inl, inr}
 use Rattle.std.proofs.lemmas.Bool.{and_parts}
 use Rattle.sqlite.specs.Effect.{Database}

@@ -1,4 +1,4 @@
--- Laws on a transaction as a whole: steps one after the other inside it, its commit, and how it is left off.
+-- Laws on a transaction as a whole: steps one after the other inside it, its commit, and what it leaves if it fails.
 use Rattle.std.proofs.Common.{◌≡◌, [], false, true, true≢false, IsTrue, Result, Ok, Err, OnOk, OnErr, IfErr, sym, ap, subst, ◌∙◌, inl, inr, arith}
 use Rattle.std.specs.Borrow.{MutBor}
 use Rattle.sqlite.specs.declared.error.Error.{Error}
