@@ -201,7 +201,7 @@ module _ {S : Type 0} (g : Ghosts S) where
       other = found.other;
     }
 
-  -- a SELECT that is refused in a later stage is refused in the reads from the start (`RefusesOne`)
+  -- a SELECT that is refused after the reads up to `mid` is refused in all the reads from `old` on (`RefusesOne`)
   refuses_then : (old mid : Held S) → AfterReads g old mid → (selects : List (List ℕ × List Form)) (fault : ReadFault) → RefusesOne g mid selects fault → RefusesOne g old selects fault
   refuses_then old mid first selects fault refused = record {
     select = refused.select;
@@ -211,7 +211,7 @@ module _ {S : Type 0} (g : Ghosts S) where
     refused = refused.refused;
   }
 
-  -- a SELECT that is answered in a later stage is answered in the reads from the start (`AnswersOne`)
+  -- a SELECT that is answered after the reads up to `mid` is answered in all the reads from `old` on (`AnswersOne`)
   answers_then : (old mid : Held S) → AfterReads g old mid → (selects : List (List ℕ × List Form)) → AnswersOne g mid selects → AnswersOne g old selects
   answers_then old mid first selects answers = record {
     select = answers.select;
@@ -222,7 +222,7 @@ module _ {S : Type 0} (g : Ghosts S) where
     answered = answers.answered;
   }
 
-  -- a fault of a later stage is a fault of the reads from the start (`FailsToRead`)
+  -- a fault of the reads after those up to `mid` is a fault of all the reads from `old` on (`FailsToRead`)
   pub fails_then : (old mid : Held S) → AfterReads g old mid → (selects : List (List ℕ × List Form)) (fault : LoadFault) → FailsToRead g mid selects fault → FailsToRead g old selects fault
   fails_then old mid first selects Store (inl refused) = inl (refuses_then old mid first selects read.Store refused)
   fails_then old mid first selects Store (inr refused) = inr (refuses_then old mid first selects read.Refused refused)
@@ -266,7 +266,7 @@ module _ {S : Type 0} (g : Ghosts S) where
   found_both xs ys P Q old None (Some b) p q = other_within old xs (xs ++ ys) (has_left xs ys) (each_of_both (λ s. (rows : List Row) × SelectShows g old s.0 rows) xs ys p.all (told_of old ys q.0)) p
   found_both xs ys P Q old None None p q = other_within old xs (xs ++ ys) (has_left xs ys) (each_of_both (λ s. (rows : List Row) × SelectShows g old s.0 rows) xs ys p.all q.all) p
 
-  -- what a later stage of the reads found was in the tables before the first stage
+  -- what the reads after those up to `mid` found was also in the tables of `old` (`Found`), if `P` implies `Q`
   found_before : {A : Type 0} (old mid new : Held S) → AfterReads g old mid → (selects : List (List ℕ × List Form)) (P Q : A → Type 0) (r : Result (Option A) LoadFault) → ReadsSome g mid selects P r new → (o : Option A) → r ≡ Ok o
       → ((state g mid).now ≡ (state g old).now → (a : A) → P a → Q a) → HasCleanDisk (state g new) → Found g old selects Q o
   found_before old mid new before selects P Q r reads o was weaker clean =
@@ -397,7 +397,7 @@ module _ {S : Type 0} (g : Ghosts S) where
       → ReadsSome g old (selects_by is some others) (λ a. AreOfFormat is (state g old).now (rows a)) r new → ReadsSome g old (selects_by f some others) (λ a. AreOfFormat f (state g old).now (rows a)) r new
   reads_by some others rows old new r f is same reads = subst (λ f. ReadsSome g old (selects_by f some others) (λ a. AreOfFormat f (state g old).now (rows a)) r new) (sym same) reads
 
-  -- the rows of a format that a later stage of the reads found were in the tables before the first stage
+  -- rows of a format that the reads after those up to `mid` found were also in the tables of `old` (`AreOfFormat`)
   pub format_before : {A : Type 0} (f : Format) (rows : A → ReadRows) (old mid new : Held S) → AfterReads g old mid → (selects : List (List ℕ × List Form)) (r : Result (Option A) LoadFault) → ReadsSome g mid selects (λ a. AreOfFormat f (state g mid).now (rows a)) r new → (o : Option A) → r ≡ Ok o
       → HasCleanDisk (state g new) → Found g old selects (λ a. AreOfFormat f (state g old).now (rows a)) o
   format_before f rows old mid new before selects r reads o was clean =

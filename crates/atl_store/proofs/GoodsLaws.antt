@@ -144,7 +144,7 @@ under_unit : (sort : ThingKind) (u : Unit) → things_under sort (Some u) ≡ th
 under_unit Item u = refl
 under_unit Skill u = refl
 
--- the amount of each thing is 0 where there is no unit
+-- where there is no unit, the amount of each item and of each skill is 0
 under_none : (sort : ThingKind) (thing : ℕ) → amount_of (things_under sort None) thing ≡ 0
 under_none Item thing = ap (λ (o : Option ℕ). unwrap_or o 0) (get-empty {X = ℕ} nat_cmp thing)
 under_none Skill thing = ap (λ (o : Option ℕ). unwrap_or o 0) (get-empty {X = ℕ} nat_cmp thing)

@@ -196,11 +196,11 @@ module _ (f : Format) {S : Type 0} (g : Ghosts S) where
 
   -- ---- what else refuses the load after the first rule holds
 
-  -- a fault of reading another table refuses the load
+  -- a fault of reading the tables but `campaign` refuses the load
   pub unread_refuses : (old mid : Held S) → old.in_transaction ≡ false → KeepsOneRow f g old → AfterReads g old mid → (fault : LoadFault) → FailsToRead g mid (other_selects f) fault → RefusesToLoadIn f g old fault
   unread_refuses old mid idle kept first fault fails = refused fault (fails_then g old mid first (other_selects f) fault fails)
     where
-      -- each fault that reading the other tables may return refuses the load
+      -- each fault that reading the tables but `campaign` may return refuses the load
       refused : (fault : LoadFault) → FailsToRead g old (other_selects f) fault → RefusesToLoadIn f g old fault
       refused Store fails = inr (inr (kept, inl fails))
       refused (Damaged rule) fails = absurd fails

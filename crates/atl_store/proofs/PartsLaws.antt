@@ -292,7 +292,7 @@ one_head Second h rows id format is = rw (is, id, format) refl
 no_markets : (f : Format) (p : Parts) → ((text : List ℕ) (part : Part) → ¬ Has (parts_in f) part → rows_read text p part ≡ []) → IsTrue (are_of_format f p.markets)
 no_markets First p none = nothing p.markets (none [] Markets (not_among (parts_in First) Markets refl))
   where
-    -- stocks that show no row are none, as the first format requires
+    -- if the list of stocks shows no row it is empty, as the first format requires
     nothing : (rows : List StoredMarket) → map market_values rows ≡ [] → IsTrue (are_of_format First rows)
     nothing [] is = refl
     nothing (row ∷ rows) is = absurd (let k = is in cc)

@@ -56,7 +56,7 @@ module _ (old new : Database) (is : IsFirstFormat old) (made : Creates old_schem
     };
   }
 
-  -- adding the table `market` carries all other tables along (`Carries`)
+  -- adding the table `market` removes no table or index, and leaves what other tables hold (`Carries`)
   carries_all : Carries old new
   carries_all = record {
     tables = λ t there. subst (λ (s : Schema). Has s.tables t) (sym made.schema_is) (has_left old_schema.tables (market_table ∷ []) t (subst (λ (s : Schema). Has s.tables t) is.just there));
