@@ -98,7 +98,7 @@ module _ {S : Type 0} (g : Ghosts S) where
       let same = stays.same up in
       same.0 ∙ settled (omega (arith, leaves.survives.clean, clean)) (stays.was_open up) ∙ sym same.1
 
-  -- a connection at rest (`Rests`) has its tables as they were, if all was committed (`IsSettled`) on a clean disk
+  -- tables that are as before or as last committed (`Rests`) are as before, if all was committed (`IsSettled`)
   rests_stays : (old new : State) → IsSettled old → HasCleanDisk old → Rests old new → Stays old new
   rests_stays old new settled clean rests = record {
     was_open = rests.was_open;

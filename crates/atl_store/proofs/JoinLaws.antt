@@ -57,11 +57,11 @@ record IsArrival (n : ℕ) (f : Faction) (m : ℕ) (u : Unit) (report : List ℕ
   bare : (sort : ThingKind) → things_of sort u.holding ≡ empty
   -- the books once the money is booked under joining, and not yet the people
   half : BooksValue
-  -- the money under joining is in `half` what it is afterwards
+  -- the amount of money under joining is in `half` what it is after the join
   money : amount_in half Joining Money ≡ amount_in after.books Joining Money
-  -- every amount but the money under joining is in `half` what it was before
+  -- every amount but that of money under joining is in `half` what it was before the join
   first : (e : Entry) (t : Thing) → (entry_index e ≢ 1) ⊎ (thing_index t ≢ 0) → amount_in half e t ≡ amount_in before.books e t
-  -- every amount but the people under joining is afterwards what it is in `half`
+  -- every amount but that of people under joining is after the join what it is in `half`
   second : (e : Entry) (t : Thing) → (entry_index e ≢ 1) ⊎ (thing_index t ≢ 1) → amount_in after.books e t ≡ amount_in half e t
 
 -- what a map has under the inserted number is what was inserted

@@ -153,15 +153,15 @@ module _ (part : Part) (db : Trees) (rows : List Row) where
     same_placed : IsPermutation (map (placed_row part) (db (table_of part).tree)) rows
     same_placed = subst (λ l. IsPermutation l rows) (in_places part is db) same
 
-    -- if the rowids that are shown are different integers, so are the tree's rowids
+    -- if the rowids that are shown are different integers, so are the rowids in the table's tree
     pub places_keyed : HaveKeys (width part) rows → AreKeyedByRowid (db (table_of part).tree)
     places_keyed keys = keyed_by (placed_row part) (width part) (db (table_of part).tree) rows (row_place part) same_placed keys
 
-    -- if the tree's rowids are different integers, so are the rowids that are shown
+    -- if the rowids in the table's tree are different integers, so are the rowids that are shown
     pub keyed_places : AreKeyedByRowid (db (table_of part).tree) → HaveKeys (width part) rows
     keyed_places keyed = keyed_shown (placed_row part) (width part) (db (table_of part).tree) rows (row_place part) same_placed keyed
 
-  -- if the first column, which shows the rowid, has different integers, so have the tree's rowids
+  -- if the first column, which shows the rowids, has different integers, the rowids in the table's tree are these
   pub numbers_keyed : shows_rowids part ≡ false → IsPermutation (rows_in (table_of part) db) rows → HaveKeys 0 rows → AreKeyedByRowid (db (table_of part).tree)
   numbers_keyed is same keys = keyed_by (visible (table_of part)) 0 (db (table_of part).tree) rows (row_number part is) same keys
 

@@ -120,14 +120,14 @@ own_held f text c rows read in_table of_them = (
 -- ---- amounts that are not 0
 
 module _ {R : Type 0} (amount : R → ℤ) (row : ℕ → ℕ → R) (is : (thing count : ℕ) → amount (row thing count) ≡ pos count) where
-  -- each row made of amounts is of an entry whose amount is not 0
+  -- each row made of a list of amounts (`amount_rows`) is of an entry of the list whose amount is not 0
   amount_row_is_of_entry : (es : List (ℕ × ℕ)) (s : R) → Has (amount_rows amount row es) s → (e : ℕ × ℕ) × Has es e × (e.1 ≢ 0) × (s ≡ row e.0 e.1)
   amount_row_is_of_entry es s there =
       let kept = has_filtered (λ r. not (is_zero (amount r))) (rows_by row es) s there in
       let e = map_has (λ (e : ℕ × ℕ). row e.0 e.1) es s kept.0 in
       (e.0, e.1, λ zero. true≢false (sym kept.1 ∙ ap (λ r. not (is_zero (amount r))) e.2 ∙ ap (λ z. not (is_zero z)) (is e.0.0 e.0.1) ∙ ap (λ a. not (a == 0)) zero), e.2)
 
-  -- a row is made of each entry whose amount is not 0
+  -- each entry of a list of amounts whose amount is not 0 has its row among those made of the list (`amount_rows`)
   entry_has_amount_row : (es : List (ℕ × ℕ)) (thing count : ℕ) → Has es (thing, count) → count ≢ 0 → Has (amount_rows amount row es) (row thing count)
   entry_has_amount_row es thing count there some =
       has_kept (λ r. not (is_zero (amount r))) (rows_by row es) (row thing count) (has_map (λ (e : ℕ × ℕ). row e.0 e.1) es (thing, count) there) (ap (λ z. not (is_zero z)) (is thing count) ∙ ap not (is_not_zero count some))

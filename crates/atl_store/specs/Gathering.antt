@@ -218,7 +218,7 @@ module _ {S : Type 0} (g : Ghosts S) (old : Held S) where
 
 -- ---- the rowids
 
--- no two rows have the same rowid
+-- no two rows of a table, read with their rowids, have the same rowid
 abbrev pub AreApart : {A : Type 0} → List (RowWithId A) → Type 0
 AreApart placed = IsDistinct (eq_by_cmp int_cmp) (map (λ s. s.rowid) placed)
 
@@ -265,7 +265,7 @@ pub record Gathered (f : Format) {S : Type 0} (g : Ghosts S) (old : Held S) (w :
   pub first : KeepsRule f w p OneRow
   -- the world text of the campaign row
   pub text : List ℕ
-  -- the world text reads as the world
+  -- the world text of the campaign row reads as the world `w`
   pub world : world_by f text ≡ Ok w
   -- in all tables but `campaign` each value that is shown is of its column's form
   pub typed : AllSelectsShowTyped g old (other_selects f)

@@ -274,9 +274,9 @@ module _ (f : Format) {S : Type 0} (g : Ghosts S) (old : Held S) where
     pub selects : Selects g (selection campaign_table 1) old rows
     -- the campaign row, without its world text
     pub head : StoredCampaignRow
-    -- the world text
+    -- the world text of the campaign row
     pub text : List ℕ
-    -- the world of the world text
+    -- the world that the world text of the campaign row reads as
     pub world : WorldValue
     -- the rows that are shown are one row, `head` with `text`, which keeps the first rule
     pub own : AreOwnRow f rows head text world
