@@ -115,7 +115,7 @@ put_campaign_row rows news text before after was made r = (
   λ same. (made r).1 (inl same),
 )
 
--- The campaign row, the faction's row and the unit's row are put.
+-- The campaign row, the row of the faction that joins, and that of its unit are put.
 abbrev PutsNewcomer : ℕ → Faction → ℕ → Unit → CampaignValue → List ℕ → Database → Database → Type 0
 PutsNewcomer n f m u after world = Both (PutsCampaignRow (campaign_row_of after) world) (Both (Puts faction_table 1 (faction_line n f)) (Puts unit_table 1 (unit_line m u)))
 

@@ -161,7 +161,7 @@ module _ (part : Part) (db : Trees) (rows : List Row) where
     pub keyed_places : AreKeyedByRowid (db (table_of part).tree) → HaveKeys (width part) rows
     keyed_places keyed = keyed_shown (placed_row part) (width part) (db (table_of part).tree) rows (row_place part) same_placed keyed
 
-  -- if the first column, which shows the rowids, has different integers, the rowids in the table's tree are these
+  -- if the first column shows the rowids, and as different integers, the rowids in the table's tree are so too
   pub numbers_keyed : shows_rowids part ≡ false → IsPermutation (rows_in (table_of part) db) rows → HaveKeys 0 rows → AreKeyedByRowid (db (table_of part).tree)
   numbers_keyed is same keys = keyed_by (visible (table_of part)) 0 (db (table_of part).tree) rows (row_number part is) same keys
 
