@@ -34,16 +34,16 @@ use Rattle.atl_store.proofs.ThingLaws.{same_sort}
 
 -- ---- maps whose rows determine their numbers and values
 
--- A row of a map determines its number and its value: equal rows of the two maps have equal numbers and values.
+-- `line` gives equal rows for entries of `m` and of `k` only if the entries have equal numbers and equal values.
 abbrev Determines : {V : Type 0} → (ℕ → V → Row) → FinMap nat_cmp V → FinMap nat_cmp V → Type 0
 Determines {V} line m k = (n p : ℕ) (v u : V) → get m n ≡ Some v → get k p ≡ Some u → line n v ≡ line p u → (n ≡ p) × (v ≡ u)
 
 module _ {V : Type 0} (line : ℕ → V → Row) (rows : List Row) where
-  -- if one table has exactly the rows of two maps, each entry of the first map has an equal row in the second
+  -- if one table has exactly the rows of each of the maps `m` and `k`, the row of each entry of `m` is a row of `k`
   other_line : (m k : FinMap nat_cmp V) → Is rows (RowsOf line m) → Is rows (RowsOf line k) → (n : ℕ) (v : V) → get m n ≡ Some v → RowsOf line k (line n v)
   other_line m k a b n v is = (b (line n v)).0 ((a (line n v)).1 (n, v, is, refl))
 
-  -- if one table has exactly the rows of two maps, and rows determine number and value, each entry is in the other map
+  -- if one table has exactly the rows of each map, and rows determine number and value, each entry of `m` is in `k`
   one_way : (m k : FinMap nat_cmp V) → Determines line m k → Is rows (RowsOf line m) → Is rows (RowsOf line k) → Every (λ n v. get k n ≡ Some v) m
   one_way m k tells a b n v is =
       let (p, u, there, same) = other_line m k a b n v is in
@@ -61,7 +61,7 @@ same_flag true false is = cc
 same_flag false true is = cc
 same_flag false false is = refl
 
--- a faction's row determines its number and value, if each faction is stored under its own number
+-- factions with equal rows have equal numbers and are equal (`Determines`), if each is stored under its own number
 factions_tell : (m k : FinMap nat_cmp Faction) → Every (λ n f. f.number ≡ n) m → Every (λ n f. f.number ≡ n) k → Determines faction_line m k
 factions_tell m k a b n p f g is there same =
     let at : n ≡ p = cc in
@@ -72,7 +72,7 @@ factions_tell m k a b n p f g is there same =
     let gone : f.gone ≡ g.gone = same_flag f.gone g.gone (cc) in
     (at, λ i. record { number = number i; joined_as = joined i; name = name i; pass = pass i; gone = gone i })
 
--- a structure's row determines its number and value
+-- structures with equal rows have equal numbers and are equal (`Determines`)
 structures_tell : (m k : FinMap nat_cmp Structure) → Determines structure_line m k
 structures_tell m k n p s t is there same =
     let kind : s.kind ≡ t.kind = cc in
@@ -82,27 +82,27 @@ structures_tell m k n p s t is there same =
     let owner : s.owner ≡ t.owner = cc in
     (cc, λ i. record { kind = kind i; name = name i; region = region i; done = done i; owner = owner i })
 
--- a mailing's row determines its number and text
+-- mailings with equal rows have equal numbers of factions and equal texts (`Determines`)
 mails_tell : (m k : FinMap nat_cmp (List ℕ)) → Determines mail_row m k
 mails_tell m k n p s t is there same = (cc, cc)
 
--- a report's row determines its number and text
+-- reports with equal rows have equal numbers of factions and equal texts (`Determines`)
 reports_tell : (m k : FinMap nat_cmp (List ℕ)) → Determines report_row m k
 reports_tell m k n p s t is there same = (cc, cc)
 
 -- ---- units, with what they have
 
--- No entry of a unit's items or skills is 0.
+-- No unit of the map has an item or skill whose amount is 0.
 abbrev HaveSome : FinMap nat_cmp Unit → Type 0
 HaveSome units = Every (λ n u. (sort : ThingKind) → Every (λ thing amount. amount ≢ 0) (things_of sort u.holding)) units
 
--- no entry of items or skills of a good campaign is 0
+-- no unit of a good campaign has an item or skill whose amount is 0 (`HaveSome`)
 have_some : (w : WorldValue) (c : CampaignValue) → IsGood w c → HaveSome c.units
 have_some w c good n u is Item thing amount there = let range = (good.sound.steady.numbers.units n u is).1.items thing amount there in λ none. omega (arith, range.0, none)
 have_some w c good n u is Skill thing amount there = let range = good.sound.steady.days n u is thing amount there in λ none. omega (arith, range.0, none)
 
 module _ (rows : List Row) (m k : FinMap nat_cmp Unit) (a : Is rows (HasRowsOf m)) (b : Is rows (HasRowsOf k)) where
-  -- items and skills of a unit in one map are those of the unit in the other, if one table `has` has the rows of both
+  -- each item or skill of unit `n` in `m` has the same amount in `k`, if one table `has` has the rows of each map
   things_there : HaveSome m → (n : ℕ) (u v : Unit) → get m n ≡ Some u → get k n ≡ Some v → (sort : ThingKind) → Every (λ thing amount. get (things_of sort v.holding) thing ≡ Some amount) (things_of sort u.holding)
   things_there some n u v is there sort thing amount has =
       let row = has_row n (sort_number sort) thing amount in
@@ -116,7 +116,7 @@ module _ (rows : List Row) (m k : FinMap nat_cmp Unit) (a : Is rows (HasRowsOf m
       left ∙ got ∙ sym (ap Some count)
 
 module _ (rows goods : List Row) (m k : FinMap nat_cmp Unit) (a : Is rows (RowsOf unit_line m)) (b : Is rows (RowsOf unit_line k)) (h : Is goods (HasRowsOf m)) (j : Is goods (HasRowsOf k)) (some : HaveSome m) (more : HaveSome k) where
-  -- each unit of one map is in the other, if the tables `unit` and `has` have the rows of both
+  -- each unit of `m` is in `k`, if the tables `unit` and `has` have exactly the rows of each map
   units_there : Every (λ n u. get k n ≡ Some u) m
   units_there n u is =
       let (p, v, there, same) = other_line unit_line rows m k a b n u is in
@@ -142,16 +142,16 @@ module _ (rows goods : List Row) (m k : FinMap nat_cmp Unit) (a : Is rows (RowsO
 
 -- ---- regions, with what is in stock
 
--- No entry of a region's stocks is 0.
+-- No region of the map has a stock of 0.
 abbrev AreInStock : FinMap nat_cmp Region → Type 0
 AreInStock regions = Every (λ n r. Every (λ item stock. stock ≢ 0) r.stocks) regions
 
--- no stock entry of a good campaign is 0
+-- no region of a good campaign has a stock of 0 (`AreInStock`)
 are_in_stock : (w : WorldValue) (c : CampaignValue) → IsGood w c → AreInStock c.regions
 are_in_stock w c good n r is item stock there = let range = (good.sound.steady.numbers.regions n r is).stocks item stock there in λ none. omega (arith, range.0, none)
 
 module _ (rows : List Row) (m k : FinMap nat_cmp Region) (a : Is rows (MarketRowsOf m)) (b : Is rows (MarketRowsOf k)) where
-  -- stocks of a region in one map are those of the region in the other, if one table `market` has the rows of both
+  -- each stock of region `n` in `m` is the same in `k`, if one table `market` has exactly the rows of each map
   stocks_there : AreInStock m → (n : ℕ) (r s : Region) → get m n ≡ Some r → get k n ≡ Some s → Every (λ item stock. get s.stocks item ≡ Some stock) r.stocks
   stocks_there some n r s is there item stock has =
       let row = market_row n item stock in
@@ -164,7 +164,7 @@ module _ (rows : List Row) (m k : FinMap nat_cmp Region) (a : Is rows (MarketRow
       left ∙ got ∙ sym (ap Some count)
 
 module _ (rows stocks : List Row) (m k : FinMap nat_cmp Region) (a : Is rows (RowsOf region_line m)) (b : Is rows (RowsOf region_line k)) (h : Is stocks (MarketRowsOf m)) (j : Is stocks (MarketRowsOf k)) (some : AreInStock m) (more : AreInStock k) where
-  -- each region of one map is in the other, if the tables `region` and `market` have the rows of both
+  -- each region of `m` is in `k`, if the tables `region` and `market` have exactly the rows of each map
   regions_there : Every (λ n r. get k n ≡ Some r) m
   regions_there n r is =
       let (p, s, there, same) = other_line region_line rows m k a b n r is in
@@ -185,7 +185,7 @@ none_or_some (pos (suc n)) = inr (λ is. cc)
 none_or_some (negsuc n) = inr (λ is. cc)
 
 module _ (rows : List Row) (m k : BooksValue) (a : Is rows (BooksRowsOf m)) (b : Is rows (BooksRowsOf k)) where
-  -- an amount that is not 0 is equal in both books, if one table `books` has the rows of both
+  -- an amount that is not 0 in books `m` is the same in books `k`, if one table `books` has exactly the rows of each
   amount_there : (e : Entry) (t : Thing) → amount_in m e t ≢ pos 0 → amount_in m e t ≡ amount_in k e t
   amount_there e t some =
       let (f, u, apart, same) = (b (books_row (entry_index e + 1) (thing_index t) (amount_in m e t))).0 ((a _).1 (e, t, some, refl)) in
@@ -197,7 +197,7 @@ module _ (rows : List Row) (m k : BooksValue) (a : Is rows (BooksRowsOf m)) (b :
       amount ∙ sym there
 
 module _ (things : ℕ) (rows : List Row) (m k : BooksValue) (g : AreBooks things m) (h : AreBooks things k) (a : Is rows (BooksRowsOf m)) (b : Is rows (BooksRowsOf k)) where
-  -- each amount is equal in both books, if one table `books` has the rows of both
+  -- each amount is the same in books `m` and in books `k`, if one table `books` has exactly the rows of each
   same_amount : (e : Entry) (t : Thing) → amount_in m e t ≡ amount_in k e t
   same_amount e t =
       elim (none_or_some (amount_in m e t)) [
@@ -208,7 +208,7 @@ module _ (things : ℕ) (rows : List Row) (m k : BooksValue) (g : AreBooks thing
         ]
       ]
 
-  -- two books are equal, if one table `books` has exactly the rows of both
+  -- books `m` and books `k` are equal, if one table `books` has exactly the rows of each
   one_books : m ≡ k
   one_books = same_books things m k g h same_amount
 

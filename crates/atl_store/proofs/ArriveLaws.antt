@@ -1,4 +1,4 @@
--- Laws from single statements to the tables: a row put into a numbered table, and an amount of the books written.
+-- Laws on what single statements make of a table: a row put under its number, and an amount of the books written.
 use Rattle.std.proofs.Common.{◌≡◌, ◌≢◌, ◌⊎◌, ◌+◌, ℕ, ℤ, pos, false, cond, List, [], ◌∷◌, take, Some, None, Less, Equal, Greater, refl, sym, ap, ◌∙◌, subst, inl, inr, arith}
 use Rattle.std.specs.Prelude.{◌↔◌}
 use Rattle.std.specs.Ordering.{nat_cmp, is_eq, int_eq}
@@ -31,7 +31,7 @@ use Rattle.atl_sql.specs.Inside.{Puts, Drops}
 
 -- ---- one entry more in a map
 
--- two numbers that are not equal are not equal by the order of numbers
+-- if two numbers aren't equal, comparing them (`nat_cmp`) doesn't give Equal
 other : (k n : ℕ) → k ≢ n → is_eq (nat_cmp k n) ≡ false
 other k n apart = elim (nat_cmp k n) as (λ o. nat_cmp k n ≡ o → is_eq o ≡ false) [
   | Less ↦ λ _. refl
@@ -76,7 +76,7 @@ put_rows line numbered rows news m n v was made r = (
   ]),
 )
 
--- inserting a new unit without items and skills leaves the rows of the table `has`
+-- the rows of `has` for some units are also those for these units and a new one without items and skills
 pub no_goods : (rows : List Row) (units : FinMap nat_cmp Unit) (n : ℕ) (u : Unit) → get units n ≡ None → ((sort : ThingKind) → things_of sort u.holding ≡ empty) → Is rows (HasRowsOf units) → Is rows (HasRowsOf (insert units n u))
 no_goods rows units n u fresh bare was r = (
   λ there.
@@ -95,11 +95,11 @@ no_goods rows units n u fresh bare was r = (
 -- ---- one amount of the books
 
 module _ (c : CampaignValue) (e : Entry) (t : Thing) where
-  -- the row of `books` of this entry and thing
+  -- the row of `books` with the campaign's amount of this entry and thing
   abbrev row : Row
   row = books_row (entry_index e + 1) (thing_index t) (amount_in c.books e t)
 
-  -- writing the campaign's amount turns the rows of books `A` into those of `B`, if `B` has it and is else as `A`
+  -- writing the campaign's amount turns the rows of books `A` into those of `B`, if `B` is `A` with this amount in it
   pub settled_rows : (A B : BooksValue) (S : Set) → amount_in B e t ≡ amount_in c.books e t
       → ((f : Entry) (u : Thing) → (entry_index f ≢ entry_index e) ⊎ (thing_index u ≢ thing_index t) → amount_in B f u ≡ amount_in A f u)
       → ((r : Row) → S r ↔ BooksRowsOf A r) → (r : Row) → settled c e t S r ↔ BooksRowsOf B r
@@ -125,14 +125,14 @@ module _ (c : CampaignValue) (e : Entry) (t : Thing) where
     ],
   )
     where
-      -- two amounts with different keys differ in the entry or in the thing
+      -- two amounts of the books with different keys differ in their entry or in their thing
       apart : (f : Entry) (u : Thing) → ◌≢◌ {A = Row} (books_key (entry_index f + 1) (thing_index u)) (books_key (entry_index e + 1) (thing_index t)) → (entry_index f ≢ entry_index e) ⊎ (thing_index u ≢ thing_index t)
       apart f u differs = elim (cases_eq (entry_index f) (entry_index e)) [
         | inl entries ↦ inr (λ things. differs (ap (λ k. books_key (k + 1) (thing_index u)) entries ∙ ap (books_key (entry_index e + 1)) things))
         | inr entries ↦ inl entries
       ]
 
-      -- the row of any other amount of `B` was in `S`, and has another key than the written amount
+      -- the row in `B` of an amount of another entry or thing was in `S`, and has another key than the written amount
       kept_row : (f : Entry) (u : Thing) → amount_in B f u ≢ pos 0 → r ≡ books_row (entry_index f + 1) (thing_index u) (amount_in B f u) → (entry_index f ≢ entry_index e) ⊎ (thing_index u ≢ thing_index t)
           → S r × (take 2 r ≢ books_key (entry_index e + 1) (thing_index t))
       kept_row f u some is far = (
@@ -144,11 +144,11 @@ module _ (c : CampaignValue) (e : Entry) (t : Thing) where
 
 -- the statements that write an amount of the books (`OfAmount`)
 module _ (c : CampaignValue) (e : Entry) (t : Thing) (n k : ℕ) (entry : n ≡ entry_index e + 1) (thing : k ≡ thing_index t) where
-  -- the upsert of the row of an amount other than 0 is the statement that writes the amount (`OfAmount`)
+  -- the upsert of the row of a booked amount other than 0 is the statement that writes the amount (`OfAmount`)
   pub amount_put : (z : ℤ) → z ≡ amount_in c.books e t → z ≢ pos 0 → OfAmount c e t (upsert books_table 2) (books_row n k z)
   amount_put z amount some = rw (entry, thing, amount) (puts_amount (λ zero. some (amount ∙ zero)))
 
-  -- the DELETE of the row of an amount that is 0 is the statement that writes the amount (`OfAmount`)
+  -- the DELETE of the row of a booked amount that is 0 is the statement that writes the amount (`OfAmount`)
   pub amount_taken : amount_in c.books e t ≡ pos 0 → OfAmount c e t (deletion books_table 2) (books_key n k)
   amount_taken zero = rw (entry, thing) (drops_amount zero)
 
@@ -165,7 +165,7 @@ amount_changes c e t sql params (drops_amount zero) = drops_row Books (
 
 -- an amount is written: its row is put, or deleted if the amount is 0
 module _ (c : CampaignValue) (e : Entry) (t : Thing) (n k : ℕ) (entry : n ≡ entry_index e + 1) (thing : k ≡ thing_index t) (old new : Database) where
-  -- putting the row of an amount that is not 0 writes the amount (`WritesAmount`)
+  -- putting the row of an amount of the books that is not 0 writes the amount (`WritesAmount`)
   pub settles_by_put : (z : ℤ) → z ≡ amount_in c.books e t → z ≢ pos 0 → Puts books_table 2 (books_row n k z) old new → WritesAmount c e t old new
   settles_by_put z amount some did =
       let lines : amount_lines c e t ≡ books_row n k z ∷ [] = amount_is c e t n k z entry thing amount some in
@@ -178,7 +178,7 @@ module _ (c : CampaignValue) (e : Entry) (t : Thing) (n k : ℕ) (entry : n ≡ 
         others = did.others;
       }
 
-  -- deleting the row of an amount that is 0 writes the amount (`WritesAmount`)
+  -- deleting the row of an amount of the books that is 0 writes the amount (`WritesAmount`)
   pub settles_by_drop : amount_in c.books e t ≡ pos 0 → Drops books_table 2 (books_key n k) old new → WritesAmount c e t old new
   settles_by_drop none did =
       let keys : books_key n k ≡ books_key (entry_index e + 1) (thing_index t) = rw (entry, thing) refl in

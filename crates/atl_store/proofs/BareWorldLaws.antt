@@ -13,18 +13,18 @@ use Rattle.atl_records.specs.Every.{IsThere}
 use Rattle.atl_campaign.specs.Good.{HasNoStocks, IsGood}
 use Rattle.atl_records.specs.declared.records.Region.{Region}
 
--- a region of a campaign with nothing in stock has no stock entry
+-- a region of a campaign with nothing in stock has no stock of any item
 nothing_in_stock : (c : CampaignValue) → HasNoStocks c → (n : ℕ) (r : Region) → get c.regions n ≡ Some r → (i amount : ℕ) → ¬ (get r.stocks i ≡ Some amount)
 nothing_in_stock c bare n r is i amount there = let e = sym (get-empty {X = ℕ} nat_cmp i) ∙ ap (λ (m : FinMap nat_cmp ℕ). get m i) (sym (bare n r is)) ∙ there in absurd cc
 
 -- ---- in a world with other regions
 
 module _ (v : WorldValue) (regions : FinMap nat_cmp RegionPlan) (c : CampaignValue) (bare : HasNoStocks c) where
-  -- the world `v` with other regions
+  -- the world `v` with `regions` in place of its own regions
   abbrev w : WorldValue
   w = record v { regions = regions }
 
-  -- a campaign with nothing in stock that is good in `v` is good in `w`, if the regions have the same numbers and land
+  -- with nothing in stock, a campaign good in `v` is good in `w`, if both have regions and land under the same numbers
   good_with : ((n : ℕ) → is_land_at w n ≡ is_land_at v n) → ((n : ℕ) → IsThere v.regions n → IsThere regions n) → ((n : ℕ) → IsThere regions n → IsThere v.regions n) → IsGood v c → IsGood w c
   good_with land ahead back good =
       let steady = good.sound.steady in
@@ -80,7 +80,7 @@ module _ (w : WorldValue) where
   land_same : (n : ℕ) → is_land_at (without_markets w) n ≡ is_land_at w n
   land_same n = ap (λ o. option_map_or (is_land w.terrains) o false) (get-mapped without_market w.regions n) ∙ by_plan (get w.regions n)
     where
-      -- removing the market from a region's plan, if there is one, leaves whether the region is land
+      -- a region is land exactly if it is land without the market of its plan; `o` is the plan, if there is one
       by_plan : (o : Option RegionPlan) → option_map_or (is_land w.terrains) (option_map without_market o) false ≡ option_map_or (is_land w.terrains) o false
       by_plan None = refl
       by_plan (Some p) = refl
@@ -93,7 +93,7 @@ module _ (w : WorldValue) where
   was_there : (n : ℕ) → IsThere (without_markets w).regions n → IsThere w.regions n
   was_there n (p, there) = by_plan (get w.regions n) refl (sym (get-mapped without_market w.regions n) ∙ there)
     where
-      -- if the look-up of a region gives a plan once the market is removed, the region is there
+      -- a region is there, if its look-up, with the market taken out of the plan, gives a plan
       by_plan : (o : Option RegionPlan) → get w.regions n ≡ o → option_map without_market o ≡ Some p → IsThere w.regions n
       by_plan None is e = absurd cc
       by_plan (Some q) is e = (q, is)

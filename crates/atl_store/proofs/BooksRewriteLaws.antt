@@ -38,27 +38,27 @@ accounts_either : (f g : ℕ → ℕ → Bool) (r : Row) → accounts (λ e t. f
 accounts_either f g (Int (pos (suc e)) ∷ Int (pos t) ∷ row) = refl
 accounts_either f g row = refl
 
--- two tests that agree on each entry and thing choose the same rows
+-- two tests with equal results for each entry and thing choose the same rows of `books`
 accounts_same : (f g : ℕ → ℕ → Bool) → ((e t : ℕ) → f e t ≡ g e t) → (r : Row) → accounts f r ≡ accounts g r
 accounts_same f g same r = ap (λ (h : ℕ → ℕ → Bool). accounts h r) (λ i e t. same e t i)
 
--- a test that is always false chooses no row
+-- a test of entry and thing that is always false chooses no row of `books`
 accounts_none : (f : ℕ → ℕ → Bool) → ((e t : ℕ) → f e t ≡ false) → (r : Row) → accounts f r ≡ false
 accounts_none f never (Int (pos (suc e)) ∷ Int (pos t) ∷ row) = never e t
 accounts_none f never row = refl
 
 -- ---- tests of entries and of things
 
--- "and" distributes over "or" in the test of an amount
+-- `p` and (`a` or `b`) and `c` hold exactly if `p` and `a` and `c` do, or `p` and `b` and `c`
 and_or : (p a b c : Bool) → (p && ((a || b) && c)) ≡ ((p && (a && c)) || (p && (b && c)))
 and_or p a b c = ap (λ q. p && q) (and-or_distrib_right a b c) ∙ and-or_distrib_left p (a && c) (b && c)
 
 module _ (marks : FinSet nat_cmp) where
-  -- whether the amount of this entry and thing is marked
+  -- whether the amount is marked whose entry has index `e` and whose thing has index `t`
   abbrev marked : ℕ → ℕ → Bool
   marked e t = contains marks (entry_count * t + e)
 
-  -- a row of a marked amount is of one of the entries `e ∷ es` exactly if it is of `e` or of one of `es`
+  -- a row of a marked amount has an entry in `e ∷ es` exactly if its entry is `e` or is in `es`
   pub next_entry : (e : ℕ) (es : List ℕ) (things : ℕ → Bool) (r : Row)
       → of_amounts marks (is_among (e ∷ es)) things r ≡ (of_amounts marks (is_number e) things r || of_amounts marks (is_among es) things r)
   next_entry e es things r =
@@ -66,7 +66,7 @@ module _ (marks : FinSet nat_cmp) where
       let rest : ℕ → ℕ → Bool = λ k t. is_among es k && (things t && marked k t) in
       accounts_same (λ k t. is_among (e ∷ es) k && (things t && marked k t)) (λ k t. one k t || rest k t) (λ k t. and-or_distrib_right (is_number e k) (is_among es k) (things t && marked k t)) r ∙ accounts_either one rest r
 
-  -- a row of a marked amount is of one of the things `t ∷ ts` exactly if it is of `t` or of one of `ts`
+  -- a row of a marked amount has a thing in `t ∷ ts` exactly if its thing is `t` or is in `ts`
   pub next_thing : (entries : ℕ → Bool) (t : ℕ) (ts : List ℕ) (r : Row)
       → of_amounts marks entries (is_among (t ∷ ts)) r ≡ (of_amounts marks entries (is_number t) r || of_amounts marks entries (is_among ts) r)
   next_thing entries t ts r =
@@ -74,11 +74,11 @@ module _ (marks : FinSet nat_cmp) where
       let rest : ℕ → ℕ → Bool = λ e k. entries e && (is_among ts k && marked e k) in
       accounts_same (λ e k. entries e && (is_among (t ∷ ts) k && marked e k)) (λ e k. one e k || rest e k) (λ e k. and_or (entries e) (is_number t k) (is_among ts k) (marked e k)) r ∙ accounts_either one rest r
 
-  -- no row of a marked amount is of one of these entries, if there are none
+  -- if the list of entries `es` is empty, no row is of a marked amount of these entries
   pub no_entry : (es : List ℕ) (things : ℕ → Bool) → es ≡ [] → (r : Row) → of_amounts marks (is_among es) things r ≡ false
   no_entry es things none r = ap (λ l. of_amounts marks (is_among l) things r) none ∙ accounts_none (λ e t. false) (λ e t. refl) r
 
-  -- no row of a marked amount is of one of these things, if there are none
+  -- if the list of things `ts` is empty, no row is of a marked amount of these things
   pub no_thing : (entries : ℕ → Bool) (ts : List ℕ) → ts ≡ [] → (r : Row) → of_amounts marks entries (is_among ts) r ≡ false
   no_thing entries ts none r = ap (λ l. of_amounts marks entries (is_among l) r) none ∙ accounts_none (λ e t. entries e && false) (λ e t. and-false (entries e)) r
 
@@ -104,7 +104,7 @@ module _ (marks : FinSet nat_cmp) where
   beyond from (suc count) i past =
       ap (λ b. b || is_among (range_with_len (from + 1) count) i) (false_from_ne_true (eq_by_cmp nat_cmp i from) (λ is. absurd (omega (arith, past, tied i from is)))) ∙ beyond (from + 1) count i (omega (arith, past))
 
-  -- a number is among the first `count` exactly if it is below `count`
+  -- a number is among the first `count` numbers exactly if it is below `count`
   among_first : (count e : ℕ) → is_among (range_with_len 0 count) e ≡ nat_le (suc e) count
   among_first count e = elim (cases_lt e count) [
     | inl less ↦ in_range 0 count e (omega arith) (omega (arith, less)) ∙ sym (counted less)
@@ -123,7 +123,7 @@ module _ (marks : FinSet nat_cmp) where
   each_entry : (e : ℕ) → is_among (map entry_index all_entries) e ≡ nat_le (suc e) entry_count
   each_entry e = among_first entry_count e
 
-  -- the marked rows of all entries and all things are all marked rows of `books`
+  -- if all marks are of the first `things` things, the test for their marked amounts finds the marked rows of `books`
   pub all_amounts : (things : ℕ) → AreOfThings things marks → (r : Row)
       → of_amounts marks (is_among (map entry_index all_entries)) (is_among (range_with_len 0 things)) r ≡ amount_marked marks r
   all_amounts things few r = accounts_same (λ e t. is_among (map entry_index all_entries) e && (is_among (range_with_len 0 things) t && marked e t)) (is_marked_amount marks) same r
@@ -132,7 +132,7 @@ module _ (marks : FinSet nat_cmp) where
       inside : (e t n : ℕ) → entry_count * t + e < entry_count * n → t < n
       inside e t n h = omega (arith, h)
 
-      -- the test for marked amounts of all entries and things is the test for marked amounts (`is_marked_amount`)
+      -- an amount is of an entry, of one of these things, and marked exactly if it is marked (`is_marked_amount`)
       same : (e t : ℕ)
           → (is_among (map entry_index all_entries) e && (is_among (range_with_len 0 things) t && marked e t)) ≡ is_marked_amount marks e t
       same e t = elim (cases_Bool (marked e t)) [
@@ -149,11 +149,11 @@ module _ (c : MarkedCampaign) (e : Entry) (t : Thing) where
   abbrev is_here : Row → Bool
   is_here r = of_amounts c.marks.books (is_number (entry_index e)) (is_number (thing_index t)) r
 
-  -- the row of the amount of this entry and thing
+  -- the row of `books` with the campaign's amount of this entry and thing
   abbrev row : Row
   row = books_row (entry_index e + 1) (thing_index t) (amount_in c.value.books e t)
 
-  -- the row of an amount other than 0 is the row of `e` and `t`, if its entry and thing have the indexes of these
+  -- the row of an amount other than 0 whose entry and thing have the indexes of `e` and `t` is the row of `e` and `t`
   same_place : (f : Entry) (u : Thing) → amount_in c.value.books f u ≢ pos 0 → entry_index f ≡ entry_index e → thing_index u ≡ thing_index t
       → (r : Row) → r ≡ books_row (entry_index f + 1) (thing_index u) (amount_in c.value.books f u) → Has (amount_lines c.value e t) r
   same_place f u some entries things r is =
@@ -176,13 +176,13 @@ module _ (c : MarkedCampaign) (e : Entry) (t : Thing) where
       let two = and_parts _ _ one.1 in
       ap (λ k. books_key k thing) (next place (entry_index e) (tied place (entry_index e) one.0)) ∙ ap (books_key (entry_index e + 1)) (tied thing (thing_index t) two.0)
     where
-      -- an entry's number in a row is its index plus 1
+      -- for equal `a` and `b` the successor of `a` is `b + 1`: in a row an entry's number is its index plus 1
       next : (a b : ℕ) → a ≡ b → suc a ≡ b + 1
       next a b same = omega (arith, same)
   key_of row is = absurd (true≢false (sym is))
 
   module _ (marked : contains c.marks.books (amount_number e t) ≡ true) where
-    -- if the amount of this entry and thing is marked, a row with their key is to be written (`is_here`)
+    -- if the amount of this entry and thing is marked, a row with their key is one to be written (`is_here`)
     of_key : (r : Row) → take 2 r ≡ books_key (entry_index e + 1) (thing_index t) → is_here r ≡ true
     of_key [] key = absurd cc
     of_key (v ∷ []) key = absurd cc
@@ -211,33 +211,33 @@ module _ (c : MarkedCampaign) (e : Entry) (t : Thing) where
 -- ---- one entry after another, and one thing after another
 
 module _ (c : MarkedCampaign) where
-  -- The rows that the table `books` has to hold for the campaign.
+  -- Whether the table `books` has to hold this row for the campaign.
   abbrev wanted : Row → Type 0
   wanted r = BooksRowsOf c.value.books r
 
-  -- The marked amounts of some entries are rewritten: once the `rest` is rewritten too, all these entries are.
+  -- The entries `rest` of `all` are left: once their marked amounts are rewritten too, those of all of `all` are.
   abbrev pub NearingEntries : (ℕ → Bool) → List Entry → List Entry → Database → Database → Type 0
   NearingEntries things rest all old new = Remaining books_table wanted (λ r. of_amounts c.marks.books (is_among (map entry_index rest)) things r) (λ r. of_amounts c.marks.books (is_among (map entry_index all)) things r) old new
 
-  -- rewriting one more entry's marked amounts leaves one entry fewer to rewrite
+  -- once the marked amounts of the first entry that is left are rewritten, only the entries `rest` after it are left
   pub entry_nearer : (things : ℕ → Bool) (x : Entry) (now rest all : List Entry) → now ≡ x ∷ rest → (old mid new : State)
       → Inside HasTables (NearingEntries things now all) old mid → Inside HasTables (RewritesAmounts c (is_number (entry_index x)) things) mid new
       → Inside HasTables (NearingEntries things rest all) old new
   entry_nearer things x now rest all is = one_less_remaining books_table wanted (λ r. of_amounts c.marks.books (is_number (entry_index x)) things r) (λ r. of_amounts c.marks.books (is_among (map entry_index now)) things r) (λ r. of_amounts c.marks.books (is_among (map entry_index rest)) things r) (λ r. of_amounts c.marks.books (is_among (map entry_index all)) things r)
       (λ r. ap (λ es. of_amounts c.marks.books (is_among (map entry_index es)) things r) is ∙ next_entry c.marks.books (entry_index x) (map entry_index rest) things r)
 
-  -- when no entry is left, the marked amounts of all these entries are rewritten
+  -- when no entry is left, the marked amounts of all entries of `all` are rewritten
   pub entries_rewritten : (things : ℕ → Bool) (rest all : List Entry) → rest ≡ [] → (old new : State)
       → Inside HasTables (NearingEntries things rest all) old new
       → Inside HasTables (RewritesAmounts c (is_among (map entry_index all)) things) old new
   entries_rewritten things rest all none = all_rewritten books_table wanted (λ r. of_amounts c.marks.books (is_among (map entry_index rest)) things r) (λ r. of_amounts c.marks.books (is_among (map entry_index all)) things r) (λ r. of_amounts c.marks.books (is_among (map entry_index all)) things r)
       (no_entry c.marks.books (map entry_index rest) things (ap (map entry_index) none)) (λ r. refl)
 
-  -- The marked amounts of some things are rewritten: once the `rest` is rewritten too, all these things are.
+  -- The things `rest` of `all` are left: once their marked amounts are rewritten too, those of all of `all` are.
   abbrev pub NearingThings : List ℕ → List ℕ → Database → Database → Type 0
   NearingThings rest all old new = Remaining books_table wanted (λ r. of_amounts c.marks.books (is_among (map entry_index all_entries)) (is_among rest) r) (λ r. of_amounts c.marks.books (is_among (map entry_index all_entries)) (is_among all) r) old new
 
-  -- rewriting one more thing's marked amounts leaves one thing fewer to rewrite
+  -- once the marked amounts of the first thing that is left are rewritten, only the things `rest` after it are left
   pub thing_nearer : (t : ℕ) (now rest all : List ℕ) → now ≡ t ∷ rest → (old mid new : State) → Inside HasTables (NearingThings now all) old mid
       → Inside HasTables (RewritesAmounts c (is_among (map entry_index all_entries)) (is_number t)) mid new
       → Inside HasTables (NearingThings rest all) old new

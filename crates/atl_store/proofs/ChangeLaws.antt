@@ -50,7 +50,7 @@ all_held is_marked After old new rest now r = (λ there. from (is_marked r) refl
     to true is of = of
     to false is of = (rest r is).1 of
 
--- a table of the campaign before has the unmarked rows of the campaign after, if the two differ only under marked keys
+-- a table with the rows `Before` has as unmarked rows those of `After`, if both have the same unmarked rows
 rest_of : (is_marked : Row → Bool) (Before After : Row → Type 0) (old : List Row) → ((r : Row) → is_marked r ≡ false → Before r → After r) → ((r : Row) → is_marked r ≡ false → After r → Before r) → Is old Before
     → (r : Row) → is_marked r ≡ false → Has old r ↔ After r
 rest_of is_marked Before After old ahead back was r is = (λ there. ahead r is ((was r).0 there), λ of. (was r).1 (back r is of))
@@ -70,32 +70,32 @@ module _ {V : Type 0} (line : ℕ → V → Row) (marks : FinSet nat_cmp) (heads
   follow : (one other : FinMap nat_cmp V) (r : Row) → begins_marked marks r ≡ false → Follows one other → RowsOf line one r → RowsOf line other r
   follow one other r not_marked follows of = let found = follows of.0 of.1 (unmarked of.0 of.1 r of.3 not_marked) of.2 in (of.0, found.0, found.1, of.3 ∙ sym found.2)
 
-  -- a table of one map's rows has the unmarked rows of another, if both have these under unmarked numbers (`Follows`)
+  -- a table with the rows of map `before` has the unmarked rows of `after`, if both have the same ones (`Follows`)
   rest_numbered : (before after : FinMap nat_cmp V) (old : List Row) → Follows before after → Follows after before → Is old (RowsOf line before) → (r : Row) → begins_marked marks r ≡ false → Has old r ↔ RowsOf line after r
   rest_numbered before after old ahead back = rest_of (begins_marked marks) (RowsOf line before) (RowsOf line after) old (λ r is. follow before after r is ahead) (λ r is. follow after before r is back)
 
-  -- maps that differ only under marked numbers have the same unmarked rows, from before to after
+  -- if maps differ only under marked numbers, each unmarked number of `before` has in `after` the same row (`Follows`)
   same_follows : (before after : FinMap nat_cmp V) → SameBut marks before after → Follows before after
   same_follows before after same n v not_marked there = (v, same n not_marked ∙ there, refl)
 
-  -- maps that differ only under marked numbers have the same unmarked rows, from after to before
+  -- if maps differ only under marked numbers, each unmarked number of `after` has in `before` the same row (`Follows`)
   same_followed : (before after : FinMap nat_cmp V) → SameBut marks before after → Follows after before
   same_followed before after same n v not_marked there = (v, sym (same n not_marked) ∙ there, refl)
 
-  -- a table of one map's rows has the unmarked rows of another, if the maps differ only under marked numbers
+  -- a table with the rows of map `before` has the unmarked rows of `after`, if both differ only under marked numbers
   rest_same : (before after : FinMap nat_cmp V) (old : List Row) → SameBut marks before after → Is old (RowsOf line before) → (r : Row) → begins_marked marks r ≡ false → Has old r ↔ RowsOf line after r
   rest_same before after old same = rest_numbered before after old (same_follows before after same) (same_followed before after same)
 
 -- ---- regions, whose stocks are in the table `market`
 
--- regions that differ in stocks alone have the same row
+-- if the look-ups `o` and `p` differ in stocks alone, and `o` gives region `v`, `p` gives one with the same row
 unstocked_same : (n : ℕ) (o p : Option Region) (v : Region) → option_map unstocked p ≡ option_map unstocked o → o ≡ Some v → (w : Region) × (p ≡ Some w) × (region_line n w ≡ region_line n v)
 unstocked_same n o None v same there = absurd (let e = same ∙ ap (option_map unstocked) there in cc)
 unstocked_same n o (Some w) v same there = (w, refl, let e : unstocked w ≡ unstocked v = (let s = same ∙ ap (option_map unstocked) there in cc) in ap (region_line n) e)
 
 -- ---- units, whose items and skills are in the table `has`
 
--- units that differ in items and skills alone have the same row
+-- if the look-ups `o` and `p` differ in items and skills alone, and `o` gives unit `v`, `p` gives one with the same row
 bare_same : (n : ℕ) (o p : Option Unit) (v : Unit) → option_map bare p ≡ option_map bare o → o ≡ Some v → (w : Unit) × (p ≡ Some w) × (unit_line n w ≡ unit_line n v)
 bare_same n o None v same there = absurd (let e = same ∙ ap (option_map bare) there in cc)
 bare_same n o (Some w) v same there = (w, refl, let e : bare w ≡ bare v = (let s = same ∙ ap (option_map bare) there in cc) in ap (unit_line n) e)
@@ -107,7 +107,7 @@ goods_heads : (marks : Marks) (n : ℕ) (sort : ThingKind) (thing amount : ℕ) 
 goods_heads marks n Item thing amount = or-false (is_thing_marked marks.goods marks.items n thing)
 goods_heads marks n Skill thing amount = ap (λ b. b || has_thing marks.skills n thing) (or-false (contains marks.goods n))
 
--- marks that cover all changes cover those of items and skills
+-- if the marks cover all changes, items that aren't marked have their amounts of before, and so have skills
 goods_same : (m : Marks) (before after : CampaignValue) → Covers m before after → (sort : ThingKind) → SameThings m.goods (marked_things m sort) (things_under sort) before.units after.units
 goods_same m before after covers Item = covers.items
 goods_same m before after covers Skill = covers.days
@@ -152,11 +152,11 @@ amounts_follow one other marks r same not_marked of =
 
 -- ---- the campaign's own row
 
--- the content of a campaign row: the month, the pass text, and the next numbers of factions, units and structures
+-- what a campaign row says, from its month, pass text, and next numbers of a faction, a unit and a structure
 abbrev head_in : ℕ × (List ℕ × (ℕ × (ℕ × ℕ))) → CampaignRowValue
 head_in row = record { month = row.0; pass = row.1.0; next_faction = row.1.1.0; next_unit = row.1.1.1.0; next_structure = row.1.1.1.1 }
 
--- a campaign row written over the one before is that of the campaign after, if the row is marked or unchanged
+-- the campaign row after a write says what the campaign after it says, if it is marked (`b`) or nothing of it changed
 head_held : (b : Bool) (before after : CampaignValue) → (b ≡ false → own_row after ≡ own_row before) → campaign_row_after b after (campaign_row_of before) ≡ campaign_row_of after
 head_held true before after same = refl
 head_held false before after same = ap head_in (sym (same refl))

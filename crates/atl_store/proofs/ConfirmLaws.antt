@@ -21,11 +21,11 @@ use Rattle.atl_sql.proofs.StreamLaws.{fails_stay}
 
 -- a query that is plain, without RETURNING and not reading the time (`IsPlain`), from the state `old` to `new`
 module _ (sql : List ℕ) (old new : State) (plain : IsPlain (understood old.now.schema sql)) where
-  -- if `Survives` holds of a plain query with `CommitsShowing`, it holds with nothing committed
+  -- a plain query commits nothing: if `Survives` holds with what the query commits, it holds with nothing committed
   pub commits_none : Survives old new (CommitsShowing sql [] old) → Survives old new (λ _. ⊥)
   commits_none = survives_weaker old new _ _ (λ _ db. never_commits sql [] old db plain)
 
-  -- a query that shows rows leaves all unchanged
+  -- a query that shows rows leaves the connection unchanged (`IsUnchanged`)
   pub shown_unchanged : (rows : List Row) → Shown sql [] old new rows → IsUnchanged old new
   unfolding Shown
   shown_unchanged rows h = (subst (ShowsRows old new sql h.0 _ rows) (subst IsPlain h.1.is plain).0 h.2).3

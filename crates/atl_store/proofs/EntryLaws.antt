@@ -1,4 +1,4 @@
--- Laws on numbered maps and their rows: entries and look-ups agree, and a table filled from them has the map's rows.
+-- Laws on maps by number: look-ups find just the entries, and a table filled with the entries' rows has the map's rows.
 use Rattle.std.proofs.Common.{◌≡◌, ◌≢◌, ◌⊎◌, ℕ, true, false, cond, List, [], ◌∷◌, ◌++◌, take, Some, None, Less, Equal, Greater, refl, sym, ap, ◌∙◌, subst, inl, inr, true≢false}
 use Rattle.std.specs.List.{flat_map}
 use Rattle.std.specs.Ordering.{nat_cmp, is_eq, is_lt}
@@ -36,7 +36,7 @@ module _ {V : Type 0} where
   nothing_there : (v : V) → None ≡ Some v → ⊥
   nothing_there v e = cc
 
-  -- a number that is less than all numbers of a list (`below_all`) is less than that of each entry
+  -- a number that is less than all numbers of a list of entries (`below_all`) is less than that of each entry
   pub below_has : (k : ℕ) (es : List (ℕ × V)) (x : ℕ × V) → below_all nat_cmp k es ≡ true → Has es x → is_lt (nat_cmp k x.0) ≡ true
   below_has k [] x below there = absurd there
   below_has k (e ∷ es) x below (inl same) = ap (λ (y : ℕ × V). is_lt (nat_cmp k y.0)) same ∙ (and_parts _ _ below).0
@@ -84,7 +84,7 @@ module _ {V : Type 0} where
 
 -- ---- lists made of lists
 
--- an element of the joined list is in one of the lists
+-- each element of the list that `flat_map` joins is in the list that `f` gives for some element of `xs`
 pub flat_has : {X Y : Type 0} (f : X → List Y) (xs : List X) (r : Y) → Has (flat_map f xs) r → (x : X) × Has xs x × Has (f x) r
 flat_has f [] r there = absurd there
 flat_has f (x ∷ xs) r there = elim (has_either (f x) (flat_map f xs) r there) [
@@ -92,7 +92,7 @@ flat_has f (x ∷ xs) r there = elim (has_either (f x) (flat_map f xs) r there) 
   | inr more ↦ let found = flat_has f xs r more in (found.0, inr found.1, found.2)
 ]
 
--- an element of one of the lists is in the joined list
+-- each element of a list that `f` gives for an element of `xs` is in the list that `flat_map` joins
 pub has_flat : {X Y : Type 0} (f : X → List Y) (xs : List X) (x : X) (r : Y) → Has xs x → Has (f x) r → Has (flat_map f xs) r
 has_flat f [] x r there here = absurd there
 has_flat f (y ∷ xs) x r (inl same) here = has_left (f y) (flat_map f xs) r (subst (λ z. Has (f z) r) same here)
@@ -121,7 +121,7 @@ filled key rows news old none apart made r =
       λ there. (made r).1 (all.1 (inl there)),
     )
 
--- rows with different keys, and others with other keys, all have different keys
+-- all rows of `xs` and `ys` have different keys, if those of each list have, and no key of `xs` is one of `ys`
 pub apart_append : (key : ℕ) (xs ys : List Row) → DifferInKey key xs → DifferInKey key ys → ((x y : Row) → Has xs x → Has ys y → take key x ≢ take key y) → DifferInKey key (xs ++ ys)
 apart_append key [] ys one two cross = two
 apart_append key (x ∷ xs) ys one two cross = (
@@ -135,14 +135,14 @@ apart_append key (x ∷ xs) ys one two cross = (
 pub same_number : (m n : ℕ) → ◌≡◌ {A = Row} (int m ∷ []) (int n ∷ []) → m ≡ n
 same_number m n e = cc
 
--- each row made of the map's entries is a row of the map
+-- each row that `line` gives for an entry of the map is a row of the map (`RowsOf`)
 pub lines_rows : {V : Type 0} (line : ℕ → V → Row) (m : FinMap nat_cmp V) (es : List (ℕ × V)) → es ≡ entries m → (r : Row) → Has (lines_of line es) r → RowsOf line m r
 lines_rows {V} line m es same r there =
     let x = map_has (λ (x : ℕ × V). line x.0 x.1) es r there in
     (x.0.0, x.0.1, entry_got m x.0.0 x.0.1 (subst (λ (l : List (ℕ × V)). Has l x.0) same x.1), x.2)
 
 module _ {V : Type 0} (line : ℕ → V → Row) (numbered : (n : ℕ) (v : V) → take 1 (line n v) ≡ int n ∷ []) where
-  -- the rows of sorted entries have different keys
+  -- the rows that `line` gives for sorted entries have different keys
   lines_apart : (es : List (ℕ × V)) → is_sorted nat_cmp es ≡ true → DifferInKey 1 (lines_of line es)
   lines_apart [] sorted = tt
   lines_apart (e ∷ es) sorted = (
@@ -153,7 +153,7 @@ module _ {V : Type 0} (line : ℕ → V → Row) (numbered : (n : ℕ) (v : V) �
     lines_apart es (and_parts _ _ sorted).1,
   )
 
-  -- an empty table filled with the rows of the entries has exactly the map's rows
+  -- an empty table filled with the rows of the map's entries has exactly the map's rows (`RowsOf`)
   pub rows_filled : (rows old : List Row) (m : FinMap nat_cmp V) → old ≡ [] → Is rows (puts 1 (lines_of line (entries m)) (Has old)) → Is rows (RowsOf line m)
   rows_filled rows old m none made r =
       let is = filled 1 rows (lines_of line (entries m)) old none (lines_apart (entries m) (in_order m)) made r in (

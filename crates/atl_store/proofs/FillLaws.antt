@@ -25,7 +25,7 @@ use Rattle.atl_records.specs.Books.{AreBooks}
 use Rattle.atl_store.proofs.LedgerLaws.{books_filled}
 use Rattle.atl_store.proofs.WholeLaws.{inside_then, inside_weaker}
 
--- an empty table has exactly the one row that is put
+-- an empty table into which one row is put has exactly this row
 one_row : (rows old : List Row) (row : Row) → old ≡ [] → Is rows (put 1 row (Has old)) → Is rows (λ r. r ≡ row)
 one_row rows old row none made r = (
   λ there. elim ((made r).0 there) [ inl same ↦ same | inr was ↦ absurd (subst (λ l. Has l r) none was.0) ],

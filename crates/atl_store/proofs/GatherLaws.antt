@@ -98,7 +98,7 @@ module _ {S : Type 0} (g : Ghosts S) where
       let same = stays.same up in
       same.0 ∙ settled (omega (arith, leaves.survives.clean, clean)) (stays.was_open up) ∙ sym same.1
 
-  -- a connection at rest (`Rests`) has its tables as they were, if all was committed (`IsSettled`) on a clean disk
+  -- tables that are as before or as last committed (`Rests`) are as before, if all was committed (`IsSettled`)
   rests_stays : (old new : State) → IsSettled old → HasCleanDisk old → Rests old new → Stays old new
   rests_stays old new settled clean rests = record {
     was_open = rests.was_open;
@@ -120,7 +120,7 @@ module _ {S : Type 0} (g : Ghosts S) where
     selects_open : (rows : List Row) → Selects g sql old rows → IsTrue (state g old).is_open
     selects_open rows told = told.2.was_open (shown_open sql _ _ rows told.3)
 
-    -- the rows that were read of one table are found by the list with this table's SELECT alone (`Found`)
+    -- unless it gave a fault, the read of one table found all its rows, or a value of another type (`Found`)
     found_one : {Z : Type 0} (r : Result (Vec A Z) ReadFault) → ReadsRows g sql old forms shown r new → GivesTable g (listing_of part).since (listing_of part).in_table shown r old new → HasCleanDisk (state g new) → IfOk (rows_or_none r) (Found g old this_select (λ all. AreAllRows (state g old).now ((part, map shown all.items) ∷ [])))
     found_one (Ok all) reads gives clean =
         let told = reads.rows clean in
@@ -181,15 +181,15 @@ module _ {S : Type 0} (g : Ghosts S) where
   -- ---- two stages, of which the second begins where the first ended
 
   module _ (old mid : Held S) (same : (state g mid).now ≡ (state g old).now) where
-    -- rows that a SELECT gave later it would have given before, since the tables are unchanged
+    -- rows that a SELECT shows of the tables of `mid` it shows of those of `old`, which are equal
     told_then : (sql : List ℕ) (rows : List Row) → SelectShows g mid sql rows → SelectShows g old sql rows
     told_then sql rows told = record { before = told.before; during = told.during; same = told.same ∙ same; shown = told.shown }
 
-    -- if each of several SELECTs showed rows later, each would have shown them before, since the tables are unchanged
+    -- if SELECTs each show rows of the tables of `mid`, they each show rows of those of `old`, which are equal
     all_told_then : (selects : List (List ℕ × List Form)) → AllSelectsShow g mid selects → AllSelectsShow g old selects
     all_told_then selects all select one = let told = all select one in (told.0, told_then select.0 told.0 told.1)
 
-    -- what SELECTs found later they would have found before, since the tables are unchanged
+    -- what SELECTs found in the tables of `mid` they found in those of `old`, which are equal, if `P` implies `Q`
     found_then : {A : Type 0} (selects : List (List ℕ × List Form)) (P Q : A → Type 0) (o : Option A) → ((a : A) → P a → Q a) → Found g mid selects P o → Found g old selects Q o
     found_then selects P Q (Some a) weaker found = (λ select one. let told = found.0 select one in (told.0, told_then select.0 told.0 told.1, told.2), weaker a found.1)
     found_then selects P Q None weaker found = record {
@@ -201,7 +201,7 @@ module _ {S : Type 0} (g : Ghosts S) where
       other = found.other;
     }
 
-  -- a SELECT that is refused in a later stage is refused in the reads from the start (`RefusesOne`)
+  -- a SELECT that is refused after the reads up to `mid` is refused in all the reads from `old` on (`RefusesOne`)
   refuses_then : (old mid : Held S) → AfterReads g old mid → (selects : List (List ℕ × List Form)) (fault : ReadFault) → RefusesOne g mid selects fault → RefusesOne g old selects fault
   refuses_then old mid first selects fault refused = record {
     select = refused.select;
@@ -211,7 +211,7 @@ module _ {S : Type 0} (g : Ghosts S) where
     refused = refused.refused;
   }
 
-  -- a SELECT that is answered in a later stage is answered in the reads from the start (`AnswersOne`)
+  -- a SELECT that is answered after the reads up to `mid` is answered in all the reads from `old` on (`AnswersOne`)
   answers_then : (old mid : Held S) → AfterReads g old mid → (selects : List (List ℕ × List Form)) → AnswersOne g mid selects → AnswersOne g old selects
   answers_then old mid first selects answers = record {
     select = answers.select;
@@ -222,7 +222,7 @@ module _ {S : Type 0} (g : Ghosts S) where
     answered = answers.answered;
   }
 
-  -- a fault of a later stage is a fault of the reads from the start (`FailsToRead`)
+  -- a fault of the reads after those up to `mid` is a fault of all the reads from `old` on (`FailsToRead`)
   pub fails_then : (old mid : Held S) → AfterReads g old mid → (selects : List (List ℕ × List Form)) (fault : LoadFault) → FailsToRead g mid selects fault → FailsToRead g old selects fault
   fails_then old mid first selects Store (inl refused) = inl (refuses_then old mid first selects read.Store refused)
   fails_then old mid first selects Store (inr refused) = inr (refuses_then old mid first selects read.Refused refused)
@@ -266,7 +266,7 @@ module _ {S : Type 0} (g : Ghosts S) where
   found_both xs ys P Q old None (Some b) p q = other_within old xs (xs ++ ys) (has_left xs ys) (each_of_both (λ s. (rows : List Row) × SelectShows g old s.0 rows) xs ys p.all (told_of old ys q.0)) p
   found_both xs ys P Q old None None p q = other_within old xs (xs ++ ys) (has_left xs ys) (each_of_both (λ s. (rows : List Row) × SelectShows g old s.0 rows) xs ys p.all q.all) p
 
-  -- what a later stage of the reads found was in the tables before the first stage
+  -- what the reads after those up to `mid` found was also in the tables of `old` (`Found`), if `P` implies `Q`
   found_before : {A : Type 0} (old mid new : Held S) → AfterReads g old mid → (selects : List (List ℕ × List Form)) (P Q : A → Type 0) (r : Result (Option A) LoadFault) → ReadsSome g mid selects P r new → (o : Option A) → r ≡ Ok o
       → ((state g mid).now ≡ (state g old).now → (a : A) → P a → Q a) → HasCleanDisk (state g new) → Found g old selects Q o
   found_before old mid new before selects P Q r reads o was weaker clean =
@@ -274,11 +274,11 @@ module _ {S : Type 0} (g : Ghosts S) where
       let same = ((before.stays (omega (arith, reads.leaves.survives.clean, clean))).same up).0 in
       found_then old mid same selects P Q o (weaker same) (subst (λ r. IfOk r (Found g mid selects P)) was (reads.found clean))
 
-  -- a read that finds `P` finds `Q`, if `P` implies `Q`
+  -- if `P` holds of what a read gave, and implies `Q`, then `Q` holds of it (`ReadsSome`)
   reads_as : {A : Type 0} (selects : List (List ℕ × List Form)) (P Q : A → Type 0) (old new : Held S) (r : Result (Option A) LoadFault) → ((a : A) → P a → Q a) → ReadsSome g old selects P r new → ReadsSome g old selects Q r new
   reads_as {A} selects P Q old new r weaker reads = record { was_open = reads.was_open; found = λ clean. found r (reads.found clean); fails = reads.fails; leaves = reads.leaves }
     where
-      -- a result that finds `P` finds `Q`
+      -- if `P` holds of what SELECTs found, `Q` holds of it
       found : (r : Result (Option A) LoadFault) → IfOk r (Found g old selects P) → IfOk r (Found g old selects Q)
       found (Ok (Some a)) h = (h.0, weaker a h.1)
       found (Ok None) h = h
@@ -342,7 +342,7 @@ module _ {S : Type 0} (g : Ghosts S) where
   found_with old selects P Q b weaker (Some a) found = (found.0, weaker a found.1)
   found_with old selects P Q b weaker None found = found
 
-  -- all rows of some tables and none of the others are the rows of the first format
+  -- all rows of the first format's parts, and no row of the other parts, are the rows of this format (`AreOfFormat`)
   of_first : (db : Database) (some others : ReadRows) → AreAllRows db some → map (λ read. read.0) some ≡ other_parts First → AreNone others → map (λ read. read.0) others ≡ second_format_parts → AreOfFormat First db (some ++ others)
   of_first db some others are early none late = record {
     each =
@@ -350,7 +350,7 @@ module _ {S : Type 0} (g : Ghosts S) where
         (λ read there. inr (not_early read.0 (is_there others second_format_parts late read there), none read there));
   }
     where
-      -- each part that was read is in the list of the parts that were read
+      -- the part of each read is in the list `parts`, if this lists the parts that were read
       is_there : (reads : ReadRows) (parts : List Part) → map (λ read. read.0) reads ≡ parts → (read : Part × List Row) → Has reads read → Has parts read.0
       is_there reads parts same read there = subst (λ l. Has l read.0) same (has_map (λ (read : Part × List Row). read.0) reads read there)
 
@@ -363,7 +363,7 @@ module _ {S : Type 0} (g : Ghosts S) where
       not_early : (part : Part) → Has second_format_parts part → ¬ Has (parts_in First) part
       not_early part there = not_among (parts_in First) part (no (is_among (parts_in First) part) (test_has (λ p. not (is_among (parts_in First) p)) second_format_parts part refl there))
 
-  -- all rows of the first format's tables, and none of the other tables, are what is read of the format (`AreOfFormat`)
+  -- a read of all rows of the first format's tables is, with no row of other parts, one of this format (`AreOfFormat`)
   pub reads_first : {A B : Type 0} (selects : List (List ℕ × List Form)) (some : A → ReadRows) (others : B → ReadRows) (old new : Held S) (one : Result (Option A) LoadFault) → ReadsSome g old selects (λ a. AreAllRows (state g old).now (some a)) one new
       → (a : Option A) → one ≡ Ok a → (b : B) → AreNone (others b) → ((a : A) → map (λ read. read.0) (some a) ≡ other_parts First) → map (λ read. read.0) (others b) ≡ second_format_parts
       → (o : Option (A × B)) → o ≡ option_zip a (Some b) → ReadsSome g old selects (λ x. AreOfFormat First (state g old).now (some x.0 ++ others x.1)) (Ok o) new
@@ -377,7 +377,7 @@ module _ {S : Type 0} (g : Ghosts S) where
     leaves = first.leaves;
   }
 
-  -- all rows of all tables are what is read of the second format (`AreOfFormat`)
+  -- a read of all rows of all tables is a read of the second format (`AreOfFormat`)
   pub reads_second : {A : Type 0} (selects : List (List ℕ × List Form)) (rows : A → ReadRows) (old new : Held S) (r : Result (Option A) LoadFault) → ReadsSome g old selects (λ a. AreAllRows (state g old).now (rows a)) r new → ReadsSome g old selects (λ a. AreOfFormat Second (state g old).now (rows a)) r new
   reads_second selects rows old new r reads = reads_as selects _ _ old new r (λ a are. record { each = λ read there. inl (every_part read.0, are read there) }) reads
 
@@ -397,23 +397,22 @@ module _ {S : Type 0} (g : Ghosts S) where
       → ReadsSome g old (selects_by is some others) (λ a. AreOfFormat is (state g old).now (rows a)) r new → ReadsSome g old (selects_by f some others) (λ a. AreOfFormat f (state g old).now (rows a)) r new
   reads_by some others rows old new r f is same reads = subst (λ f. ReadsSome g old (selects_by f some others) (λ a. AreOfFormat f (state g old).now (rows a)) r new) (sym same) reads
 
-  -- the rows of a format that a later stage of the reads found were in the tables before the first stage
+  -- rows of a format that the reads after those up to `mid` found were also in the tables of `old` (`AreOfFormat`)
   pub format_before : {A : Type 0} (f : Format) (rows : A → ReadRows) (old mid new : Held S) → AfterReads g old mid → (selects : List (List ℕ × List Form)) (r : Result (Option A) LoadFault) → ReadsSome g mid selects (λ a. AreOfFormat f (state g mid).now (rows a)) r new → (o : Option A) → r ≡ Ok o
       → HasCleanDisk (state g new) → Found g old selects (λ a. AreOfFormat f (state g old).now (rows a)) o
   format_before f rows old mid new before selects r reads o was clean =
       found_before old mid new before selects (λ a. AreOfFormat f (state g mid).now (rows a)) (λ a. AreOfFormat f (state g old).now (rows a)) r reads o was (λ same a are. subst (λ (db : Database). AreOfFormat f db (rows a)) same are) clean
 
--- no rows of some tables and none of others are no rows of both
+-- if no row was read of some parts, and none of others, no row was read of all of them (`AreNone`)
 pub both_none : (some others : ReadRows) → AreNone some → AreNone others → AreNone (some ++ others)
 both_none some others first second = each_of_both (λ read. read.1 ≡ []) some others first second
 
--- if `some` are the SELECTs of the first format, and with `others` those of the second, `selects_by` gives each
--- format's
+-- `selects_by` gives a format's SELECTs, if `some` are those of the first, and with `others` those of the second
 same_selects : (some others : List (List ℕ × List Form)) → some ≡ other_selects First → some ++ others ≡ other_selects Second → (f : Format) → selects_by f some others ≡ other_selects f
 same_selects some others first second First = first
 same_selects some others first second Second = second
 
--- a read of the SELECTs that `selects_by` gives for a format is one of all tables but `campaign`
+-- a read by the SELECTs that `selects_by` gives for a format is a read of all its tables but `campaign`
 pub reads_others : {A S : Type 0} (g : Ghosts S) (some others : List (List ℕ × List Form)) (P : A → Type 0) (old new : Held S) (r : Result (Option A) LoadFault) (f : Format) → some ≡ other_selects First → some ++ others ≡ other_selects Second
     → ReadsSome g old (selects_by f some others) P r new → ReadsSome g old (other_selects f) P r new
 reads_others g some others P old new r f first second reads = subst (λ selects. ReadsSome g old selects P r new) (same_selects some others first second f) reads

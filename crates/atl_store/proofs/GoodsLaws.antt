@@ -46,19 +46,19 @@ is_not_zero a apart = elim (cases_Bool (a == 0)) [ inl same ↦ absurd (apart (g
 -- ---- the amounts under some numbers
 
 module _ (row : ℕ → ℕ → Row) where
-  -- each row of a list of amounts is of an entry whose amount is not 0
+  -- each row made of a list of amounts (`amount_rows`) is of an entry of the list whose amount is not 0
   pub amounts_have : (es : List (ℕ × ℕ)) (r : Row) → Has (amount_rows row es) r → (e : ℕ × ℕ) × Has es e × (e.1 ≢ 0) × (r ≡ row e.0 e.1)
   amounts_have es r there =
       let found = flat_has (λ (e : ℕ × ℕ). if e.1 == 0 then [] else row e.0 e.1 ∷ []) es r there in
       let line = optional_has (found.0.1 == 0) (row found.0.0 found.0.1) r found.2 in
       (found.0, found.1, not_zero found.0.1 line.0, line.1)
 
-  -- each entry whose amount is not 0 has a row in the list of amounts
+  -- each entry of a list of amounts whose amount is not 0 has its row among those made of the list (`amount_rows`)
   pub have_amount : (es : List (ℕ × ℕ)) (n amount : ℕ) → Has es (n, amount) → amount ≢ 0 → Has (amount_rows row es) (row n amount)
   have_amount es n amount there some =
       has_flat (λ (e : ℕ × ℕ). if e.1 == 0 then [] else row e.0 e.1 ∷ []) es (n, amount) _ there (has_optional (amount == 0) (row n amount) (is_not_zero amount some))
 
-  -- rows of amounts have different keys, if the key determines the number
+  -- the rows made of a sorted list of amounts have different keys, if rows with equal keys are of equal numbers
   pub amounts_apart : (key : ℕ) → ((m a n b : ℕ) → take key (row m a) ≡ take key (row n b) → m ≡ n) → (es : List (ℕ × ℕ)) → is_sorted nat_cmp es ≡ true → DifferInKey key (amount_rows row es)
   amounts_apart key tells [] sorted = tt
   amounts_apart key tells (e ∷ es) sorted =
@@ -75,7 +75,7 @@ pub three_same : (a b c d e f : ℕ) → ◌≡◌ {A = Row} (has_key a b c) (ha
 three_same a b c d e f same = (cc, cc, cc)
 
 module _ (unit : ℕ) (sort : ThingKind) where
-  -- each row of a unit's items, or of its skills, is of an entry whose amount is not 0
+  -- each row of `has` for a unit's items, or for its skills, is of an entry whose amount is not 0
   sort_has : (es : List (ℕ × ℕ)) (r : Row) → Has (kind_lines unit sort es) r → (e : ℕ × ℕ) × Has es e × (e.1 ≢ 0) × (r ≡ has_row unit (sort_number sort) e.0 e.1)
   sort_has = amounts_have (has_row unit (sort_number sort))
 
@@ -101,7 +101,7 @@ pub has_goods : (unit : ℕ) (held : HoldingValue) (sort : ThingKind) (thing amo
 has_goods unit held Item thing amount there some = has_left (kind_lines unit Item (entries held.items)) (kind_lines unit Skill (entries held.days)) _ (has_sort unit Item (entries held.items) thing amount there some)
 has_goods unit held Skill thing amount there some = has_right (kind_lines unit Item (entries held.items)) (kind_lines unit Skill (entries held.days)) _ (has_sort unit Skill (entries held.days) thing amount there some)
 
--- the rows of a unit have different keys
+-- the rows of `has` for the items and skills of a unit have different keys
 pub goods_apart : (unit : ℕ) (held : HoldingValue) → DifferInKey 3 (goods_lines unit held)
 goods_apart unit held =
     apart_append 3 (kind_lines unit Item (entries held.items)) (kind_lines unit Skill (entries held.days)) (sort_apart unit Item (entries held.items) (in_order held.items)) (sort_apart unit Skill (entries held.days) (in_order held.days))
@@ -117,7 +117,7 @@ goods_begin n held r there = ap (take 1) (goods_has n held r there).4
 
 -- ---- all that all units have
 
--- each row of a unit of the map is a row of `has`
+-- each row of `has` for a unit of the map is one of the rows for all its units (`HasRowsOf`)
 goods_rows : (units : FinMap nat_cmp Unit) (n : ℕ) (u : Unit) → get units n ≡ Some u → (r : Row) → Has (goods_lines n u.holding) r → HasRowsOf units r
 goods_rows units n u got r there =
     let row = goods_has n u.holding r there in
@@ -144,7 +144,7 @@ under_unit : (sort : ThingKind) (u : Unit) → things_under sort (Some u) ≡ th
 under_unit Item u = refl
 under_unit Skill u = refl
 
--- the amount of each thing is 0 where there is no unit
+-- where there is no unit, the amount of each item and of each skill is 0
 under_none : (sort : ThingKind) (thing : ℕ) → amount_of (things_under sort None) thing ≡ 0
 under_none Item thing = ap (λ (o : Option ℕ). unwrap_or o 0) (get-empty {X = ℕ} nat_cmp thing)
 under_none Skill thing = ap (λ (o : Option ℕ). unwrap_or o 0) (get-empty {X = ℕ} nat_cmp thing)
@@ -164,7 +164,7 @@ module _ (units : FinMap nat_cmp Unit) where
       let amount : amount_under units of.0 of.3 of.4 ≡ of.5 = amount_some of.0 of.3 of.4 of.1 of.2 ∙ ap (λ (o : Option ℕ). unwrap_or o 0) of.6 in
       (of.0, of.3, of.4, λ none. of.7 (sym amount ∙ none), of.8 ∙ ap (has_row of.0 (sort_number of.3) of.4) (sym amount))
 
-  -- each amount that is not 0 has its row of `has`
+  -- each amount of a unit's item or skill that is not 0 has its row of `has`
   pub of_had : (n : ℕ) (sort : ThingKind) (thing amount : ℕ) → amount ≡ amount_under units n sort thing → amount ≢ 0 → HasRowsOf units (has_row n (sort_number sort) thing amount)
   of_had n sort thing amount is some = there (get units n) refl
     where

@@ -36,7 +36,7 @@ first_of more a b same = sym (first a) ∙ ap (take 1) same ∙ first b
 module _ {V : Type 0} (lines : ℕ → V → List Row) (more : ℕ) (values : FinMap nat_cmp V) (Wanted : Set) (are : AreGroups lines (suc more) values Wanted) where
   -- ---- put into an empty table
 
-  -- the rows of all entries have different keys, if the entries are sorted by number
+  -- the rows that `lines` gives for all entries have different keys, if the entries are sorted by number
   all_apart : (es : List (ℕ × V)) → is_sorted nat_cmp es ≡ true → DifferInKey (suc more) (groups_of lines es)
   all_apart [] sorted = tt
   all_apart (e ∷ es) sorted =
@@ -52,7 +52,7 @@ module _ {V : Type 0} (lines : ℕ → V → List Row) (more : ℕ) (values : Fi
       let found = flat_has (λ (v : ℕ × V). lines v.0 v.1) es r there in
       are.wanted found.0.0 found.0.1 (entry_got values found.0.0 found.0.1 (subst (λ (l : List (ℕ × V)). Has l found.0) same found.1)) r found.2
 
-  -- an empty table filled with the rows of all entries has exactly the wanted rows
+  -- an empty table filled with the rows that `lines` gives for all entries has exactly the wanted rows
   pub groups_filled : (rows old : List Row) → old ≡ [] → Is rows (puts (suc more) (groups_of lines (entries values)) (Has old)) → Is rows Wanted
   groups_filled rows old none made r =
       let is = filled (suc more) rows (groups_of lines (entries values)) old none (all_apart (entries values) (in_order values)) made r in (
@@ -63,7 +63,7 @@ module _ {V : Type 0} (lines : ℕ → V → List Row) (more : ℕ) (values : Fi
   -- ---- the rows of one number deleted and put anew
 
   module _ (table : Table) (n : ℕ) where
-    -- a wanted row with this number is one of the rows of the number's value
+    -- a wanted row that begins with the number `n` is one of the rows of the map's value under `n`
     lined_at : (r : Row) → begins (is_number n) r ≡ true → Wanted r → (v : V) × (get values n ≡ Some v) × Has (lines n v) r
     lined_at r is of =
         let line = are.lined r of in

@@ -37,7 +37,7 @@ use Rattle.atl_store.proofs.WholeLaws.{inside_then, inside_weaker}
 
 -- ---- one booking changes one amount
 
--- booking one amount leaves the amounts of other entries and things
+-- booking an amount leaves the amount of each other entry or thing as it is
 beside_booked : (books : BooksValue) (e : Entry) (t : Thing) (n : ℤ) (f : Entry) (u : Thing) → (entry_index f ≢ entry_index e) ⊎ (thing_index u ≢ thing_index t) → amount_in (after_booking books e t n) f u ≡ amount_in books f u
 beside_booked books e t n f u far = other_amount books e t (amount_in books e t +ℤ n) f u (elim far [ inl entries ↦ apart_entries (f, u) (e, t) entries | inr things ↦ apart_things (f, u) (e, t) things ])
 
@@ -45,23 +45,23 @@ beside_booked books e t n f u far = other_amount books e t (amount_in books e t 
 
 -- The campaign after a join: that before it with this faction, unit and report, and with money and people booked.
 record IsArrival (n : ℕ) (f : Faction) (m : ℕ) (u : Unit) (report : List ℕ) (before after : CampaignValue) : Type 0 where
-  -- the faction is added
+  -- the join adds the faction `f` under the number `n`
   factions : after.factions ≡ insert before.factions n f
-  -- the unit is added
+  -- the join adds the unit `u` under the number `m`
   units : after.units ≡ insert before.units m u
-  -- the faction's report is stored
+  -- the faction's report is stored under the number `n`
   reports : after.reports ≡ insert before.reports n report
-  -- no unit had the new unit's number
+  -- before the join no unit had the new unit's number
   fresh : get before.units m ≡ None
   -- the new unit has no items and no skills
   bare : (sort : ThingKind) → things_of sort u.holding ≡ empty
-  -- the books after the first of the two amounts is booked
+  -- the books once the money is booked under joining, and not yet the people
   half : BooksValue
-  -- the money under joining is in `half` what it is afterwards
+  -- the amount of money under joining is in `half` what it is after the join
   money : amount_in half Joining Money ≡ amount_in after.books Joining Money
-  -- every amount but the money under joining is in `half` what it was before
+  -- every amount but that of money under joining is in `half` what it was before the join
   first : (e : Entry) (t : Thing) → (entry_index e ≢ 1) ⊎ (thing_index t ≢ 0) → amount_in half e t ≡ amount_in before.books e t
-  -- every amount but the people under joining is afterwards what it is in `half`
+  -- every amount but that of people under joining is after the join what it is in `half`
   second : (e : Entry) (t : Thing) → (entry_index e ≢ 1) ⊎ (thing_index t ≢ 1) → amount_in after.books e t ≡ amount_in half e t
 
 -- what a map has under the inserted number is what was inserted
@@ -115,11 +115,11 @@ put_campaign_row rows news text before after was made r = (
   λ same. (made r).1 (inl same),
 )
 
--- The campaign row, the faction's row and the unit's row are put.
+-- The campaign row, the row of the faction that joins, and that of its unit are put.
 abbrev PutsNewcomer : ℕ → Faction → ℕ → Unit → CampaignValue → List ℕ → Database → Database → Type 0
 PutsNewcomer n f m u after world = Both (PutsCampaignRow (campaign_row_of after) world) (Both (Puts faction_table 1 (faction_line n f)) (Puts unit_table 1 (unit_line m u)))
 
--- The report's row is put, and the two amounts of the books are written.
+-- The report's row is put, and the two amounts under joining, of money and people, are written into `books`.
 abbrev PutsReportAndAmounts : ℕ → List ℕ → CampaignValue → Database → Database → Type 0
 PutsReportAndAmounts n report after = Both (Puts report_table 1 (report_row n report)) (Both (WritesAmount after Joining Money) (WritesAmount after Joining People))
 
@@ -135,7 +135,7 @@ settled_on c e t rows news S was is r = (
 )
 
 module _ (n : ℕ) (f : Faction) (m : ℕ) (u : Unit) (report : List ℕ) (after : CampaignValue) (found : IsFound after n f m u report) where
-  -- `put_newcomer` (`PutsNewcomer`) and then `put_report_and_amounts` (`PutsReportAndAmounts`) are together the write of a join (`WritesJoin`)
+  -- `PutsNewcomer` and then `PutsReportAndAmounts` are together the write of a join (`WritesJoin`)
   joins : (world : List ℕ) (a b d : Database) → PutsNewcomer n f m u after world a b → PutsReportAndAmounts n report after b d → WritesJoin n after a d
   joins world a b d enrolls reports before text was =
       let x = enrolls.0 in

@@ -34,7 +34,7 @@ key_one part is = refl
 
 -- ---- chosen rows of two equivalent sets
 
--- a choice between wanted and old rows is the same for equivalent wanted sets
+-- if `P` and `Q` are equivalent, a choice between `P` and `W` holds exactly if one between `Q` and `W` does (`Chosen`)
 chosen_as : (b : Bool) (P Q W : Type 0) → (P ↔ Q) → Chosen b P W ↔ Chosen b Q W
 chosen_as true P Q W same = same
 chosen_as false P Q W same = (λ h. h, λ h. h)

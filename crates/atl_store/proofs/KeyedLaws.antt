@@ -35,36 +35,36 @@ use Rattle.atl_store.proofs.LoadLaws.{keyed_by, keyed_shown}
 -- ---- rows by a number that each of them has in a column
 
 module _ {A : Type 0} (shown : A → Row) (number : A → ℤ) (at : ℕ) (is : (a : A) → column (shown a) at ≡ Int (number a)) where
-  -- equality of the columns that show the numbers is equality of the numbers
+  -- the rows shown for `a` and `b` are equal in the column `at` exactly if the numbers of `a` and `b` are equal
   same_test : (a b : A) → is_eq (value_cmp (column (shown a) at) (column (shown b) at)) ≡ int_eq (number a) (number b)
   same_test a b = ap (λ v. is_eq (value_cmp v (column (shown b) at))) (is a) ∙ ap (λ v. is_eq (value_cmp (Int (number a)) v)) (is b) ∙ ap is_eq (value_cmp-Int (number a) (number b))
 
-  -- a number that differs from all others is shown by a different value from each of theirs
+  -- if the number of `a` differs from those of all of `xs`, its row differs from theirs in the column `at`
   each_apart : (a : A) (xs : List A) → AllByRecursion (λ n. int_eq (number a) n ≡ false) (map number xs) → AllByRecursion (λ r. is_eq (value_cmp (column (shown a) at) (column r at)) ≡ false) (map shown xs)
   each_apart a [] all = tt
   each_apart a (x ∷ xs) all = (same_test a x ∙ all.0, each_apart a xs all.1)
 
-  -- different numbers are shown by different values of the column
+  -- if the numbers of `xs` all differ, their rows all differ in the column `at`
   columns_apart : (xs : List A) → IsDistinct int_eq (map number xs) → IsDistinct (λ a b. is_eq (value_cmp (column a at) (column b at))) (map shown xs)
   unfolding IsDistinct
   columns_apart [] apart = tt
   columns_apart (x ∷ xs) apart = (each_apart x xs apart.0, columns_apart xs apart.1)
 
-  -- the numbers are shown as integers
+  -- the rows of `xs` have integers in the column `at`
   are_ints : (xs : List A) → AllByRecursion (λ r. is_int (column r at) ≡ true) (map shown xs)
   are_ints [] = tt
   are_ints (x ∷ xs) = (ap is_int (is x), are_ints xs)
 
-  -- different numbers are shown as different integers (`HaveKeys`)
+  -- if the numbers of `xs` all differ, their rows have different integers in the column `at` (`HaveKeys`)
   numbers_keys : (xs : List A) → IsDistinct int_eq (map number xs) → HaveKeys at (map shown xs)
   numbers_keys xs apart = record { apart = columns_apart xs apart; ints = are_ints xs }
 
-  -- a number shown differently from others differs from each
+  -- if the row of `a` differs from those of all of `xs` in the column `at`, its number differs from theirs
   each_number_apart : (a : A) (xs : List A) → AllByRecursion (λ r. is_eq (value_cmp (column (shown a) at) (column r at)) ≡ false) (map shown xs) → AllByRecursion (λ n. int_eq (number a) n ≡ false) (map number xs)
   each_number_apart a [] all = tt
   each_number_apart a (x ∷ xs) all = (sym (same_test a x) ∙ all.0, each_number_apart a xs all.1)
 
-  -- numbers that are shown differently differ
+  -- if the rows of `xs` all differ in the column `at`, their numbers all differ
   numbers_apart : (xs : List A) → IsDistinct (λ a b. is_eq (value_cmp (column a at) (column b at))) (map shown xs) → IsDistinct int_eq (map number xs)
   unfolding IsDistinct
   numbers_apart [] apart = tt
@@ -72,7 +72,7 @@ module _ {A : Type 0} (shown : A → Row) (number : A → ℤ) (at : ℕ) (is : 
 
 -- ---- rows of the entries of a map, with the numbers in the first column
 
--- two different numbers differ by the equality of integers
+-- two different numbers fail the test for equal integers (`int_eq`)
 differ : (m n : ℕ) → m ≢ n → int_eq (pos m) (pos n) ≡ false
 differ m n apart = elim (cases_Bool (int_eq (pos m) (pos n))) [ inl same ↦ absurd (apart (grind (ints, arith))) | inr differs ↦ differs ]
 
@@ -98,7 +98,7 @@ one_keys row n is = record { apart = (tt, tt); ints = (ap is_int is, tt) }
 
 -- ---- the rows of a part, as its listing shows them
 
--- mapping by two functions is mapping by their composition
+-- mapping by `f` and then by `g` is mapping by `h`, if `h` does what `f` and then `g` do
 pub mapped_twice : {X Y Z : Type 0} (f : X → Y) (g : Y → Z) (h : X → Z) → ((x : X) → g (f x) ≡ h x) → (xs : List X) → map g (map f xs) ≡ map h xs
 mapped_twice f g h same [] = refl
 mapped_twice f g h same (x ∷ xs) = ap (λ y. y ∷ map g (map f xs)) (same x) ∙ ap (λ ys. h x ∷ ys) (mapped_twice f g h same xs)
@@ -107,7 +107,7 @@ mapped_twice f g h same (x ∷ xs) = ap (λ y. y ∷ map g (map f xs)) (same x) 
 abbrev placed_row : Part → Row → Row
 placed_row part r = visible (table_of part) r ++ rowid r ∷ []
 
--- a row that is shown with its rowid is, without the rowid, the visible row
+-- a row that is shown with its rowid is, without the rowid, the row as its table shows it (`visible`)
 cut_row : (part : Part) (r : Row) → take (width part) (placed_row part r) ≡ visible (table_of part) r
 cut_row Own r = refl
 cut_row part r = refl
@@ -153,15 +153,15 @@ module _ (part : Part) (db : Trees) (rows : List Row) where
     same_placed : IsPermutation (map (placed_row part) (db (table_of part).tree)) rows
     same_placed = subst (λ l. IsPermutation l rows) (in_places part is db) same
 
-    -- if the rowids that are shown are different integers, so are the tree's rowids
+    -- if the rowids that are shown are different integers, so are the rowids in the table's tree
     pub places_keyed : HaveKeys (width part) rows → AreKeyedByRowid (db (table_of part).tree)
     places_keyed keys = keyed_by (placed_row part) (width part) (db (table_of part).tree) rows (row_place part) same_placed keys
 
-    -- if the tree's rowids are different integers, so are the rowids that are shown
+    -- if the rowids in the table's tree are different integers, so are the rowids that are shown
     pub keyed_places : AreKeyedByRowid (db (table_of part).tree) → HaveKeys (width part) rows
     keyed_places keyed = keyed_shown (placed_row part) (width part) (db (table_of part).tree) rows (row_place part) same_placed keyed
 
-  -- if the first column, which shows the rowid, has different integers, so have the tree's rowids
+  -- if the first column shows the rowids, and as different integers, the rowids in the table's tree are so too
   pub numbers_keyed : shows_rowids part ≡ false → IsPermutation (rows_in (table_of part) db) rows → HaveKeys 0 rows → AreKeyedByRowid (db (table_of part).tree)
   numbers_keyed is same keys = keyed_by (visible (table_of part)) 0 (db (table_of part).tree) rows (row_number part is) same keys
 
@@ -176,9 +176,9 @@ module _ (part : Part) (db : Trees) (rows : List Row) where
 
 -- A row that was read with its rowid is shown as its values and after them the rowid.
 pub record IsPlacedAs {A : Type 0} (part : Part) (stored : RowWithId A → Row) (values : A → Row) : Type 0 where
-  -- the first columns of the shown row are the values
+  -- the first columns of a row as it is shown are the values of the row that was read
   pub values_are : (s : RowWithId A) → take (width part) (stored s) ≡ values s.row
-  -- the column after the values is the rowid
+  -- the column after these values is the rowid of the row that was read
   pub place_is : (s : RowWithId A) → column (stored s) (width part) ≡ Int s.rowid
 
 module _ {A : Type 0} {part : Part} {stored : RowWithId A → Row} {values : A → Row} (is : IsPlacedAs part stored values) (placed : List (RowWithId A)) where

@@ -50,7 +50,7 @@ differs_zero z differs same = grind (ints, arith)
 pub is_differing : (z : ℤ) → z ≢ pos 0 → int_eq z (pos 0) ≡ false
 is_differing z apart = elim (cases_Bool (int_eq z (pos 0))) [ inl same ↦ absurd (apart (grind (ints, arith))) | inr differs ↦ differs ]
 
--- the rows of an amount that is not 0 are its one row
+-- if an amount of the books is not 0, its rows (`amount_lines`) are just the row with its numbers `e` and `t`
 pub amount_is : (c : CampaignValue) (entry : Entry) (thing : Thing) (e t : ℕ) (z : ℤ) → e ≡ entry_index entry + 1 → t ≡ thing_index thing → z ≡ amount_in c.books entry thing → z ≢ pos 0 → amount_lines c entry thing ≡ books_row e t z ∷ []
 amount_is c entry thing e t z entry_is thing_is amount some =
     let place = entry_index entry + 1 in
@@ -88,7 +88,7 @@ within books are e t some = elim (cases_lt (thing_index t) books.things) [
 -- ---- the rows of all amounts
 
 module _ (c : CampaignValue) where
-  -- the row of `books` for an entry and a thing
+  -- the row of `books` with the campaign's amount of an entry and a thing
   abbrev row_at : Entry → Thing → Row
   row_at e t = books_row (entry_index e + 1) (thing_index t) (amount_in c.books e t)
 

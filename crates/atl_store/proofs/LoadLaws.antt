@@ -1,4 +1,4 @@
--- Laws on rowids that a SELECT shows: they are different integers exactly if those of the tree are.
+-- Laws on rowids that a SELECT shows: they are integers, no two alike, exactly if those of the table's tree are.
 use Rattle.std.proofs.Common.{◌≡◌, ℕ, false, List, [], ◌∷◌, map, Ordering, Less, Equal, Greater, refl, sym, ap, ◌∙◌}
 use Rattle.std.specs.List.{AllByRecursion, IsDistinct}
 use Rattle.std.specs.List.Sorted.{IsPermutation}
@@ -13,12 +13,12 @@ use Rattle.sqlite_trees.proofs.ListLemmas.{all-permutation}
 use Rattle.atl_store.specs.Gathering.{HaveKeys}
 use Rattle.atl_sql.specs.Sets.{AreKeyedByRowid}
 
--- what is true of each image of the rows is true of each row, if it carries over from image to row
+-- if `P` is true of each row mapped by `f`, `Q` is true of each row, as `P` of a mapped row implies `Q` of the row
 all_mapped : (f : Row → Row) (P Q : Row → Type 0) (rows : List Row) → ((r : Row) → P (f r) → Q r) → AllByRecursion P (map f rows) → AllByRecursion Q rows
 all_mapped f P Q [] so all = tt
 all_mapped f P Q (r ∷ rows) so all = (so r all.0, all_mapped f P Q rows so all.1)
 
--- if the images differ in the column that shows the rowid, the rows' rowids differ
+-- if the rows mapped by `f` differ in the column that shows the rowid, the rows' rowids differ
 distinct_mapped : (f : Row → Row) (at : ℕ) (rows : List Row) → ((r : Row) → column (f r) at ≡ rowid r) → IsDistinct (λ a b. is_eq (value_cmp (column a at) (column b at))) (map f rows)
     → IsDistinct (λ a b. is_eq (value_cmp (rowid a) (rowid b))) rows
 unfolding IsDistinct
@@ -38,18 +38,18 @@ ascending_from (r ∷ rows) apart = (apart.0, ascending_from rows apart.1)
 flips : (at : ℕ) (a b : Row) → is_eq (value_cmp (column a at) (column b at)) ≡ is_eq (value_cmp (column b at) (column a at))
 flips at a b = ap is_eq (value_cmp_total.antisymm (column a at) (column b at)) ∙ reversed (value_cmp (column b at) (column a at))
   where
-    -- a comparison and its reverse agree on whether the values are equal
+    -- the reverse of a comparison's result is Equal exactly if the result is
     reversed : (o : Ordering) → is_eq (ordering_reverse o) ≡ is_eq o
     reversed Less = refl
     reversed Equal = refl
     reversed Greater = refl
 
--- what is true of each row is true of each image, if it carries over from row to image
+-- if `Q` is true of each row, `P` is true of each row mapped by `f`, as `Q` of a row implies `P` of the mapped row
 mapped_all : (f : Row → Row) (P Q : Row → Type 0) (rows : List Row) → ((r : Row) → Q r → P (f r)) → AllByRecursion Q rows → AllByRecursion P (map f rows)
 mapped_all f P Q [] so all = tt
 mapped_all f P Q (r ∷ rows) so all = (so r all.0, mapped_all f P Q rows so all.1)
 
--- if the rows' rowids differ, the images differ in the column that shows the rowid
+-- if the rows' rowids differ, the rows mapped by `f` differ in the column that shows the rowid
 mapped_distinct : (f : Row → Row) (at : ℕ) (rows : List Row) → ((r : Row) → column (f r) at ≡ rowid r) → IsAscending (λ a b. is_eq (value_cmp (rowid a) (rowid b)) ≡ false) rows
     → IsDistinct (λ a b. is_eq (value_cmp (column a at) (column b at))) (map f rows)
 unfolding IsDistinct

@@ -59,11 +59,11 @@ module _ (f : Format) {S : Type 0} (g : Ghosts S) where
 
 -- ---- the parts
 
--- a part that is shown with rowids is not the campaign row
+-- a part that is shown with rowids is one of the parts other than the campaign row
 not_own : (part : Part) → shows_rowids part ≡ true → Has (other_parts Second) part
 not_own part is = elim (every_part part) [ inl own ↦ absurd (true≢false (sym is ∙ ap shows_rowids own)) | inr other ↦ other ]
 
--- each format has the campaign row
+-- the campaign row is a part of each format
 has_own : (f : Format) → Has (parts_in f) Own
 has_own First = inl refl
 has_own Second = inl refl
@@ -85,7 +85,7 @@ nothing_unplaced part = elim (cases_Bool (shows_rowids part)) [
 since_first : (part : Part) → Has (parts_in First) part → (listing_of part).since ≡ First
 since_first part there = all_has (λ p. (listing_of p).since ≡ First) (parts_in First) part (refl, (refl, (refl, (refl, (refl, (refl, (refl, (refl, (refl, tt))))))))) there
 
--- a schema with a format's tables has those of the first format that has the part, for each part of the format
+-- a schema with a format's tables has, for each part of it, the tables of the first format that has the part (`since`)
 has_since : (f : Format) (schema : Schema) → HasTablesOf f schema → (part : Part) → Has (parts_in f) part → HasTablesOf (listing_of part).since schema
 has_since First schema has part there = subst (λ since. HasTablesOf since schema) (sym (since_first part there)) has
 has_since Second schema has part there = under (listing_of part).since
@@ -137,7 +137,7 @@ module _ (f : Format) {S : Type 0} (g : Ghosts S) (old : Held S) (reads : ReadRo
           ]
     ]
 
-    -- each part's table has exactly the rows that are put together, if the schema is the format's
+    -- if the schema is the format's, and `campaign` has just the row `head`, each part's table has its rows in `p`
     rows_of_part : (text : List ℕ) → HasTablesOf f old.schema → IsPermutation (rows_in campaign_table db) (own_stored text head ∷ []) → (part : Part) → Has (parts_in f) part → IsPermutation (rows_in (table_of part) db) (rows_read text p part)
     rows_of_part text begins own part there = elim (every_part part) [
       | inl is ↦ subst (λ q. IsPermutation (rows_in (table_of q) db) (rows_read text p q)) (sym is) (subst (λ rows. IsPermutation (rows_in campaign_table db) (map (own_stored text) rows)) (sym made.campaign) own)
@@ -147,7 +147,7 @@ module _ (f : Format) {S : Type 0} (g : Ghosts S) (old : Held S) (reads : ReadRo
           (subst (IsPermutation (rows_in (table_of read.0.0) db)) (sym (made.rows text read.0 read.1)) (unplaced_all read.0.0 db read.0.1 (all_of read.0 read.1 (subst (Has (parts_in f)) read.2 there) begins)))
     ]
 
-    -- the tables of the format have exactly the rows that are put together, if the schema is the format's
+    -- if the schema is the format's, and `campaign` has just the row `head`, the tables have just the rows in `p`
     have_rows : (text : List ℕ) → HasTablesOf f old.schema → IsPermutation (rows_in campaign_table db) (own_stored text head ∷ []) → HaveRows f db text p
     have_rows text begins own = record { rows = rows_of_part text begins own; none = none_read text }
 
@@ -196,11 +196,11 @@ module _ (f : Format) {S : Type 0} (g : Ghosts S) where
 
   -- ---- what else refuses the load after the first rule holds
 
-  -- a fault of reading another table refuses the load
+  -- a fault of reading the tables but `campaign` refuses the load
   pub unread_refuses : (old mid : Held S) → old.in_transaction ≡ false → KeepsOneRow f g old → AfterReads g old mid → (fault : LoadFault) → FailsToRead g mid (other_selects f) fault → RefusesToLoadIn f g old fault
   unread_refuses old mid idle kept first fault fails = refused fault (fails_then g old mid first (other_selects f) fault fails)
     where
-      -- each fault that reading the other tables may return refuses the load
+      -- each fault that reading the tables but `campaign` may return refuses the load
       refused : (fault : LoadFault) → FailsToRead g old (other_selects f) fault → RefusesToLoadIn f g old fault
       refused Store fails = inr (inr (kept, inl fails))
       refused (Damaged rule) fails = absurd fails
@@ -242,7 +242,7 @@ module _ (f : Format) {S : Type 0} (g : Ghosts S) where
 -- what was read of the other tables after the campaign row was read
 module _ (f : Format) {S : Type 0} (g : Ghosts S) {A : Type 0} (rows : A → ReadRows) (old mid new : Held S) (own : StoredCampaign) (w : WorldValue) (row : OwnRead g old f own w) (before : AfterReads g old mid) (r : Result (Option A) LoadFault)
     (reads : ReadsSome g mid (other_selects f) (λ a. AreOfFormat f (state g mid).now (rows a)) r new) (o : Option A) (was : r ≡ Ok o) (clean : HasCleanDisk (state g new)) where
-  -- what was read of the other tables is what their SELECTs find in them as before the campaign row was read (`Found`)
+  -- what was read of the other tables their SELECTs also find in the tables before `campaign` was read (`Found`)
   found : (told : Option A) → o ≡ told → Found g old (other_selects f) (λ a. AreOfFormat f (state g old).now (rows a)) told
   found told is = subst (Found g old (other_selects f) (λ a. AreOfFormat f (state g old).now (rows a))) is (format_before g f rows old mid new before (other_selects f) r reads o was clean)
 
@@ -267,7 +267,7 @@ module _ (f : Format) {S : Type 0} (g : Ghosts S) {A : Type 0} (rows : A → Rea
       refused Memory lacks = wants_memory f g old idle (own_kept f g old own w row)
 
 module _ {S : Type 0} (g : Ghosts S) where
-  -- what is true of a fault is true of the equal error of a result
+  -- what is true of a fault is true of the error of a result that is this fault
   pub told_as : {A : Type 0} (P : LoadFault → Type 0) (fault : LoadFault) (r : Result A LoadFault) → IsErrAnd r (λ told. told ≡ fault) → P fault → IfErr r P
   told_as P fault (Ok a) told p = tt
   told_as P fault (Err f) told p = subst P (sym told) p

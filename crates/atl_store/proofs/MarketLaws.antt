@@ -113,7 +113,7 @@ module _ (region item : ℕ) where
       ap (λ x. is_here (x ∷ v ∷ row)) first ∙ ap (λ x. is_here (int region ∷ x ∷ row)) second ∙ and_from _ _ (is_itself region) (is_itself item)
 
   module _ (c : CampaignValue) (stock : ℕ) (is : stock ≡ stock_in c.regions region item) where
-    -- the row of `market` of this region and item
+    -- the row of `market` with this region, item and stock
     abbrev row : Row
     row = market_row region item stock
 

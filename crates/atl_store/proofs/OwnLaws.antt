@@ -28,7 +28,7 @@ use Rattle.atl_sql.proofs.RowsLaws.{asked_rows}
 use Rattle.atl_sql.proofs.SelectLaws.{reads_part}
 use Rattle.atl_sql.proofs.SelectingLaws.{never_other}
 
--- a list whose image is one element has one element
+-- a list that mapping by `f` turns into a list of one element has one element
 pub one_mapped : {A B : Type 0} (f : A → B) (xs : List A) (y : B) → map f xs ≡ y ∷ [] → (x : A) × (xs ≡ x ∷ []) × (f x ≡ y)
 one_mapped f [] y is = absurd (let k = is in cc)
 one_mapped f (x ∷ []) y is = (x, refl, let k = is in cc)
@@ -111,14 +111,14 @@ judged_as Is Nothing P read lacks broken (Err (Damaged Books)) judged = absurd j
 judged_as Is Nothing P read lacks broken (Err (Damaged Mail)) judged = absurd judged
 
 module _ (f : Format) where
-  -- if the rows were parsed, the result of checking the parsed rows judges the shown rows (`JudgesRows`)
+  -- if the rows were parsed, the result of checking them is one of judging the rows that SQL shows (`JudgesRows`)
   pub judged_rows : (items : List StoredCampaign) (rows : List Row) (r : Result (StoredCampaign × WorldValue) LoadFault)
       → map campaign_stored items ≡ map (first_columns (length campaign_forms)) rows → JudgesOwn f items r → JudgesRows f rows r
   judged_rows items rows r shown =
       judged_as (λ both. IsOwn f items both.0 both.1) ((own : StoredCampaign) (w : WorldValue) → ¬ IsOwn f items own w) (JudgesRows f rows) (λ both own. record { is = sym shown ∙ ap (map campaign_stored) own.only; id = own.id; format = own.format; utf8 = IsUtf8-string_bytes both.0.world; world = own.world }) tt
       (λ none h text w own. let was = own_read f items rows h text w shown own in none was.0 w was.1) r
 
-  -- if the rows couldn't be parsed, for a value of another type or lack of memory, the fault judges them (`JudgesRows`)
+  -- if the rows weren't parsed (a value of another type, or no memory), the fault is one of judging them (`JudgesRows`)
   pub unread_rows : (rows : List Row) (fault : ReadFault) → (fault ≡ read.OtherType → ¬ AreTyped campaign_forms rows)
       → ((fault ≡ read.OtherType → ⊥) → fault ≡ read.Memory) → JudgesRows f rows (Err (own_fault fault))
   unread_rows rows read.OtherType other which = λ h text w own. other refl (own_typed f rows h text w own)
@@ -127,7 +127,7 @@ module _ (f : Format) where
   unread_rows rows read.Refused other which = absurd (let e = which (λ e. cc) in cc)
 
 module _ (f : Format) {S : Type 0} (g : Ghosts S) (old : Held S) where
-  -- rows that break the first rule, or are of the other format, refuse the load with the fault that was returned
+  -- a fault of judging the rows of `campaign` (`JudgesFormat`) refuses the load, outside a transaction
   pub refuses_own : old.in_transaction ≡ false → (rows : List Row) (r : Result (StoredCampaign × WorldValue) LoadFault) → JudgesFormat f rows r → Selects g (selection campaign_table 1) old rows
       → IfErr r (RefusesToLoadIn f g old)
   refuses_own idle rows r (inl other) told = subst (λ answer. IfErr answer (RefusesToLoadIn f g old)) (sym other.1) (rows, told, other.0)
@@ -145,7 +145,7 @@ module _ (f : Format) {S : Type 0} (g : Ghosts S) (old : Held S) where
   own_is rows r (inl other) told = subst (λ answer. IfOk answer (λ both. OwnRead g old f both.0 both.1)) (sym other.1) tt
   own_is rows r (inr judged) told = rows_own rows r judged.1 told
 
-  -- a SELECT of the campaign row that is refused refuses the load with its fault, outside a transaction
+  -- if the SELECT of the campaign row is refused, its fault refuses the load, outside a transaction
   pub unasked_own : old.in_transaction ≡ false → (fault : ReadFault) → RefusesToSelect g (selection campaign_table 1) old fault → RefusesToLoadIn f g old (own_fault fault)
   unasked_own idle read.Store refused = inr (inl refused)
   unasked_own idle read.Memory refused = (idle, inl refused)

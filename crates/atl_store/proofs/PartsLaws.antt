@@ -120,14 +120,14 @@ own_held f text c rows read in_table of_them = (
 -- ---- amounts that are not 0
 
 module _ {R : Type 0} (amount : R → ℤ) (row : ℕ → ℕ → R) (is : (thing count : ℕ) → amount (row thing count) ≡ pos count) where
-  -- each row made of amounts is of an entry whose amount is not 0
+  -- each row made of a list of amounts (`amount_rows`) is of an entry of the list whose amount is not 0
   amount_row_is_of_entry : (es : List (ℕ × ℕ)) (s : R) → Has (amount_rows amount row es) s → (e : ℕ × ℕ) × Has es e × (e.1 ≢ 0) × (s ≡ row e.0 e.1)
   amount_row_is_of_entry es s there =
       let kept = has_filtered (λ r. not (is_zero (amount r))) (rows_by row es) s there in
       let e = map_has (λ (e : ℕ × ℕ). row e.0 e.1) es s kept.0 in
       (e.0, e.1, λ zero. true≢false (sym kept.1 ∙ ap (λ r. not (is_zero (amount r))) e.2 ∙ ap (λ z. not (is_zero z)) (is e.0.0 e.0.1) ∙ ap (λ a. not (a == 0)) zero), e.2)
 
-  -- a row is made of each entry whose amount is not 0
+  -- each entry of a list of amounts whose amount is not 0 has its row among those made of the list (`amount_rows`)
   entry_has_amount_row : (es : List (ℕ × ℕ)) (thing count : ℕ) → Has es (thing, count) → count ≢ 0 → Has (amount_rows amount row es) (row thing count)
   entry_has_amount_row es thing count there some =
       has_kept (λ r. not (is_zero (amount r))) (rows_by row es) (row thing count) (has_map (λ (e : ℕ × ℕ). row e.0 e.1) es (thing, count) there) (ap (λ z. not (is_zero z)) (is thing count) ∙ ap not (is_not_zero count some))
@@ -277,7 +277,7 @@ module _ (f : Format) (db : Trees) (text : List ℕ) (p : Parts) (c : CampaignVa
         | inr is ↦ let keys = (by_part part.0 part.1).1 is in numbers_keyed part.0 db keys.0 is keys.1 keys.2
       ])
 
--- in the second format, holding a campaign's rows in each part is holding the campaign
+-- tables that hold a campaign in the second format (`HoldsIn`) hold it (`Holds`)
 pub holds_all : (db : Trees) (text : List ℕ) (c : CampaignValue) → HoldsIn Second db text c → Holds db text c
 holds_all db text c holds = record { rows = λ part. holds.rows part (every_part part) }
 
@@ -292,7 +292,7 @@ one_head Second h rows id format is = rw (is, id, format) refl
 no_markets : (f : Format) (p : Parts) → ((text : List ℕ) (part : Part) → ¬ Has (parts_in f) part → rows_read text p part ≡ []) → IsTrue (are_of_format f p.markets)
 no_markets First p none = nothing p.markets (none [] Markets (not_among (parts_in First) Markets refl))
   where
-    -- stocks that show no row are none, as the first format requires
+    -- if the list of stocks shows no row it is empty, as the first format requires
     nothing : (rows : List StoredMarket) → map market_values rows ≡ [] → IsTrue (are_of_format First rows)
     nothing [] is = refl
     nothing (row ∷ rows) is = absurd (let k = is in cc)

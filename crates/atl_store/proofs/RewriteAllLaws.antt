@@ -71,6 +71,6 @@ module _ (c : MarkedCampaign) where
 
   -- ---- the whole
 
-  -- with all parts rewritten, all changes are written
+  -- with the marked rows of all parts rewritten, all changes are written (`WritesChanges`)
   pub all_rewritten : (parts : List Part) → list_all (is_among parts) all_parts ≡ true → (old new : Database) → RewritesWithOwn c parts old new → WritesChanges c old new
   all_rewritten parts all old new did before text was = record { rows = λ part. (did before text was).done part (all_among parts all part) }

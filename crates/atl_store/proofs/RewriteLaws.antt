@@ -34,11 +34,12 @@ chosen_step false true W M N same = (λ h. h, λ h. h)
 chosen_step true false W M N same = same
 chosen_step false false W M N same = same
 
--- Some chosen rows are rewritten: once the `rest` is rewritten too, all are. The other tables are unchanged.
+-- The rows that `rest` chooses are left: once they are rewritten too, all rows that `all` chooses are.
+-- The other tables are unchanged.
 pub record Remaining (table : Table) (Wanted : Set) (rest all : Row → Bool) (old now : Database) : Type 0 where
   -- once the rows that `rest` chooses are the wanted ones, all that `all` chooses are
   pub rows : (r : Row) → Chosen (rest r) (Wanted r) (Has (rows_in table now.trees) r) ↔ Chosen (all r) (Wanted r) (Has (rows_in table old.trees) r)
-  -- the other tables are unchanged
+  -- every table but `table` is unchanged
   pub others : (t : Table) → Has all_tables t → t.tree ≢ table.tree → now.trees t.tree ≡ old.trees t.tree
 
 module _ (table : Table) (Wanted : Set) where
@@ -155,7 +156,7 @@ key_begins n (v ∷ row) key =
 next_number : (n : ℕ) (ns : List ℕ) (r : Row) → begins (is_among (n ∷ ns)) r ≡ (begins (is_number n) r || begins (is_among ns) r)
 next_number n ns r = begins_either (is_number n) (is_among ns) r
 
--- no row begins with one of these numbers, if there are none
+-- if the list `ns` is empty, no row begins with one of its numbers
 no_number : (ns : List ℕ) → ns ≡ [] → (r : Row) → begins (is_among ns) r ≡ false
 no_number ns none r = ap (λ l. begins (is_among l) r) none ∙ begins_none r
 
@@ -166,11 +167,11 @@ of_set marks ns all r = ap (λ (f : ℕ → Bool). begins f r) (λ i n. (sym (co
 -- ---- the rows of all numbers of a set, one after another
 
 module _ (table : Table) (Wanted : Set) where
-  -- The rows of some numbers are rewritten: once those of the `rest` are rewritten too, the rows of all numbers are.
+  -- The numbers `rest` of `all` are left: once their rows are rewritten too, the rows of all of `all` are.
   abbrev pub NearingNumbers : List ℕ → List ℕ → Database → Database → Type 0
   NearingNumbers rest all = Remaining table Wanted (λ r. begins (is_among rest) r) (λ r. begins (is_among all) r)
 
-  -- rewriting the rows of one more number leaves one number fewer to rewrite
+  -- once the rows of the first number that is left are rewritten, only the numbers `rest` after it are left
   pub number_nearer : (n : ℕ) (now rest all : List ℕ) → now ≡ n ∷ rest → (old mid new : State) → Inside HasTables (NearingNumbers now all) old mid
       → Inside HasTables (Rewrites table (begins (is_number n)) Wanted) mid new → Inside HasTables (NearingNumbers rest all) old new
   number_nearer n now rest all is = one_less_remaining table Wanted (λ r. begins (is_number n) r) (λ r. begins (is_among now) r) (λ r. begins (is_among rest) r) (λ r. begins (is_among all) r) (λ r. ap (λ ns. begins (is_among ns) r) is ∙ next_number n rest r)

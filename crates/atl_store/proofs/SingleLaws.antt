@@ -60,7 +60,7 @@ module _ {V : Type 0} where
 -- ---- one amount after another, and one owner after another
 
 module _ (table : Table) (Wanted : Set) (finds : (ℕ → ℕ → Bool) → Row → Bool) where
-  -- some single amounts are rewritten: once the `rest` is rewritten too, all are
+  -- the amounts that `rest` chooses are left: once they are rewritten too, all amounts that `all` chooses are
   abbrev pub NearingSingles : (ℕ → ℕ → Bool) → (ℕ → ℕ → Bool) → Database → Database → Type 0
   NearingSingles rest all = Remaining table Wanted (λ r. finds rest r) (λ r. finds all r)
 
@@ -69,7 +69,7 @@ module _ (table : Table) (Wanted : Set) (finds : (ℕ → ℕ → Bool) → Row 
   RewritesFound found = Rewrites table (λ r. finds found r) Wanted
 
   module _ (by_numbers : FindsByNumbers finds) where
-    -- two tests of numbers that agree find the same rows
+    -- two tests with equal results for all numbers find the same rows
     finds_same : (f g : ℕ → ℕ → Bool) → ((n t : ℕ) → f n t ≡ g n t) → (r : Row) → finds f r ≡ finds g r
     finds_same f g same r = ap (λ (h : ℕ → ℕ → Bool). finds h r) (λ i n t. same n t i)
 
@@ -83,13 +83,13 @@ module _ (table : Table) (Wanted : Set) (finds : (ℕ → ℕ → Bool) → Row 
     nearer step rest next all parts = one_less_remaining table Wanted (λ r. finds step r) (λ r. finds rest r) (λ r. finds next r) (λ r. finds all r)
         (λ r. finds_same rest (λ n t. step n t || next n t) parts r ∙ by_numbers.either step next r)
 
-    -- when no amount is left to rewrite, all are rewritten
+    -- when no amount is left to rewrite, all amounts that `goal` chooses are rewritten
     none_remaining : (rest all goal : ℕ → ℕ → Bool) → ((n t : ℕ) → rest n t ≡ false) → ((n t : ℕ) → all n t ≡ goal n t) → (old new : State)
         → Inside HasTables (NearingSingles rest all) old new → Inside HasTables (RewritesFound goal) old new
     none_remaining rest all goal none same = all_rewritten table Wanted (λ r. finds rest r) (λ r. finds all r) (λ r. finds goal r) (finds_none rest none) (finds_same all goal same)
 
     module _ {V : Type 0} where
-      -- rewriting one more amount of an owner leaves one amount fewer to rewrite
+      -- once the first amount of an owner that is left is rewritten, only the amounts `rest` after it are left
       pub single_nearer : (owner : ℕ) (x : ℕ × V) (now rest all : List (ℕ × V)) → now ≡ x ∷ rest → (old mid new : State)
           → Inside HasTables (NearingSingles (is_key owner now) (is_key owner all)) old mid → Inside HasTables (RewritesFound (is_thing owner x.0)) mid new
           → Inside HasTables (NearingSingles (is_key owner rest) (is_key owner all)) old new
@@ -103,7 +103,7 @@ module _ (table : Table) (Wanted : Set) (finds : (ℕ → ℕ → Bool) → Row 
           (λ n t. ap (λ es. is_key owner es n t) none ∙ and-false (is_number owner n))
           (λ n t. ap (λ es. is_key owner es n t) is ∙ ap (λ b. is_number owner n && b) (listed_key (entries numbers) t ∙ ap is_some (sym (get-entries numbers t))))
 
-      -- rewriting the amounts of one more owner leaves one owner fewer to rewrite
+      -- once the amounts of the first owner that is left are rewritten, only the owners `rest` after it are left
       pub owner_nearer : (x : ℕ × FinMap nat_cmp V) (now rest all : List (ℕ × FinMap nat_cmp V)) → now ≡ x ∷ rest → (old mid new : State)
           → Inside HasTables (NearingSingles (is_listed now) (is_listed all)) old mid → Inside HasTables (RewritesFound (is_of x.0 x.1)) mid new
           → Inside HasTables (NearingSingles (is_listed rest) (is_listed all)) old new

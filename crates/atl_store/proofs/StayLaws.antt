@@ -111,11 +111,11 @@ told_by g own fault_of old new e (Err f) told gave = (e, told, gave)
 pub not_there : {S : Type 0} (g : Ghosts S) (conn : Held S) (schema : Schema) (found : Bool) → schema ≡ (state g conn).now.schema → found ≡ has_campaign schema → found ≡ false → has_campaign conn.schema ≡ false
 not_there g conn schema found shown is none = ap has_campaign (sym shown) ∙ sym is ∙ none
 
--- doing nothing changes nothing
+-- doing nothing leaves a connection as it was (`ChangesNothing`)
 pub spares_itself : (s : State) → ChangesNothing s s
 spares_itself s = record { same = λ up. (refl, refl, refl); shuts = λ up. inl up }
 
--- after a call (`Survives`) no doubt of the disk, no failure and no test of reads is lost (`IsLater`)
+-- after a call (`Survives`) no doubt or failure of the disk is forgotten, and tested reads stay tested (`IsLater`)
 pub later : (old new : State) (Commits : Trees → Type 0) → Survives old new Commits → IsLater old new
 later old new Commits survives = record { clean = λ clean. omega (arith, survives.clean); counts = survives.counts; shield = survives.shield }
 
@@ -129,7 +129,7 @@ commits_spares old new Before Does done before up has settled = (done.does (befo
 pub leaves_others : (old new : State) → LeavesOff old new → LeavesOthersAlone old new
 leaves_others old new off up has settled = subst (Carries old.now) (sym ((off.undone up).0 ∙ settled)) (carries_none old.now)
 
--- a proposition that is true also holds if a result is an error
+-- what holds anyway holds if a result is an error (`OnErr`)
 pub on_err : {A E : Type 0} (r : Result A E) (P : Type 0) → P → OnErr r P
 on_err (Ok a) P p = tt
 on_err (Err e) P p = p

@@ -75,7 +75,7 @@ module _ (unit : ℕ) (sort : ThingKind) (thing : ℕ) where
       itself a = grind (arith, nat_tests)
 
   module _ (c : CampaignValue) (amount : ℕ) (is : amount ≡ amount_under c.units unit sort thing) where
-    -- the row of `has` of this unit, kind and thing
+    -- the row of `has` with this unit, kind, thing and amount
     abbrev row : Row
     row = has_row unit (sort_number sort) thing amount
 

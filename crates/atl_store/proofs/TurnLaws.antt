@@ -1,4 +1,4 @@
--- Laws on changes to the tables of a campaign's parts: changes to some leave the others.
+-- Laws on changes to the tables of a campaign's parts: a change of some tables leaves the others as they are.
 use Rattle.std.proofs.Common.{◌≡◌, ◌&&◌, ◌++◌, Bool, true, List, [], ◌∷◌, map, refl, sym, ap, ◌∙◌, subst, inl, inr}
 use Rattle.std.proofs.lemmas.Bool.{and_parts}
 use Rattle.sqlite.specs.Effect.{Database}
@@ -12,11 +12,11 @@ use Rattle.atl_sql.proofs.PartLaws.{tree_of, same_part, listed, are_apart, not_b
 
 -- ---- rows that stay
 
--- an unchanged tree has the same rows
+-- a table whose tree is unchanged has the same rows
 pub same_rows : (t : Table) (a b : Database) → b.trees t.tree ≡ a.trees t.tree → rows_in t b.trees ≡ rows_in t a.trees
 same_rows t a b same = ap (map (visible t)) same
 
--- the set of rows of an unchanged tree is the same
+-- a table whose tree is unchanged has exactly the rows of `S`, if it had them before
 pub stays_is : (t : Table) (S : Set) (a b : Database) → b.trees t.tree ≡ a.trees t.tree → Is (rows_in t a.trees) S → Is (rows_in t b.trees) S
 stays_is t S a b same is = subst (λ rows. Is rows S) (sym (same_rows t a b same)) is
 
@@ -59,7 +59,7 @@ are_distinct (part ∷ parts) = are_apart (part ∷ []) parts && are_distinct pa
 
 -- what rows become, part by part
 module _ {X : Type 0} (Becomes : X → Part → List Row → List Row → Type 0) where
-  -- The rows of one part become what `Becomes` says, for each `X`, and all other tables stay.
+  -- The rows of one part become what `Becomes` says, for each `x` of the type `X`, and all other tables stay.
   abbrev pub Turn : Part → Database → Database → Type 0
   Turn part old new = (x : X) → Changes (Becomes x) (part ∷ []) old new
 

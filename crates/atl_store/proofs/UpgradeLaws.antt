@@ -56,7 +56,7 @@ module _ (old new : Database) (is : IsFirstFormat old) (made : Creates old_schem
     };
   }
 
-  -- adding the table `market` carries all other tables along (`Carries`)
+  -- adding the table `market` removes no table or index, and leaves what other tables hold (`Carries`)
   carries_all : Carries old new
   carries_all = record {
     tables = λ t there. subst (λ (s : Schema). Has s.tables t) (sym made.schema_is) (has_left old_schema.tables (market_table ∷ []) t (subst (λ (s : Schema). Has s.tables t) is.just there));
@@ -91,7 +91,7 @@ no_stocks c bare r of =
     let e = sym (get-empty {X = ℕ} nat_cmp of.3) ∙ ap (λ (m : FinMap nat_cmp ℕ). get m of.3) (sym (bare of.0 of.1 of.2)) ∙ of.5 in
     absurd cc
 
--- putting a row with the key of a table's only row leaves the new row alone
+-- putting a row with the key of a table's only row leaves just the new row in the table
 own_row : (rows old : List Row) (was row : Row) → take 1 was ≡ take 1 row → Is old (λ r. r ≡ was) → Is rows (put 1 row (Has old)) → Is rows (λ r. r ≡ row)
 own_row rows old was row key one made r = (
   λ there. elim ((made r).0 there) [ inl same ↦ same | inr (there, other) ↦ absurd (other (ap (take 1) ((one r).0 there) ∙ key)) ],

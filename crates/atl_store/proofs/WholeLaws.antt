@@ -1,4 +1,4 @@
--- Laws on a transaction as a whole: steps one after the other inside it, its commit, and how it is left off.
+-- Laws on a transaction as a whole: steps one after the other inside it, its commit, and what it leaves if it fails.
 use Rattle.std.proofs.Common.{◌≡◌, [], false, true, true≢false, IsTrue, Result, Ok, Err, OnOk, OnErr, IfErr, sym, ap, subst, ◌∙◌, inl, inr, arith}
 use Rattle.std.specs.Borrow.{MutBor}
 use Rattle.sqlite.specs.declared.error.Error.{Error}
@@ -73,7 +73,7 @@ module _ {S : Type 0} (g : Ghosts S) (old begun mid end : Held S) (begins : begu
         is_open = shows.is_open;
       }
 
--- a proposition that is true also holds if a result is an error
+-- what holds anyway holds if a result is an error (`OnErr`)
 given_err : {A E P : Type 0} (r : Result A E) → P → OnErr r P
 given_err (Ok a) p = tt
 given_err (Err e) p = p

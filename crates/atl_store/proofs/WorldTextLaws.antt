@@ -14,7 +14,7 @@ use Rattle.atl_store.specs.Keeps.{Keeps}
 use Rattle.atl_store.specs.Loading.{StandsIn}
 use Rattle.atl_store.specs.WorldText.{world_in, world_text}
 
--- each format has the campaign row
+-- the campaign row is a part of each format
 has_own : (f : Format) → Has (parts_in f) Own
 has_own First = inl refl
 has_own Second = inl refl

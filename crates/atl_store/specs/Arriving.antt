@@ -37,7 +37,7 @@ pub record HasArrival (c : CampaignValue) (number : ℕ) : Type 0 where
 -- the campaign has this faction, this report and this unit, whose number `place` is the last, `next_unit - 1`
 -- The books have money and people among their things.
 pub record IsFound (c : CampaignValue) (number : ℕ) (faction : Faction) (place : ℕ) (unit : Unit) (report : List ℕ) : Type 0 where
-  -- the unit's number is the last
+  -- the unit's number `place` is the last: the next one is `next_unit`
   pub place_is : c.next_unit ≡ place + 1
   -- the campaign has this faction under its number
   pub faction_is : get c.factions number ≡ Some faction

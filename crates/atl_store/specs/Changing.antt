@@ -37,7 +37,7 @@ own_after c before text = campaign_row (campaign_row_after c.marks.row c.value b
 -- In each table the rows with a marked key become the campaign's, and all others stay.
 -- The campaign row said `before`; it keeps this world text.
 pub record WritesMarked (c : MarkedCampaign) (before : CampaignRowValue) (text : List ℕ) (old new : Database) : Type 0 where
-  -- each part's table is rewritten with the rows of the campaign
+  -- in each part's table the marked rows become the campaign's, and the others stay (`AreRewritten`)
   pub rows : (part : Part) → AreRewritten (table_of part) (is_marked c.marks part) (rows_for (own_after c before text) c.value part) old new
 
 -- If the table `campaign` held one row, all that is marked is written (`WritesMarked`), whatever that row said.

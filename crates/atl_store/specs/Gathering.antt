@@ -80,13 +80,13 @@ only_of (own ∷ other ∷ rows) = None
 -- The rows read of `campaign` are one row, `own`, which keeps the first rule.
 -- Its id is 1, its format is `f`, and its world text reads as the world `w`.
 pub record IsOwn (f : Format) (rows : List StoredCampaign) (own : StoredCampaign) (w : WorldValue) : Type 0 where
-  -- `own` is the only row
+  -- `own` is the only row that was read of `campaign`
   pub only : rows ≡ own ∷ []
-  -- the row's id is 1
+  -- the id of the campaign row is 1
   pub id : own.head.id ≡ pos 1
-  -- the row's format is `f`
+  -- the format of the campaign row is `f`
   pub format : own.head.format ≡ pos (format_number f)
-  -- the row's world text reads as the world
+  -- the world text of the campaign row reads as the world `w`
   pub world : world_by f (string_bytes own.world) ≡ Ok w
 
 -- a judged result: Ok of a value for which `Is` holds; Damaged by the first rule, where `Nothing` holds; or Memory
@@ -148,7 +148,7 @@ module _ {S : Type 0} (g : Ghosts S) (old : Held S) where
   -- The SELECT of `campaign` showed one row, which keeps the first rule (`AreOwnRow`).
   -- If the schema begins with the tables of the first format, this is the only row of the table.
   pub record OwnRead (f : Format) (own : StoredCampaign) (w : WorldValue) : Type 0 where
-    -- the rows that the SELECT showed
+    -- the rows that the SELECT of `campaign` showed
     pub rows : List Row
     -- the SELECT of `campaign` showed `rows`
     pub selects : Selects g (selection campaign_table 1) old rows
@@ -169,15 +169,15 @@ module _ {S : Type 0} (g : Ghosts S) (old : Held S) where
   pub record AnswersOne (selects : List (List ℕ × List Form)) : Type 0 where
     -- the SELECT that is answered, with the forms of its columns
     pub select : List ℕ × List Form
-    -- the SELECT is one of the list
+    -- this SELECT is in the list `selects`
     pub one : Has selects select
     -- the connection after the reads that came before this SELECT
     pub before : Held S
-    -- the reads before the SELECT left the tables as they were
+    -- the reads before this SELECT left the tables as they were
     pub leaves : AfterReads g old before
-    -- the rows that the SELECT shows
+    -- the rows that this SELECT shows
     pub rows : List Row
-    -- the SELECT shows `rows`
+    -- asked of the tables of `before`, this SELECT shows `rows`
     pub answered : Selects g select.0 before rows
 
   -- Reading these tables may return Store, if a SELECT is refused for another cause than memory, and Memory,
@@ -192,13 +192,13 @@ module _ {S : Type 0} (g : Ghosts S) (old : Held S) where
   -- Reading these tables gives what `Found` says, or a fault (`FailsToRead`), if the disk is clean.
   -- The connection is as after reads: the tables are as they were (`AfterReads`).
   pub record ReadsSome {A : Type 0} (selects : List (List ℕ × List Form)) (P : A → Type 0) (result : Result (Option A) LoadFault) (new : Held S) : Type 0 where
-    -- after Ok, the connection was open before the reads
+    -- if the reads succeed, the connection was open before them
     pub was_open : HasCleanDisk (state g new) → IfOk result (λ _. IsTrue (state g old).is_open)
-    -- Ok says what the SELECTs found
+    -- if the reads succeed, the result is what the SELECTs found (`Found`)
     pub found : HasCleanDisk (state g new) → IfOk result (Found selects P)
-    -- an error is a fault that the reads may return
+    -- if the reads fail, the fault is one that they may return (`FailsToRead`)
     pub fails : HasCleanDisk (state g new) → IfErr result (FailsToRead selects)
-    -- the tables are as they were
+    -- the reads leave the tables as they were
     pub leaves : AfterReads g old new
 
   -- ---- the schema
@@ -218,7 +218,7 @@ module _ {S : Type 0} (g : Ghosts S) (old : Held S) where
 
 -- ---- the rowids
 
--- no two rows have the same rowid
+-- no two rows of a table, read with their rowids, have the same rowid
 abbrev pub AreApart : {A : Type 0} → List (RowWithId A) → Type 0
 AreApart placed = IsDistinct (eq_by_cmp int_cmp) (map (λ s. s.rowid) placed)
 
@@ -228,9 +228,9 @@ width part = length (table_of part).columns
 
 -- the values of the column at index `at` are integers, no two alike
 pub record HaveKeys (at : ℕ) (rows : List Row) : Type 0 where
-  -- no two of the values are equal
+  -- no two rows have equal values in the column at index `at`
   pub apart : IsDistinct (λ a b. is_eq (value_cmp (column a at) (column b at))) rows
-  -- each of the values is an integer
+  -- in each row the value of the column at index `at` is an integer
   pub ints : AllByRecursion (λ r. is_int (column r at) ≡ true) rows
 
 -- in each part that is shown with rowids, the rowids are integers, no two alike
@@ -247,9 +247,9 @@ without_ids part rows = if shows_rowids part then map (take (width part)) rows e
 pub record IsMadeOf (head : StoredCampaignRow) (reads : ReadRows) (p : Parts) : Type 0 where
   -- all parts but the campaign row were read, in their order
   pub parts : map (λ read. read.0) reads ≡ other_parts Second
-  -- `head` is the only campaign row
+  -- `head` is the only campaign row of `p`
   pub campaign : p.campaign ≡ head ∷ []
-  -- each part has the rows that were read of it, without their rowids
+  -- each part of `p` has the rows that were read of it, without their rowids
   pub rows : (text : List ℕ) (read : Part × List Row) → Has reads read → rows_read text p read.0 ≡ without_ids read.0 read.1
   -- the rowids that were read are integers, and differ in each part
   pub apart : AreAllApart reads
@@ -261,13 +261,13 @@ pub record IsMadeOf (head : StoredCampaignRow) (reads : ReadRows) (p : Parts) : 
 pub record Gathered (f : Format) {S : Type 0} (g : Ghosts S) (old : Held S) (w : WorldValue) (p : Parts) : Type 0 where
   -- the SELECT of `campaign` showed one row, which keeps the first rule
   pub one : KeepsOneRow f g old
-  -- the gathered rows keep the first rule
+  -- the rows in `p` keep the first rule
   pub first : KeepsRule f w p OneRow
   -- the world text of the campaign row
   pub text : List ℕ
-  -- the world text reads as the world
+  -- the world text of the campaign row reads as the world `w`
   pub world : world_by f text ≡ Ok w
-  -- in all other tables each value is of its column's form
+  -- in all tables but `campaign` each value that is shown is of its column's form
   pub typed : AllSelectsShowTyped g old (other_selects f)
   -- if the tables are the format's, they have exactly the rows of `p`
   pub rows : HasTablesOf f old.schema → HaveRows f (state g old).now.trees text p
@@ -279,17 +279,17 @@ pub record Gathered (f : Format) {S : Type 0} (g : Ghosts S) (old : Held S) (w :
 pub record IsConfirmed (f : Format) (old new : State) : Type 0 where
   -- the schema begins with the tables of the format
   pub begins : HasTablesOf f old.now.schema
-  -- the connection is open after the test
+  -- after the test of the schema the connection is open
   pub is_open : IsTrue new.is_open
-  -- the trees list the schema and obey it
+  -- the trees of the database list its schema and obey it
   pub sound : IsSound old.now.schema old.now.trees
 
 -- The campaign `c` is loaded: it is made of rows that were read and keep all rules (`IsChecked`).
 -- If the disk is clean, these are the rows of all tables (`Gathered`), and the schema is confirmed.
 pub record IsLoaded (f : Format) {S : Type 0} (g : Ghosts S) (old new : Held S) (w : WorldValue) (c : MarkedCampaign) : Type 0 where
-  -- the rows that were read, put together
+  -- the rows that were read of all tables, put together
   pub parts : Parts
-  -- the rows that were read are those of all tables, if the disk is clean
+  -- the rows in `parts` are those of all tables (`Gathered`), if the disk is clean
   pub gathered : HasCleanDisk (state g new) → Gathered f g old w parts
   -- the tables are confirmed as those of the format, if the disk is clean
   pub confirmed : HasCleanDisk (state g new) → IsConfirmed f (state g old) (state g new)

@@ -26,7 +26,7 @@ pub record Stores (db : Trees) (text : List ℕ) (c : CampaignValue) : Type 0 wh
   pub schema : Schema
   -- the schema has all tables of a campaign
   pub begins : HasAll schema
-  -- the trees list the schema and obey it, and the rowids in the ten tables are integers, no two alike
+  -- the file's trees list the schema and obey it, and in each of the ten tables the rowids are integers, no two alike
   pub sound : IsSoundDatabase schema db
   -- the tables hold exactly the rows of the text and the campaign
   pub rows : Holds db text c
@@ -56,11 +56,11 @@ HoldsCampaign g conn text c = HasCleanDisk (state g conn) → Keeps (state g con
 -- It is shut only if the disk failed again. A crash leaves the campaign `before` or `after`, never a part.
 -- `faults` counts the failures of the disk before the call.
 pub record LeavesAfterFault (faults : ℕ) (s : State) (text : List ℕ) (before after : CampaignValue) : Type 0 where
-  -- while the connection is open it keeps the campaign before
+  -- while the connection is open it keeps the campaign `before`
   pub still : IsTrue s.is_open → Keeps s text before
   -- the connection is open, or the disk failed again
   pub shuts : IsTrue s.is_open ⊎ MoreFaults faults s.faults
-  -- a crash leaves a file that stores the campaign before or the one after
+  -- a crash leaves a file that stores the campaign `before` or the campaign `after`
   pub crash : (db : Trees) → s.may_leave db → Stores db text before ⊎ Stores db text after
 
 -- The same connection later: a disk that is clean now was clean before, and no failure of it is forgotten.
@@ -95,21 +95,21 @@ MayLeaveCampaign old text c new = (db : Trees) → new.may_leave db → old.may_
 -- With Ok of `create` there was no table `campaign`, and the connection holds the campaign, if the disk is clean.
 -- It is in no transaction.
 pub record Creates {S : Type 0} (g : Ghosts S) (text : List ℕ) (c : CampaignValue) (old new : Held S) : Type 0 where
-  -- there was no table `campaign`
+  -- before `create` there was no table `campaign`
   pub fresh : has_campaign old.schema ≡ false
-  -- the connection is in no transaction
+  -- after `create` the connection is in no transaction
   pub idle : new.in_transaction ≡ false
-  -- the connection holds the campaign
+  -- after `create` the connection holds the campaign, if the disk is clean
   pub tables : HoldsCampaign g new text c
 
 -- What Store and Memory of `create` leave: there was no table `campaign`, and nothing is changed, if the disk is clean.
 -- A crash leaves what it could have left before, or the campaign.
 pub record FailsToCreate {S : Type 0} (g : Ghosts S) (text : List ℕ) (c : CampaignValue) (old new : Held S) : Type 0 where
-  -- there was no table `campaign`
+  -- before `create` there was no table `campaign`
   pub fresh : has_campaign old.schema ≡ false
-  -- nothing is changed
+  -- nothing is changed, if the disk is clean
   pub tables : HasCleanDisk (state g new) → ChangesNothing (state g old) (state g new)
-  -- a crash leaves what it could have left before, or the campaign
+  -- a crash leaves what it could have left before, or the campaign, if the disk is clean
   pub crash : HasCleanDisk (state g new) → MayLeaveCampaign (state g old) text c (state g new)
 
 -- the database has no table, index or view, and the connection is in no transaction

@@ -32,13 +32,13 @@ groups_of lines entries = flat_map (λ e. lines e.0 e.1) entries
 -- `lines` gives the rows of each value of the map: they begin with its number and differ in their key.
 -- The rows of all values together are those that are wanted.
 pub record AreGroups {V : Type 0} (lines : ℕ → V → List Row) (key : ℕ) (values : FinMap nat_cmp V) (Wanted : Set) : Type 0 where
-  -- the rows of a value begin with its number
+  -- the rows that `lines` gives for a value begin with the value's number
   pub numbered : (n : ℕ) (v : V) (r : Row) → Has (lines n v) r → take 1 r ≡ int n ∷ []
-  -- the rows of a value differ in their key
+  -- the rows that `lines` gives for a value differ in their key
   pub apart : (n : ℕ) (v : V) → DifferInKey key (lines n v)
-  -- the rows of each value of the map are wanted
+  -- the rows that `lines` gives for each value of the map are wanted
   pub wanted : (n : ℕ) (v : V) → get values n ≡ Some v → (r : Row) → Has (lines n v) r → Wanted r
-  -- each wanted row is a row of a value of the map
+  -- each wanted row is one that `lines` gives for a value of the map
   pub lined : (r : Row) → Wanted r → (n : ℕ) × (v : V) × (get values n ≡ Some v) × Has (lines n v) r
 
 -- ---- amounts of things

@@ -75,12 +75,12 @@ rows_read text p Reports = map report_stored p.reports
 rows_read text p Books = map books_values p.books
 rows_read text p Markets = map market_values p.markets
 
--- The tables of a format have exactly these rows, each as often as it is here.
--- There is no row here of a part that the format doesn't have.
+-- The tables of a format have exactly the rows in `p`, each as often as `p` has it.
+-- In `p` there is no row of a part that the format doesn't have.
 pub record HaveRows (f : Format) (db : Trees) (text : List ℕ) (p : Parts) : Type 0 where
-  -- the table of each part of the format has exactly the rows of this part
+  -- the table of each part of the format has exactly the part's rows in `p`
   pub rows : (part : Part) → Has (parts_in f) part → IsPermutation (rows_in (table_of part) db) (rows_read text p part)
-  -- there is no row here of a part that the format lacks
+  -- `p` has no row of a part that the format lacks
   pub none : (part : Part) → ¬ Has (parts_in f) part → rows_read text p part ≡ []
 
 -- ---- the first rule
@@ -88,15 +88,15 @@ pub record HaveRows (f : Format) (db : Trees) (text : List ℕ) (p : Parts) : Ty
 -- The rows that SQL shows of `campaign` keep the first rule: there is one row, its id is 1, and its format is `f`.
 -- Its world text is UTF-8 and reads as the world `w`.
 pub record AreOwnRow (f : Format) (rows : List Row) (h : StoredCampaignRow) (text : List ℕ) (w : WorldValue) : Type 0 where
-  -- there is one row, whose first columns show `h` and the text
+  -- the SELECT of `campaign` shows one row, whose first columns show `h` and the world text
   pub is : map (first_columns (length campaign_forms)) rows ≡ own_stored text h ∷ []
-  -- the row's id is 1
+  -- the id of the campaign row is 1
   pub id : h.id ≡ pos 1
-  -- the row's format is `f`
+  -- the format of the campaign row is `f`
   pub format : h.format ≡ pos (format_number f)
-  -- the world text is UTF-8
+  -- the world text of the campaign row is UTF-8
   pub utf8 : IsUtf8 text
-  -- the world text reads as the world
+  -- the world text of the campaign row reads as the world `w`
   pub world : world_by f text ≡ Ok w
 
 -- the other one of the two formats
@@ -127,7 +127,7 @@ forms_of Markets = market_forms
 abbrev pub other_parts : Format → List Part
 other_parts f = drop 1 (parts_in f)
 
--- the SELECTs of the other parts, each with the forms of its columns
+-- the SELECTs of all parts of a format but the campaign row, each with the forms of its columns
 abbrev pub other_selects : Format → List (List ℕ × List Form)
 other_selects f = map (λ part. ((listing_of part).select, forms_of part)) (other_parts f)
 
@@ -141,20 +141,20 @@ tables_with_rowids f = map table_of (filter shows_rowids (parts_in f))
 
 -- if the connection is open it was open before, and its tables and its last commit are as they were
 pub record Stays (old new : State) : Type 0 where
-  -- a connection that is open was open before
+  -- if the connection is open now, it was open before
   pub was_open : IsTrue new.is_open → IsTrue old.is_open
-  -- while the connection is open its tables and its last commit are as they were
+  -- while the connection is open its tables and its last commit are as they were before
   pub same : IsTrue new.is_open → (new.now ≡ old.now) × (new.committed ≡ old.committed)
 
 -- The connection after reads: it is in no transaction, and its tables are as they were, if the disk is clean (`Stays`).
 -- What `Survives` says holds too, with nothing committed: a crash leaves only what it could have left before.
 pub record AfterReads {S : Type 0} (g : Ghosts S) (old new : Held S) : Type 0 where
-  -- the tables are as they were, if the disk is clean
+  -- after the reads the tables are as they were before, if the disk is clean
   pub stays : HasCleanDisk (state g new) → Stays (state g old) (state g new)
   -- a disk in doubt stays so, no failure is forgotten, and shield and step limit stay; if the disk is clean, only a
   -- failure closes the connection, and a crash leaves only what it could have left before (`Survives`)
   pub survives : Survives (state g old) (state g new) (λ _. ⊥)
-  -- the connection is in no transaction
+  -- after the reads the connection is in no transaction
   pub idle : new.in_transaction ≡ false
 
 module _ {S : Type 0} (g : Ghosts S) (old : Held S) where
@@ -166,7 +166,7 @@ module _ {S : Type 0} (g : Ghosts S) (old : Held S) where
     pub during : Held S
     -- the SELECT is asked of the tables of `old`
     pub same : (state g before).now ≡ (state g old).now
-    -- the SELECT shows the rows
+    -- asked on `before`, the SELECT shows `rows`, and leaves the connection as `during`
     pub shown : Shown sql [] (state g before) (state g during) rows
 
   module _ (selects : List (List ℕ × List Form)) where
@@ -180,52 +180,52 @@ module _ {S : Type 0} (g : Ghosts S) (old : Held S) where
 
     -- each SELECT of the list `selects` shows some rows, and in those of one of them a value is of another form than its column
     pub record HasOtherType : Type 0 where
-      -- each of the SELECTs shows some rows
+      -- each SELECT of the list `selects` shows some rows
       pub all : AllSelectsShow
-      -- a SELECT, with the forms of its columns
+      -- the SELECT that shows a value of another form than its column, with the forms of its columns
       pub select : List ℕ × List Form
-      -- the SELECT is one of the list
+      -- this SELECT is in the list `selects`
       pub one : Has selects select
-      -- the rows that the SELECT of `campaign` shows
+      -- the rows that this SELECT shows
       pub rows : List Row
-      -- the SELECT shows `rows`
+      -- this SELECT shows `rows`
       pub told : SelectShows select.0 rows
-      -- a value that the SELECT shows is of another form than its column
+      -- in `rows` some value is of another form than its column
       pub other : ¬ AreTyped select.1 rows
 
     -- a SELECT of the list `selects`, asked after other reads, is refused, and this is the fault of its error
     pub record RefusesOne (fault : ReadFault) : Type 0 where
       -- the SELECT that is refused, with the forms of its columns
       pub select : List ℕ × List Form
-      -- the SELECT is one of the list
+      -- this SELECT is in the list `selects`
       pub one : Has selects select
       -- the connection after the reads that came before this SELECT
       pub before : Held S
-      -- the reads left the tables as they were
+      -- the reads before this SELECT left the tables as they were
       pub leaves : AfterReads g old before
-      -- the SELECT is refused with this fault
+      -- this SELECT is refused with the fault `fault`
       pub refused : RefusesToSelect g select.0 before fault
 
   -- ---- the disk and the memory
 
   -- the disk failed while the tables were read
   pub record FailedMeanwhile : Type 0 where
-    -- the connection after some reads
+    -- the connection after the reads in which the disk failed
     pub after : Held S
-    -- the reads left the tables as they were
+    -- these reads left the tables as they were, if the disk is clean
     pub leaves : AfterReads g old after
     -- the disk failed during the reads
     pub failed : MoreFaults (state g old).faults (state g after).faults
 
   -- the SELECT of the campaign row, asked again after other reads, is refused; `memory` says whether for lack of memory
   pub record RefusesAgain (memory : Bool) : Type 0 where
-    -- the connection after the reads that came before this SELECT
+    -- the connection after the other reads, before the campaign row is asked for again
     pub before : Held S
-    -- the reads left the tables as they were
+    -- the other reads left the tables as they were
     pub leaves : AfterReads g old before
-    -- the connection once the SELECT is refused
+    -- the connection once the SELECT of the campaign row is refused
     pub during : Held S
-    -- the error of the SELECT
+    -- the error with which this SELECT ends
     pub error : Error
     -- the SELECT of the campaign row ends with this error
     pub refused : FailsToQuery (selection campaign_table 1) [] (state g before) (state g during) error
@@ -259,7 +259,7 @@ module _ (f : Format) {S : Type 0} (g : Ghosts S) (old : Held S) where
     pub text : List ℕ
     -- the world text reads as the world
     pub is_world : world_by f text ≡ Ok world
-    -- the rows of all tables
+    -- the rows of all tables of the format
     pub parts : Parts
     -- the tables have exactly the rows of `parts`
     pub rows : HaveRows f (state g old).now.trees text parts
@@ -274,11 +274,11 @@ module _ (f : Format) {S : Type 0} (g : Ghosts S) (old : Held S) where
     pub selects : Selects g (selection campaign_table 1) old rows
     -- the campaign row, without its world text
     pub head : StoredCampaignRow
-    -- the world text
+    -- the world text of the campaign row
     pub text : List ℕ
-    -- the world of the world text
+    -- the world that the world text of the campaign row reads as
     pub world : WorldValue
-    -- the rows that are shown are one row, which keeps the first rule
+    -- the rows that are shown are one row, `head` with `text`, which keeps the first rule
     pub own : AreOwnRow f rows head text world
 
   -- The SELECT of `campaign` shows rows that break the first rule and aren't one row of the other format.
@@ -287,9 +287,9 @@ module _ (f : Format) {S : Type 0} (g : Ghosts S) (old : Held S) where
     pub rows : List Row
     -- the SELECT of `campaign` shows `rows`
     pub selects : Selects g (selection campaign_table 1) old rows
-    -- the rows that are shown break the first rule
+    -- the rows that the SELECT of `campaign` shows break the first rule
     pub broken : (h : StoredCampaignRow) (text : List ℕ) (w : WorldValue) → ¬ AreOwnRow f rows h text w
-    -- the rows that are shown aren't one row of the other format
+    -- the SELECT doesn't show just one row with the number of the other format (the fault for that is OtherFormat)
     pub of_format : ¬ IsOther f rows
 
   -- When Damaged may be returned with each rule: it is the first rule that the rows break.
@@ -349,7 +349,7 @@ pub record StandsIn (f : Format) (s : State) (text : List ℕ) (c : CampaignValu
   pub settled : s.committed ≡ s.now
   -- the schema begins with the tables of the format
   pub begins : HasTablesOf f s.now.schema
-  -- the trees list the schema and obey it
+  -- the trees of the database list its schema and obey it
   pub listed : IsSound s.now.schema s.now.trees
   -- in each table of the format the rowids are integers, no two alike
   pub keyed : (table : Table) → Has (map table_of (parts_in f)) table → AreKeyedByRowid (s.now.trees table.tree)
@@ -396,7 +396,7 @@ module _ {S : Type 0} (g : Ghosts S) (old : Held S) where
   -- Whatever is answered, nothing is changed (`ChangesNothing`), if the disk is clean.
   -- What `Survives` says holds too, with nothing committed, and the connection is in a transaction if it was in one.
   pub record LeavesAlone (new : Held S) : Type 0 where
-    -- nothing is changed, if the disk is clean
+    -- nothing of the connection is changed, if the disk is clean
     pub spares : HasCleanDisk (state g new) → ChangesNothing (state g old) (state g new)
     -- a disk in doubt stays so, no failure is forgotten, and shield and step limit stay; if the disk is clean, only a
     -- failure closes the connection, and a crash leaves only what it could have left before (`Survives`)

@@ -83,7 +83,7 @@ RewritesStocks c old new = Rewrites market_table (stocks_marked c.marks) (Market
 abbrev pub RewritesThings : CampaignValue → ThingKind → (ℕ → ℕ → Bool) → Database → Database → Type 0
 RewritesThings c sort things old new = Rewrites has_table (of_kind sort things) (HasRowsOf c.units) old new
 
--- the items, or the skills, that are marked one by one, by unit
+-- the items, or the skills, that are marked one by one: their numbers, by the unit's number
 abbrev pub marked_things : Marks → ThingKind → Things
 marked_things marks Item = marks.items
 marked_things marks Skill = marks.skills
@@ -107,7 +107,7 @@ RewritesCampaignRow c old new = (before : CampaignRowValue) (text : List ℕ) �
 
 -- ---- one table after another
 
--- the part's marked rows become the campaign's, whose campaign row is `own`, and all others stay
+-- the part's marked rows become the campaign's, where `own` is its campaign row; the part's other rows stay
 abbrev pub Becomes : MarkedCampaign → Row → Part → List Row → List Row → Type 0
 Becomes c own part before after = Is after (rows_after_rewrite (is_marked c.marks part) (rows_for own c.value part) (Has before))
 
@@ -115,7 +115,7 @@ Becomes c own part before after = Is after (rows_after_rewrite (is_marked c.mark
 abbrev pub RewritesParts : MarkedCampaign → List Part → Database → Database → Type 0
 RewritesParts c parts old new = (own : Row) → Changes (Becomes c own) parts old new
 
--- the marked rows of one part, which isn't the campaign row, become the campaign's
+-- the marked rows of one part, which isn't the campaign row, become the campaign's; all other rows stay
 abbrev pub RewritesPart : MarkedCampaign → Part → Database → Database → Type 0
 RewritesPart c part = RewritesParts c (part ∷ [])
 

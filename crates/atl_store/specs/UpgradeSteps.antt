@@ -18,12 +18,12 @@ pub record IsFirstFormat (db : Database) : Type 0 where
   pub just : IsFirstFormatOnly db.schema
   -- in each table of the first format the rowids are integers, no two alike
   pub keyed : (table : Table) → Has (map table_of (parts_in First)) table → AreKeyedByRowid (db.trees table.tree)
-  -- the trees list the schema and obey it
+  -- the trees of the database list its schema and obey it
   pub listed : IsSound db.schema db.trees
 
 -- the table `market` has no row, and each table of the first format is as it was
 pub record AddsMarkets (old new : Database) : Type 0 where
-  -- the table `market` has no row
+  -- the new table `market` has no row
   pub empty : new.trees market_table.tree ≡ []
   -- each table of the first format is as it was
   pub others : (table : Table) → Has (map table_of (parts_in First)) table → new.trees table.tree ≡ old.trees table.tree

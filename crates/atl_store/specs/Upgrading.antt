@@ -27,7 +27,7 @@ use Rattle.atl_sql.specs.Tables.{HasTablesOf, IsFirstFormatOnly}
 pub record HoldsOld (s : State) (w : WorldValue) (c : CampaignValue) : Type 0 where
   -- the world text of the tables
   pub text : List ℕ
-  -- the world text of the tables reads as the world
+  -- the world text of the tables reads as the world `w`
   pub world : old_world_of text ≡ Ok w
   -- the tables of the first format hold exactly the rows of the text and the campaign
   pub rows : HoldsIn First s.now.trees text c

@@ -120,7 +120,7 @@ impl Grouped for Unit {
 }
 
 /// Writes the marked rows of `has`: first those of units whose goods are all marked, then those of
-/// items, and then of skills, that are marked alone.
+/// items, and then of skills, that are marked one by one.
 pub(crate) fn rewrite_goods<S: Alter>(
     tx: &mut Transaction<'_, S>,
     campaign: &Campaign,

@@ -35,30 +35,30 @@ pub(crate) trait Grouped: NumberedRow {
     // The part's key is the number and `more` columns.
     ghost is_key: { key_of part ≡ suc more };
 
-    // The rows of a thing with a number, as a list.
+    // The rows that a unit or region of this number has in the table, as a list.
     ghost lines: { ℕ → Self → List SqlRow };
 
     // The set of rows that the table has to have for a campaign.
     ghost wanted: { CampaignValue → SqlRow → Type 0 };
 
-    // The numbers whose rows are marked.
+    // The numbers of the units, or regions, whose rows of the table are all marked.
     ghost marks: { Marks → FinSet nat_cmp };
 
     // Each wanted row is a row of the part.
     ghost are_rows: { (own : SqlRow) (c : CampaignValue) (r : SqlRow) → wanted c r → rows_for own c part r };
 
-    /// The numbers of the units, or regions, whose rows of the other table are all marked, in
+    /// The numbers of the units whose goods, or of the regions whose stocks, are all marked, in
     /// rising order.
     fn marked_groups(campaign: &Campaign) -> MarkedNumbers<'_>
         ensures { Lists (marks campaign.now.marks) result };
 
-    /// Inserts the rows that this unit or region has in the other table, or changes the rows with
+    /// Inserts the rows of this unit's goods, or of this region's stocks, or changes the rows with
     /// the same keys.
     fn put_rows<S: Alter>(&self, tx: &mut Transaction<'_, S>, number: u32) -> Result<(), Error>
         ensures { WritesRows S.Store (table_of part) (suc more) (lines number self.now) result
             tx.old.conn tx.new.conn };
 
-    /// Deletes all rows of the other table whose key begins with the number.
+    /// Deletes all rows of goods, or of stocks, whose key begins with the number.
     fn drop_rows<S: Alter>(tx: &mut Transaction<'_, S>, number: u32) -> Result<(), Error>
         ensures { TakesOut S.Store (table_of part) 1 (int number ∷ []) result tx.old.conn
             tx.new.conn };

@@ -107,7 +107,7 @@ impl Grouped for Region {
 #[derive(Clone, Copy)]
 struct SingleStocks;
 
-/// Rewrites stocks that are marked alone: each has a row of `market`, by its region and item.
+/// Rewrites stocks that are marked one by one: each has a row of `market`, by region and item.
 impl SingleAmounts for SingleStocks {
     ghost table = { market_table };
 
@@ -117,7 +117,7 @@ impl SingleAmounts for SingleStocks {
 
     ghost marks = { λ s m. m.stock_items };
 
-    /// The stocks that are marked alone, by region and item.
+    /// The stocks that are marked one by one: the items' numbers, by the region's number.
     fn marked_singles(self, campaign: &Campaign) -> Entries<'_, Numbered<()>> {
         campaign.marked_stock_items()
     }
@@ -139,7 +139,7 @@ impl SingleAmounts for SingleStocks {
 }
 
 /// Writes the marked rows of `market`: first those of regions whose stocks are all marked, then
-/// those of stocks that are marked alone.
+/// those of stocks that are marked one by one.
 pub(crate) fn rewrite_stocks<S: Alter>(
     tx: &mut Transaction<'_, S>,
     campaign: &Campaign,

@@ -1,5 +1,5 @@
-//! Writes marked things that have one row each, under a number: the row is put, or deleted if the
-//! thing is gone.
+//! Writes what has one row under a number, as a faction or a unit: the row of each marked number is
+//! put, or deleted if nothing has the number any more.
 ghost use Rattle.atl_sql.specs.Tables.{table_of};
 ghost use Rattle.atl_store.specs.OwnStatements.{OfChange};
 ghost use Rattle.atl_sql.specs.Writes.{Writes};
@@ -10,7 +10,8 @@ use atl_campaign::Campaign;
 use atl_sql::numbered_rows::{NumberedRow, take_out};
 use sqlite::{Alter, Error, Transaction};
 
-/// Puts the row of the thing with this number, or deletes the number's row if there is no thing.
+/// Puts the row of what has this number in the campaign, or deletes the number's row if nothing has
+/// the number.
 fn rewrite<V: NumberedRow + Drop, S: Alter>(
     tx: &mut Transaction<'_, S>,
     campaign: &Campaign,
@@ -26,8 +27,8 @@ fn rewrite<V: NumberedRow + Drop, S: Alter>(
     }
 }
 
-/// Puts the row of each marked number that has a thing in the campaign, and deletes the rows of the
-/// other marked numbers.
+/// For each marked number puts the row of what has it in the campaign, or deletes the number's row
+/// if nothing has it.
 pub(crate) fn rewrite_marked<V: NumberedRow + Drop, S: Alter>(
     tx: &mut Transaction<'_, S>,
     campaign: &Campaign,

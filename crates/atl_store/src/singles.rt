@@ -16,7 +16,7 @@ use atl_world::{Entries, Numbered};
 use sqlite::{Alter, Error, Transaction};
 
 /// Amounts of one kind, each under the numbers of an owner and a thing, such as a unit's items or a
-/// region's stocks. Each amount has a row if it is not 0, and can be marked alone.
+/// region's stocks. Each amount has a row if it is not 0, and can be marked by itself.
 pub(crate) trait SingleAmounts: Copy {
     // The table that has the amounts' rows.
     ghost table: { Table };
@@ -24,7 +24,7 @@ pub(crate) trait SingleAmounts: Copy {
     // The set of rows that the table has to have for a campaign.
     ghost wanted: { CampaignValue → SqlRow → Type 0 };
 
-    // Whether a test of owner and thing holds of a row.
+    // Whether a test of owner and thing holds of those of a row.
     ghost finds: { Self → (ℕ → ℕ → Bool) → SqlRow → Bool };
 
     // The single amounts that are marked, by the numbers of owner and thing.

@@ -52,8 +52,8 @@ fn rewrite_thing<S: Alter>(
     put_has(tx, &row)
 }
 
-/// Rewrites items, or skills, that are marked alone: each has a row of `has`, by its unit, its kind
-/// and its number.
+/// Rewrites items, or skills, that are marked one by one: each has a row of `has`, by its unit, its
+/// kind and its number.
 impl SingleAmounts for ThingKind {
     ghost table = { has_table };
 
@@ -63,7 +63,7 @@ impl SingleAmounts for ThingKind {
 
     ghost marks = { λ sort m. marked_things m sort };
 
-    /// The items, or the skills, that are marked alone, by unit and number.
+    /// The items, or the skills, that are marked one by one: their numbers, by the unit's number.
     fn marked_singles(self, campaign: &Campaign) -> Entries<'_, Numbered<()>> {
         match self {
             ThingKind::Item => campaign.marked_items(),

@@ -90,12 +90,12 @@ impl<X: WrittenPart, Y: WrittenPart> WrittenPart for (X, Y) {
 impl<V: Mapped + Drop> WrittenPart for Numbered<V> {
     ghost parts = { V.NumberedRow.part ∷ [] };
 
-    /// Puts the rows of all things of the kind into their table, which has no row.
+    /// Puts the rows of all things of kind `V` into their table, which has no row.
     fn fill<S: Alter>(tx: &mut Transaction<'_, S>, campaign: &Campaign) -> Result<(), Error> {
         put_each(tx, V::all(campaign))
     }
 
-    /// Puts the row of each marked number that has a thing, and deletes the row of each without.
+    /// Puts the row of each marked number that a thing has, else deletes the number's row.
     fn rewrite<S: Alter>(tx: &mut Transaction<'_, S>, campaign: &Campaign) -> Result<(), Error> {
         rewrite_marked::<V, S>(tx, campaign)
     }

@@ -45,7 +45,7 @@ pub(crate) trait AllRows: Drop + Sized {
     fn none(alloc: Global) -> Self
         ensures { AreNone (rows result) };
 
-    // The rows are those of these parts.
+    // What was read is of the parts `parts`, in their order.
     ghost of_parts: { (all : Self) → map (λ read. read.0) (rows all) ≡ parts };
 }
 

@@ -3,7 +3,7 @@ use Rattle.atl_store.specs.Lines.{thing_rows, amount_rows}
 use Rattle.atl_sql.proofs.PuttingLaws.{putting_begins, putting_more, putting_failed, putting_ends}
 use Rattle.atl_store.proofs.amounts.put_amounts.Goals as goal
 
--- before the first thing the rows of all amounts are still to put (`Putting`)
+-- before the first thing the rows of all amounts of the owner are still to put (`Putting`)
 pub loop-thing-init : goal.loop-thing-init
 loop-thing-init g c = putting_begins g.S.Store g.O.AmountWriter.table g.O.AmountWriter.key _ _ (ap (amount_rows (g.O.AmountWriter.line c.args.owner)) c.into_iter-thing-iterator.ensures.into_iter_gives)
 
@@ -13,12 +13,12 @@ loop-thing-preserved g c =
     let row = g.O.AmountWriter.line c.args.owner in
     putting_more g.S.Store g.O.AmountWriter.table g.O.AmountWriter.key (thing_rows row c.in-Some.thing c.in-Some.amount.now) (amount_rows row c.next.new.self) _ _ (ap (amount_rows row) c.in-Some.ensures.steps) c.loop-thing.invariant c.in_ok-put_some.ensures
 
--- if the row of an amount can't be put, the write of all rows ends with this error
+-- if the row of an amount can't be put, the write of the owner's rows ends with this error
 pub returns-in_err-put_some : goal.returns-in_err-put_some
 returns-in_err-put_some g c =
     let row = g.O.AmountWriter.line c.args.owner in
     putting_failed g.S.Store g.O.AmountWriter.table g.O.AmountWriter.key (thing_rows row c.in-Some.thing c.in-Some.amount.now) (amount_rows row c.next.new.self) _ _ (ap (amount_rows row) c.in-Some.ensures.steps) c.loop-thing.invariant c.in_err-put_some.ensures c.from_residual.ensures
 
--- when no thing is left, the rows of all amounts are written
+-- when no thing is left, the rows of all amounts of the owner are written
 pub returns : goal.returns
 returns g c = putting_ends g.S.Store g.O.AmountWriter.table g.O.AmountWriter.key _ _ (ap (amount_rows (g.O.AmountWriter.line c.args.owner)) c.in-None.ensures.steps.0) c.loop-thing.invariant

@@ -2,7 +2,7 @@ use Rattle.atl_store.specs.Lines.{amount_rows}
 use Rattle.atl_sql.proofs.PuttingLaws.{Putting}
 use Rattle.atl_store.proofs.amounts.put_amounts.Given as goal
 
--- at each turn all rows are put but those of the amounts that are left (`Putting`)
+-- at each turn all rows of the owner are put but those of the amounts that are left (`Putting`)
 abbrev pub invariant-loop-thing : goal.invariant-loop-thing
 invariant-loop-thing g l =
     let rows = amount_rows (g.O.AmountWriter.line l.owner) in

@@ -37,11 +37,11 @@ returns-clause-others g c clean = commits_spares (state g.S.Store c.args.conn.no
 pub returns-in_err-write_marked-clause-others : goal.returns-in_err-write_marked-clause-others
 returns-in_err-write_marked-clause-others g c clean = leaves_others (state g.S.Store c.args.conn.now) (state g.S.Store c.write_marked.new.conn) (c.in_err-write_marked.ensures.err clean)
 
--- after Ok no doubt of the disk, no failure and no test of reads is lost (`IsLater`)
+-- after Ok no doubt or failure of the disk is forgotten, and tested reads stay tested (`IsLater`)
 pub returns-clause-later : goal.returns-clause-later
 returns-clause-later g c = later (state g.S.Store c.args.conn.now) (state g.S.Store c.write_marked.new.conn) _ c.write_marked.ensures.crash
 
--- after a fault no doubt of the disk, no failure and no test of reads is lost (`IsLater`)
+-- after a fault no doubt or failure of the disk is forgotten, and tested reads stay tested (`IsLater`)
 pub returns-in_err-write_marked-clause-later : goal.returns-in_err-write_marked-clause-later
 returns-in_err-write_marked-clause-later g c = later (state g.S.Store c.args.conn.now) (state g.S.Store c.write_marked.new.conn) _ c.write_marked.ensures.crash
 

@@ -5,7 +5,7 @@ use Rattle.atl_store.proofs.RewriteLaws.{none_nearer, number_nearer, numbers_rew
 use Rattle.atl_sql.proofs.WriteLaws.{begins, goes_on, stops_second, weaker}
 use Rattle.atl_store.proofs.grouped.rewrite_marked_groups.Goals as goal
 
--- before the first marked number the rows of all marked numbers are still to rewrite
+-- before the first marked number, of a unit or a region, the rows of all marked numbers are still to rewrite
 pub loop-number-init : goal.loop-number-init
 loop-number-init g c = begins g.S.Store (none_nearer (table_of g.V.Grouped.part) (g.V.Grouped.wanted c.args.campaign.now.value) _ _ (λ r. refl))
 

@@ -32,11 +32,11 @@ returns-clause-others g c clean = commits_spares (state g.S.Store c.args.conn.no
 pub returns-in_err-write_mailing-clause-others : goal.returns-in_err-write_mailing-clause-others
 returns-in_err-write_mailing-clause-others g c clean = leaves_others (state g.S.Store c.args.conn.now) (state g.S.Store c.write_mailing.new.conn) (c.in_err-write_mailing.ensures.err clean)
 
--- after Ok no doubt of the disk, no failure and no test of reads is lost (`IsLater`)
+-- after Ok no doubt or failure of the disk is forgotten, and tested reads stay tested (`IsLater`)
 pub returns-clause-later : goal.returns-clause-later
 returns-clause-later g c = later (state g.S.Store c.args.conn.now) (state g.S.Store c.write_mailing.new.conn) _ c.write_mailing.ensures.crash
 
--- after a fault no doubt of the disk, no failure and no test of reads is lost (`IsLater`)
+-- after a fault no doubt or failure of the disk is forgotten, and tested reads stay tested (`IsLater`)
 pub returns-in_err-write_mailing-clause-later : goal.returns-in_err-write_mailing-clause-later
 returns-in_err-write_mailing-clause-later g c = later (state g.S.Store c.args.conn.now) (state g.S.Store c.write_mailing.new.conn) _ c.write_mailing.ensures.crash
 

@@ -4,20 +4,20 @@ use Rattle.atl_store.proofs.SingleLaws.{single_nearer, singles_rewritten}
 use Rattle.atl_sql.proofs.WriteLaws.{begins, goes_on, stops_second, weaker}
 use Rattle.atl_store.proofs.singles.rewrite_under.Goals as goal
 
--- before the first number all these amounts of the owner are still to rewrite (`NearingSingles`)
+-- before the first of these things the owner's amounts of all of them are still to rewrite (`NearingSingles`)
 pub loop-number-init : goal.loop-number-init
 loop-number-init g c = begins g.S.Store (none_nearer g.A.SingleAmounts.table _ _ _ (λ r. refl))
 
--- once an amount is rewritten, only those of the later numbers are still to rewrite
+-- once the owner's amount of a thing is rewritten, only those of the later things are still to rewrite
 pub loop-number-preserved : goal.loop-number-preserved
 loop-number-preserved g c =
     goes_on g.S.Store (single_nearer g.A.SingleAmounts.table (g.A.SingleAmounts.wanted c.args.campaign.now.value) (g.A.SingleAmounts.finds c.args.amounts) c.requires c.args.owner _ c.loop-number.number-iterator c.next.new.self c.into_iter-number-iterator.result c.in-Some.ensures.steps) c.loop-number.invariant c.in_ok-rewrite_single.ensures
 
--- if an amount can't be rewritten, the write of the owner's amounts ends with this error
+-- if the owner's amount of a thing can't be rewritten, the write of the owner's amounts ends with this error
 pub returns-in_err-rewrite_single : goal.returns-in_err-rewrite_single
 returns-in_err-rewrite_single g c = stops_second g.S.Store c.loop-number.invariant c.in_err-rewrite_single.ensures c.from_residual.ensures
 
--- when no number is left, all these amounts of the owner are rewritten
+-- when none of these things is left, the owner's amounts of all of them are rewritten
 pub returns : goal.returns
 returns g c =
     let all = c.into_iter-number-iterator.ensures.into_iter_gives ∙ c.iter-number-items.ensures in
