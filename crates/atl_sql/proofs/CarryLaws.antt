@@ -21,7 +21,7 @@ use Rattle.atl_sql.proofs.ListLaws.{has_map}
 
 -- ---- tables without a foreign key refer to nothing
 
--- if no table has a foreign key, no reference is to be checked
+-- if no table of the list has a foreign key, `f` is asked of no reference, and so no work comes of checking references
 none_refer : (tables : List Table) (f : Table → Reference → Option Work) → AllByRecursion (λ t. t.references ≡ []) tables → flat_map (λ child. filter_map (f child) child.references) tables ≡ []
 none_refer [] f free = refl
 none_refer (t ∷ tables) f free = rw (free.0) (none_refer tables f free.1)
@@ -32,7 +32,7 @@ unlinked tables indexes tree free olds news = none_refer tables (work_for (all_a
 
 -- ---- indexes that make nothing unique find nothing
 
--- no two rows share values of an index that is unique in the table, if no index makes anything unique there
+-- if no index of the list makes anything unique in the table t, the rows `new` and `r` share no unique value in t
 pub none_share : (t : Table) (target : Option (List ℕ)) (new r : Row) (indexes : List Index) → ((i : Index) → Has indexes i → guards i t ≡ false) → list_any (shares target t new r) indexes ≡ false
 none_share t target new r [] plain = refl
 none_share t target new r (i ∷ indexes) plain = rw (plain i (inl refl)) (none_share t target new r indexes (λ j there. plain j (inr there)))
@@ -43,7 +43,7 @@ none_share t target new r (i ∷ indexes) plain = rw (plain i (inl refl)) (none_
 pub among_all : (tables : List Table) (t : Table) → Has all_tables t → Has (all_tables ++ tables) t
 among_all tables t there = has_left all_tables tables t there
 
--- the trees are sound under the schema of the campaign's tables and others after them
+-- a database with the tables of a campaign is sound under the schema of the ten tables and its further ones (`all_and`)
 pub sound_under : (db : Database) (has : HasTables db) → IsSoundDatabase (all_and has.begins.tables has.begins.indexes) db.trees
 sound_under db has = subst (λ s. IsSoundDatabase s db.trees) has.begins.is has.sound
 
@@ -56,14 +56,14 @@ module _ (t : Table) (old new : Database) (has : HasTables old) (ours : Has all_
   abbrev OthersStay : Type 0
   OthersStay = (u : Table) → Has schema.tables u → u.tree ≢ t.tree → new.trees u.tree ≡ old.trees u.tree
 
-  -- if the schema stays and the trees are sound under it, the campaign's tables are still there (`HasTables`)
+  -- if `new` has this schema and its trees are sound under it, the campaign's tables are still there (`HasTables`)
   pub stays_there : new.schema ≡ schema → IsSoundDatabase schema new.trees → HasTables new
   stays_there is sound = record {
     begins = record { tables = has.begins.tables; indexes = has.begins.indexes; is = is; free = has.begins.free; plain = has.begins.plain };
     sound = subst (λ s. IsSoundDatabase s new.trees) (sym is) sound;
   }
 
-  -- if the other tables stay, all that isn't the campaign's is carried along (`Carries`)
+  -- if the schema stays and so do all tables but `t`, all that isn't the campaign's is carried along (`Carries`)
   pub carried : new.schema ≡ schema → OthersStay → Carries old new
   carried is others =
       let same : new.schema ≡ old.schema = is ∙ sym has.begins.is in

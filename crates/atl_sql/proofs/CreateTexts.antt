@@ -37,9 +37,9 @@ pub record IsCreate (before after : Schema) (table : Table) (text : List ℕ) : 
   pub defines : table_defined_by text ≡ Ok (record table { tree = 0 })
   -- the statement has no RETURNING and doesn't read the time
   pub plain : IsPlain (understood before text)
-  -- the schema with the new table added is `after`
+  -- the schema `before` with the table added is `after`
   pub after_is : created before (record table { tree = 0 }) ≡ after
-  -- the next free tree is the table's
+  -- the next free tree of the schema `before` is the table's
   pub tree_is : next_tree before ≡ table.tree
   -- the new table is the last of the schema `after`
   pub last : after.tables ≡ before.tables ++ table ∷ []
@@ -113,10 +113,11 @@ module _ {X : Type 0} (text : X → List ℕ) (xs : List X) (all : map text xs �
 -- ---- in a transaction
 
 module _ {S A : Type 0} (g : Ghosts S) {r : Result A Error} {a b : MutBor (Held S)} where
-  -- a write by the text of a part's table is one by the CREATE statements (`Creations`)
+  -- a step that runs only the CREATE text of a part is one that runs only CREATE statements of the ten tables
+  -- (`Creations`)
   pub creating : {Does : State → State → Type 0} {before after : Schema} (text : List ℕ) → MakesNextTable before after text → Writes g (Only text []) Does r a b → Writes g Creations Does r a b
   creating text makes one = among_only g text [] (makes.0, refl) one
 
-  -- running the text of a part's table is a write by the CREATE statements that makes one more table
+  -- a step that runs the CREATE text of a part is one of CREATE statements that makes one more empty table (`Extends`)
   pub made_by : {before after : Schema} (text : List ℕ) → MakesNextTable before after text → Writes g (Only text []) (RunsStatement text []) r a b → Writes g Creations (Extends before after) r a b
   made_by text makes one = weaker g makes.1 (creating text makes one)

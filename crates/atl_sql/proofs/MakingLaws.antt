@@ -35,7 +35,7 @@ extends before after table old new inside mode more makes = (
 
 -- ---- the first tables
 
--- the schema of these first tables and of the indexes of their keys
+-- the schema of the tables of this list, the first ones of the ten, and of the indexes of their keys
 abbrev pub with_tables : List Table → Schema
 with_tables tables = record { tables = tables; indexes = take (sum_by (λ t. length t.uniques) tables) all_indexes; views = [] }
 

@@ -17,7 +17,7 @@ pub record Towards (table : Table) (key : ℕ) (rest all : List Row) (old now : 
   -- each other table of a campaign is as it was
   pub others : (t : Table) → Has all_tables t → t.tree ≢ table.tree → now.trees t.tree ≡ old.trees t.tree
 
--- putting rows into equal sets gives equal sets
+-- putting the same rows into two sets with the same rows gives two sets with the same rows
 puts_same : (key : ℕ) (news : List Row) (S T : Set) → ((r : Row) → S r ↔ T r) → (r : Row) → puts key news S r ↔ puts key news T r
 puts_same key [] S T same r = same r
 puts_same key (new ∷ news) S T same r = puts_same key news (put key new S) (put key new T) (λ x. (

@@ -63,7 +63,8 @@ our_trees tree_of xs same tree count =
 -- ---- the whole schema
 
 module _ (count keys : ℕ) (schema : Schema) where
-  -- a schema whose tables, indexes and views pass the tests begins with the first tables and indexes
+  -- a schema that passes the tests of its tables, indexes and views begins with `count` tables and `keys` indexes
+  -- (`Begins`)
   pub begins_made : AreTables count schema.tables → AreIndexes count keys schema.indexes → schema.views ≡ [] → Begins count keys schema
   begins_made tables indexes none = record {
     tables = tables.others;
@@ -76,15 +77,16 @@ module _ (count keys : ℕ) (schema : Schema) where
     plain = λ i there. all_has (IsHarmless count) indexes.others i indexes.plain there;
   }
 
-  -- a schema that begins with the first tables and indexes has the first tables, and then others without a foreign key
+  -- a schema that begins with the first `count` of the ten tables has no foreign key in the others (`AreTables`)
   pub its_tables : Begins count keys schema → AreTables count schema.tables
   its_tables begins = record { others = begins.tables; is = ap (λ (s : Schema). s.tables) begins.is; free = begins.free }
 
-  -- a schema that begins with the first tables and indexes has the first indexes, and then harmless ones
+  -- a schema that begins with the first `keys` indexes of the ten tables has only harmless ones after them
+  -- (`AreIndexes`)
   pub its_indexes : Begins count keys schema → AreIndexes count keys schema.indexes
   its_indexes begins = record { others = begins.indexes; is = ap (λ (s : Schema). s.indexes) begins.is; plain = all_from (IsHarmless count) begins.indexes begins.plain }
 
-  -- a schema that begins with the first tables and indexes has no views
+  -- a schema that begins with the first `count` tables and `keys` indexes of a campaign has no views
   pub no_views : Begins count keys schema → schema.views ≡ []
   no_views begins = ap (λ (s : Schema). s.views) begins.is
 
