@@ -50,7 +50,7 @@ src head world = int 1 ∷ Null ∷ int 2 ∷ campaign_row_values head world
 abbrev pub changed_to : List Term → CampaignRowValue → List ℕ → Row → Row
 changed_to project head world r = visible campaign_table (cast_row campaign_table (eval_all project ((campaign_row_values head world ++ rowid r ∷ shown campaign_table (src head world)) ∷ r ∷ [])))
 
--- an upsert of `campaign` inserts the first row, or changes the row that is there by the terms `project`
+-- an upsert of `campaign` inserts the row where there is none, or changes the one that is there by the terms `project`
 pub record PutsOwn (project : List Term) (head : CampaignRowValue) (world : List ℕ) (old new : Database) : Type 0 where
   -- without a campaign row, the one of these values and this world text is put
   pub first : rows_in campaign_table old.trees ≡ [] → Puts campaign_table 1 (campaign_row head world) old new

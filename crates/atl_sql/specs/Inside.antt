@@ -49,7 +49,7 @@ Both First Second old new = (mid : Database) × First old mid × Second mid new
 
 -- the rows of this table are exactly this set, and each other table of a campaign is as it was
 pub record Alters (table : Table) (S : Set) (old new : Database) : Type 0 where
-  -- the rows of this table are exactly this set
+  -- the rows of the table are exactly those of the set `S`
   pub rows : Is (rows_in table new.trees) S
   -- each other table of a campaign is as it was
   pub others : (t : Table) → Has all_tables t → t.tree ≢ table.tree → new.trees t.tree ≡ old.trees t.tree
