@@ -36,7 +36,7 @@ above k q h = elim (nat_cmp q k) as (λ o. nat_cmp q k ≡ o → is_eq o ≡ fal
 -- ---- what holds of some entry
 
 module _ {X : Type 0} (p : X → Bool) (g : Option X → Bool) where
-  -- a test on values that are looked up by the numbers of some entries stays the same with a lower entry put in front
+  -- whether a value looked up by a number of `es` passes `g` doesn't depend on an entry in front that is below `es`
   past : (k : ℕ) (v : X) (fs es : List (ℕ × X)) → below_all nat_cmp k es ≡ true → list_any (λ n. g (find nat_cmp n ((k, v) ∷ fs))) (numbers_among p es) ≡ list_any (λ n. g (find nat_cmp n fs)) (numbers_among p es)
   past k v fs [] h = refl
   past k v fs (e ∷ es) h =
@@ -49,7 +49,8 @@ module _ {X : Type 0} (p : X → Bool) (g : Option X → Bool) where
       ]
       ∙ ap (list_any (λ n. g (find nat_cmp n fs))) (sym (chosen-cons p e es))
 
-  -- in a sorted list, some number of an entry that passes `p`, looked up, passes `g` just where some entry passes both
+  -- in a sorted list, some value looked up by the number of an entry that passes `p` passes `g` just where an
+  -- entry's value passes both
   some_found : (es : List (ℕ × X)) → is_sorted nat_cmp es ≡ true → list_any (λ n. g (find nat_cmp n es)) (numbers_among p es) ≡ list_any (λ e. p e.1 && g (Some e.1)) es
   some_found [] h = refl
   some_found (e ∷ es) h =
@@ -61,7 +62,8 @@ module _ {X : Type 0} (p : X → Bool) (g : Option X → Bool) where
         | false ↦ rest
       ]
 
-  -- some number that passes p has a value with g just where some entry of the map passes both
+  -- some value that passes `p`, looked up in a map by its number, passes `g` just where some value
+  -- of the map passes both
   some_where : (m : FinMap nat_cmp X) → list_any (λ n. g (get m n)) (numbers_where p m) ≡ list_any (λ e. p e.1 && g (Some e.1)) (entries m)
   some_where m = ap (λ (f : ℕ → Option X). list_any (λ n. g (f n)) (numbers_where p m)) (λ i n. get-entries m n i) ∙ some_found (entries m) (is_true _ (entries_sorted m))
 
