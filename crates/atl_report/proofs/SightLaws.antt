@@ -49,8 +49,7 @@ module _ {X : Type 0} (p : X → Bool) (g : Option X → Bool) where
       ]
       ∙ ap (list_any (λ n. g (find nat_cmp n fs))) (sym (chosen-cons p e es))
 
-  -- in a sorted list, some value looked up by the number of an entry that passes `p` passes `g` just where an
-  -- entry's value passes both
+  -- in a sorted list, a value looked up by the number of one that passes `p` passes `g` just where a value passes both
   some_found : (es : List (ℕ × X)) → is_sorted nat_cmp es ≡ true → list_any (λ n. g (find nat_cmp n es)) (numbers_among p es) ≡ list_any (λ e. p e.1 && g (Some e.1)) es
   some_found [] h = refl
   some_found (e ∷ es) h =
@@ -62,8 +61,7 @@ module _ {X : Type 0} (p : X → Bool) (g : Option X → Bool) where
         | false ↦ rest
       ]
 
-  -- some value that passes `p`, looked up in a map by its number, passes `g` just where some value
-  -- of the map passes both
+  -- a value looked up in a map by the number of one that passes `p` passes `g` just where some value passes both
   some_where : (m : FinMap nat_cmp X) → list_any (λ n. g (get m n)) (numbers_where p m) ≡ list_any (λ e. p e.1 && g (Some e.1)) (entries m)
   some_where m = ap (λ (f : ℕ → Option X). list_any (λ n. g (f n)) (numbers_where p m)) (λ i n. get-entries m n i) ∙ some_found (entries m) (is_true _ (entries_sorted m))
 

@@ -67,8 +67,7 @@ module _ (old new : State) where
 -- ---- one statement after another
 
 module _ {S : Type 0} (g : Ghosts S) (own : Statements) where
-  -- if `count` statements lead from connection `a` to `b`, and some from `b` to `c`, some lead from `a` to `c`
-  -- (`IsReached`)
+  -- if `count` statements of `own` lead from `a` to `b`, and some from `b` to `c`, then some lead from `a` to `c`
   pub reached_then : (count : ℕ) (a b c : Held S) → Leads g own count a b → IsReached g own b c → IsReached g own a c
   reached_then zero a b c same rest = subst (λ h. IsReached g own h c) (sym same) rest
   reached_then (suc count) a b c first rest = let whole = reached_then count first.0 b c first.2 rest in (suc whole.0, (first.0, first.1, whole.1))
@@ -76,8 +75,7 @@ module _ {S : Type 0} (g : Ghosts S) (own : Statements) where
 -- ---- statements that are among others
 
 module _ {S : Type 0} (g : Ghosts S) (own more : Statements) (among : (sql : List ℕ) (params : Row) → own sql params → more sql params) where
-  -- if statements of `own` lead from one connection to another, so do statements of `more`, which has all those of
-  -- `own`
+  -- if statements of `own` lead from connection `old` to `new`, so do those of `more`, which has all of `own`
   leads_among : (count : ℕ) (old new : Held S) → Leads g own count old new → Leads g more count old new
   leads_among zero old new same = same
   leads_among (suc count) old new (mid, ran, rest) = (mid, (ran.0, ran.1, among ran.0 ran.1 ran.2, ran.3, ran.4), leads_among count mid new rest)
@@ -92,8 +90,7 @@ module _ {S : Type 0} (g : Ghosts S) (own more : Statements) (among : (sql : Lis
   given_among e before after (inl ran) = inl (ran.0, ran.1, among ran.0 ran.1 ran.2, ran.3)
   given_among e before after (inr fails) = inr fails
 
-  -- an error given in a transaction of statements of `own` is given in one of statements of `more`, which has all of
-  -- `own`
+  -- an error that a transaction of statements of `own` gives is given in one of `more`, which has all of `own`
   pub gives_among : (e : Error) (old new : Held S) → Gives g own e old new → Gives g more e old new
   gives_among e old new gave = record {
     before = gave.before;

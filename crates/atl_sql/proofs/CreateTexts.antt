@@ -113,8 +113,7 @@ module _ {X : Type 0} (text : X → List ℕ) (xs : List X) (all : map text xs �
 -- ---- in a transaction
 
 module _ {S A : Type 0} (g : Ghosts S) {r : Result A Error} {a b : MutBor (Held S)} where
-  -- a step that runs only the CREATE text of a part is one that runs only CREATE statements of the ten tables
-  -- (`Creations`)
+  -- a step that runs nothing but the CREATE text of a part runs nothing but CREATE statements of the ten tables
   pub creating : {Does : State → State → Type 0} {before after : Schema} (text : List ℕ) → MakesNextTable before after text → Writes g (Only text []) Does r a b → Writes g Creations Does r a b
   creating text makes one = among_only g text [] (makes.0, refl) one
 

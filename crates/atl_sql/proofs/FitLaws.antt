@@ -144,7 +144,6 @@ module _ (tree : ℕ) (name key_name : List ℕ) (columns : List Column) (unique
       aimed = λ x more. next_column (int n) (values ++ x ∷ more) width ∙ column_after values x more;
     }
 
-    -- if the values are of their columns' types, the terms for all columns make the row of them and the number
-    -- (`MakesRow`)
+    -- if the values are of their columns' types, the terms for all columns make the row of number and values
     pub makes_row : MakesRow t (length columns) n values
     makes_row = subst (λ w. MakesRow t w n values) (fits_length columns values fits) made

@@ -18,8 +18,7 @@ place_in part = unwrap_or (position (λ p. nat_eq (tree_of p) (tree_of part)) al
 abbrev width_of : Part → ℕ
 width_of part = length (drop 1 (table_of part).columns)
 
--- the texts for a part whose key is the row's number mean an upsert and a DELETE of the row of that number
--- (`IsNumbered`)
+-- the texts of a part whose key is the row's number mean an upsert and a DELETE of the row of a number (`IsNumbered`)
 numbered : (part : Part) → IsNumberedPart part → IsNumbered (table_of part) (place_in part) (width_of part)
 unfolding understood everything
 numbered Own is = absurd is

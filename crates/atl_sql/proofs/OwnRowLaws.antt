@@ -63,8 +63,7 @@ pub record PutsOwn (project : List Term) (head : CampaignRowValue) (world : List
 
 -- the text means the upsert of `campaign` whose UPDATE has the terms `project`, whatever other tables follow
 pub record MeansOwn (sql : List ℕ) (project : List Term) : Type 1 where
-  -- the text means the INSERT of a campaign row (`own_terms`), with an UPDATE by the terms `project` of a row that is
-  -- there
+  -- the text means the INSERT of a campaign row, with an UPDATE by the terms `project` of a row that is there
   pub is : (more : List Table) (indexes : List Index) → command_of (understood (all_and more indexes) sql) ≡ InsertOr 0 Abort (Values own_terms 9) (clause_on (0 ∷ []) (record { lets = []; body = update_query campaign_table.tree 6 project }) ∷ [])
   -- the statement has no RETURNING and doesn't read the time
   pub plain : (more : List Table) (indexes : List Index) → IsPlain (understood (all_and more indexes) sql)

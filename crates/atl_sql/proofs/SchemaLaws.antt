@@ -63,8 +63,7 @@ our_trees tree_of xs same tree count =
 -- ---- the whole schema
 
 module _ (count keys : ℕ) (schema : Schema) where
-  -- a schema that passes the tests of its tables, indexes and views begins with `count` tables and `keys` indexes
-  -- (`Begins`)
+  -- a schema that passes the tests of tables, indexes and views begins with `count` tables and `keys` of their indexes
   pub begins_made : AreTables count schema.tables → AreIndexes count keys schema.indexes → schema.views ≡ [] → Begins count keys schema
   begins_made tables indexes none = record {
     tables = tables.others;
@@ -81,8 +80,7 @@ module _ (count keys : ℕ) (schema : Schema) where
   pub its_tables : Begins count keys schema → AreTables count schema.tables
   its_tables begins = record { others = begins.tables; is = ap (λ (s : Schema). s.tables) begins.is; free = begins.free }
 
-  -- a schema that begins with the first `keys` indexes of the ten tables has only harmless ones after them
-  -- (`AreIndexes`)
+  -- a schema that begins with the first `keys` indexes of a campaign has harmless ones alone after them (`AreIndexes`)
   pub its_indexes : Begins count keys schema → AreIndexes count keys schema.indexes
   its_indexes begins = record { others = begins.indexes; is = ap (λ (s : Schema). s.indexes) begins.is; plain = all_from (IsHarmless count) begins.indexes begins.plain }
 

@@ -13,8 +13,7 @@ use Rattle.atl_sql.specs.Errors.{is_memory, value_fault}
 use Rattle.atl_sql.specs.Stored.{Form, IsTyped, AreTyped}
 use Rattle.atl_sql.specs.declared.fault.ReadFault.TheVariants.{Memory, OtherType}
 
--- if the cut `first` changes no row that SQL shows, the rows that a SELECT showed, each cut, are still all of the
--- table's
+-- if the cut `first` changes no row that SQL shows, the rows that a SELECT showed, each cut, are still all of the table
 pub whole_shown : (shown first : Row → Row) → ((r : Row) → first (shown r) ≡ shown r) → (tree rows : List Row) → IsPermutation (map shown tree) rows → IsPermutation (map shown tree) (map first rows)
 whole_shown shown first whole tree rows same = subst (λ l. IsPermutation l (map first rows)) (kept tree) (IsPermutation-map first _ rows same)
   where

@@ -232,8 +232,7 @@ module _ {S A Z : Type 0} (g : Ghosts S) (sql : List ℕ) (old : Held S) (forms 
       before : HasCleanDisk (state g new) → HasCleanDisk (state g mid)
       before clean = omega (arith, reads.survives.clean, clean)
 
-      -- rows that the SELECT shows on the connection after the first read it also shows on the one before it
-      -- (`Selects`)
+      -- rows that the SELECT shows after the first read are rows that it shows of the tables before that read
       selects : HasCleanDisk (state g new) → (rows : List Row) → Selects g sql mid rows → Selects g sql old rows
       selects clean rows told = (told.0, told.1, asked_then (state g old) (state g mid) (state g told.0) (streams.same (before clean)) told.2, told.3)
 

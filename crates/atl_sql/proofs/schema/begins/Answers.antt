@@ -3,8 +3,7 @@ use Rattle.atl_sql.specs.Tables.{AreTables, AreIndexes}
 use Rattle.atl_sql.proofs.SchemaLaws.{begins_made, its_tables, its_indexes, no_views}
 use Rattle.atl_sql.proofs.schema.begins.Goals as goal
 
--- if tables and indexes pass their tests, the schema begins with those of a campaign (`Begins`) exactly if it has no
--- view
+-- if tables and indexes pass their tests, the schema begins with a campaign's (`Begins`) exactly if it has no view
 pub returns : goal.returns
 returns c =
     let count = c.args.tables in
