@@ -56,14 +56,15 @@ module _ (t : Table) (old new : Database) (has : HasTables old) (ours : Has all_
   abbrev OthersStay : Type 0
   OthersStay = (u : Table) → Has schema.tables u → u.tree ≢ t.tree → new.trees u.tree ≡ old.trees u.tree
 
-  -- if `new` has this schema and its trees are sound under it, the campaign's tables are still there (`HasTables`)
+  -- if `new` has the schema of `old` and its trees are sound under it, the campaign's tables are still there
+  -- (`HasTables`)
   pub stays_there : new.schema ≡ schema → IsSoundDatabase schema new.trees → HasTables new
   stays_there is sound = record {
     begins = record { tables = has.begins.tables; indexes = has.begins.indexes; is = is; free = has.begins.free; plain = has.begins.plain };
     sound = subst (λ s. IsSoundDatabase s new.trees) (sym is) sound;
   }
 
-  -- if the schema stays and so do all tables but `t`, all that isn't the campaign's is carried along (`Carries`)
+  -- if the schema and all tables but `t` stay, all tables and indexes that aren't the campaign's are kept (`Carries`)
   pub carried : new.schema ≡ schema → OthersStay → Carries old new
   carried is others =
       let same : new.schema ≡ old.schema = is ∙ sym has.begins.is in
@@ -73,21 +74,21 @@ module _ (t : Table) (old new : Database) (has : HasTables old) (ours : Has all_
         others = λ u there free. others u (subst (λ (s : Schema). Has s.tables u) has.begins.is there) (λ same. free (subst (Has all_trees) (sym same) (has_map (λ (x : Table). x.tree) all_tables t ours)));
       }
 
-  -- a write that makes the rows of `t` the set `S` (`Makes`) leaves each other table of a campaign (`Alters`)
+  -- a write that makes the rows of `t` the set `S` (`Makes`) changes no other table of a campaign (`Alters`)
   pub altered : (S : Set) → Makes schema t old new S → Alters t S old new
   altered S makes = record { rows = makes.rows; others = λ u listed apart. makes.others u (among_all has.begins.tables u listed) apart }
 
-  -- a write that makes the rows of `t` the set `S` (`Makes`) has done `Does` (`Done`), if `Does` follows from just that
+  -- a write that makes the rows of `t` the set `S` (`Makes`) has done `Does` (`Done`), if `Does` follows from `Alters`
   pub done_with : (Does : Database → Database → Type 0) (S : Set) → (Alters t S old new → Does old new) → Makes schema t old new S → Done Does old new
   done_with Does S is makes = record { does = is (altered S makes); tables = stays_there makes.schema_is makes.sound; carries = carried makes.schema_is makes.others }
 
 -- ---- tables carried along by no write, and by two
 
--- a database that stays as it is carries everything along (`Carries` is reflexive)
+-- a database that stays as it is keeps all tables and indexes (`Carries` is reflexive)
 pub carries_none : (a : Database) → Carries a a
 carries_none a = record { tables = λ t there. there; indexes = λ i there. there; others = λ t there free. refl }
 
--- two steps that each carry along all that isn't a campaign's do so together (`Carries` is transitive)
+-- two steps that each keep what isn't a campaign's keep it together (`Carries` is transitive)
 pub carries_then : (a b c : Database) → Carries a b → Carries b c → Carries a c
 carries_then a b c one two = record {
   tables = λ t there. two.tables t (one.tables t there);

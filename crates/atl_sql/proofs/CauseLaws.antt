@@ -144,7 +144,7 @@ module _ {S : Type 0} (g : Ghosts S) (own : Statements) (e : Error) where
     cause = λ other. elim (gave.cause other) [ inl (inl more) ↦ inl (inl (more_later _ _ _ counts more)) | inl (inr shut) ↦ inl (inr shut) | inr refused ↦ inr refused ];
   }
 
-  -- an error given since BEGIN, from the connection after it, is one given from the connection before it (`Gives`)
+  -- an error that a transaction gave since its BEGIN is one that it gave since the connection before BEGIN (`Gives`)
   pub gives_begun : (old begun new : Held S) → begun ≡ record old { in_transaction = true } → Gives g own e begun new → Gives g own e old new
   gives_begun old begun new begins gave =
       let same : Gives g own e (record old { in_transaction = true }) new = subst (λ h. Gives g own e h new) begins gave in

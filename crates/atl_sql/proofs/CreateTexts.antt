@@ -35,7 +35,7 @@ pub record IsCreate (before after : Schema) (table : Table) (text : List ℕ) : 
   pub whole : statement_of text (understood before text) ≡ text
   -- the text defines the table, but for its tree
   pub defines : table_defined_by text ≡ Ok (record table { tree = 0 })
-  -- the statement has no RETURNING and doesn't read the time
+  -- the CREATE TABLE has no RETURNING and doesn't read the time
   pub plain : IsPlain (understood before text)
   -- the schema `before` with the table added is `after`
   pub after_is : created before (record table { tree = 0 }) ≡ after
@@ -87,7 +87,7 @@ made_at i d small =
 abbrev pub MakesNextTable : Schema → Schema → List ℕ → Type 1
 MakesNextTable before after text = Has (map creation_of all_parts) text × ((old new : State) → RunsStatement text [] old new → Extends before after old new)
 
--- the CREATE text of a part for these schemas (`IsCreate`) makes the next table (`MakesNextTable`)
+-- the CREATE text of a part that turns `before` into `after` (`IsCreate`) makes the next table (`MakesNextTable`)
 makes : (before after : Schema) (table : Table) (text : List ℕ) → Has (map creation_of all_parts) text → IsCreate before after table text → MakesNextTable before after text
 makes before after table text listed is = (listed, run)
   where
@@ -97,7 +97,7 @@ makes before after table text listed is = (listed, run)
 
 -- a list whose elements have the texts of the ten tables, in order
 module _ {X : Type 0} (text : X → List ℕ) (xs : List X) (all : map text xs ≡ map creation_of all_parts) where
-  -- a list whose elements have the ten texts has ten elements
+  -- a list whose elements have the CREATE texts of the ten tables has ten elements
   pub as_many : length xs ≡ table_count
   as_many = sym (length-map xs text) ∙ ap length all
 

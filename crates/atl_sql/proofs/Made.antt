@@ -17,7 +17,7 @@ pub record Makes (schema : Schema) (table : Table) (old new : Database) (S : Set
   pub rows : Is (rows_in table new.trees) S
   -- each table of the schema that has another tree holds what it held
   pub others : (t : Table) → Has schema.tables t → t.tree ≢ table.tree → new.trees t.tree ≡ old.trees t.tree
-  -- the database is sound under its schema
+  -- the trees obey the schema, and rowids of the ten tables are integers, no two alike (`IsSoundDatabase`)
   pub sound : IsSoundDatabase schema new.trees
 
 -- a CREATE TABLE turned the schema `before` into `after`, with one table more, without rows; the others are as before

@@ -36,7 +36,7 @@ numbered part is = record {
   spared = λ new x. refl;
 }
 
--- the upsert of a part whose key is the row's number puts the row
+-- the upsert of a part whose key is the row's number puts the row of this number and these values (`PutsRow`)
 pub puts_part : (part : Part) → IsNumberedPart part → (n : ℕ) (values : Row) → Fits (drop 1 (table_of part).columns) values → PutsRow (table_of part) 1 (int n ∷ values)
 puts_part Own is = absurd is
 puts_part Goods is = absurd is

@@ -58,7 +58,7 @@ pub record PutsOwn (project : List Term) (head : CampaignRowValue) (world : List
   pub again : (before after : Row) → take 1 before ≡ int 1 ∷ [] → take 1 after ≡ int 1 ∷ [] → Is (rows_in campaign_table old.trees) (λ r. r ≡ before) → ((r : Row) → visible campaign_table r ≡ before → changed_to project head world r ≡ after) → Puts campaign_table 1 after old new
   -- the tables of a campaign are there afterwards
   pub tables : HasTables new
-  -- all that isn't a campaign's is carried along
+  -- no table or index is gone, and tables that aren't a campaign's hold what they held (`Carries`)
   pub carries : Carries old new
 
 -- the text means the upsert of `campaign` whose UPDATE has the terms `project`, whatever other tables follow

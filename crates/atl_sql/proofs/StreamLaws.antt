@@ -97,7 +97,7 @@ pub record IsGiving {S : Type 0} (g : Ghosts S) (sql : List ℕ) (old : Held S) 
   pub idle : now.in_transaction ≡ false
   -- the query has so far done what `Survives` says, with nothing committed: a crash leaves only what it could before
   pub survives : Survives (state g old) (state g now) (λ _. ⊥)
-  -- if the disk is clean, the query has given these rows, and the connection is unchanged
+  -- if the disk is clean, the query has given the rows `given`, and the connection is unchanged
   pub given_so : HasCleanDisk (state g now) → HasGiven g sql [] now given × IsUnchanged (state g old) (state g now)
 
 module _ {S : Type 0} (g : Ghosts S) (sql : List ℕ) (old : Held S) where
