@@ -58,7 +58,7 @@ module _ (old new : State) where
     | inr runs ↦ elim (rw runs at ran.2) [ inl refused ↦ inr (inr refused.1) | inr failed ↦ by_failure _ e failed other ]
   ]
 
-  -- an error given by a call, other than lack of memory, has a cause (`Caused`)
+  -- an error of a statement or of the commit (`IsGiven`), other than lack of memory, has a cause (`Caused`)
   by_call : (own : Statements) (e : Error) → IsGiven own e old new → is_memory e ≡ false → Caused e
   by_call own e (inl ran) other = elim ran.3 [ inl whole ↦ by_execution ran.0 ran.1 e whole.0 other | inr ends ↦ inr (inr ends.2) ]
   by_call own e (inr (inside, inl failed)) other = by_failure _ e failed other
@@ -144,7 +144,7 @@ module _ {S : Type 0} (g : Ghosts S) (own : Statements) (e : Error) where
     cause = λ other. elim (gave.cause other) [ inl (inl more) ↦ inl (inl (more_later _ _ _ counts more)) | inl (inr shut) ↦ inl (inr shut) | inr refused ↦ inr refused ];
   }
 
-  -- an error that a transaction gave since its BEGIN is one that it gave since the connection before BEGIN (`Gives`)
+  -- an error given between the connection after BEGIN and `new` is one given between that before BEGIN and `new`
   pub gives_begun : (old begun new : Held S) → begun ≡ record old { in_transaction = true } → Gives g own e begun new → Gives g own e old new
   gives_begun old begun new begins gave =
       let same : Gives g own e (record old { in_transaction = true }) new = subst (λ h. Gives g own e h new) begins gave in
