@@ -43,7 +43,7 @@ none_share t target new r (i ∷ indexes) plain = rw (plain i (inl refl)) (none_
 pub among_all : (tables : List Table) (t : Table) → Has all_tables t → Has (all_tables ++ tables) t
 among_all tables t there = has_left all_tables tables t there
 
--- a database with the tables of a campaign is sound under the schema of the ten tables and its further ones (`all_and`)
+-- a database with a campaign's tables is sound under the schema of the ten tables and then its others (`all_and`)
 pub sound_under : (db : Database) (has : HasTables db) → IsSoundDatabase (all_and has.begins.tables has.begins.indexes) db.trees
 sound_under db has = subst (λ s. IsSoundDatabase s db.trees) has.begins.is has.sound
 

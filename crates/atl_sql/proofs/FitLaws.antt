@@ -134,7 +134,7 @@ module _ (tree : ℕ) (name key_name : List ℕ) (columns : List Column) (unique
     casted_is : cast_row t its_row ≡ its_row
     casted_is = rw (cast_int (pos n), cast_null, fits_cast columns values fits) refl
 
-    -- if there are as many values as columns, each of its column's type, the terms make their row (`MakesRow`)
+    -- the terms for as many columns as there are values make the row of the number and the values (`MakesRow`)
     made : MakesRow t width n values
     made = record {
       source = source_is;
