@@ -182,7 +182,7 @@ module _ (c : CampaignValue) (f q : ℕ) where
       all_watched (numbers_of f c.units) empty false (get-empty nat_cmp q)
       ∙ ap (λ t. cond t (there q) None) (or_none (list_any (λ n. watches_in f q (get c.units n)) (numbers_of f c.units)) ∙ seen_by c f q)
 
--- the numbers gathered from the faction's units are those of the regions that it sees, in order
+-- the numbers gathered from the faction's units are those of the regions that it sees, in rising order
 pub entries-with_all_watched : (c : CampaignValue) (f : ℕ) → entries (with_all_watched c f (numbers_of f c.units) empty) ≡ map (λ e. (e.0, tt)) (filter (λ e. sees_region c f e.0) (entries c.regions))
 entries-with_all_watched c f =
     let seen = where_key nat_cmp (sees_region c f) (entries c.regions) in

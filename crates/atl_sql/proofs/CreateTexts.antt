@@ -33,7 +33,7 @@ pub record IsCreate (before after : Schema) (table : Table) (text : List ℕ) : 
   pub command : command_of (understood before text) ≡ CreateTable
   -- the text is one statement, with nothing after it
   pub whole : statement_of text (understood before text) ≡ text
-  -- the text defines the table, but for its tree
+  -- the text defines the table, with 0 as the number of its tree
   pub defines : table_defined_by text ≡ Ok (record table { tree = 0 })
   -- the CREATE TABLE has no RETURNING and doesn't read the time
   pub plain : IsPlain (understood before text)

@@ -57,7 +57,7 @@ makes_more count a b c first next = (next.0 ∙ first.0, λ bare. let made = nex
 
 -- ---- all ten tables
 
--- in a table without rows all rowids are different integers
+-- in a table without rows all rowids are integers, no two alike, since there are none
 no_rows : AreKeyedByRowid []
 no_rows = record { apart = tt; ints = tt }
 

@@ -76,11 +76,11 @@ module _ (count keys : ℕ) (schema : Schema) where
     plain = λ i there. all_has (IsHarmless count) indexes.others i indexes.plain there;
   }
 
-  -- a schema that begins with the first `count` of the ten tables has no foreign key in the others (`AreTables`)
+  -- in a schema that begins with a campaign's tables, none after the first `count` has a foreign key (`AreTables`)
   pub its_tables : Begins count keys schema → AreTables count schema.tables
   its_tables begins = record { others = begins.tables; is = ap (λ (s : Schema). s.tables) begins.is; free = begins.free }
 
-  -- a schema that begins with the first `keys` indexes of a campaign has harmless ones alone after them (`AreIndexes`)
+  -- in a schema that begins with a campaign's, no index after the first `keys` makes anything unique in its tables
   pub its_indexes : Begins count keys schema → AreIndexes count keys schema.indexes
   its_indexes begins = record { others = begins.indexes; is = ap (λ (s : Schema). s.indexes) begins.is; plain = all_from (IsHarmless count) begins.indexes begins.plain }
 

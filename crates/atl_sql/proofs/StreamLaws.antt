@@ -131,7 +131,7 @@ module _ {S : Type 0} (g : Ghosts S) (sql : List ℕ) (old : Held S) where
     clean_before : HasCleanDisk (state g now) → HasCleanDisk (state g mid)
     clean_before clean = omega (arith, survives.clean, clean)
 
-    -- up to the next row the query does what `Survives` says, with nothing committed
+    -- up to the next row the query commits nothing, so a crash leaves only what it could before (`Survives`)
     survived : Survives (state g old) (state g now) (λ _. ⊥)
     survived = survives_more (state g old) (state g mid) (state g now) giving.survives survives
 
