@@ -95,7 +95,7 @@ makes before after table text listed is = (listed, run)
     run : (old new : State) → RunsStatement text [] old new → Extends before after old new
     run old new (inside, count, h) = extends before after table old new inside h.1.mode is.last (λ has. makes_table before after table text is old new count has h.0)
 
--- a list whose elements have the texts of the ten tables, in order
+-- a list whose elements have the CREATE texts of the ten tables, in the order of the tables
 module _ {X : Type 0} (text : X → List ℕ) (xs : List X) (all : map text xs ≡ map creation_of all_parts) where
   -- a list whose elements have the CREATE texts of the ten tables has ten elements
   pub as_many : length xs ≡ table_count

@@ -20,7 +20,7 @@ pub record Makes (schema : Schema) (table : Table) (old new : Database) (S : Set
   -- the trees obey the schema, and rowids of the ten tables are integers, no two alike (`IsSoundDatabase`)
   pub sound : IsSoundDatabase schema new.trees
 
--- a CREATE TABLE turned the schema `before` into `after`, with one table more, without rows; the others are as before
+-- a CREATE TABLE turned the schema `before` into `after`, with one table more, without rows; the others are unchanged
 pub record Creates (before after : Schema) (tree : ℕ) (old new : Database) : Type 0 where
   -- after the CREATE TABLE the schema is `after`
   pub schema_is : new.schema ≡ after
