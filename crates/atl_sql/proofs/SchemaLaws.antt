@@ -52,7 +52,8 @@ any_mapped : {A B : Type 0} (f : A → B) (p : B → Bool) (xs : List A) → lis
 any_mapped f p [] = refl
 any_mapped f p (x ∷ xs) = ap (λ b. p (f x) || b) (any_mapped f p xs)
 
--- if a list's elements have the trees of the ten tables in their order, the first `count` have those of the first `count`
+-- if the elements of a list have the trees of the ten tables, in this order, the first `count` elements have those of
+-- the first `count` tables
 pub our_trees : {X : Type 0} (tree_of : X → ℕ) (xs : List X) → map tree_of xs ≡ all_trees → (tree count : ℕ)
     → list_any (λ x. tree == tree_of x) (take count xs) ≡ list_any (λ t. tree == t.tree) (take count all_tables)
 our_trees tree_of xs same tree count =
