@@ -56,8 +56,7 @@ module _ (t : Table) (old new : Database) (has : HasTables old) (ours : Has all_
   abbrev OthersStay : Type 0
   OthersStay = (u : Table) → Has schema.tables u → u.tree ≢ t.tree → new.trees u.tree ≡ old.trees u.tree
 
-  -- if `new` has the schema of `old` and its trees are sound under it, the campaign's tables are still there
-  -- (`HasTables`)
+  -- if `new` has the schema of `old`, and its trees are sound under it, it still has a campaign's tables (`HasTables`)
   pub stays_there : new.schema ≡ schema → IsSoundDatabase schema new.trees → HasTables new
   stays_there is sound = record {
     begins = record { tables = has.begins.tables; indexes = has.begins.indexes; is = is; free = has.begins.free; plain = has.begins.plain };

@@ -81,7 +81,7 @@ module _ (count keys : ℕ) (schema : Schema) where
   pub its_tables : Begins count keys schema → AreTables count schema.tables
   its_tables begins = record { others = begins.tables; is = ap (λ (s : Schema). s.tables) begins.is; free = begins.free }
 
-  -- in a schema that begins with a campaign's, no index after the first `keys` makes anything unique in its tables
+  -- in a schema that begins with a campaign's tables, no index after the first `keys` makes anything unique in them
   pub its_indexes : Begins count keys schema → AreIndexes count keys schema.indexes
   its_indexes begins = record { others = begins.indexes; is = ap (λ (s : Schema). s.indexes) begins.is; plain = all_from (IsHarmless count) begins.indexes begins.plain }
 
