@@ -10,7 +10,7 @@ use Rattle.atl_report.specs.Events.{faulty_lines, event_lines, own_events, resul
 use Rattle.atl_report.specs.Sight.{view_of}
 use Rattle.atl_report.specs.Report.{header_line, region_parts, report_of, OthersEventsAreNotTold, OnlyWhatIsSeenIsTold}
 
--- where no event passes the test, and no line is faulty, the text of faulty lines and events is `None.`
+-- without faulty lines, the text of faulty lines and events is `None.`, if no event of the list passes the test
 none_passes : (p : Event → Bool) (es : List Event) → list_any p es ≡ false → results_text [] (filter p es) ≡ codes "None.\n"
 none_passes p [] h = refl
 none_passes p (e ∷ es) h = by_test (p e) h (none_passes p es)
@@ -20,7 +20,7 @@ none_passes p (e ∷ es) h = by_test (p e) h (none_passes p es)
     by_test true h rest = absurd (false≢true (sym h))
     by_test false h rest = rest h
 
--- where some event passes the test, and no line is faulty, the text of both is the lines of the passing events
+-- without faulty lines, the text of faulty lines and events is the lines of the events that pass the test, if one does
 some_passes : (p : Event → Bool) (es : List Event) → list_any p es ≡ true → results_text [] (filter p es) ≡ event_lines (filter p es)
 some_passes p [] h = absurd (false≢true h)
 some_passes p (e ∷ es) h = by_test (p e) h (some_passes p es)

@@ -12,7 +12,7 @@ use Rattle.atl_report.specs.Report.{exit_text, exit_texts, joined_or_none}
 abbrev pub written : (is_first : Bool) → (direction : List ℕ) → Option ℕ → List ℕ
 written is_first direction exit = option_map_or (λ to. (if is_first then [] else codes ", ") ++ exit_text direction to) exit []
 
--- some texts joined, each with a comma in front
+-- the texts of a list joined, each with a comma in front
 abbrev after_commas : List (List ℕ) → List ℕ
 after_commas texts = each_text (λ t. codes ", " ++ t) texts
 

@@ -36,7 +36,7 @@ above k q h = elim (nat_cmp q k) as (λ o. nat_cmp q k ≡ o → is_eq o ≡ fal
 -- ---- what holds of some entry
 
 module _ {X : Type 0} (p : X → Bool) (g : Option X → Bool) where
-  -- a test on values that are looked up by the numbers of some entries stays the same with a lower entry put in front
+  -- whether a value looked up by a number of `es` passes `g` doesn't depend on an entry in front that is below `es`
   past : (k : ℕ) (v : X) (fs es : List (ℕ × X)) → below_all nat_cmp k es ≡ true → list_any (λ n. g (find nat_cmp n ((k, v) ∷ fs))) (numbers_among p es) ≡ list_any (λ n. g (find nat_cmp n fs)) (numbers_among p es)
   past k v fs [] h = refl
   past k v fs (e ∷ es) h =
@@ -49,7 +49,7 @@ module _ {X : Type 0} (p : X → Bool) (g : Option X → Bool) where
       ]
       ∙ ap (list_any (λ n. g (find nat_cmp n fs))) (sym (chosen-cons p e es))
 
-  -- in a sorted list, some number of an entry that passes `p`, looked up, passes `g` just where some entry passes both
+  -- in a sorted list, a value looked up by the number of one that passes `p` passes `g` just where a value passes both
   some_found : (es : List (ℕ × X)) → is_sorted nat_cmp es ≡ true → list_any (λ n. g (find nat_cmp n es)) (numbers_among p es) ≡ list_any (λ e. p e.1 && g (Some e.1)) es
   some_found [] h = refl
   some_found (e ∷ es) h =
@@ -61,7 +61,7 @@ module _ {X : Type 0} (p : X → Bool) (g : Option X → Bool) where
         | false ↦ rest
       ]
 
-  -- some number that passes p has a value with g just where some entry of the map passes both
+  -- a value looked up in a map by the number of one that passes `p` passes `g` just where some value passes both
   some_where : (m : FinMap nat_cmp X) → list_any (λ n. g (get m n)) (numbers_where p m) ≡ list_any (λ e. p e.1 && g (Some e.1)) (entries m)
   some_where m = ap (λ (f : ℕ → Option X). list_any (λ n. g (f n)) (numbers_where p m)) (λ i n. get-entries m n i) ∙ some_found (entries m) (is_true _ (entries_sorted m))
 
@@ -182,7 +182,7 @@ module _ (c : CampaignValue) (f q : ℕ) where
       all_watched (numbers_of f c.units) empty false (get-empty nat_cmp q)
       ∙ ap (λ t. cond t (there q) None) (or_none (list_any (λ n. watches_in f q (get c.units n)) (numbers_of f c.units)) ∙ seen_by c f q)
 
--- the numbers gathered from the faction's units are those of the regions that it sees, in order
+-- the numbers gathered from the faction's units are those of the regions that it sees, in rising order
 pub entries-with_all_watched : (c : CampaignValue) (f : ℕ) → entries (with_all_watched c f (numbers_of f c.units) empty) ≡ map (λ e. (e.0, tt)) (filter (λ e. sees_region c f e.0) (entries c.regions))
 entries-with_all_watched c f =
     let seen = where_key nat_cmp (sees_region c f) (entries c.regions) in

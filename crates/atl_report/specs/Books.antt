@@ -55,7 +55,7 @@ amount_text e amount = codes " " ▸ entry_name e ▸ codes " " ▸ signed_decim
 unfoldable pub amount_line : WorldValue → Thing → Entry → ℤ → List ℕ
 amount_line w t e amount = if int_eq amount (pos 0) then [] else thing_name w t ▸ amount_text e amount
 
--- the lines of a thing under some entries, without those whose amount is 0
+-- the lines of a thing under the entries of a list, without those whose amount is 0
 abbrev pub amount_lines : WorldValue → BooksValue → Thing → List Entry → List ℕ
 amount_lines w books t = each_text (λ e. amount_line w t e (amount_in books e t))
 
@@ -69,7 +69,7 @@ thing_part w c t = amount_lines w c.books t all_entries ▸ total_line w c t
 
 -- ---- the whole
 
--- the lines of the first n items, in the order of the world
+-- the lines of the first n items of the world, in its order
 abbrev pub item_parts : WorldValue → CampaignValue → ℕ → List ℕ
 item_parts w c zero = []
 item_parts w c (suc n) = item_parts w c n ▸ thing_part w c (Item n)

@@ -37,7 +37,7 @@ event_text e (Starved n) = codes "Unit " ▸ decimal e.unit ▸ codes ": " ▸ d
 unfoldable pub event_line : Event → List ℕ
 event_line e = event_text e e.outcome
 
--- the lines of some events, in their order
+-- the lines of the events of a list, in its order
 abbrev pub event_lines : List Event → List ℕ
 event_lines = each_text event_line
 

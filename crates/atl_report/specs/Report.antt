@@ -51,7 +51,7 @@ inside_text structure = if structure == 0 then [] else codes ", in " ▸ decimal
 unfoldable pub item_text : WorldValue → ItemView → List ℕ
 item_text w e = option_map_or (λ item. codes ", " ▸ decimal e.amount ▸ codes " " ▸ item.name) (slice_get w.items e.item) []
 
--- the texts of some items, in their order
+-- the texts of the items of a list, in its order
 abbrev pub item_texts : WorldValue → List ItemView → List ℕ
 item_texts w = each_text (item_text w)
 
@@ -61,7 +61,7 @@ skill_text w e =
     option_map_or (λ skill. codes ", " ▸ skill.name ▸ codes " " ▸ decimal e.level ▸ codes " (" ▸ decimal e.days ▸ codes ")")
     (slice_get w.skills e.skill) []
 
--- the texts of some skills, in their order
+-- the texts of the skills of a list, in its order
 abbrev pub skill_texts : WorldValue → List SkillView → List ℕ
 skill_texts w = each_text (skill_text w)
 
@@ -74,7 +74,7 @@ goods_text w (Other faction name) = []
 unfoldable pub unit_line : WorldValue → UnitView → List ℕ
 unit_line w u = unit_head u u.side ▸ guard_text u.guard ▸ inside_text u.structure ▸ goods_text w u.side ▸ codes ".\n"
 
--- the lines of some units, in their order
+-- the lines of the units of a list, in its order
 abbrev pub unit_lines : WorldValue → List UnitView → List ℕ
 unit_lines w = each_text (unit_line w)
 
@@ -90,7 +90,7 @@ structure_text s kind =
 unfoldable pub structure_line : WorldValue → StructureView → List ℕ
 structure_line w s = option_map_or (structure_text s) (slice_get w.kinds s.kind) []
 
--- the lines of some structures, in their order
+-- the lines of the structures of a list, in its order
 abbrev pub structure_lines : WorldValue → List StructureView → List ℕ
 structure_lines w = each_text (structure_line w)
 
@@ -143,7 +143,7 @@ market_text e m item =
 unfoldable pub market_line : WorldValue → ℕ → MarketView → List ℕ
 market_line w region e = option_map_or (λ m. option_map_or (market_text e m) (slice_get w.items e.item) []) (market_of w region e.item) []
 
--- the lines of some markets of a region, in their order
+-- the lines of the markets of a list, which are of one region, in its order
 abbrev pub market_lines : WorldValue → ℕ → List MarketView → List ℕ
 market_lines w region = each_text (market_line w region)
 
@@ -151,7 +151,7 @@ market_lines w region = each_text (market_line w region)
 unfoldable pub region_part : WorldValue → RegionView → List ℕ
 region_part w r = region_line w r ▸ exits_line w r ▸ market_lines w r.number r.markets ▸ structure_lines w r.structures ▸ unit_lines w r.units
 
--- the lines of some regions, in their order
+-- the lines of the regions of a list, in its order
 abbrev pub region_parts : WorldValue → List RegionView → List ℕ
 region_parts w = each_text (region_part w)
 

@@ -77,7 +77,7 @@ fn write_entry(
     Ok(())
 }
 
-/// Writes the lines of a thing under some entries, without those whose amount is 0.
+/// Writes the lines of a thing under the entries of a list, without those whose amount is 0.
 fn write_entries(
     out: &mut String,
     world: &World,
@@ -133,7 +133,7 @@ fn write_part(
     Ok(())
 }
 
-/// Writes the lines of all items, in the order of the world.
+/// Writes the lines of all items of the world, in its order.
 fn write_items(out: &mut String, world: &World, campaign: &Campaign) -> Result<(), AllocError>
     requires things { campaign.now.value.books.things ≡ things_of world.now }
     requires countable { IsCountable campaign.now.value }

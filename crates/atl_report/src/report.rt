@@ -108,6 +108,7 @@ fn write_inside(out: &mut String, structure: u32) -> Result<(), AllocError>
 impl InReport for ItemView {
     ghost text = { item_text };
 
+    /// Writes the item's amount and name at the end of `out`; nothing for an item not in the world.
     #[tactic(auto, unfolding(crate::specs::Report::item_text))]
     fn write(&self, out: &mut String, world: &World) -> Result<(), AllocError> {
         let Some(item) = world.items().get(self.item as usize) else {
@@ -124,6 +125,7 @@ impl InReport for ItemView {
 impl InReport for SkillView {
     ghost text = { skill_text };
 
+    /// Writes the skill with level and days at the end of `out`; nothing for one not in the world.
     #[tactic(auto, unfolding(crate::specs::Report::skill_text))]
     fn write(&self, out: &mut String, world: &World) -> Result<(), AllocError> {
         let Some(skill) = world.skills().get(self.skill as usize) else {
@@ -161,6 +163,7 @@ fn write_goods(out: &mut String, world: &World, side: &Side) -> Result<(), Alloc
 impl InReport for UnitView {
     ghost text = { unit_line };
 
+    /// Writes the unit's line at the end of `out`.
     #[tactic(auto, unfolding(crate::specs::Report::unit_line))]
     fn write(&self, out: &mut String, world: &World) -> Result<(), AllocError> {
         write_head(out, self)?;
@@ -193,6 +196,7 @@ fn write_built(out: &mut String, structure: &StructureView, kind: &Kind) -> Resu
 impl InReport for StructureView {
     ghost text = { structure_line };
 
+    /// Writes the structure's line at the end of `out`; nothing for a kind not in the world.
     #[tactic(auto, unfolding(crate::specs::Report::structure_line))]
     fn write(&self, out: &mut String, world: &World) -> Result<(), AllocError> {
         match world.kind(self.kind) {
@@ -336,6 +340,7 @@ fn write_market(
     match world.item(seen.item) {
         Some(item) => write_trade(out, seen, market, item),
         None => Ok(()),
+    /// Writes the lines of a list of markets of one region, in their order.
     }
 }
 
@@ -359,6 +364,7 @@ fn write_markets(
 impl InReport for RegionView {
     ghost text = { region_part };
 
+    /// Writes the region's line, and the lines of all that is seen there, at the end of `out`.
     #[tactic(auto, unfolding(crate::specs::Report::region_part))]
     fn write(&self, out: &mut String, world: &World) -> Result<(), AllocError> {
         write_region(out, world, self)?;

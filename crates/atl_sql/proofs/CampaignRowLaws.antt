@@ -15,7 +15,7 @@ use Rattle.atl_sql.proofs.OwnRowLaws.{MeansOwn, changed_to, puts_own}
 use Rattle.atl_sql.proofs.StatementLaws.{DoneBy, done_by}
 use Rattle.atl_sql.proofs.Terms.{cast_int}
 
--- the terms of the UPDATE: all columns are set but id, format and world text
+-- the terms of the UPDATE of `campaign_upsert`: id, format and world text stay, the other columns become the parameters
 abbrev project : List Term
 project = col 1 0 ∷ lit Null ∷ col 1 2 ∷ col 0 0 ∷ col 0 1 ∷ col 0 2 ∷ col 0 3 ∷ col 0 4 ∷ col 1 8 ∷ []
 
@@ -24,7 +24,7 @@ means : MeansOwn campaign_upsert project
 unfolding understood everything
 means = record { is = λ more indexes. refl; plain = λ more indexes. (refl, refl) }
 
--- the UPDATE makes of a campaign row the new campaign row with the old world text
+-- of a row with values `before` and world text `text`, the UPDATE makes the row with values `head` and the same text
 changed : (head before : CampaignRowValue) (world text : List ℕ) (r : Row) → visible campaign_table r ≡ campaign_row before text → changed_to project head world r ≡ campaign_row head text
 changed head before world text r shows =
     let id : rowid r ≡ int 1 = ap (λ row. column row 0) shows in

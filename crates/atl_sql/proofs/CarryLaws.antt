@@ -21,7 +21,7 @@ use Rattle.atl_sql.proofs.ListLaws.{has_map}
 
 -- ---- tables without a foreign key refer to nothing
 
--- if no table has a foreign key, no reference is to be checked
+-- if no table of the list has a foreign key, `f` is asked of no reference, and so no work comes of checking references
 none_refer : (tables : List Table) (f : Table → Reference → Option Work) → AllByRecursion (λ t. t.references ≡ []) tables → flat_map (λ child. filter_map (f child) child.references) tables ≡ []
 none_refer [] f free = refl
 none_refer (t ∷ tables) f free = rw (free.0) (none_refer tables f free.1)
@@ -32,7 +32,7 @@ unlinked tables indexes tree free olds news = none_refer tables (work_for (all_a
 
 -- ---- indexes that make nothing unique find nothing
 
--- no two rows share values of an index that is unique in the table, if no index makes anything unique there
+-- if no index of the list makes anything unique in the table t, the rows `new` and `r` share no unique value in t
 pub none_share : (t : Table) (target : Option (List ℕ)) (new r : Row) (indexes : List Index) → ((i : Index) → Has indexes i → guards i t ≡ false) → list_any (shares target t new r) indexes ≡ false
 none_share t target new r [] plain = refl
 none_share t target new r (i ∷ indexes) plain = rw (plain i (inl refl)) (none_share t target new r indexes (λ j there. plain j (inr there)))
@@ -43,7 +43,7 @@ none_share t target new r (i ∷ indexes) plain = rw (plain i (inl refl)) (none_
 pub among_all : (tables : List Table) (t : Table) → Has all_tables t → Has (all_tables ++ tables) t
 among_all tables t there = has_left all_tables tables t there
 
--- the trees are sound under the schema of the campaign's tables and others after them
+-- a database with a campaign's tables is sound under the schema of the ten tables and then its others (`all_and`)
 pub sound_under : (db : Database) (has : HasTables db) → IsSoundDatabase (all_and has.begins.tables has.begins.indexes) db.trees
 sound_under db has = subst (λ s. IsSoundDatabase s db.trees) has.begins.is has.sound
 
@@ -56,14 +56,14 @@ module _ (t : Table) (old new : Database) (has : HasTables old) (ours : Has all_
   abbrev OthersStay : Type 0
   OthersStay = (u : Table) → Has schema.tables u → u.tree ≢ t.tree → new.trees u.tree ≡ old.trees u.tree
 
-  -- if the schema stays and the trees are sound under it, the campaign's tables are still there (`HasTables`)
+  -- if `new` has the schema of `old`, and its trees are sound under it, it still has a campaign's tables (`HasTables`)
   pub stays_there : new.schema ≡ schema → IsSoundDatabase schema new.trees → HasTables new
   stays_there is sound = record {
     begins = record { tables = has.begins.tables; indexes = has.begins.indexes; is = is; free = has.begins.free; plain = has.begins.plain };
     sound = subst (λ s. IsSoundDatabase s new.trees) (sym is) sound;
   }
 
-  -- if the other tables stay, all that isn't the campaign's is carried along (`Carries`)
+  -- if the schema and all tables but `t` stay, all tables and indexes that aren't the campaign's are kept (`Carries`)
   pub carried : new.schema ≡ schema → OthersStay → Carries old new
   carried is others =
       let same : new.schema ≡ old.schema = is ∙ sym has.begins.is in
@@ -73,21 +73,21 @@ module _ (t : Table) (old new : Database) (has : HasTables old) (ours : Has all_
         others = λ u there free. others u (subst (λ (s : Schema). Has s.tables u) has.begins.is there) (λ same. free (subst (Has all_trees) (sym same) (has_map (λ (x : Table). x.tree) all_tables t ours)));
       }
 
-  -- a write that makes the rows of `t` the set `S` (`Makes`) leaves each other table of a campaign (`Alters`)
+  -- a write that makes the rows of `t` the set `S` (`Makes`) changes no other table of a campaign (`Alters`)
   pub altered : (S : Set) → Makes schema t old new S → Alters t S old new
   altered S makes = record { rows = makes.rows; others = λ u listed apart. makes.others u (among_all has.begins.tables u listed) apart }
 
-  -- a write that makes the rows of `t` the set `S` (`Makes`) has done `Does` (`Done`), if `Does` follows from just that
+  -- a write that makes the rows of `t` the set `S` (`Makes`) has done `Does` (`Done`), if `Does` follows from `Alters`
   pub done_with : (Does : Database → Database → Type 0) (S : Set) → (Alters t S old new → Does old new) → Makes schema t old new S → Done Does old new
   done_with Does S is makes = record { does = is (altered S makes); tables = stays_there makes.schema_is makes.sound; carries = carried makes.schema_is makes.others }
 
 -- ---- tables carried along by no write, and by two
 
--- a database that stays as it is carries everything along (`Carries` is reflexive)
+-- a database that stays as it is keeps all tables and indexes (`Carries` is reflexive)
 pub carries_none : (a : Database) → Carries a a
 carries_none a = record { tables = λ t there. there; indexes = λ i there. there; others = λ t there free. refl }
 
--- two steps that each carry along all that isn't a campaign's do so together (`Carries` is transitive)
+-- two steps that each keep what isn't a campaign's keep it together (`Carries` is transitive)
 pub carries_then : (a b c : Database) → Carries a b → Carries b c → Carries a c
 carries_then a b c one two = record {
   tables = λ t there. two.tables t (one.tables t there);

@@ -58,7 +58,7 @@ module _ (old new : State) where
     | inr runs ↦ elim (rw runs at ran.2) [ inl refused ↦ inr (inr refused.1) | inr failed ↦ by_failure _ e failed other ]
   ]
 
-  -- an error given by a call, other than lack of memory, has a cause (`Caused`)
+  -- an error of a statement or of the commit (`IsGiven`), other than lack of memory, has a cause (`Caused`)
   by_call : (own : Statements) (e : Error) → IsGiven own e old new → is_memory e ≡ false → Caused e
   by_call own e (inl ran) other = elim ran.3 [ inl whole ↦ by_execution ran.0 ran.1 e whole.0 other | inr ends ↦ inr (inr ends.2) ]
   by_call own e (inr (inside, inl failed)) other = by_failure _ e failed other
@@ -67,7 +67,7 @@ module _ (old new : State) where
 -- ---- one statement after another
 
 module _ {S : Type 0} (g : Ghosts S) (own : Statements) where
-  -- what `count` statements reach first, and further ones from there, is reached by all of them together (`IsReached`)
+  -- if `count` statements of `own` lead from `a` to `b`, and some from `b` to `c`, then some lead from `a` to `c`
   pub reached_then : (count : ℕ) (a b c : Held S) → Leads g own count a b → IsReached g own b c → IsReached g own a c
   reached_then zero a b c same rest = subst (λ h. IsReached g own h c) (sym same) rest
   reached_then (suc count) a b c first rest = let whole = reached_then count first.0 b c first.2 rest in (suc whole.0, (first.0, first.1, whole.1))
@@ -75,12 +75,12 @@ module _ {S : Type 0} (g : Ghosts S) (own : Statements) where
 -- ---- statements that are among others
 
 module _ {S : Type 0} (g : Ghosts S) (own more : Statements) (among : (sql : List ℕ) (params : Row) → own sql params → more sql params) where
-  -- if statements of `own` lead from one connection to another, so do statements of `more`
+  -- if statements of `own` lead from connection `old` to `new`, so do those of `more`, which has all of `own`
   leads_among : (count : ℕ) (old new : Held S) → Leads g own count old new → Leads g more count old new
   leads_among zero old new same = same
   leads_among (suc count) old new (mid, ran, rest) = (mid, (ran.0, ran.1, among ran.0 ran.1 ran.2, ran.3, ran.4), leads_among count mid new rest)
 
-  -- a connection that statements of `own` reach is reached by statements of `more`
+  -- a connection that statements of `own` reach is reached by statements of `more`, which has all those of `own`
   pub reached_among : (old new : Held S) → IsReached g own old new → IsReached g more old new
   reached_among old new reached = (reached.0, leads_among reached.0 old new reached.1)
 
@@ -90,7 +90,7 @@ module _ {S : Type 0} (g : Ghosts S) (own more : Statements) (among : (sql : Lis
   given_among e before after (inl ran) = inl (ran.0, ran.1, among ran.0 ran.1 ran.2, ran.3)
   given_among e before after (inr fails) = inr fails
 
-  -- an error given in a transaction of statements of `own` is given in one of statements of `more`
+  -- an error that a transaction of statements of `own` gives is given in one of `more`, which has all of `own`
   pub gives_among : (e : Error) (old new : Held S) → Gives g own e old new → Gives g more e old new
   gives_among e old new gave = record {
     before = gave.before;
@@ -112,8 +112,8 @@ module _ {S : Type 0} (g : Ghosts S) (own : Statements) (e : Error) where
   pub gives : (old new : Held S) → IsTrue (state g old).in_transaction → IsGiven own e (state g old) (state g new) → Gives g own e old new
   gives old new inside given = record { before = old; after = new; reached = (0, as_begun old inside); kept = record { was_open = λ up. up; committed = λ _. refl }; given = given; cause = by_call (state g old) (state g new) own e given }
 
-  -- after statements of a transaction that committed nothing, on a clean disk, an error that it gives is one given
-  -- since before these statements (`Gives`)
+  -- if statements lead from `old` to `mid` in a transaction, on a clean disk and with nothing committed, an error that
+  -- the transaction gives from `mid` on is one that it gives from `old` on (`Gives`)
   pub gives_after : (old mid new : Held S) → IsTrue (state g old).in_transaction → IsTrue (state g mid).in_transaction → IsReached g own old mid → HasCleanDisk (state g mid) → KeepsCommit (state g old) (state g mid) → Survives (state g old) (state g mid) (λ _. ⊥) → (state g mid).faults ≤ (state g new).faults → Gives g own e mid new → Gives g own e old new
   gives_after old mid new was is reached clean kept survives counts gave = record {
     before = gave.before;
@@ -133,7 +133,7 @@ module _ {S : Type 0} (g : Ghosts S) (own : Statements) (e : Error) where
     ];
   }
 
-  -- an error that a transaction gave before further calls is still one that it gave after them (`Gives`)
+  -- an error that a transaction gave between `old` and `mid` is one between `old` and any later state `new` (`Gives`)
   pub gives_until : (old mid new : Held S) → (state g mid).faults ≤ (state g new).faults → Gives g own e old mid → Gives g own e old new
   gives_until old mid new counts gave = record {
     before = gave.before;
@@ -144,7 +144,7 @@ module _ {S : Type 0} (g : Ghosts S) (own : Statements) (e : Error) where
     cause = λ other. elim (gave.cause other) [ inl (inl more) ↦ inl (inl (more_later _ _ _ counts more)) | inl (inr shut) ↦ inl (inr shut) | inr refused ↦ inr refused ];
   }
 
-  -- an error given since BEGIN, from the connection after it, is one given from the connection before it (`Gives`)
+  -- an error given between the connection after BEGIN and `new` is one given between that before BEGIN and `new`
   pub gives_begun : (old begun new : Held S) → begun ≡ record old { in_transaction = true } → Gives g own e begun new → Gives g own e old new
   gives_begun old begun new begins gave =
       let same : Gives g own e (record old { in_transaction = true }) new = subst (λ h. Gives g own e h new) begins gave in
@@ -159,7 +159,7 @@ module _ {S : Type 0} (g : Ghosts S) (own : Statements) (e : Error) where
 
 -- ---- of a result
 
--- what is true of an error is true of the error of a result that is this error
+-- if `r` is the error `e`, what is true of `e` is true of the error of `r` (`IfErr`)
 pub errs_as : {A E : Type 0} (P : E → Type 0) (r : Result A E) (e : E) → IsErrAnd r (λ f. f ≡ e) → P e → IfErr r P
 errs_as P (Ok a) e told p = tt
 errs_as P (Err f) e told p = subst P (sym told) p

@@ -72,7 +72,7 @@ one_at ops (suc depth) at says = there ops at (Literal one) (λ same. absurd (cc
 
 -- ---- the term and the three nodes
 
--- these nodes make the term "id = 1": a comparison, the column `id`, and the number 1
+-- the nodes `root`, `a` and `b` of the list make the term "id = 1": a comparison, the column `id`, and the number 1
 abbrev Says : List Op → ℕ → ℕ → ℕ → Type 0
 Says ops root a b = (slice_get ops root ≡ Some (Binary equals a b)) × (slice_get ops a ≡ Some (Column 1 0)) × (slice_get ops b ≡ Some (Literal one))
 

@@ -33,13 +33,13 @@ pub record IsCreate (before after : Schema) (table : Table) (text : List ℕ) : 
   pub command : command_of (understood before text) ≡ CreateTable
   -- the text is one statement, with nothing after it
   pub whole : statement_of text (understood before text) ≡ text
-  -- the text defines the table, but for its tree
+  -- the text defines the table, with 0 as the number of its tree
   pub defines : table_defined_by text ≡ Ok (record table { tree = 0 })
-  -- the statement has no RETURNING and doesn't read the time
+  -- the CREATE TABLE has no RETURNING and doesn't read the time
   pub plain : IsPlain (understood before text)
-  -- the schema with the new table added is `after`
+  -- the schema `before` with the table added is `after`
   pub after_is : created before (record table { tree = 0 }) ≡ after
-  -- the next free tree is the table's
+  -- the next free tree of the schema `before` is the table's
   pub tree_is : next_tree before ≡ table.tree
   -- the new table is the last of the schema `after`
   pub last : after.tables ≡ before.tables ++ table ∷ []
@@ -87,7 +87,7 @@ made_at i d small =
 abbrev pub MakesNextTable : Schema → Schema → List ℕ → Type 1
 MakesNextTable before after text = Has (map creation_of all_parts) text × ((old new : State) → RunsStatement text [] old new → Extends before after old new)
 
--- the CREATE text of a part for these schemas (`IsCreate`) makes the next table (`MakesNextTable`)
+-- the CREATE text of a part that turns `before` into `after` (`IsCreate`) makes the next table (`MakesNextTable`)
 makes : (before after : Schema) (table : Table) (text : List ℕ) → Has (map creation_of all_parts) text → IsCreate before after table text → MakesNextTable before after text
 makes before after table text listed is = (listed, run)
   where
@@ -95,9 +95,9 @@ makes before after table text listed is = (listed, run)
     run : (old new : State) → RunsStatement text [] old new → Extends before after old new
     run old new (inside, count, h) = extends before after table old new inside h.1.mode is.last (λ has. makes_table before after table text is old new count has h.0)
 
--- a list whose elements have the texts of the ten tables, in order
+-- a list whose elements have the CREATE texts of the ten tables, in the order of the tables
 module _ {X : Type 0} (text : X → List ℕ) (xs : List X) (all : map text xs ≡ map creation_of all_parts) where
-  -- a list whose elements have the ten texts has ten elements
+  -- a list whose elements have the CREATE texts of the ten tables has ten elements
   pub as_many : length xs ≡ table_count
   as_many = sym (length-map xs text) ∙ ap length all
 
@@ -113,10 +113,10 @@ module _ {X : Type 0} (text : X → List ℕ) (xs : List X) (all : map text xs �
 -- ---- in a transaction
 
 module _ {S A : Type 0} (g : Ghosts S) {r : Result A Error} {a b : MutBor (Held S)} where
-  -- a write by the text of a part's table is one by the CREATE statements (`Creations`)
+  -- a step that runs nothing but the CREATE text of a part runs nothing but CREATE statements of the ten tables
   pub creating : {Does : State → State → Type 0} {before after : Schema} (text : List ℕ) → MakesNextTable before after text → Writes g (Only text []) Does r a b → Writes g Creations Does r a b
   creating text makes one = among_only g text [] (makes.0, refl) one
 
-  -- running the text of a part's table is a write by the CREATE statements that makes one more table
+  -- a step that runs the CREATE text of a part is one of CREATE statements that makes one more empty table (`Extends`)
   pub made_by : {before after : Schema} (text : List ℕ) → MakesNextTable before after text → Writes g (Only text []) (RunsStatement text []) r a b → Writes g Creations (Extends before after) r a b
   made_by text makes one = weaker g makes.1 (creating text makes one)

@@ -46,9 +46,9 @@ pub record Loses (schema : Schema) (table : Table) (p : Row → Bool) (db next :
   pub from : (r : Row) → Has (next table.tree) r → Has (db table.tree) r × (p r ≡ false)
   -- each row that fails the test is left
   pub kept : (r : Row) → Has (db table.tree) r → p r ≡ false → Has (next table.tree) r
-  -- the rowids of the table are different integers
+  -- the rowids of the rows that are left are integers, no two alike
   pub keyed : AreKeyedByRowid (next table.tree)
-  -- each other table is as it was
+  -- each table of the schema that has another tree holds what it held
   pub others : (t : Table) → Has schema.tables t → t.tree ≢ table.tree → next t.tree ≡ db t.tree
 
 -- after an edit the rows that pass the test `p` are gone, the row `new` is there, and nothing else changed
@@ -59,9 +59,9 @@ pub record Swaps (schema : Schema) (table : Table) (p : Row → Bool) (new : Row
   pub from : (r : Row) → Has (next table.tree) r → (r ≡ new) ⊎ (Has (db table.tree) r × (p r ≡ false))
   -- each row that was there and fails the test is still there
   pub kept : (r : Row) → Has (db table.tree) r → p r ≡ false → Has (next table.tree) r
-  -- the rowids of the table are different integers
+  -- the rowids of the table's rows afterwards are integers, no two alike
   pub keyed : AreKeyedByRowid (next table.tree)
-  -- each other table is as it was
+  -- each table of the schema that has another tree holds what it held
   pub others : (t : Table) → Has schema.tables t → t.tree ≢ table.tree → next t.tree ≡ db t.tree
 
 module _ (schema : Schema) (table : Table) (unlinked : (olds news : List Row) → works schema Enforced 0 table.tree olds news ≡ []) where
@@ -144,7 +144,7 @@ module _ (schema : Schema) (table : Table) (unlinked : (olds news : List Row) �
           others = λ t listed other. put.3 t listed other ∙ lost.others t listed other;
         }
 
-    -- one attempt to put a row by INSERT OR REPLACE swaps the rows with its keys for the row (`Swaps`)
+    -- one attempt to put a row by INSERT OR REPLACE swaps the rows that conflict with it for that row (`Swaps`)
     pub tries : (new : Row) (db : Trees) (w : Written) → AreKeyedByRowid (db table.tree) → Tries task Replace [] new db (Ok w)
         → Swaps schema table (p new) (cast_row table new) db w.trees
     tries new db w keyed (inl refused) = absurd (let e = refused.1 in cc)
@@ -176,18 +176,18 @@ pub has_permuted : {X : Type 0} (xs ys : List X) (x : X) → IsPermutation xs ys
 has_permuted xs ys x h there = all_has (λ y. Has ys y) xs x (all-permutation (λ y. Has ys y) ys xs (IsPermutation-sym xs ys h) (all_from _ ys (λ y k. k))) there
 
 module _ (p : Row → Bool) (f : Row → Env) where
-  -- a row that passes the test is among the rows that a query by the test chooses
+  -- for a row that passes the test p, `f` of it is in the list of `f` of all rows that pass
   has_chosen : (rows : List Row) (r : Row) → Has rows r → p r ≡ true → Has (flat_map (λ r. cond (p r) (f r ∷ []) []) rows) (f r)
   has_chosen [] r h passes = absurd h
   has_chosen (x ∷ rows) r (inl same) passes = rw (← same, passes) (inl refl)
   has_chosen (x ∷ rows) r (inr later) passes = go (p x) (has_chosen rows r later passes)
     where
-      -- an element that was chosen of the later rows stays, whether or not the first row is chosen
+      -- what is chosen of the later rows is chosen of all the rows, whether or not the first row is chosen too
       go : (b : Bool) → Has (flat_map (λ r. cond (p r) (f r ∷ []) []) rows) (f r) → Has (cond b (f x ∷ []) [] ++ flat_map (λ r. cond (p r) (f r ∷ []) []) rows) (f r)
       go true h = inr h
       go false h = h
 
-  -- whatever a query by the test chooses is the image of a row that passes the test
+  -- whatever is in the list of `f` of all rows that pass the test p is `f` of such a row
   chosen_has : (rows : List Row) (e : Env) → Has (flat_map (λ r. cond (p r) (f r ∷ []) []) rows) e → (r : Row) × Has rows r × (p r ≡ true) × (e ≡ f r)
   chosen_has [] e h = absurd h
   chosen_has (x ∷ rows) e h = go (p x) refl h (chosen_has rows e)

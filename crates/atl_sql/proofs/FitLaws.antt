@@ -35,7 +35,7 @@ fits_length [] (v ∷ vs) fits = absurd fits
 fits_length (c ∷ cs) [] fits = absurd fits
 fits_length (c ∷ cs) (v ∷ vs) fits = ap suc (fits_length cs vs fits.1)
 
--- SQL's casts leave values that are of their columns' types
+-- SQL's casts don't change values that are of their columns' types
 fits_cast : (cs : List Column) (vs : Row) → Fits cs vs → cast_all cs vs ≡ vs
 fits_cast [] [] fits = refl
 fits_cast [] (v ∷ vs) fits = absurd fits
@@ -53,27 +53,27 @@ shifted f g same a (suc n) = let here = same a in let later = shifted f g same (
 next_column : (v : Value) (vs : Row) (k : ℕ) → column (v ∷ vs) (k + 1) ≡ column vs k
 next_column v vs k = let next : k + 1 ≡ suc k = omega arith in ap (column (v ∷ vs)) next
 
--- all columns of a row, one by one, are the row
+-- the first columns of the row `vs ++ more`, as many as `vs` has values, are `vs`
 each_column : (vs more : Row) → map (column (vs ++ more)) (range_with_len 0 (length vs)) ≡ vs
 each_column [] more = refl
 each_column (v ∷ vs) more = ap (λ (l : Row). v ∷ l) (shifted (column (v ∷ (vs ++ more))) (column (vs ++ more)) (next_column v (vs ++ more)) 0 (length vs) ∙ each_column vs more)
 
--- all columns after the first, one by one, are the row without its first value
+-- the columns after the first of the row `v ∷ (vs ++ more)`, as many as `vs` has values, are `vs`
 each_later : (v : Value) (vs more : Row) → map (column (v ∷ (vs ++ more))) (range_with_len 1 (length vs)) ≡ vs
 each_later v vs more = shifted (column (v ∷ (vs ++ more))) (column (vs ++ more)) (next_column v (vs ++ more)) 0 (length vs) ∙ each_column vs more
 
--- the column of a row after some values is the value that comes next
+-- the column of a row after the values `vs` is `x`, the value that comes next
 column_after : (vs : Row) (x : Value) (more : Row) → column (vs ++ x ∷ more) (length vs) ≡ x
 column_after [] x more = refl
 column_after (v ∷ vs) x more = column_after vs x more
 
 -- ---- what the terms make of the parameters, which are a number and so many values
 
--- the terms of the INSERT of a numbered row: the number and the values, from the parameters
+-- the terms of the INSERT of a numbered row with this many values: the number and the values, from the parameters
 abbrev pub given_row : ℕ → List Term
 given_row width = col 0 0 ∷ lit Null ∷ map (col 0) (range_with_len 1 width)
 
--- the terms of the UPDATE of a numbered row: the number of the row that is there, and the values from the parameters
+-- the terms of the UPDATE of a numbered row with this many values: its own number, and the values from the parameters
 abbrev pub changed_row : ℕ → List Term
 changed_row width = col 1 0 ∷ lit Null ∷ map (col 0) (range_with_len 1 width)
 
@@ -134,7 +134,7 @@ module _ (tree : ℕ) (name key_name : List ℕ) (columns : List Column) (unique
     casted_is : cast_row t its_row ≡ its_row
     casted_is = rw (cast_int (pos n), cast_null, fits_cast columns values fits) refl
 
-    -- the terms for as many columns as values make the row of the number and the values (`MakesRow`)
+    -- the terms for as many columns as there are values make the row of the number and the values (`MakesRow`)
     made : MakesRow t width n values
     made = record {
       source = source_is;
@@ -144,6 +144,6 @@ module _ (tree : ℕ) (name key_name : List ℕ) (columns : List Column) (unique
       aimed = λ x more. next_column (int n) (values ++ x ∷ more) width ∙ column_after values x more;
     }
 
-    -- the terms for all columns make the row of the number and the values of their columns' types (`MakesRow`)
+    -- if the values are of their columns' types, the terms for all columns make the row of number and values
     pub makes_row : MakesRow t (length columns) n values
     makes_row = subst (λ w. MakesRow t w n values) (fits_length columns values fits) made

@@ -16,7 +16,7 @@ int_by (Real x) typed some = absurd (true≢false (sym typed))
 int_by (Text t) typed some = absurd (true≢false (sym typed))
 int_by (Blob b) typed some = absurd (true≢false (sym typed))
 
--- equal rows have equal first values and equal rests
+-- equal rows have equal first values, and are equal without these
 pub cons_is : (a b : Value) (xs ys : Row) → ◌≡◌ {A = Row} (a ∷ xs) (b ∷ ys) → (a ≡ b) × (xs ≡ ys)
 cons_is a b xs ys e = (cc, cc)
 

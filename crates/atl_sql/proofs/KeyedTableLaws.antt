@@ -77,11 +77,11 @@ key_is k = record { ours = listed (part_of k); place = λ more. refl; plain = λ
 
 -- ---- what the statements mean
 
--- the terms of the INSERT: a rowid that SQL chooses, and then the values from the parameters
+-- the terms of the INSERT into a table of this many columns: a rowid that SQL chooses, then values from the parameters
 abbrev given : ℕ → List Term
 given width = lit Null ∷ map (col 0) (range_with_len 0 width)
 
--- the terms of the UPDATE: the row that is there keeps its key and takes over the other values
+-- the terms of the UPDATE: the row that is there keeps its key, and takes over the parameters in its other columns
 abbrev taken_over : ℕ → ℕ → List Term
 taken_over key width = map (col 1) (range_with_len 0 (key + 1)) ++ map (col 0) (range_with_len key (width - key))
 

@@ -39,17 +39,17 @@ map_has f (x ∷ xs) y (inr later) = let r = map_has f xs y later in (r.0, inr r
 
 -- ---- rowids
 
--- two values that are equal by the order of values are equal the other way round
+-- if `a` equals `b` by the order of values, `b` equals `a` by it
 pub eq_sym : (a b : Value) → is_eq (value_cmp a b) ≡ true → is_eq (value_cmp b a) ≡ true
 eq_sym a b h = sym (ap is_eq (value_cmp_total.antisymm a b) ∙ reversed (value_cmp b a)) ∙ h
   where
-    -- reversing an ordering leaves whether it is "equal"
+    -- a reversed ordering is "equal" exactly if the ordering is
     reversed : (o : Ordering) → is_eq (ordering_reverse o) ≡ is_eq o
     reversed Less = refl
     reversed Equal = refl
     reversed Greater = refl
 
--- two rows of a table with the same rowid are equal
+-- two rows with the same rowid are equal, if they are of a list in which no two rowids are alike
 pub one_rowid : (rows : List Row) → IsAscending (λ a b. is_eq (value_cmp (rowid a) (rowid b)) ≡ false) rows → (a b : Row) → Has rows a → Has rows b → is_eq (value_cmp (rowid a) (rowid b)) ≡ true → a ≡ b
 one_rowid [] up a b h k same = absurd h
 one_rowid (r ∷ rows) up a b (inl e) (inl f) same = e ∙ sym f
@@ -57,7 +57,7 @@ one_rowid (r ∷ rows) up a b (inl e) (inr k) same = absurd (true≢false (sym s
 one_rowid (r ∷ rows) up a b (inr h) (inl f) same = absurd (true≢false (sym (eq_sym _ _ same) ∙ rw f (all_has _ rows a up.0 h)))
 one_rowid (r ∷ rows) up a b (inr h) (inr k) same = one_rowid rows up.1 a b h k same
 
--- removing rowids keeps a row with another rowid
+-- a row stays when the rows of some rowids are removed, if its own rowid isn't one of them
 pub without_keeps : (ids : List ℤ) (rows : List Row) (r : Row) → Has rows r → ((id : ℤ) → Has ids id → has_rowid id r ≡ false) → Has (without_all rows ids) r
 without_keeps [] rows r h apart = h
 without_keeps (id ∷ ids) rows r h apart =
@@ -113,7 +113,7 @@ module _ (p : Row → Bool) (rows found : List Row) (keyed : AreKeyedByRowid row
 
 -- ---- an edit keeps the rowids apart
 
--- removing rows keeps the rowids different integers
+-- once rows are removed, the rowids of those left are still integers, no two alike (`AreKeyedByRowid`)
 pub keyed_without : (ids : List ℤ) (rows : List Row) → AreKeyedByRowid rows → AreKeyedByRowid (without_all rows ids)
 keyed_without [] rows keyed = keyed
 keyed_without (id ∷ ids) rows keyed = keyed_without ids (without_rowid id rows) (record {
@@ -141,6 +141,6 @@ apart_put new (r ∷ rows) apart free = go (value_cmp (rowid r) (rowid new)) ref
     go Equal is more = absurd (true≢false (sym (ap is_eq is) ∙ (or_parts _ _ free).0))
     go Greater is more = (all_from _ (r ∷ rows) untaken, apart)
 
--- putting a row whose rowid is an integer that no row has keeps the rowids different integers
+-- once a row is put, the rowids are integers, no two alike, if its own is an integer that no row had
 pub keyed_put : (new : Row) (rows : List Row) → AreKeyedByRowid rows → is_taken rows new ≡ false → is_int (rowid new) ≡ true → AreKeyedByRowid (put_row new rows)
 keyed_put new rows keyed free int = record { apart = apart_put new rows keyed.apart free; ints = all-put_row _ new rows int keyed.ints }

@@ -11,22 +11,22 @@ use Rattle.atl_sql.specs.Tables.{IsSoundDatabase}
 -- a statement wrote one table: its rows are now the set `S`, and every other table is unchanged
 -- The database is sound under its schema.
 pub record Makes (schema : Schema) (table : Table) (old new : Database) (S : Set) : Type 0 where
-  -- the schema is this one
+  -- after the write the database has this schema
   pub schema_is : new.schema ≡ schema
-  -- the rows of the table are the set `S`
+  -- after the write the rows of this table are exactly those of the set `S`
   pub rows : Is (rows_in table new.trees) S
-  -- each other table of the schema is as it was
+  -- each table of the schema that has another tree holds what it held
   pub others : (t : Table) → Has schema.tables t → t.tree ≢ table.tree → new.trees t.tree ≡ old.trees t.tree
-  -- the database is sound under its schema
+  -- the trees obey the schema, and rowids of the ten tables are integers, no two alike (`IsSoundDatabase`)
   pub sound : IsSoundDatabase schema new.trees
 
--- a CREATE TABLE turned the schema `before` into `after`, with one table more, without rows; the others are as before
+-- a CREATE TABLE turned the schema `before` into `after`, with one table more, without rows; the others are unchanged
 pub record Creates (before after : Schema) (tree : ℕ) (old new : Database) : Type 0 where
-  -- the schema is now `after`
+  -- after the CREATE TABLE the schema is `after`
   pub schema_is : new.schema ≡ after
   -- the new table has no row
   pub empty : new.trees tree ≡ []
-  -- each table of the schema before is as it was
+  -- each table of the schema `before` holds what it held
   pub others : (t : Table) → Has before.tables t → new.trees t.tree ≡ old.trees t.tree
   -- the trees and the schema fit each other (`IsDatabase`)
   pub sound : IsDatabase new

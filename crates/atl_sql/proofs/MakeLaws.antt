@@ -33,7 +33,7 @@ did schema old new command text params count has w =
     subst (λ s. Does old.step_limit mode params (record old.now { schema = s }) text None command (Ok (w.tally, new.now))) has w.changed
 
 module _ (schema : Schema) (among : (u : Table) → Has all_tables u → Has schema.tables u) (t : Table) (key : ℕ) where
-  -- a row that SQL shows of a list of stored rows is that of one of them
+  -- a row that SQL shows of a list of stored rows is shown of one row in the list
   shown_again : (rows : List Row) (r : Row) → Has (map (visible t) rows) r → (x : Row) × Has rows x × (r ≡ visible t x)
   shown_again rows r h = map_has (visible t) rows r h
 
@@ -80,7 +80,7 @@ module _ (schema : Schema) (among : (u : Table) → Has all_tables u → Has sch
         ]))),
   )
 
-  -- the trees stay sound if the schema is unchanged and the written table's rowids are still different integers
+  -- trees stay sound (`IsSoundDatabase`) if schema and other tables stay, and rowids of `t` are integers, no two alike
   pub stays_sound : (old new : Database) → IsSoundDatabase schema old.trees → IsDatabase new → new.schema ≡ schema → AreKeyedByRowid (new.trees t.tree)
       → ((u : Table) → Has schema.tables u → u.tree ≢ t.tree → new.trees u.tree ≡ old.trees u.tree) → IsSoundDatabase schema new.trees
   stays_sound old new sound base is keyed others = record {
@@ -147,7 +147,7 @@ module _ (schema : Schema) (among : (u : Table) → Has all_tables u → Has sch
     updates_make (inl put_in) r there same changed tests alone listed sound base is = absurd (true≢false (sym ((tests r there).1 same) ∙ put_in.0 r there))
     updates_make (inr over) r there same changed tests alone listed sound base is = over_make over.0 over.1 over.2 over.3 changed tests alone listed sound base is
 
-    -- an upsert leaves the database sound: the trees obey the schema, and rowids are different integers
+    -- an upsert leaves the database sound (`IsSoundDatabase`): trees obey the schema, and no two rowids are alike
     pub upserts_sound : Upserted schema t unlinked limit params target place project plain new old.trees next.trees → IsSoundDatabase schema old.trees → IsDatabase next → next.schema ≡ schema → IsSoundDatabase schema next.trees
     upserts_sound (inl put_in) sound base is = stays_sound old next sound base is put_in.1.keyed put_in.1.others
     upserts_sound (inr over) sound base is = stays_sound old next sound base is over.3.keyed over.3.others

@@ -14,7 +14,7 @@ use Rattle.atl_sql.specs.Tables.{all_indexes, all_tables, no_tables, table_count
 use Rattle.atl_sql.specs.Inside.{Inside, IsBlank}
 use Rattle.atl_sql.specs.Making.{AreEmpty}
 
--- a CREATE TABLE in a database of empty tables leaves empty tables, one more (`Extends`)
+-- a CREATE TABLE, run where all tables are empty, makes one table more, and all are still empty (`Extends`)
 pub extends : (before after : Schema) (table : Table) (old new : State) → IsTrue old.in_transaction → new.in_transaction ≡ true → after.tables ≡ before.tables ++ table ∷ []
     → (old.now.schema ≡ before → Creates before after table.tree old.now new.now) → Extends before after old new
 extends before after table old new inside mode more makes = (
@@ -35,7 +35,7 @@ extends before after table old new inside mode more makes = (
 
 -- ---- the first tables
 
--- the schema of these first tables and of the indexes of their keys
+-- the schema of the tables of this list, the first ones of the ten, and of the indexes of their keys
 abbrev pub with_tables : List Table → Schema
 with_tables tables = record { tables = tables; indexes = take (sum_by (λ t. length t.uniques) tables) all_indexes; views = [] }
 
@@ -57,11 +57,11 @@ makes_more count a b c first next = (next.0 ∙ first.0, λ bare. let made = nex
 
 -- ---- all ten tables
 
--- in a table without rows all rowids are different integers
+-- in a table without rows all rowids are integers, no two alike, since there are none
 no_rows : AreKeyedByRowid []
 no_rows = record { apart = tt; ints = tt }
 
--- making at least `table_count` tables in a blank database makes all of them, empty
+-- making the first `count` tables in a blank database makes all ten, each empty, if `count` is ten or more
 pub makes_all : (count : ℕ) → table_count ≤ count → (a b : State) → MakesFirst count a b → Inside IsBlank AreEmpty a b
 makes_all count enough a b all = (
   all.0,

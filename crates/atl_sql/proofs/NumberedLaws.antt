@@ -87,7 +87,7 @@ module _ (tree : ℕ) (name key_name : List ℕ) (columns : List Column) (unique
   module _ (is : IsNumbered t at width) where
     -- ---- the DELETE of a row
 
-    -- inside a transaction, the DELETE that ran removed the row of the number
+    -- inside a transaction, the DELETE that ran removed the row that has the number
     drops : (n : ℕ) (old new : State) (count : ℕ) → IsTrue old.in_transaction → ExecutesInside 0 drop (int n ∷ []) old new (Ok count)
         → Inside HasTables (Drops t 1 (int n ∷ [])) old new
     drops n old new count inside ran = (
@@ -106,7 +106,7 @@ module _ (tree : ℕ) (name key_name : List ℕ) (columns : List Column) (unique
           done_with t old.now new.now has is.ours _ _ (λ did. did) makes,
     )
 
-    -- the text of the DELETE removes the row of the number (`DropsKey`)
+    -- the text of the DELETE removes the row that has the number (`DropsKey`)
     pub drops_numbered : (n : ℕ) → DropsKey t 1 (int n ∷ [])
     drops_numbered n = done_by drop (int n ∷ []) (Drops t 1 (int n ∷ [])) (drops n)
 

@@ -18,7 +18,7 @@ place_in part = unwrap_or (position (λ p. nat_eq (tree_of p) (tree_of part)) al
 abbrev width_of : Part → ℕ
 width_of part = length (drop 1 (table_of part).columns)
 
--- the upsert and the DELETE of a table whose key is the row's number mean those by the number (`IsNumbered`)
+-- the texts of a part whose key is the row's number mean an upsert and a DELETE of the row of a number (`IsNumbered`)
 numbered : (part : Part) → IsNumberedPart part → IsNumbered (table_of part) (place_in part) (width_of part)
 unfolding understood everything
 numbered Own is = absurd is
@@ -36,7 +36,7 @@ numbered part is = record {
   spared = λ new x. refl;
 }
 
--- the upsert of a part whose key is the row's number puts the row
+-- the upsert of a part whose key is the row's number puts the row of this number and these values (`PutsRow`)
 pub puts_part : (part : Part) → IsNumberedPart part → (n : ℕ) (values : Row) → Fits (drop 1 (table_of part).columns) values → PutsRow (table_of part) 1 (int n ∷ values)
 puts_part Own is = absurd is
 puts_part Goods is = absurd is

@@ -50,7 +50,7 @@ src head world = int 1 ∷ Null ∷ int 2 ∷ campaign_row_values head world
 abbrev pub changed_to : List Term → CampaignRowValue → List ℕ → Row → Row
 changed_to project head world r = visible campaign_table (cast_row campaign_table (eval_all project ((campaign_row_values head world ++ rowid r ∷ shown campaign_table (src head world)) ∷ r ∷ [])))
 
--- an upsert of `campaign` inserts the first row, or changes the row that is there by the terms `project`
+-- an upsert of `campaign` inserts the row where there is none, or changes the one that is there by the terms `project`
 pub record PutsOwn (project : List Term) (head : CampaignRowValue) (world : List ℕ) (old new : Database) : Type 0 where
   -- without a campaign row, the one of these values and this world text is put
   pub first : rows_in campaign_table old.trees ≡ [] → Puts campaign_table 1 (campaign_row head world) old new
@@ -58,12 +58,12 @@ pub record PutsOwn (project : List Term) (head : CampaignRowValue) (world : List
   pub again : (before after : Row) → take 1 before ≡ int 1 ∷ [] → take 1 after ≡ int 1 ∷ [] → Is (rows_in campaign_table old.trees) (λ r. r ≡ before) → ((r : Row) → visible campaign_table r ≡ before → changed_to project head world r ≡ after) → Puts campaign_table 1 after old new
   -- the tables of a campaign are there afterwards
   pub tables : HasTables new
-  -- all that isn't a campaign's is carried along
+  -- no table or index is gone, and tables that aren't a campaign's hold what they held (`Carries`)
   pub carries : Carries old new
 
 -- the text means the upsert of `campaign` whose UPDATE has the terms `project`, whatever other tables follow
 pub record MeansOwn (sql : List ℕ) (project : List Term) : Type 1 where
-  -- the text means this INSERT, with this UPDATE of the row that is there
+  -- the text means the INSERT of a campaign row, with an UPDATE by the terms `project` of a row that is there
   pub is : (more : List Table) (indexes : List Index) → command_of (understood (all_and more indexes) sql) ≡ InsertOr 0 Abort (Values own_terms 9) (clause_on (0 ∷ []) (record { lets = []; body = update_query campaign_table.tree 6 project }) ∷ [])
   -- the statement has no RETURNING and doesn't read the time
   pub plain : (more : List Table) (indexes : List Index) → IsPlain (understood (all_and more indexes) sql)

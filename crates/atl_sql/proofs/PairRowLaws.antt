@@ -15,7 +15,7 @@ use Rattle.atl_sql.proofs.KeyLaws.{int_by, cons_is}
 use Rattle.atl_sql.proofs.KeyedRowLaws.{AreInts, MakesValues}
 use Rattle.atl_sql.proofs.Terms.{cast_null, cast_int}
 
--- the indexes, in a stored row, of the two columns of the key of such a table
+-- the indexes, in a stored row, of the two key columns of a table such as `books`
 abbrev pub pair_unique : List ℕ
 pair_unique = 1 ∷ 2 ∷ []
 

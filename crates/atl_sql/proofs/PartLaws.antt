@@ -37,7 +37,7 @@ found_has p (y ∷ xs) x is = elim (first_or_later (p y) y x (find p xs) is) [ i
 every_part : (part : Part) → Has all_parts part
 every_part part = found_has (λ p. nat_eq (tree_of p) (tree_of part)) all_parts part (found_part part)
 
--- the table of a part is one of all tables
+-- the table of each part is one of the ten tables (`all_tables`)
 pub listed : (part : Part) → Has all_tables (table_of part)
 listed part = has_map table_of all_parts part (every_part part)
 

@@ -12,12 +12,12 @@ use Rattle.atl_sql.proofs.CarryLaws.{carries_then, carries_none}
 
 -- some rows of the list `all` are put: once the rows `rest` are put too, all are; the other tables are unchanged
 pub record Towards (table : Table) (key : ℕ) (rest all : List Row) (old now : Database) : Type 0 where
-  -- putting the rows `rest` now gives the same set as putting all rows into the table as it was
+  -- putting the rows `rest` into the table now gives the same set as putting all rows into the table as it was before
   pub rows : (r : Row) → puts key rest (Has (rows_in table now.trees)) r ↔ puts key all (Has (rows_in table old.trees)) r
   -- each other table of a campaign is as it was
   pub others : (t : Table) → Has all_tables t → t.tree ≢ table.tree → now.trees t.tree ≡ old.trees t.tree
 
--- putting rows into equal sets gives equal sets
+-- putting the same rows into two sets with the same rows gives two sets with the same rows
 puts_same : (key : ℕ) (news : List Row) (S T : Set) → ((r : Row) → S r ↔ T r) → (r : Row) → puts key news S r ↔ puts key news T r
 puts_same key [] S T same r = same r
 puts_same key (new ∷ news) S T same r = puts_same key news (put key new S) (put key new T) (λ x. (

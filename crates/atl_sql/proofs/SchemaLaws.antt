@@ -52,7 +52,8 @@ any_mapped : {A B : Type 0} (f : A → B) (p : B → Bool) (xs : List A) → lis
 any_mapped f p [] = refl
 any_mapped f p (x ∷ xs) = ap (λ b. p (f x) || b) (any_mapped f p xs)
 
--- if the elements have the trees of all tables, the first `count` have those of the first `count` tables
+-- if the elements of a list have the trees of the ten tables, in this order, the first `count` elements have those of
+-- the first `count` tables
 pub our_trees : {X : Type 0} (tree_of : X → ℕ) (xs : List X) → map tree_of xs ≡ all_trees → (tree count : ℕ)
     → list_any (λ x. tree == tree_of x) (take count xs) ≡ list_any (λ t. tree == t.tree) (take count all_tables)
 our_trees tree_of xs same tree count =
@@ -63,7 +64,7 @@ our_trees tree_of xs same tree count =
 -- ---- the whole schema
 
 module _ (count keys : ℕ) (schema : Schema) where
-  -- a schema whose tables, indexes and views pass the tests begins with the first tables and indexes
+  -- a schema that passes the tests of tables, indexes and views begins with `count` tables and `keys` of their indexes
   pub begins_made : AreTables count schema.tables → AreIndexes count keys schema.indexes → schema.views ≡ [] → Begins count keys schema
   begins_made tables indexes none = record {
     tables = tables.others;
@@ -76,15 +77,15 @@ module _ (count keys : ℕ) (schema : Schema) where
     plain = λ i there. all_has (IsHarmless count) indexes.others i indexes.plain there;
   }
 
-  -- a schema that begins with the first tables and indexes has the first tables, and then others without a foreign key
+  -- in a schema that begins with a campaign's tables, none after the first `count` has a foreign key (`AreTables`)
   pub its_tables : Begins count keys schema → AreTables count schema.tables
   its_tables begins = record { others = begins.tables; is = ap (λ (s : Schema). s.tables) begins.is; free = begins.free }
 
-  -- a schema that begins with the first tables and indexes has the first indexes, and then harmless ones
+  -- in a schema that begins with a campaign's tables, no index after the first `keys` makes anything unique in them
   pub its_indexes : Begins count keys schema → AreIndexes count keys schema.indexes
   its_indexes begins = record { others = begins.indexes; is = ap (λ (s : Schema). s.indexes) begins.is; plain = all_from (IsHarmless count) begins.indexes begins.plain }
 
-  -- a schema that begins with the first tables and indexes has no views
+  -- a schema that begins with the first `count` tables and `keys` indexes of a campaign has no views
   pub no_views : Begins count keys schema → schema.views ≡ []
   no_views begins = ap (λ (s : Schema). s.views) begins.is
 

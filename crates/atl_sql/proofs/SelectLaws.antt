@@ -67,10 +67,10 @@ key_of part = 1
 
 -- ---- a SELECT of all rows
 
--- the SELECT of a part means, whatever other tables follow: these columns of all rows, in the order of the key
+-- the SELECT of a part means, whatever other tables follow: its columns (`columns_of`) of all rows, in the key's order
 -- The rows of its listing are just these.
 record IsMeant (part : Part) : Type 0 where
-  -- the text means the query of these columns of all rows, in the order of the key
+  -- the text means the query of the part's columns (`columns_of`) of all rows of its table, in the order of the key
   command : (more : List Table) (indexes : List Index)
       → command_of (understood (first_and (table_count_in (listing_of part).since) (index_count_in (listing_of part).since) more indexes) (listing_of part).select)
       ≡ Select (record { lets = []; body = all_query (table_of part).tree (columns_of part) (map (λ column. (column, ascending Binary)) (first (table_of part) (key_of part))) }) (listing_of part).names

@@ -57,7 +57,7 @@ module _ {S : Type 0} (g : Ghosts S) (sql : List ℕ) (old begun mid end : Held 
   begun_inside : IsTrue (state g begun).in_transaction
   begun_inside = ap (λ (h : Held S). h.in_transaction) begins
 
-  -- BEGIN, the SELECT and the rollback together do what `Survives` says, with nothing committed
+  -- BEGIN, the SELECT and the rollback commit nothing, so a crash leaves only what it could before (`Survives`)
   survived : Survives (state g old) (state g end) (λ _. ⊥)
   survived = survives_begin g old (state g end) _ (subst (λ h. Survives (state g h) (state g end) (λ _. ⊥)) begins (survives_more (state g begun) (state g mid) (state g end) one two))
 

@@ -13,11 +13,11 @@ use Rattle.atl_sql.specs.Errors.{is_memory, value_fault}
 use Rattle.atl_sql.specs.Stored.{Form, IsTyped, AreTyped}
 use Rattle.atl_sql.specs.declared.fault.ReadFault.TheVariants.{Memory, OtherType}
 
--- if a cut leaves each row as SQL shows it, rows that a SELECT showed are still all of them after the cut
+-- if the cut `first` changes no row that SQL shows, the rows that a SELECT showed, each cut, are still all of the table
 pub whole_shown : (shown first : Row → Row) → ((r : Row) → first (shown r) ≡ shown r) → (tree rows : List Row) → IsPermutation (map shown tree) rows → IsPermutation (map shown tree) (map first rows)
 whole_shown shown first whole tree rows same = subst (λ l. IsPermutation l (map first rows)) (kept tree) (IsPermutation-map first _ rows same)
   where
-    -- a cut that leaves each row as SQL shows it leaves all rows of a list so
+    -- a cut that changes no row that SQL shows changes none in the list of all rows as SQL shows them
     kept : (tree : List Row) → map first (map shown tree) ≡ map shown tree
     kept [] = refl
     kept (r ∷ tree) = ap (λ x. x ∷ map first (map shown tree)) (whole r) ∙ ap (λ l. shown r ∷ l) (kept tree)

@@ -59,12 +59,12 @@ module _ (schema : Schema) (tree : ℕ) (name : List ℕ) (columns : List Column
   abbrev task : Option ℕ → Row → Table → Task
   task limit params u = record { limit = limit; keys = Enforced; schema = schema; table = u; params = params }
 
-  -- counting the highest rowid after an INSERT leaves the trees, since the table has no AUTOINCREMENT
+  -- counting the highest rowid after an INSERT changes no tree, since the table has no AUTOINCREMENT
   counted : (limit : Option ℕ) (params : Row) (db : Trees) (done : Written × ℤ) (counter : Option Row) (w : Written)
       → Then (Counts (task limit params t) done.0.trees counter done.1) (λ next. Gives (record done.0 { trees = next })) (Ok w) → w.trees ≡ done.0.trees
   counted limit params db done counter w h = let counts = went h in ap (λ (x : Written). x.trees) (same_value counts.2) ∙ same_value counts.1
 
-  -- the end of a statement leaves the trees that the statement wrote, and the schema
+  -- the end of a statement changes neither the trees that the statement wrote nor the schema
   concluded : (limit : Option ℕ) (params : Row) (w : Written) (out : Tally × Database) → Concludes (task limit params t) mode None w (Ok out)
       → (out.1.trees ≡ w.trees) × (out.1.schema ≡ schema)
   concluded limit params w out h =

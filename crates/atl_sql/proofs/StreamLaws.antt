@@ -26,7 +26,7 @@ pub rests_unchanged : (old new : State) → IsUnchanged old new → Rests old ne
 rests_unchanged old new h = record { was_open = λ _. h.0.was_open; same = λ _. (inr h.0.now_is, h.0.committed_is) }
 
 module _ (sql : List ℕ) (old new : State) (plain : IsPlain (understood old.now.schema sql)) where
-  -- a query that fails while it shows rows changes nothing
+  -- a query without RETURNING that fails while it shows rows changes nothing
   pub fails_stay : (c : _) (row : Row) (e : Error) (what : Option Returning) → what ≡ None → FailsToShow old new sql c row e what → IsUnchanged old new
   fails_stay c row e None is h = h.3
   fails_stay c row e (Some what) is h = absurd (let k = is in cc)
@@ -97,7 +97,7 @@ pub record IsGiving {S : Type 0} (g : Ghosts S) (sql : List ℕ) (old : Held S) 
   pub idle : now.in_transaction ≡ false
   -- the query has so far done what `Survives` says, with nothing committed: a crash leaves only what it could before
   pub survives : Survives (state g old) (state g now) (λ _. ⊥)
-  -- if the disk is clean, the query has given these rows, and the connection is unchanged
+  -- if the disk is clean, the query has given the rows `given`, and the connection is unchanged
   pub given_so : HasCleanDisk (state g now) → HasGiven g sql [] now given × IsUnchanged (state g old) (state g now)
 
 module _ {S : Type 0} (g : Ghosts S) (sql : List ℕ) (old : Held S) where
@@ -131,7 +131,7 @@ module _ {S : Type 0} (g : Ghosts S) (sql : List ℕ) (old : Held S) where
     clean_before : HasCleanDisk (state g now) → HasCleanDisk (state g mid)
     clean_before clean = omega (arith, survives.clean, clean)
 
-    -- up to the next row the query does what `Survives` says, with nothing committed
+    -- up to the next row the query commits nothing, so a crash leaves only what it could before (`Survives`)
     survived : Survives (state g old) (state g now) (λ _. ⊥)
     survived = survives_more (state g old) (state g mid) (state g now) giving.survives survives
 
@@ -180,7 +180,7 @@ module _ {S : Type 0} (g : Ghosts S) (sql : List ℕ) (old : Held S) where
         | inr (inr none) ↦ absurd none
       ]
 
-    -- a query that is running gives one row more and still changes nothing
+    -- if a running query gives `row` and changes nothing, it is still running and has given `row` too (`IsGiving`)
     pub giving_more : (row : Row) → (HasCleanDisk (state g now) → Advances g mid now (Some row)) → (HasCleanDisk (state g now) → IsUnchanged (state g mid) (state g now)) → IsGiving g sql old (given ++ row ∷ []) now
     giving_more row more same = record {
       idle = idle giving.idle;
@@ -232,10 +232,10 @@ module _ {S A Z : Type 0} (g : Ghosts S) (sql : List ℕ) (old : Held S) (forms 
       before : HasCleanDisk (state g new) → HasCleanDisk (state g mid)
       before clean = omega (arith, reads.survives.clean, clean)
 
-      -- what the SELECT shows after the first read it shows of the tables before it
+      -- rows that the SELECT shows after the first read are rows that it shows of the tables before that read
       selects : HasCleanDisk (state g new) → (rows : List Row) → Selects g sql mid rows → Selects g sql old rows
       selects clean rows told = (told.0, told.1, asked_then (state g old) (state g mid) (state g told.0) (streams.same (before clean)) told.2, told.3)
 
-      -- a refusal of the SELECT after the first read is one of the SELECT before it
+      -- a fault with which the SELECT is refused after the first read is one with which it is refused before that read
       refuses : HasCleanDisk (state g new) → (fault : ReadFault) → RefusesToSelect g sql mid fault → RefusesToSelect g sql old fault
       refuses clean fault told = (told.0, told.1, told.2, asked_then (state g old) (state g mid) (state g told.0) (streams.same (before clean)) told.3, told.4, told.5)

@@ -16,7 +16,7 @@ use Rattle.atl_sql.proofs.OwnRowLaws.{MeansOwn, changed_to, puts_own}
 use Rattle.atl_sql.proofs.StatementLaws.{DoneBy, done_by}
 use Rattle.atl_sql.proofs.Terms.{cast_int}
 
--- the terms of the UPDATE: format and world text are set, the other columns stay
+-- the terms of the UPDATE of `upgrading_upsert`: format 2, the new world text, and the other columns as they were
 abbrev project : List Term
 project = col 1 0 ∷ lit Null ∷ lit (Int (pos 2)) ∷ col 1 3 ∷ col 1 4 ∷ col 1 5 ∷ col 1 6 ∷ col 1 7 ∷ col 0 5 ∷ []
 
@@ -25,7 +25,7 @@ upgrades_own : MeansOwn upgrading_upsert project
 unfolding understood everything
 upgrades_own = record { is = λ more indexes. refl; plain = λ more indexes. (refl, refl) }
 
--- the UPDATE makes of a campaign row of the first format that of the second, with the new world text
+-- of a campaign row of the first format, the UPDATE makes that of the second with the new world text
 upgraded : (head : CampaignRowValue) (text before : List ℕ) (r : Row) → visible campaign_table r ≡ campaign_row_in First head before → changed_to project head text r ≡ campaign_row head text
 upgraded head text before r shows =
     let id : rowid r ≡ int 1 = ap (λ row. column row 0) shows in

@@ -6,12 +6,12 @@ use Rattle.sqlite.specs.declared.error.ErrorCode.TheVariants as code
 use Rattle.atl_sql.specs.declared.fault.ReadFault.{ReadFault}
 use Rattle.atl_sql.specs.declared.fault.ReadFault.TheVariants as read
 
--- whether the database ran out of memory
+-- whether an error of the database says that it ran out of memory
 abbrev pub is_memory : Error → Bool
 is_memory (SqliteFailure code.OutOfMemory) = true
 is_memory _ = false
 
--- Whether the database could not run the statement to its end.
+-- Whether an error says that the database could not run the statement to its end.
 -- The disk failed, is full or is damaged, the connection is shut, something is too big, or it takes too many steps.
 abbrev pub is_failure : Error → Bool
 is_failure (SqliteFailure code.SystemIoFailure) = true

@@ -30,13 +30,13 @@ pub record Carries (old new : Database) : Type 0 where
   -- a table whose tree isn't one of the ten tables' holds what it held
   pub others : (t : Table) → Has old.schema.tables t → ¬ Has all_trees t.tree → new.trees t.tree ≡ old.trees t.tree
 
--- `Does` is done, the tables of a campaign are there afterwards, and all others are carried along (`Carries`)
+-- `Does` is done, the tables of a campaign are there afterwards, and all others are kept with their indexes (`Carries`)
 pub record Done (Does : Database → Database → Type 0) (old new : Database) : Type 0 where
   -- the database before and the one after are as `Does` says
   pub does : Does old new
   -- the tables of a campaign are there afterwards
   pub tables : HasTables new
-  -- all other tables and indexes are carried along
+  -- no table or index is gone, and tables that aren't a campaign's hold what they held
   pub carries : Carries old new
 
 -- `Does` is done to the tables, if they were as `Before` says; a transaction goes on exactly if there was one
@@ -49,7 +49,7 @@ Both First Second old new = (mid : Database) × First old mid × Second mid new
 
 -- the rows of this table are exactly this set, and each other table of a campaign is as it was
 pub record Alters (table : Table) (S : Set) (old new : Database) : Type 0 where
-  -- the rows of this table are exactly this set
+  -- the rows of the table are exactly those of the set `S`
   pub rows : Is (rows_in table new.trees) S
   -- each other table of a campaign is as it was
   pub others : (t : Table) → Has all_tables t → t.tree ≢ table.tree → new.trees t.tree ≡ old.trees t.tree

@@ -9,9 +9,9 @@ use Rattle.atl_sql.specs.Inside.{Puts}
 
 -- Without a campaign row, one with this world text is inserted; a row that is there is changed and keeps its own text.
 pub record PutsCampaignRow (head : CampaignRowValue) (world : List ℕ) (old new : Database) : Type 0 where
-  -- without a campaign row, the one with this world text is inserted
+  -- without a campaign row, the row of the values `head` and the world text `world` is inserted
   pub first : rows_in campaign_table old.trees ≡ [] → Puts campaign_table 1 (campaign_row head world) old new
-  -- a campaign row that is there is changed, and keeps its own world text
+  -- a campaign row that is there becomes the row of the values `head`, with its own world text
   pub again : (before : CampaignRowValue) (text : List ℕ) → Is (rows_in campaign_table old.trees) (λ r. r ≡ campaign_row before text) → Puts campaign_table 1 (campaign_row head text) old new
 
 -- if the campaign row was that of the first format, with any world text, it becomes that of the second with this text

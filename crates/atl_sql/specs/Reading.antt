@@ -57,8 +57,8 @@ module _ {S : Type 0} (g : Ghosts S) (sql : List ℕ) (old : Held S) where
     pub refused : HasCleanDisk (state g new) → IfErr result RefusesToSelect
     -- Nothing is changed (`Rests`).
     pub rests : HasCleanDisk (state g new) → Rests (state g old) (state g new)
-    -- A disk in doubt stays so, no failure is forgotten, and shield and step limit stay. If the disk is clean, only a
-    -- failure closes the connection, and a crash leaves only what it could have left before (`Survives`).
+    -- On a clean disk a crash leaves only what it could have left before, and only a failure closes the connection.
+    -- A disk in doubt stays so, no failure is forgotten, and shield and step limit stay (`Survives`).
     pub survives : Survives (state g old) (state g new) (λ _. ⊥)
     -- The connection is in no transaction afterwards.
     pub idle : new.in_transaction ≡ false
@@ -76,8 +76,8 @@ module _ {S : Type 0} (g : Ghosts S) (sql : List ℕ) (old : Held S) where
     pub memory : HasCleanDisk (state g new) → IfErr result (λ fault. fault ≡ Memory → RefusesToSelect Memory ⊎ ((rows : List Row) × Selects rows))
     -- Nothing is changed (`Rests`).
     pub rests : HasCleanDisk (state g new) → Rests (state g old) (state g new)
-    -- A disk in doubt stays so, no failure is forgotten, and shield and step limit stay. If the disk is clean, only a
-    -- failure closes the connection, and a crash leaves only what it could have left before (`Survives`).
+    -- On a clean disk a crash leaves only what it could have left before, and only a failure closes the connection.
+    -- A disk in doubt stays so, no failure is forgotten, and shield and step limit stay (`Survives`).
     pub survives : Survives (state g old) (state g new) (λ _. ⊥)
     -- The connection is in no transaction afterwards.
     pub idle : new.in_transaction ≡ false
@@ -93,8 +93,8 @@ module _ {S : Type 0} (g : Ghosts S) (sql : List ℕ) (old : Held S) where
     pub same : HasCleanDisk (state g new) → OnOk result (IsAsked (state g old) (state g new))
     -- Nothing is changed (`Rests`).
     pub rests : HasCleanDisk (state g new) → Rests (state g old) (state g new)
-    -- A disk in doubt stays so, no failure is forgotten, and shield and step limit stay. If the disk is clean, only a
-    -- failure closes the connection, and a crash leaves only what it could have left before (`Survives`).
+    -- On a clean disk a crash leaves only what it could have left before, and only a failure closes the connection.
+    -- A disk in doubt stays so, no failure is forgotten, and shield and step limit stay (`Survives`).
     pub survives : Survives (state g old) (state g new) (λ _. ⊥)
     -- The connection is in no transaction afterwards.
     pub idle : new.in_transaction ≡ false

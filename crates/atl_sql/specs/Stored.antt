@@ -28,7 +28,7 @@ IsOf Utf8Text v = (t : List ℕ) × (v ≡ Text t) × IsUtf8 t
 IsOf TextBytes v = (t : List ℕ) × (v ≡ Text t)
 IsOf Bytes v = (b : List ℕ) × (v ≡ Blob b)
 
--- each value of the row from the column `at` on can be read in the form that the list `forms` gives for it, in order
+-- the values of the row from the column `at` on can be read in the forms of the list, one after another
 abbrev pub IsTypedFrom : ℕ → List Form → Row → Type 0
 IsTypedFrom at [] row = ⊤
 IsTypedFrom at (form ∷ forms) row = IsOf form (column row at) × IsTypedFrom (at + 1) forms row

@@ -20,11 +20,11 @@ use Rattle.atl_world.specs.declared.format.Format.{Format}
 use Rattle.atl_world.specs.declared.format.Format.TheVariants.{First, Second}
 use Rattle.atl_sql.specs.Sets.{field, table, AreKeyedByRowid}
 
--- a column of integers of this name, STRICT and NOT NULL
+-- the column of this name that holds integers, STRICT and NOT NULL
 abbrev pub number : List ℕ → Column
 number name = field name Integer
 
--- a column of texts of this name, STRICT and NOT NULL
+-- the column of this name that holds texts, STRICT and NOT NULL
 abbrev pub text : List ℕ → Column
 text name = field name Text
 
@@ -254,7 +254,7 @@ abbrev pub index_count_in : Format → ℕ
 index_count_in First = 3
 index_count_in Second = index_count
 
--- the schema begins with the tables of a format, and allows others after them (`Begins`)
+-- the schema begins with the tables of a format; others may follow (`Begins`)
 abbrev pub HasTablesOf : Format → Schema → Type 0
 HasTablesOf f = Begins (table_count_in f) (index_count_in f)
 
@@ -266,7 +266,7 @@ IsFirstFormatOnly schema = schema ≡ first_tables (table_count_in First) (index
 abbrev pub all_and : List Table → List Index → Schema
 all_and = first_and table_count index_count
 
--- the schema begins with all ten tables, and allows others after them (`Begins`)
+-- the schema begins with all ten tables of a campaign; others may follow (`Begins`)
 abbrev pub HasAll : Schema → Type 0
 HasAll = Begins table_count index_count
 

@@ -28,8 +28,8 @@ pub record Writes {S : Type 0} (g : Ghosts S) (own : Statements) (Does : State �
   pub told : HasCleanDisk (state g new.now) → IsTrue (state g old.now).in_transaction → IfErr result (λ e. Gives g own e old.now new.now)
   -- The step has committed nothing, if the disk is clean.
   pub kept : HasCleanDisk (state g new.now) → KeepsCommit (state g old.now) (state g new.now)
-  -- A disk in doubt stays so, no failure is forgotten, and shield and step limit stay. If the disk is clean, only a
-  -- failure closes the connection, and a crash leaves only what it could have left before (`Survives`).
+  -- On a clean disk a crash leaves only what it could have left before, and only a failure closes the connection.
+  -- A disk in doubt stays so, no failure is forgotten, and shield and step limit stay (`Survives`).
   pub survives : Survives (state g old.now) (state g new.now) (λ _. ⊥)
 
 -- This statement ran with these parameters, without an error, inside a transaction.
@@ -58,8 +58,8 @@ pub record Transacts {S : Type 0} (g : Ghosts S) (own : Statements) (Before : Da
   pub err : HasCleanDisk (state g new) → OnErr result (LeavesOff (state g old) (state g new))
   -- An error of the transaction is one that a statement of `own`, or the commit, gave, if the disk is clean.
   pub told : HasCleanDisk (state g new) → IfErr result (λ e. Gives g own e old new)
-  -- A disk in doubt stays so, no failure is forgotten, and shield and step limit stay. If the disk is clean, only a
-  -- failure closes the connection, and a crash leaves what it could have left before, or what the transaction commits.
+  -- On a clean disk a crash leaves what it could have left before, or what the transaction commits (`MayLeave`), and
+  -- only a failure closes the connection. A disk in doubt stays so, no failure is forgotten; shield and limit stay.
   pub crash : Survives (state g old) (state g new) (MayLeave Before Does (state g old))
   -- The connection is in no transaction afterwards.
   pub idle : new.in_transaction ≡ false

@@ -23,25 +23,25 @@ use sqlite::{Alter, Error, Transaction, params};
 /// A type, such as `Faction`, each of whose values has a number and one row in a table, with the
 /// number as its key.
 pub trait NumberedRow: Sized {
-    // The part that has a row for each thing of the kind.
+    // The part of a campaign that has a row for each value of the type.
     ghost part: { Part };
 
-    // Each row of the part has a number of its own as its key.
+    // The key of each row of the part is a number of its own.
     ghost is_numbered: { IsNumberedPart part };
 
-    // The row of a thing with a number.
+    // The row of a value under its number, as SQL shows it.
     ghost line: { ℕ → Self → SqlRow };
 
-    // The row of a thing begins with its number.
+    // The row of a value begins with its number.
     ghost numbered: { (n : ℕ) (v : Self) → take 1 (line n v) ≡ int n ∷ [] };
 
-    // The things of the kind that a campaign has, by number.
+    // The values of the type that a campaign has, by number.
     ghost values: { CampaignValue → FinMap nat_cmp Self };
 
-    // The numbers that are marked.
+    // The numbers of the values that the marks of a campaign mark.
     ghost marks: { Marks → FinSet nat_cmp };
 
-    // The rows of the part are those of all things of the kind.
+    // The rows of the part are those of all values of the type that the campaign has.
     ghost are_rows: { (own : SqlRow) (c : CampaignValue) (r : SqlRow) → rows_for own c part r ↔ RowsOf line (values c) r };
 
     // A row of the part is marked exactly if its number is.

@@ -4,7 +4,7 @@ use Rattle.atl_sql.specs.Rows.{lines_of}
 use Rattle.atl_sql.proofs.PuttingLaws.{one_written, putting_begins, putting_more, putting_failed, putting_ends}
 use Rattle.atl_sql.proofs.numbered_rows.put_each.Goals as goal
 
--- before the first value, the rows of all values are still to put (`Putting`)
+-- before the first value of the map is put, the rows of all its values are still to put (`Putting`)
 pub loop-number-init : goal.loop-number-init
 loop-number-init g c = putting_begins g.S.Store (table_of g.V.NumberedRow.part) 1 _ _ (ap (lines_of g.V.NumberedRow.line) c.into_iter-number-iterator.ensures.into_iter_gives)
 

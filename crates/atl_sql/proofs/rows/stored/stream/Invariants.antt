@@ -13,8 +13,8 @@ invariant-rows g l = record {
   given : List Row;
   -- the query is running, gave these rows, and changed nothing
   giving : IsGiving g.S.Store l.sql l.fn.conn given l.rows.conn.now;
-  -- the values read are those of the rows given
+  -- the values read so far are those of the rows that the query has given
   read : map g.T.Stored.shown l.all.items ≡ map (first_columns (length g.T.Stored.forms)) given;
-  -- the rows given have values of their columns' forms
+  -- the rows that the query has given have values of their columns' forms
   typed : AreTyped g.T.Stored.forms given;
 }

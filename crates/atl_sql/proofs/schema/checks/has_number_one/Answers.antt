@@ -6,7 +6,7 @@ use Rattle.sqlite_schema.specs.declared.code.Op.TheVariants as node
 use Rattle.atl_sql.proofs.CheckTerms.{compared, not_compared}
 use Rattle.atl_sql.proofs.schema.checks.has_number_one.Goals as goal
 
--- if the left side is the column `id`, the term is "id = 1" exactly if the right side is 1
+-- if the left side of the root's equation is the column `id`, the term is "id = 1" exactly if the right side is 1
 pub returns-then-is_number : goal.returns-then-is_number
 returns-then-is_number c =
     let nodes = c.args.nodes.now in
@@ -17,7 +17,7 @@ returns-then-is_number c =
       λ says. c.is_one.ensures.1 (let one = (both.0 says).1 in cc (c.at-then-is_number.ensures, one)),
     )
 
--- if the left side isn't the column `id`, the term is not "id = 1"
+-- if the left side of the root's equation isn't the column `id`, the term is not "id = 1"
 pub returns-else-is_number : goal.returns-else-is_number
 returns-else-is_number c =
     let nodes = c.args.nodes.now in

@@ -8,7 +8,7 @@ use Rattle.atl_sql.proofs.RowsLaws.{gives_table}
 use Rattle.atl_sql.proofs.SelectLaws.{reads_part, part_plain}
 use Rattle.atl_sql.proofs.rows.stored.HasSelect.read.Goals as goal
 
--- the read gives what the SELECT of its part shows, or the fault (`ReadsRows`)
+-- the read gives the rows that the SELECT of its part shows, or one of the faults that `ReadsRows` allows
 pub returns-clause-select : goal.returns-clause-select
 returns-clause-select g c = rw c.select_of-since.ensures.select at c.read_all.ensures
 
