@@ -21,10 +21,10 @@ module _ (m n : FinMap nat_cmp RegionPlan) where
   same_entries same = sym (entries-mapped without_market m) ∙ ap entries same ∙ entries-mapped without_market n
 
 module _ (k n : ℕ) (p q : RegionPlan) (es fs : List (ℕ × RegionPlan)) where
-  -- if two lists of entries are equal but for markets, their rests are equal but for markets
+  -- if two lists of entries are equal but for markets, so are the lists without their first entries
   pub same_rest : bare ((k, p) ∷ es) ≡ bare ((n, q) ∷ fs) → bare es ≡ bare fs
   same_rest same = cc
 
-  -- two lists of entries are equal but for markets, if their first entries and their rests are
+  -- two lists of entries are equal but for markets, if their first entries are, and the lists behind these are
   pub one_more : k ≡ n → without_market p ≡ without_market q → bare es ≡ bare fs → bare ((k, p) ∷ es) ≡ bare ((n, q) ∷ fs)
   one_more number plan rest = cc

@@ -28,7 +28,7 @@ at n q P here other = elim (eq_by_cmp nat_cmp q n) as (λ b. eq_by_cmp nat_cmp q
 module _ {V : Type 0} where
   -- ---- the numbers that have a value or a mark
 
-  -- a number has a value or a mark exactly if it is in `held`
+  -- `held v m` has exactly the numbers that have a value in the map v or a mark in m
   pub contains-held : (v : FinMap nat_cmp V) (m : set.FinSet nat_cmp) (q : ℕ) → set.contains (held v m) q ≡ (set.contains m q || is_some (get v q))
   contains-held v m q =
       set.contains-union nat_cmp_total m (set.from_list (keys v)) q
@@ -38,7 +38,7 @@ module _ {V : Type 0} where
   there : (v : FinMap nat_cmp V) (m : set.FinSet nat_cmp) (n q : ℕ) → is_some (get v n) ≡ true → q ≡ n → (set.contains m q || is_some (get v q)) ≡ true
   there v m n q h e = either (set.contains m q) (is_some (get v q)) (ap (λ k. is_some (get v k)) e ∙ h)
 
-  -- a mark on a number with a value adds none to the numbers with a value or a mark
+  -- to mark a number that has a value leaves the set of numbers with a value or a mark as it was
   pub held-marked : (v : FinMap nat_cmp V) (m : set.FinSet nat_cmp) (n : ℕ) → is_some (get v n) ≡ true → held v (set.insert m n) ≡ held v m
   held-marked v m n h = same _ _ (λ q.
       contains-held v (set.insert m n) q ∙ ap (λ b. b || is_some (get v q)) (set.contains-insert nat_cmp_total m n q)
@@ -72,7 +72,7 @@ module _ {V : Type 0} where
 
   -- ---- the room for marks
 
-  -- there is room for r marks, enough for all numbers with a value or a mark
+  -- room for r marks is enough for all numbers with a value or a mark
   abbrev Room : FinMap nat_cmp V → set.FinSet nat_cmp → ℕ → Type 0
   Room v m r = set.len (held v m) ≤ r
 
@@ -81,7 +81,7 @@ module _ {V : Type 0} where
   fewer : (v w : FinMap nat_cmp V) (m n : set.FinSet nat_cmp) (r : ℕ) → ((q : ℕ) → (set.contains n q || is_some (get w q)) ≡ true → (set.contains m q || is_some (get v q)) ≡ true) → Room v m r → Room w n r
   fewer v w m n r h room = let l = len-within (held w n) (held v m) (λ q e. contains-held v m q ∙ h q (sym (contains-held w n q) ∙ e)) in omega (arith, l, room)
 
-  -- a map has as many numbers as entries
+  -- a map by number has as many numbers as entries
   many : (v : FinMap nat_cmp V) → length (keys v) ≡ len v
   many v = length-map (entries v) (λ (e : ℕ × V). e.0) ∙ sym (len-entries v)
 
@@ -93,7 +93,7 @@ module _ {V : Type 0} where
   pub Room-of : (v : FinMap nat_cmp V) → Room v set.empty (len v)
   Room-of v = Room-all v set.empty (len v) (let a : set.len {R = nat_cmp} set.empty ≡ 0 = set.len-empty nat_cmp in omega (arith, a))
 
-  -- there is room to mark a number that has a value
+  -- where there is room for marks (`Room`), there is room to mark a number that has a value
   pub fits-marked : (v : FinMap nat_cmp V) (m : set.FinSet nat_cmp) (r n : ℕ) → is_some (get v n) ≡ true → Room v m r → set.len (set.insert m n) ≤ r
   fits-marked v m r n h room =
       let all : set.len (held v (set.insert m n)) ≡ set.len (held v m) = ap set.len (held-marked v m n h) in
