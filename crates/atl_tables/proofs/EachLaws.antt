@@ -10,7 +10,7 @@ use Rattle.atl_tables.proofs.FaultLaws.{passes, stops_on}
 
 module _ {A : Type 0} (conditions : ℕ → A → Conditions) where
   module _ (i : ℕ) (x : A) (xs : List A) (total : Option WorldFault) (so_far : first_fault (each conditions i (x ∷ xs)) ≡ total) where
-    -- if the conditions on the first element x hold, the first fault of the rest is that of all elements
+    -- if the conditions on the first element x hold, the first fault of the elements after it is that of all elements
     pub goes_on : first_fault (conditions i x) ≡ None → first_fault (each conditions (i + 1) xs) ≡ total
     goes_on one = sym (passes (conditions i x) (each conditions (i + 1) xs) one) ∙ so_far
 

@@ -30,7 +30,7 @@ abbrev pub or_else : {A : Type 0} → A → (Data → Result A WorldFault) → O
 or_else default read None = Ok default
 or_else default read (Some d) = read d
 
--- a result with its value x as Some x; a fault stays
+-- a result with its value x as Some x; a result that is a fault is given as it is
 abbrev pub some_of : {A : Type 0} → Result A WorldFault → Result (Option A) WorldFault
 some_of (Ok x) = Ok (Some x)
 some_of (Err f) = Err f
