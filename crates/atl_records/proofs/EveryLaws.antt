@@ -18,7 +18,7 @@ pub is_true : (b : Bool) → T b → b ≡ true
 is_true true h = refl
 is_true false h = absurd h
 
--- None is not Some
+-- None is not Some x: if they were equal, any P would hold
 pub none_some : {A P : Type 0} (x : A) → None ≡ Some x → P
 none_some x e = cc
 
@@ -149,7 +149,7 @@ module _ {V : Type 0} where
   -- ---- the numbers whose values pass a test
 
   module _ (p : V → Bool) where
-    -- the numbers of the entries that pass the test
+    -- the numbers of the entries of a list whose values pass the test p, in the order of the list
     abbrev chosen : List (ℕ × V) → List ℕ
     chosen es = map (λ e. e.0) (filter (λ e. p e.1) es)
 
@@ -190,7 +190,7 @@ module _ {V W : Type 0} (f : V → W) where
   pub every-mapped : (P : ℕ → W → Type 0) (m : FinMap nat_cmp V) → Every (λ n v. P n (f v)) m → Every P (mapped f m)
   every-mapped P m h n x is = let (v, there, same) = under (get m n) x (sym (get-mapped f m n) ∙ is) in subst (P n) same (h n v there)
 
-  -- a mapped map has values under the same numbers
+  -- a map with f applied to each value has values under the same numbers as the map itself
   pub there-mapped : (m : FinMap nat_cmp V) (n : ℕ) → IsThere (mapped f m) n ↔ IsThere m n
   there-mapped m n = (back, forth)
     where

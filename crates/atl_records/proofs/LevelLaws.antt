@@ -27,7 +27,7 @@ unreached_level_is_above_0 (suc n) men days h = omega arith
 
 -- ---- sums
 
--- moving the next term from the rest into the sum leaves both together the same
+-- to add the next term x of a sum to the terms added so far leaves these and the terms left together the whole sum
 pub added : (sum x rest whole all : ℕ) → whole ≡ x + rest → sum + whole ≡ all → (sum + x) + rest ≡ all
 added sum x rest whole all h e = omega (arith, h, e)
 
