@@ -134,11 +134,11 @@ apart_remove s t n h = record {
 
 -- ---- marks in two sets
 
--- a set that is no larger than its room, together with no recent marks, is a set of marks kept in two sets (`AreMarks`)
+-- of a set within its room and an empty recent set, no number is in both, and the first has room for all (`AreMarks`)
 pub none_recent : (s : Numbers) (room recent : ℕ) → set.len s ≤ room → AreMarks (record { numbers = s; room = room }) (record { numbers = set.empty; room = recent })
 none_recent s room recent h = record { apart = apart_empty s; fits = let none : set.len {R = nat_cmp} set.empty ≡ 0 = set.len-empty nat_cmp in omega (arith, none, h) }
 
--- the empty set with any room, together with no recent marks, is a set of marks kept in two sets (`AreMarks`)
+-- of two empty sets with any rooms, no number is in both, and the first has room for all (`AreMarks`)
 pub no_marks : (room recent : ℕ) → AreMarks (record { numbers = set.empty; room = room }) (record { numbers = set.empty; room = recent })
 no_marks room recent = none_recent set.empty room recent (let none : set.len {R = nat_cmp} set.empty ≡ 0 = set.len-empty nat_cmp in omega (arith, none))
 
@@ -152,8 +152,8 @@ module _ (m l v : RoomySet) (n : ℕ) (seen : ◌≡◌ {A = RoomySet} (record {
   pub fits_recent : set.contains v.numbers n ≡ false → set.len l.numbers < l.room → set.len (set.insert l.numbers n) ≤ l.room
   fits_recent missing room = let more = len-new l.numbers n (in_neither missing).1 in omega (arith, more, room)
 
-  -- with an unmarked n put among the recent marks of l, m and l are still marks in two sets (`AreMarks`), if m has room
-  -- for all marks and n
+  -- after an unmarked n is put among the recent marks of l, still no number is both in m and in l, and m has room for
+  -- all (`AreMarks`), if it has room for all marks and n
   pub one_recent : set.contains v.numbers n ≡ false → set.len (set.insert v.numbers n) ≤ v.room → AreMarks m (record l { numbers = set.insert l.numbers n })
   one_recent missing h =
       let more = len-new v.numbers n missing in
@@ -163,12 +163,12 @@ module _ (m l v : RoomySet) (n : ℕ) (seen : ◌≡◌ {A = RoomySet} (record {
       let recent = len-new l.numbers n (in_neither missing).1 in
       record { apart = apart_insert m.numbers l.numbers n marks.apart (in_neither missing).0; fits = omega (arith, more, all, size, room, recent, h) }
 
-  -- if there is room for n too, all marks and n in m, and no recent ones in l, are marks in two sets (`AreMarks`)
+  -- with all marks and n in m, and none in l, no number is in both, and m has room for all (`AreMarks`), if they fit it
   pub one_more : set.len (set.insert v.numbers n) ≤ v.room → AreMarks (record { numbers = set.insert (set.union m.numbers l.numbers) n; room = m.room }) (record { numbers = set.empty; room = l.room })
   one_more h = none_recent (set.insert (set.union m.numbers l.numbers) n) m.room l.room
       (let size = ap (λ (w : RoomySet). set.len (set.insert w.numbers n)) seen in let room = ap (λ (w : RoomySet). w.room) seen in omega (arith, size, room, h))
 
--- marks in two sets (`AreMarks`) stay marks in two sets after a number is taken out of both
+-- after a number is taken out of m and of l, still no number is in both, and m has room for all (`AreMarks`)
 pub mark_taken : (m l : RoomySet) (n : ℕ) → AreMarks m l → AreMarks (record m { numbers = set.remove m.numbers n }) (record l { numbers = set.remove l.numbers n })
 mark_taken m l n h =
     record { apart = apart_remove m.numbers l.numbers n h.apart; fits = omega (arith, len-less m.numbers n, len-less l.numbers n, h.fits) }

@@ -8,7 +8,7 @@ use Rattle.atl_world.specs.Tracking.{marked_with}
 use Rattle.atl_world.proofs.TrackLaws.{Room-lent}
 use Rattle.atl_world.proofs.marked_map.MarkedMap.get_mut.Goals as goal
 
--- there is room for the marks, whatever is written to the value that is lent
+-- the map has room for its marks, whatever is written to the value that is lent
 pub invariant_of-self-lent : goal.invariant_of-self-lent
 invariant_of-self-lent g c w =
     let values = c.self.inside.values in

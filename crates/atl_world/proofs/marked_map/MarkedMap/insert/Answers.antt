@@ -16,7 +16,7 @@ add-requires g c =
     let room : set.len marks.numbers + len more ≤ marks.room = omega (arith, size, same, c.in-Ok.ensures.room) in
     fits-inserted c.self.inside.values marks.numbers marks.room c.args.number c.args.value room
 
--- there is room for the marks after the value is put in
+-- the map has room for its marks after the value is put in and its number marked
 pub invariant_of-self-in-Ok : goal.invariant_of-self-in-Ok
 invariant_of-self-in-Ok g c =
     let more = insert c.self.inside.values c.args.number c.args.value in
@@ -26,7 +26,7 @@ invariant_of-self-in-Ok g c =
     let room : set.len marks.numbers + len more ≤ marks.room = omega (arith, size, same, c.in-Ok.ensures.room) in
     rw (c.add.ensures, c.in_ok-insert.ensures.ok) (Room-inserted c.self.inside.values marks.numbers marks.room c.args.number c.args.value room)
 
--- there is room for the marks after the value is taken out again, since memory ran out
+-- the map has room for its marks after the value is taken out again, since memory ran out
 pub invariant_of-self-in-Err : goal.invariant_of-self-in-Err
 invariant_of-self-in-Err g c =
     let values = c.self.inside.values in

@@ -3,7 +3,7 @@ use Rattle.std.specs.FinMap.{get}
 use Rattle.atl_world.proofs.TrackLaws.{Room-without, without_value_is}
 use Rattle.atl_world.proofs.marked_map.MarkedMap.remove.Goals as goal
 
--- there is room for the marks after the value is taken out
+-- the map has room for its marks after the value is taken out and its number marked
 pub invariant_of-self : goal.invariant_of-self
 invariant_of-self g c =
     let marks = c.self.inside.marks in

@@ -2,7 +2,7 @@ use Rattle.std.proofs.Common.{refl}
 use Rattle.atl_world.proofs.TrackLaws.{Room-taken}
 use Rattle.atl_world.proofs.marked_map.MarkedMap.take_out.Goals as goal
 
--- there is room for the marks after the value and the mark are taken out
+-- the map has room for its marks after the value and the mark of the number are taken out
 pub invariant_of-self : goal.invariant_of-self
 invariant_of-self g c =
     let marks = c.self.inside.marks in
