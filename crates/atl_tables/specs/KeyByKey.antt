@@ -41,6 +41,7 @@ abbrev pub part : {A : Type 0} → Table A → Table A
 part table = λ at t. record { conditions = first_fault (conditions_of table at t) ∷ []; value = value_of table at t }
 
 -- ---- tables of one key
+
 -- reads one key; the value is the default d if the key has a fault
 abbrev pub one_key : {A : Type 0} → A → Key A → Table A
 one_key d key = λ at t. record { conditions = fault_of (key at t) ∷ []; value = value_or d (key at t) }

@@ -66,6 +66,7 @@ named p None = Err (WrongType p)
 named p (Some s) = if name_ok s then Ok s else Err (OutOfRange p)
 
 -- ---- keys of a table
+
 -- the number under a key, from least to most, else the fault Missing, WrongType or OutOfRange
 unfoldable pub number_at : ℕ → ℕ → List ℕ → List ℕ → Members → Result ℕ WorldFault
 number_at least most key at t = present (path at key) (λ d. integer_in_range (path at key) least most (as_integer d)) (get_member key t)
@@ -99,6 +100,7 @@ unfoldable pub optional_table_at : List ℕ → List ℕ → Members → Result 
 optional_table_at key at t = or_else no_members (λ d. typed (path at key) (as_table d)) (get_member key t)
 
 -- ---- tables and arrays
+
 -- the table under a key of the document, else the fault Missing or WrongType
 unfoldable pub table_at : List ℕ → Members → Result Members WorldFault
 table_at key doc = present key (λ d. typed key (as_table d)) (get_member key doc)

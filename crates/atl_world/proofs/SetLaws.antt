@@ -144,6 +144,7 @@ first true b h = refl
 first false b h = absurd (false≢true h)
 
 -- ---- the numbers of a list, which come one after another
+
 -- the union of a set with the numbers of k ∷ ks is that of the set with k put in, with the numbers of ks
 pub union-next : (s : set.FinSet nat_cmp) (k : ℕ) (ks : List ℕ) → set.union (set.insert s k) (set.from_list ks) ≡ set.union s (set.from_list (k ∷ ks))
 union-next s k ks = insert-union s (set.from_list ks) k ∙ sym (union-insert s (set.from_list ks) k)

@@ -59,6 +59,7 @@ module _ {X : Type 0} where
       ] refl)
 
   -- ---- sums
+
   -- the sum of f over the values of entries
   abbrev weighed : (f : X → ℕ) → List (ℕ × X) → ℕ
   weighed f es = sum_by (λ e. f e.1) es
@@ -99,6 +100,7 @@ module _ {X : Type 0} where
       ∙ ap (λ n. sum_over f n + f v) (sym (put_back m k u h))
 
   -- ---- the numbers whose values pass a test
+
   -- the numbers of the entries whose values pass a test
   abbrev chosen : (p : X → Bool) → List (ℕ × X) → List ℕ
   chosen p es = map (λ e. e.0) (filter (λ e. p e.1) es)

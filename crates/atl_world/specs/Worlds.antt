@@ -77,6 +77,7 @@ beside East p = p.east
 beside West p = p.west
 
 -- ---- what is true of every world: numbers are in their ranges, and the number of a thing is below how many there are
+
 -- the numbers of the rules r are in their ranges, and the skills that r refers to are among `skills` skills
 pub record AreRules (skills : ℕ) (r : Rules) : Type 0 where
   -- the money that each man costs a month is at least 1
