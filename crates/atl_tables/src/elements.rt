@@ -57,7 +57,8 @@ fn one_element<E: Element>(
     }
 }
 
-/// All elements of the array at the path `key`, as read, in order, else the first fault of one.
+/// All elements of the array at the path `key`, as read, in order, else the first fault of an
+/// element.
 fn elements<E: Element>(alloc: Global, key: &str, values: &Array) -> Result<Vec<E>, WorldFault>
     ensures value { Gives (λ v. v.items) result
         (first_fault (elements_conditions E.conditions key.now 0 (array_view values.now)))

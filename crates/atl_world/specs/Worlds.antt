@@ -28,13 +28,13 @@ use Rattle.atl_world.specs.Sums.{mapped, numbers_where}
 pub record WorldValue : Type 0 where
   -- the rules: costs, taxes, growth and weights, and the skills of sight and sailing
   pub rules : Rules
-  -- the terrains, each at the index of its number
+  -- the terrains of the world, each at the index of its number
   pub terrains : List Terrain
-  -- the items, each at the index of its number
+  -- the items of the world, each at the index of its number
   pub items : List Item
-  -- the skills, each at the index of its number
+  -- the skills of the world, each at the index of its number
   pub skills : List Skill
-  -- the kinds of structures, each at the index of its number
+  -- the kinds of structures of the world, each at the index of its number
   pub kinds : List Kind
   -- the regions, each under its number
   pub regions : FinMap nat_cmp RegionPlan
@@ -115,9 +115,9 @@ pub record AreRules (skills : ℕ) (r : Rules) : Type 0 where
 pub record IsTerrain (items : ℕ) (t : Terrain) : Type 0 where
   -- the name of the terrain keeps the rule of names
   pub name : name_ok t.name ≡ true
-  -- the wage of the terrain is at least 1
+  -- the money that a month of work in a region of the terrain pays a man is at least 1
   pub wage_least : 1 ≤ t.wage
-  -- the wage of the terrain is at most most_price
+  -- the money that a month of work in a region of the terrain pays a man is at most most_price
   pub wage : t.wage ≤ most_price
   -- the number of men who find work in a region of the terrain is at most most_amount
   pub places : t.places ≤ most_amount
@@ -141,9 +141,9 @@ pub record IsItem (items skills i : ℕ) (x : Item) : Type 0 where
   pub carry : x.carry ≤ most_weight
   -- the number of the skill that makes the item, if there is such a skill, is below the count of skills
   pub skill : IfSome x.skill (λ s. s < skills)
-  -- the level of its skill that making the item takes is at least 1
+  -- the level of the skill that making the item takes is at least 1
   pub level_least : 1 ≤ x.level
-  -- the level of its skill that making the item takes is at most last_level
+  -- the level of the skill that making the item takes is at most last_level
   pub level : x.level ≤ last_level
   -- the number of the raw item that the item is made of, if there is one, is below the count of items
   pub raw : IfSome x.raw (λ r. r < items)
@@ -174,9 +174,9 @@ pub record IsKind (items skills : ℕ) (k : Kind) : Type 0 where
   pub size : k.size ≤ most_size
   -- the number of the skill that builds the structure is below the count of skills
   pub skill : k.skill < skills
-  -- the level of its skill that building the structure takes is at least 1
+  -- the level of the skill that building the structure takes is at least 1
   pub level_least : 1 ≤ k.level
-  -- the level of its skill that building the structure takes is at most last_level
+  -- the level of the skill that building the structure takes is at most last_level
   pub level : k.level ≤ last_level
   -- the most weight with which a ship sails is at most most_amount
   pub capacity : k.capacity ≤ most_amount
