@@ -163,7 +163,8 @@ module _ (m l v : RoomySet) (n : ℕ) (seen : ◌≡◌ {A = RoomySet} (record {
       let recent = len-new l.numbers n (in_neither missing).1 in
       record { apart = apart_insert m.numbers l.numbers n marks.apart (in_neither missing).0; fits = omega (arith, more, all, size, room, recent, h) }
 
-  -- with all marks and n in m, and none in l, no number is in both, and m has room for all (`AreMarks`), if they fit it
+  -- if m has room for all marks and n: once these are in m, and none in l, no number is in both, and m has room for all
+  -- (`AreMarks`)
   pub one_more : set.len (set.insert v.numbers n) ≤ v.room → AreMarks (record { numbers = set.insert (set.union m.numbers l.numbers) n; room = m.room }) (record { numbers = set.empty; room = l.room })
   one_more h = none_recent (set.insert (set.union m.numbers l.numbers) n) m.room l.room
       (let size = ap (λ (w : RoomySet). set.len (set.insert w.numbers n)) seen in let room = ap (λ (w : RoomySet). w.room) seen in omega (arith, size, room, h))

@@ -85,7 +85,8 @@ module _ {V : Type 0} where
   many : (v : FinMap nat_cmp V) → length (keys v) ≡ len v
   many v = length-map (entries v) (λ (e : ℕ × V). e.0) ∙ sym (len-entries v)
 
-  -- room for as many as the marks and the values together is enough for all numbers with a value or a mark (`Room`)
+  -- room for at least as many as the marks and the values together is enough for all numbers with a value or a mark
+  -- (`Room`)
   pub Room-all : (v : FinMap nat_cmp V) (m : set.FinSet nat_cmp) (r : ℕ) → set.len m + len v ≤ r → Room v m r
   Room-all v m r h = let l = len-union m (keys v) in let e = many v in omega (arith, l, e, h)
 
@@ -126,7 +127,8 @@ module _ {V : Type 0} where
   pub fits-inserted : (v : FinMap nat_cmp V) (m : set.FinSet nat_cmp) (r n : ℕ) (x : V) → set.len m + len (insert v n x) ≤ r → set.len (set.insert m n) ≤ r
   fits-inserted v m r n x h = fits-marked (insert v n x) m r n (ap is_some (there_itself v n x)) (Room-all (insert v n x) m r h)
 
-  -- room for the marks so far and all values, one of them just put in, is enough (`Room`) once this one is marked, too
+  -- room for at least the marks so far and all values, one of them just put in, is enough (`Room`) once this one is
+  -- marked
   pub Room-inserted : (v : FinMap nat_cmp V) (m : set.FinSet nat_cmp) (r n : ℕ) (x : V) → set.len m + len (insert v n x) ≤ r → Room (insert v n x) (set.insert m n) r
   Room-inserted v m r n x h = rw (held-marked (insert v n x) m n (ap is_some (there_itself v n x))) (Room-all (insert v n x) m r h)
 

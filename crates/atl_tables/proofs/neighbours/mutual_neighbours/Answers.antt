@@ -14,7 +14,8 @@ pub returns-in_err-neighbours_of-clause-value : goal.returns-in_err-neighbours_o
 returns-in_err-neighbours_of-clause-value c =
     exits _ _ _ _ _ c.from_residual.ensures.1 (ends_at (neighbours_at c.args.regions.now) c.args.drafts.now c.loop-i.i c.index-drafts-i.result _ c.loop-i-test.true c.index-drafts-i.is c.loop-i.invariant.faults c.in_err-neighbours_of.field-0.0 c.in_err-neighbours_of.ensures.value)
 
--- after one more region, the first fault of those after it is that of all, and each so far is opposite its neighbours
+-- after one more region, the first fault of the regions after it is that of all regions, and each region checked so far
+-- is on the opposite side of each of its neighbours
 pub loop-i-preserved : goal.loop-i-preserved
 loop-i-preserved c =
     let regions = c.args.regions.now in

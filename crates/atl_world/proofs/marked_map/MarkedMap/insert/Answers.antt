@@ -34,7 +34,7 @@ invariant_of-self-in-Err g c =
     let same = ap (λ m. set.len (held values m)) c.make_room.ensures.numbers in
     rw (c.remove.ensures, c.in_ok-insert.ensures.ok, taken_back values c.args.number c.args.value fresh) (omega (arith, same, c.make_room.ensures.kept, c.self.invariant))
 
--- the map with the value put in is that of the definition (`with_value`)
+-- where there is memory, after the call the map has the value under the number, which is marked (`with_value`)
 pub returns-in-Ok-clause-ok : goal.returns-in-Ok-clause-ok
 returns-in-Ok-clause-ok g c = rw (← c.self.view_is, c.add.ensures, c.in_ok-insert.ensures.ok, c.make_room.ensures.numbers) refl
 

@@ -9,7 +9,7 @@ invariant_of-self g c =
     let marks = c.self.inside.marks in
     rw (c.mark_present.ensures, c.remove.ensures) (Room-without c.self.inside.values marks.numbers marks.room c.args.number (get c.self.inside.values c.args.number) refl c.self.invariant)
 
--- the map after the call is that of the definition (`without_value`)
+-- after the call the value under the number, if there was one, is taken out, and the number is marked (`without_value`)
 pub returns : goal.returns
 returns g c =
     rw (← c.self.view_is, c.mark_present.ensures, c.remove.ensures)
