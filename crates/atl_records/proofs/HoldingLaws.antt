@@ -21,7 +21,7 @@ every_amount P items i amount here old = by_zero (amount == 0) refl
     by_zero true is = every-remove items i P old
     by_zero false is = let some : 1 ≤ amount = grind (arith, nat_tests) in every-insert P items i amount (here some) old
 
--- once the amount under i is set, it is there, and the amount under each other number is as before
+-- once the amount under i is set, it is read under i, and under each other number the amount is as before
 pub set_amount : (items : FinMap nat_cmp ℕ) (i amount j : ℕ) → amount_of (with_amount_of items i amount) j ≡ cond (eq_by_cmp nat_cmp j i) amount (amount_of items j)
 set_amount items i amount j = by_zero (amount == 0) refl
   where
@@ -58,7 +58,7 @@ alike i j is = let same : (j == i) ≡ true = unsigned_ties j i ∙ is in grind 
 -- ---- the amount that was set, and each other one
 
 module _ (items : FinMap nat_cmp ℕ) (i amount : ℕ) where
-  -- once the amount under i is set, it is there
+  -- the amount that is set under i is the amount that is read under i
   pub set_same : amount_of (with_amount_of items i amount) i ≡ amount
   set_same = let same : (i == i) ≡ true = grind (arith, nat_tests) in set_amount items i amount i ∙ ap (λ b. cond b amount (amount_of items i)) (sym (unsigned_ties i i) ∙ same)
 

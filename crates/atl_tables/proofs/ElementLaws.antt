@@ -1,4 +1,4 @@
--- The conditions and the values of an array's elements, by its first element and the rest, for loops over the array.
+-- The conditions and the values of an array's elements, by the first one and those after it, for loops over it.
 use Rattle.std.proofs.Common.{◌≡◌, ℕ, ◌+◌, ◌<◌, List, [], ◌∷◌, ◌++◌, length, drop, get_or, Option, None, sym, ap, subst, ◌∙◌, append_assoc}
 use Rattle.toml.specs.Data.{Data, Items, item, Members}
 use Rattle.toml.specs.View.{view, items_view}

@@ -16,11 +16,11 @@ pub record TableReading (A : Type 0) : Type 0 where
 abbrev pub Table : Type 0 → Type 0
 Table A = List ℕ → Members → TableReading A
 
--- the conditions on the keys of a table with members t, at the path `at`
+-- the conditions that `table`, a way to read a table, gives for a table with members t at the path `at`
 abbrev pub conditions_of : {A : Type 0} → Table A → List ℕ → Members → Conditions
 conditions_of table at t = (table at t).conditions
 
--- the value of a table with members t, at the path `at`
+-- the value that `table`, a way to read a table, gives for a table with members t at the path `at`
 abbrev pub value_of : {A : Type 0} → Table A → List ℕ → Members → A
 value_of table at t = (table at t).value
 

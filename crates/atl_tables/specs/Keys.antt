@@ -16,7 +16,7 @@ Key A = List ℕ → Members → Result A WorldFault
 abbrev pub path : List ℕ → List ℕ → List ℕ
 path at key = at ▸ codes "." ▸ key
 
--- the path of the i-th element of an array, as `region[0]`
+-- the path of the i-th element of the array at the path `key`, as `region[0]`
 abbrev pub element_path : List ℕ → ℕ → List ℕ
 element_path key i = key ▸ codes "[" ▸ decimal i ▸ codes "]"
 

@@ -66,8 +66,8 @@ impl Drop for KindDraft {
     }
 }
 
-/// Reads the keys `material`, `size`, `skill` and `level` of a table `[[kind]]`: what building
-/// takes.
+/// Reads the keys `material`, `size`, `skill` and `level` of a table `[[kind]]`: what building a
+/// structure takes.
 impl Element for Building {
     ghost conditions = { conditions_of building_at };
 
@@ -75,7 +75,8 @@ impl Element for Building {
 
     ghost is_sound = { IsBuilding };
 
-    /// What building takes, as the table at a path says, else the first fault of these keys.
+    /// What building the structure takes, as the table at a path says, else the first fault of
+    /// these keys.
     #[tactic(auto, unfolding(crate::specs::KindTable::building_at))]
     fn read(alloc: Global, at: &str, table: &Table) -> Result<Building, WorldFault> {
         let material = keys::text(alloc, "material", at, table)?;

@@ -137,12 +137,14 @@ module _ {V : Type 0} where
   Room-put v m r n None e h = h
   Room-put v m r n (Some x) e h = rw (held-marked v m n (ap is_some e)) h
 
-  -- room enough for all numbers with a value or a mark (`Room`) still is after a value, if any, is taken out and marked
+  -- room enough for all numbers with a value or a mark (`Room`) still is after a value, if there is one, is taken out
+  -- and its number marked
   pub Room-without : (v : FinMap nat_cmp V) (m : set.FinSet nat_cmp) (r n : ℕ) (o : Option V) → get v n ≡ o → Room v m r → Room (remove v n) (marked_with m n o) r
   Room-without v m r n None e h = rw (remove_none v n e) h
   Room-without v m r n (Some x) e h = rw (held-removed v m n (ap is_some e)) h
 
-  -- room enough for all numbers with a value or a mark (`Room`) still is after a value is replaced and marked
+  -- room enough for all numbers with a value or a mark (`Room`) still is after a value is replaced and its number
+  -- marked
   pub Room-lent : (v : FinMap nat_cmp V) (m : set.FinSet nat_cmp) (r n : ℕ) (o : Option V) (x : V) → get v n ≡ o → is_some o ≡ true → Room v m r → Room (insert v n x) (marked_with m n o) r
   Room-lent v m r n None x e s h = absurd (false≢true s)
   Room-lent v m r n (Some y) x e s h = rw (held-lent v m n x (ap is_some e)) h
@@ -153,7 +155,8 @@ module _ {V : Type 0} where
       at n q (λ b. (set.contains m q || is_some (cond b (Some x) (get v q))) ≡ true → (set.contains m q || is_some (get v q)) ≡ true) (λ same _. there v m n q s same) (λ h. h)
       (ap (λ o. set.contains m q || is_some o) (sym (get-insert nat_cmp_total v n x q)) ∙ e))
 
-  -- room enough for all numbers with a value or a mark (`Room`) still is after all values are taken out and marked
+  -- room enough for all numbers with a value or a mark (`Room`) still is after all values are taken out and their
+  -- numbers marked
   pub Room-cleared : (v : FinMap nat_cmp V) (m : set.FinSet nat_cmp) (r : ℕ) → Room v m r → Room empty (held v m) r
   Room-cleared v m r h = rw (held-cleared v m) h
 
