@@ -51,11 +51,11 @@ same_account e f t u entries things i = (same_entry e f entries i, same_thing t 
 pub account_total : IsTotalOrder account_cmp
 account_total = then_total (on_total (λ (a : Account). entry_index a.0) nat_cmp_total) (on_total (λ (a : Account). thing_index a.1) nat_cmp_total)
 
--- Less is not Equal
+-- Less is not Equal: if they were equal, any P would hold
 less_equal : {P : Type 0} → Less ≡ Equal → P
 less_equal e = cc
 
--- Greater is not Equal
+-- Greater is not Equal: if they were equal, any P would hold
 greater_equal : {P : Type 0} → Greater ≡ Equal → P
 greater_equal e = cc
 

@@ -48,7 +48,7 @@ listed_some z x is =
 -- ---- an amount set
 
 module _ (books : BooksValue) (e : Entry) (t : Thing) (z : ℤ) where
-  -- once an amount is set, the books list it under its entry and thing if it isn't 0, and all others as before
+  -- once an amount is set, the books list it under its entry and thing, if it isn't 0, and all other accounts as before
   pub get-with_amount : (a : Account) → get (with_amount books e t z).amounts a ≡ cond (eq_by_cmp account_cmp a (e, t)) (listed z) (get books.amounts a)
   get-with_amount a =
       elim (is_zero z) as (λ b. get (cond b (remove books.amounts (e, t)) (insert books.amounts (e, t) z)) a ≡ cond (eq_by_cmp account_cmp a (e, t)) (cond b None (Some z)) (get books.amounts a)) [
@@ -56,7 +56,7 @@ module _ (books : BooksValue) (e : Entry) (t : Thing) (z : ℤ) where
         | false ↦ get-insert account_total books.amounts (e, t) z a
       ]
 
-  -- once an amount is set under an entry and a thing, it is there, and all other amounts are as before
+  -- once an amount is set under an entry and a thing, it is read there, and each other amount is as before
   pub amount-with_amount : (f : Entry) (u : Thing) → amount_in (with_amount books e t z) f u ≡ cond (eq_by_cmp account_cmp (f, u) (e, t)) z (amount_in books f u)
   amount-with_amount f u =
       ap (λ o. unwrap_or o (pos 0)) (get-with_amount (f, u)) ∙ elim (eq_by_cmp account_cmp (f, u) (e, t)) as (λ b. unwrap_or (cond b (listed z) (get books.amounts (f, u))) (pos 0) ≡ cond b z (amount_in books f u)) [
@@ -64,7 +64,7 @@ module _ (books : BooksValue) (e : Entry) (t : Thing) (z : ℤ) where
         | false ↦ refl
       ]
 
-  -- the amount that is set under an entry and a thing is there
+  -- the amount that is set under an entry and a thing is the amount that is read there
   pub its_amount : amount_in (with_amount books e t z) e t ≡ z
   its_amount = amount-with_amount e t ∙ ap (λ b. cond b z (amount_in books e t)) (account_itself (e, t))
 
@@ -108,7 +108,7 @@ nothing z = omega (arith, ints)
 regroup : (x y z w : ℤ) → (x +ℤ y) +ℤ (z +ℤ w) ≡ (x +ℤ z) +ℤ (y +ℤ w)
 regroup x y z w = omega (arith, ints)
 
--- the sum of a + b over a list of entries is the sum of a plus the sum of b
+-- the sum of a e + b e over a list of entries e is the sum of a e plus the sum of b e
 sum_of-raised : (a b : Entry → ℤ) (es : List Entry) → sum_of (map (λ e. a e +ℤ b e) es) ≡ sum_of (map a es) +ℤ sum_of (map b es)
 sum_of-raised a b [] = nothing (pos 0)
 sum_of-raised a b (e ∷ es) = ap (λ z. (a e +ℤ b e) +ℤ z) (sum_of-raised a b es) ∙ regroup (a e) (b e) (sum_of (map a es)) (sum_of (map b es))

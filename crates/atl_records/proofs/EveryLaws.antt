@@ -18,7 +18,7 @@ pub is_true : (b : Bool) → T b → b ≡ true
 is_true true h = refl
 is_true false h = absurd h
 
--- None is not Some
+-- None is not Some x: if they were equal, any P would hold
 pub none_some : {A P : Type 0} (x : A) → None ≡ Some x → P
 none_some x e = cc
 
@@ -29,7 +29,7 @@ module _ {V : Type 0} where
   pub every-empty : (P : ℕ → V → Type 0) → Every P (empty {X = V} {R = nat_cmp})
   every-empty P n v is = none_some v (sym (get-empty nat_cmp n) ∙ is)
 
-  -- if P holds of every value of a map, and of a value put in under k, it holds of every value after that
+  -- if P holds of every value of a map, and of v at k, it holds of every value of the map once v is put in under k
   pub every-insert : (P : ℕ → V → Type 0) (m : FinMap nat_cmp V) (k : ℕ) (v : V) → P k v → Every P m → Every P (insert m k v)
   every-insert P m k v here old n x is =
       elim (nat_cmp n k) as (λ o. nat_cmp n k ≡ o → cond (is_eq o) (Some v) (get m n) ≡ Some x → P n x) [
@@ -38,7 +38,7 @@ module _ {V : Type 0} where
         | Greater ↦ λ _. old n x
       ] refl (sym (get-insert nat_cmp_total m k v n) ∙ is)
 
-  -- what a map has under n once v is under k
+  -- what a map has under n once v is put in under k: v where n is k, else what it had
   abbrev at_or : FinMap nat_cmp V → ℕ → V → ℕ → Option V
   at_or m k v n = cond (is_eq (nat_cmp n k)) (Some v) (get m n)
 
@@ -126,7 +126,7 @@ module _ {V : Type 0} where
   pub each-from_every : (P : ℕ → V → Type 0) (m : FinMap nat_cmp V) → Every P m → EachOf P (entries m)
   each-from_every P m h = each_of P (entries m) (sorted m) (λ n v is. h n v (get-entries m n ∙ is))
 
-  -- if no entry of a list has a value that passes a test, each value that is found in the list fails it
+  -- if no value of a list's entries passes the test p, each value that is found in the list fails it
   fails : (p : V → Bool) (es : List (ℕ × V)) (n : ℕ) (v : V) → list_any (λ e. p e.1) es ≡ false → find nat_cmp n es ≡ Some v → p v ≡ false
   fails p [] n v h is = none_some v is
   fails p (e ∷ es) n v h is =
@@ -137,44 +137,44 @@ module _ {V : Type 0} where
         | Greater ↦ fails p es n v apart.1
       ] is
     where
-      -- if an or is false, both its parts are false
+      -- if "a or b" is false, both a and b are false
       or_parts : (a b : Bool) → (a || b) ≡ false → (a ≡ false) × (b ≡ false)
       or_parts true b h = cc
       or_parts false b h = (refl, h)
 
-  -- if no entry in a map's list has a value that passes a test, every value of the map fails it
+  -- if no value of a map's entries passes the test p, every value of the map fails it
   pub every-from_none : (p : V → Bool) (m : FinMap nat_cmp V) → list_any (λ e. p e.1) (entries m) ≡ false → Every (λ n v. p v ≡ false) m
   every-from_none p m h n v is = fails p (entries m) n v h (sym (get-entries m n) ∙ is)
 
   -- ---- the numbers whose values pass a test
 
   module _ (p : V → Bool) where
-    -- the numbers of the entries that pass the test
+    -- the numbers of the entries of a list whose values pass the test p, in the order of the list
     abbrev chosen : List (ℕ × V) → List ℕ
     chosen es = map (λ e. e.0) (filter (λ e. p e.1) es)
 
-    -- the list has under n a value that passes the test
+    -- the list has under the number n a value that passes the test p
     abbrev Passing : List (ℕ × V) → ℕ → Type 0
     Passing es n = (v : V) × (find nat_cmp n es ≡ Some v) × (p v ≡ true)
 
-    -- if a sorted list without its first entry has under n a value that passes the test, so has the whole list
+    -- if a sorted list without its first entry has under n a value that passes the test p, so has the whole list
     behind : (e : ℕ × V) (es : List (ℕ × V)) (n : ℕ) → is_sorted nat_cmp (e ∷ es) ≡ true → Passing es n → Passing (e ∷ es) n
     behind e es n s (v, is, h) = (v, later e es n v s is, h)
 
-    -- if each number chosen from the list without its first entry has a value that passes the test, so has each number
-    -- chosen from the whole sorted list
+    -- if each number chosen from the list without its first entry has a value that passes the test p, so has each
+    -- number chosen from the whole sorted list
     listed_in : (b : Bool) (e : ℕ × V) (es : List (ℕ × V)) → p e.1 ≡ b → is_sorted nat_cmp (e ∷ es) ≡ true → (d : ℕ) → ((i : ℕ) → i < length (chosen es) → Passing es (get_or (chosen es) i d))
         → (i : ℕ) → i < length (cond b (e.0 ∷ chosen es) (chosen es)) → Passing (e ∷ es) (get_or (cond b (e.0 ∷ chosen es) (chosen es)) i d)
     listed_in true e es t s d rest zero h = (e.1, first e es, t)
     listed_in true e es t s d rest (suc i) h = behind e es (get_or (chosen es) i d) s (rest i (omega arith))
     listed_in false e es t s d rest i h = behind e es (get_or (chosen es) i d) s (rest i h)
 
-    -- each number chosen from a sorted list has a value in the list that passes the test
+    -- each number chosen from a sorted list has a value in the list that passes the test p
     listed : (es : List (ℕ × V)) → is_sorted nat_cmp es ≡ true → (d i : ℕ) → i < length (chosen es) → Passing es (get_or (chosen es) i d)
     listed [] s d i h = absurd (omega arith)
     listed (e ∷ es) s d i h = subst (λ (ns : List ℕ). i < length ns → Passing (e ∷ es) (get_or ns i d)) (sym (chosen-cons p e es)) (listed_in (p e.1) e es refl s d (listed es (and_parts _ _ s).1 d) i) h
 
-    -- each number that `numbers_where` lists has a value in the map, which passes the test
+    -- each number that `numbers_where p` lists has a value in the map, which passes the test p
     pub passes-listed : (m : FinMap nat_cmp V) (i d : ℕ) → i < length (numbers_where p m) → (v : V) × (get m (get_or (numbers_where p m) i d) ≡ Some v) × (p v ≡ true)
     passes-listed m i d h = let (v, is, t) = listed (entries m) (sorted m) d i h in (v, get-entries m (get_or (numbers_where p m) i d) ∙ is, t)
 
@@ -186,19 +186,19 @@ module _ {V W : Type 0} (f : V → W) where
   under None x is = none_some x is
   under (Some v) x is = let same : f v ≡ x = cc in (v, refl, same)
 
-  -- if P holds of f of every value, it holds of every value of the mapped map
+  -- if P holds of f v for every value v of a map, it holds of every value of the map with f applied to each value
   pub every-mapped : (P : ℕ → W → Type 0) (m : FinMap nat_cmp V) → Every (λ n v. P n (f v)) m → Every P (mapped f m)
   every-mapped P m h n x is = let (v, there, same) = under (get m n) x (sym (get-mapped f m n) ∙ is) in subst (P n) same (h n v there)
 
-  -- a mapped map has values under the same numbers
+  -- a map with f applied to each value has values under the same numbers as the map itself
   pub there-mapped : (m : FinMap nat_cmp V) (n : ℕ) → IsThere (mapped f m) n ↔ IsThere m n
   there-mapped m n = (back, forth)
     where
-      -- a number that has a value in the mapped map has one in the map
+      -- a number that has a value in the map with f applied to each value has one in the map itself
       back : IsThere (mapped f m) n → IsThere m n
       back (x, is) = let (v, there, same) = under (get m n) x (sym (get-mapped f m n) ∙ is) in (v, there)
 
-      -- a number that has a value in the map has one in the mapped map
+      -- a number that has a value in the map itself has one in the map with f applied to each value
       forth : IsThere m n → IsThere (mapped f m) n
       forth (v, is) = (f v, get-mapped f m n ∙ ap (option_map f) is)
 

@@ -20,7 +20,7 @@ use Rattle.atl_records.proofs.EveryEntryLaws.{entry_in_place, entry_small}
 
 -- ---- accounts among those of the first things
 
--- an or is true if its second part is
+-- "a or b" is true if its second part is true
 or_later : (x y : Bool) → y ≡ true → (x || y) ≡ true
 or_later true y h = refl
 or_later false y h = h
@@ -69,7 +69,8 @@ any_accounts things e t h = any_flat (eq_by_cmp account_cmp (e, t)) (accounts_un
 
 -- ---- the books that rows stand for
 
--- books that are `filled` list the given amount of each chosen account (entry and thing) if not 0, and others as before
+-- `filled` books list each account (entry and thing) of a list with the amount that is given, if it isn't 0, and all
+-- other accounts as before
 get-filled : (amount : Account → ℤ) (chosen : List Account) (books : BooksValue) (a : Account) → get (filled amount chosen books).amounts a ≡ cond (list_any (eq_by_cmp account_cmp a) chosen) (listed (amount a)) (get books.amounts a)
 get-filled amount [] books a = refl
 get-filled amount (c ∷ others) books a =
@@ -159,7 +160,7 @@ module _ (rows : List (List ℤ)) (grid : IsGrid rows) (e : Entry) (t : Thing) (
   wide : length (row_of rows t) ≡ entry_count
   wide = grid.wide (thing_index t) [] there
 
-  -- rows that are a grid, with entry_count amounts in each row, still are once a cell is written (`IsGrid`)
+  -- rows that are a grid (`IsGrid`: entry_count amounts in each) are one still after an amount is written into a cell
   pub IsGrid-with_cell : IsGrid (with_cell rows e t z)
   IsGrid-with_cell =
       record {

@@ -21,16 +21,16 @@ every_amount P items i amount here old = by_zero (amount == 0) refl
     by_zero true is = every-remove items i P old
     by_zero false is = let some : 1 ≤ amount = grind (arith, nat_tests) in every-insert P items i amount (here some) old
 
--- once the amount under i is set, it is there, and the amount under each other number is as before
+-- once the amount under i is set, it is read under i, and under each other number the amount is as before
 pub set_amount : (items : FinMap nat_cmp ℕ) (i amount j : ℕ) → amount_of (with_amount_of items i amount) j ≡ cond (eq_by_cmp nat_cmp j i) amount (amount_of items j)
 set_amount items i amount j = by_zero (amount == 0) refl
   where
-    -- an amount that is put in is read back under its number alone
+    -- with the amount put in under i, the amount read under j is this one if b (j is i), else what it was before
     put : (b : Bool) → unwrap_or (cond b (Some amount) (get items j)) 0 ≡ cond b amount (amount_of items j)
     put true = refl
     put false = refl
 
-    -- an amount of 0 that is taken off the list is read back as 0
+    -- with i taken off the list, the amount read under j is 0, as was set, if b (j is i), else what it was before
     taken : (b : Bool) → 0 ≡ amount → unwrap_or (cond b None (get items j)) 0 ≡ cond b amount (amount_of items j)
     taken true e = e
     taken false e = refl
@@ -58,7 +58,7 @@ alike i j is = let same : (j == i) ≡ true = unsigned_ties j i ∙ is in grind 
 -- ---- the amount that was set, and each other one
 
 module _ (items : FinMap nat_cmp ℕ) (i amount : ℕ) where
-  -- once the amount under i is set, it is there
+  -- the amount that is set under i is the amount that is read under i
   pub set_same : amount_of (with_amount_of items i amount) i ≡ amount
   set_same = let same : (i == i) ≡ true = grind (arith, nat_tests) in set_amount items i amount i ∙ ap (λ b. cond b amount (amount_of items i)) (sym (unsigned_ties i i) ∙ same)
 
@@ -79,12 +79,15 @@ module _ (items : FinMap nat_cmp ℕ) (i amount : ℕ) where
       by_zero false = get-insert_other items i j amount apart
 
 -- ---- a unit's amounts stay within the limits, whether there was memory or not
--- each listed amount of an item stays from 1 to holding_limit when one of at most that is set, with memory or without
+
+-- each listed amount of an item is still from 1 to holding_limit after one of at most holding_limit is set, or after
+-- memory ran out, so that nothing is set
 pub AreAmounts-set : {E : Type 0} (r : Result (Unit {0}) E) (old new : FinMap nat_cmp ℕ) (item amount : ℕ) → amount ≤ holding_limit → OnOk r (new ≡ with_amount_of old item amount) → OnErr r (new ≡ old) → AreAmounts old → AreAmounts new
 AreAmounts-set (Ok u) old new item amount h put same is = subst AreAmounts (sym put) (every_amount (λ i n. (1 ≤ n) × (n ≤ holding_limit)) old item amount (λ some. (some, h)) is)
 AreAmounts-set (Err e) old new item amount h put same is = subst AreAmounts (sym same) is
 
--- each listed amount of an item stays from 1 to holding_limit when one of these is put in, with memory or without
+-- each listed amount of an item is still from 1 to holding_limit after one from 1 to holding_limit is put in, or after
+-- memory ran out, so that none is put in
 pub AreAmounts-put : {E : Type 0} (r : Result (Unit {0}) E) (old new : FinMap nat_cmp ℕ) (item amount : ℕ) → (1 ≤ amount) × (amount ≤ holding_limit) → OnOk r (new ≡ insert old item amount) → OnErr r (new ≡ old) → AreAmounts old → AreAmounts new
 AreAmounts-put (Ok u) old new item amount h put same is = subst AreAmounts (sym put) (every-insert (λ i n. (1 ≤ n) × (n ≤ holding_limit)) old item amount h is)
 AreAmounts-put (Err e) old new item amount h put same is = subst AreAmounts (sym same) is

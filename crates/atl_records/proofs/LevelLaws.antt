@@ -27,12 +27,13 @@ unreached_level_is_above_0 (suc n) men days h = omega arith
 
 -- ---- sums
 
--- moving the next term from the rest into the sum leaves both together the same
+-- to add the next term x of a sum to the terms added so far leaves these and the terms left together the whole sum
 pub added : (sum x rest whole all : ℕ) → whole ≡ x + rest → sum + whole ≡ all → (sum + x) + rest ≡ all
 added sum x rest whole all h e = omega (arith, h, e)
 
--- a sum over the items below a number `low`, which is at most most_u32 * most_weight * low, stays within such a bound
--- (with some `next` of at most most_items in place of `low`) when x is added for the next item of a sorted list
+-- if `sum`, over items with numbers below `low`, is at most most_u32 * most_weight * low, then with x added for e, the
+-- next item of a sorted list, it is at most most_u32 * most_weight * next, for some `next` of at most most_items: each
+-- item after e has the number `next` or a greater one
 pub fits_next : (low sum x : ℕ) (e : ℕ × ℕ) (es : List (ℕ × ℕ)) → is_sorted nat_cmp (e ∷ es) ≡ true → low ≤ most_items → sum ≤ (most_u32 * most_weight) * low → low ≤ e.0 → x ≤ (most_u32 * most_weight) → (most_items ≤ e.0 → x ≡ 0)
     → (next : ℕ) × (next ≤ most_items) × (sum + x ≤ (most_u32 * most_weight) * next) × BeginsFrom next es
 fits_next low sum x e es sorted few fits from small far =
@@ -41,6 +42,6 @@ fits_next low sum x e es sorted few fits from small far =
       | inr h ↦ (low, few, let none : x ≡ 0 = far h in omega (arith, fits, none), begins_same low e es sorted from)
     ]
 
--- an amount of pieces that each weigh or carry 0 adds 0
+-- an amount of pieces, each of which weighs (or carries) 0, weighs (or carries) 0 together
 pub no_more : (amount each : ℕ) → each ≡ 0 → amount * each ≡ 0
 no_more amount each h = grind arith

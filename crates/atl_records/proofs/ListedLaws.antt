@@ -47,7 +47,7 @@ rise_append : (xs ys : List Account) → Rise xs → Rise ys → AllByRecursion 
 rise_append [] ys h k all = k
 rise_append (x ∷ xs) ys h k all = (all_append (λ c. account_cmp x c ≡ Less) xs ys h.0 all.0, rise_append xs ys h.1 k all.1)
 
--- if P holds of an entry's account with every thing, it holds of all of its accounts in a list
+-- if P holds of an entry's account with every thing, it holds of all accounts of this entry with the things of a list
 all_under : (P : Account → Type 0) (e : Entry) (numbers : List ℕ) → ((i : ℕ) → P (e, thing_at i)) → AllByRecursion P (map (λ i. (e, thing_at i)) numbers)
 all_under P e [] h = tt
 all_under P e (i ∷ numbers) h = (h i, all_under P e numbers h)
@@ -97,13 +97,13 @@ amounts_sorted m = is_true _ (entries_sorted m)
 
 -- ---- amounts that are listed
 
--- a choice of None and an option that is None is None
+-- whichever of an option that is None and of None a truth value b chooses, it is None
 none_either : (b : Bool) (o : Option ℤ) → o ≡ None → cond b o None ≡ None
 none_either true o h = h
 none_either false o h = refl
 
 module _ (amount : Account → ℤ) where
-  -- an account less than all chosen ones is less than all listed ones
+  -- an account less than all accounts of a list (`Behind`) is less than all those of them that `listed_of` keeps
   behind_listed : (a : Account) (chosen : List Account) → Behind a chosen → below_all account_cmp a (listed_of amount chosen) ≡ true
   behind_listed a [] h = refl
   behind_listed a (c ∷ others) h =
@@ -113,7 +113,7 @@ module _ (amount : Account → ℤ) where
         | false ↦ ap (λ o. is_lt o && below_all account_cmp a rest) h.0 ∙ behind_listed a others h.1
       ]
 
-  -- the listed amounts of sorted accounts are sorted
+  -- what `listed_of` keeps of a sorted list of accounts is sorted by account_cmp
   sorted_listed : (chosen : List Account) → Rise chosen → is_sorted account_cmp (listed_of amount chosen) ≡ true
   sorted_listed [] h = refl
   sorted_listed (c ∷ others) h =
@@ -123,7 +123,8 @@ module _ (amount : Account → ℤ) where
         | false ↦ ap (λ b. b && is_sorted account_cmp rest) (behind_listed c others h.0) ∙ sorted_listed others h.1
       ]
 
-  -- in the listed amounts a chosen account is found with its amount if that isn't 0, and no other account is found
+  -- in what `listed_of` keeps, each account of the list is found with its amount if this isn't 0, and no other account
+  -- is
   find-listed : (a : Account) (chosen : List Account) → find account_cmp a (listed_of amount chosen) ≡ cond (list_any (eq_by_cmp account_cmp a) chosen) (listed (amount a)) None
   find-listed a [] = refl
   find-listed a (c ∷ others) =

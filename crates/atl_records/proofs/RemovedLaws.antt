@@ -43,11 +43,11 @@ module _ {V : Type 0} (m : FinMap nat_cmp V) (k : ℕ) where
   pub every-remove : (P : ℕ → V → Type 0) → Every P m → Every P (remove m k)
   every-remove P old n v is = old n v (still n v is).1
 
-  -- a map has no more values once one is removed
+  -- a map has no more values after one is removed than before
   pub fewer : len (remove m k) ≤ len m
   fewer = let is = len-remove nat_cmp_total m k in less (contains_key m k) (len (remove m k)) (len m) is
     where
-      -- the choice of y - 1 or y is at most y
+      -- whichever of y - 1 and y a truth value b chooses, it is at most y
       less : (b : Bool) (x y : ℕ) → x ≡ cond b (y - 1) y → x ≤ y
       less true x y h = omega arith
       less false x y h = omega arith

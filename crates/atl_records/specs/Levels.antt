@@ -40,7 +40,7 @@ level_in_any h (Some skill) = level_in h skill
 abbrev pub weight_of : WorldValue → ℕ → ℕ
 weight_of w item = option_map_or (λ x. x.weight) (slice_get w.items item) 0
 
--- what one piece of an item carries, 0 for an item that the world does not have
+-- the weight of goods that one piece of an item carries, 0 for an item that the world does not have
 abbrev pub carry_of : WorldValue → ℕ → ℕ
 carry_of w item = option_map_or (λ x. x.carry) (slice_get w.items item) 0
 

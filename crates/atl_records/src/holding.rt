@@ -126,28 +126,29 @@ impl Holding {
         self.guard
     }
 
-    /// How many pieces of an item are held, from 0 to HOLDING_LIMIT.
+    /// How many pieces of an item the unit holds, from 0 to HOLDING_LIMIT.
     pub fn amount(&self, item: u32) -> u32
         ensures { result ≡ amount_of self.now.items item }
     {
         amount_under(&self.items, item)
     }
 
-    /// How many pieces are held of each item, where they are not 0, sorted by item number.
+    /// How many pieces the unit holds of each item, where they are not 0, sorted by item number.
     pub fn items(&self) -> Entries<'_, u32>
         ensures { result ≡ map.entries self.now.items }
     {
         self.items.iter()
     }
 
-    /// The days of study over all men in each skill that is listed, sorted by skill number.
+    /// The days of study over all men of the unit in each skill that is listed, sorted by
+    /// skill number.
     pub fn days(&self) -> Entries<'_, u32>
         ensures { result ≡ map.entries self.now.days }
     {
         self.days.iter()
     }
 
-    /// The days of study of a skill over all men, 0 where none are listed.
+    /// The days of study of a skill over all men of the unit, 0 where none are listed.
     pub fn days_of(&self, skill: u32) -> u32
         ensures { result ≡ amount_of self.now.days skill }
     {
@@ -161,8 +162,8 @@ impl Holding {
         self.name = name;
     }
 
-    /// Sets how many men the unit has, at most MEN_LIMIT. The days of study stay. It takes no
-    /// memory.
+    /// Sets how many men the unit has, at most MEN_LIMIT, and leaves its days of study as they are.
+    /// It takes no memory.
     pub fn set_men(&mut self, men: u32)
         requires { men ≤ men_limit }
         ensures { self.new ≡ record self.old { men = men } }

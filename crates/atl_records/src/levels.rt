@@ -68,7 +68,8 @@ fn weight(world: &World, item: u32) -> u32
     }
 }
 
-/// What one piece of an item carries, 0 for an item that the world does not have.
+/// The weight of goods that one piece of an item carries, 0 for an item that the world does not
+/// have.
 fn carriage(world: &World, item: u32) -> u32
     ensures value { result ≡ carry_of world.now item }
     ensures small { result ≤ most_weight }

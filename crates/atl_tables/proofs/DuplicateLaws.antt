@@ -18,19 +18,19 @@ use Rattle.atl_tables.specs.declared.fault.WorldFault.{WorldFault}
 use Rattle.atl_tables.specs.declared.fault.WorldFault.TheVariants.{TwoNames}
 use Rattle.atl_tables.specs.declared.world_draft.WorldDraft.{WorldDraft}
 
--- if no condition of two joined lists is broken, none of the first is
+-- if no condition of the list fs ++ gs is broken, no condition of its first part, fs, is broken
 front_none : (fs gs : Conditions) → first_fault (fs ++ gs) ≡ None → first_fault fs ≡ None
 front_none [] gs h = refl
 front_none (None ∷ fs) gs h = front_none fs gs h
 front_none (Some f ∷ fs) gs h = h
 
--- if no condition of two joined lists is broken, none of the second is
+-- if no condition of the list fs ++ gs is broken, no condition of its second part, gs, is broken
 back_none : (fs gs : Conditions) → first_fault (fs ++ gs) ≡ None → first_fault gs ≡ None
 back_none [] gs h = h
 back_none (None ∷ fs) gs h = back_none fs gs h
 back_none (Some f ∷ fs) gs h = absurd (cc)
 
--- if no condition of a list's elements is broken, none of the k-th element is
+-- if no condition on any element of a list is broken (`each`), no condition on the k-th element is broken
 at_each : {A : Type 0} (conditions : ℕ → A → Conditions) (i : ℕ) (xs : List A) → first_fault (each conditions i xs) ≡ None → (k : ℕ) (x : A) → slice_get xs k ≡ Some x → first_fault (conditions (i + k) x) ≡ None
 at_each conditions i [] h k x e = absurd (cc)
 at_each conditions i (y ∷ ys) h zero x e =
@@ -42,7 +42,7 @@ at_each conditions i (y ∷ ys) h (suc k) x e =
     rw there (at_each conditions (i + 1) ys (back_none (conditions i y) (each conditions (i + 1) ys) h) k x e)
 
 module _ {A : Type 0} (title : A → List ℕ) where
-  -- whether an element of `front` has the name of x
+  -- whether some element of the list `front` has the same name as x, ignoring ASCII case
   abbrev is_before : A → List A → Bool
   is_before x front = list_any (λ y. same_name (title y) (title x)) front
 
@@ -56,12 +56,13 @@ module _ {A : Type 0} (title : A → List ℕ) where
   unfolding no_twin_before
   no_twin array key all i x h = by_test (is_before x (take i all)) (TwoNames (path (element_path array i) key)) h
 
-  -- x has another name than all elements of a list, if its name differs from that of the element at each index
+  -- the name of x differs from the names of all elements of a list, if it differs from that of the element at each
+  -- index
   head_differs : (x : A) (xs : List A) → ((k : ℕ) (y : A) → slice_get xs k ≡ Some y → same_name (title x) (title y) ≡ false) → AllByRecursion (λ n. same_name (title x) n ≡ false) (map title xs)
   head_differs x [] h = tt
   head_differs x (y ∷ ys) h = (h 0 y refl, head_differs x ys (λ k. h (suc k)))
 
-  -- if no element of front ++ x ∷ rest has the name of y, x has another name than y
+  -- if no element of front ++ x ∷ rest has the name of y, then the name of x differs from that of y
   in_middle : (front rest : List A) (x y : A) → is_before y (front ++ x ∷ rest) ≡ false → same_name (title x) (title y) ≡ false
   in_middle front rest x y h =
       let both = or_parts _ _ (sym (list_any-append (λ z. same_name (title z) (title y)) front (x ∷ rest)) ∙ h) in
@@ -74,11 +75,11 @@ module _ {A : Type 0} (title : A → List ℕ) where
       IsDistinct-cons same_name (title x) (map title xs) (head_differs x xs (λ k y e. in_middle front (take k xs) x y (h (suc k) y e)))
       (differ_behind (front ++ x ∷ []) xs (λ k y e. ap (is_before y) (append_assoc front (x ∷ []) (take k xs)) ∙ h (suc k) y e))
 
-  -- the names of an array differ, if its conditions on duplicates hold
+  -- the names of an array's elements differ, if the conditions on duplicate names (`no_twins`) hold
   pub differ : (array key : List ℕ) (all : List A) → first_fault (no_twins title array key all) ≡ None → NamesDiffer (map title all)
   differ array key all h = differ_behind [] all (λ k x e. let same : 0 + k ≡ k = omega arith in no_twin array key all k x (rw same at (at_each (no_twin_before title array key all) 0 all h k x e)))
 
--- a list mapped by f keeps its names, if f keeps the name of each element
+-- a list mapped by f has the same list of names as the list itself, if f keeps the name of each element
 pub names_kept : {A B : Type 0} (f : A → B) (n : A → List ℕ) (m : B → List ℕ) → ((x : A) → m (f x) ≡ n x) → (xs : List A) → map m (map f xs) ≡ map n xs
 names_kept f n m h [] = refl
 names_kept f n m h (x ∷ xs) = rw (h x, names_kept f n m h xs) refl

@@ -1,4 +1,4 @@
--- The conditions on the elements of a list, by its first element and the rest, for loops over the list.
+-- The conditions on the elements of a list, by the first element and those after it, for loops over the list.
 use Rattle.std.proofs.Common.{◌≡◌, ℕ, zero, suc, ◌+◌, ◌<◌, List, [], ◌∷◌, ◌++◌, length, map, drop, get_or, Option, None, sym, ap, ◌∙◌, subst, append_assoc}
 use Rattle.std.proofs.lemmas.List.{drop_more}
 use Rattle.atl_tables.specs.declared.fault.WorldFault.{WorldFault}
@@ -10,17 +10,17 @@ use Rattle.atl_tables.proofs.FaultLaws.{passes, stops_on}
 
 module _ {A : Type 0} (conditions : ℕ → A → Conditions) where
   module _ (i : ℕ) (x : A) (xs : List A) (total : Option WorldFault) (so_far : first_fault (each conditions i (x ∷ xs)) ≡ total) where
-    -- if the conditions on the first element x hold, the first fault of the rest is that of all elements
+    -- if the conditions on the first element x hold, the first fault of the elements after it is that of all elements
     pub goes_on : first_fault (conditions i x) ≡ None → first_fault (each conditions (i + 1) xs) ≡ total
     goes_on one = sym (passes (conditions i x) (each conditions (i + 1) xs) one) ∙ so_far
 
-    -- if a condition on the first element x is broken, its fault is the first fault of all elements
+    -- if a condition on the first element x is broken, its fault is the first fault of all elements (`total`)
     pub ends : (e : WorldFault) → Stops e (first_fault (conditions i x)) → Stops e total
     ends e one = subst (Stops e) so_far (stops_on e (conditions i x) (each conditions (i + 1) xs) one)
 
   -- in a loop over the indices of a list: x is the i-th element, and the first fault from x on is that of all elements
   module _ (xs : List A) (i : ℕ) (x : A) (total : Option WorldFault) (below : i < length xs) (here : x ≡ get_or xs i x) (so_far : first_fault (each conditions i (drop i xs)) ≡ total) where
-    -- the first fault of x and the elements after it is that of all elements
+    -- in a loop at the i-th element, x, the first fault of x and the elements after it is that of all (`total`)
     from_here : first_fault (each conditions i (x ∷ drop (i + 1) xs)) ≡ total
     from_here = ap (λ ys. first_fault (each conditions i ys)) (sym (drop_more xs i x below ∙ ap (λ y. y ∷ drop (i + 1) xs) (sym here))) ∙ so_far
 

@@ -1,4 +1,4 @@
--- The conditions and the values of an array's elements, by its first element and the rest, for loops over the array.
+-- The conditions and the values of an array's elements, by the first one and those after it, for loops over it.
 use Rattle.std.proofs.Common.{◌≡◌, ℕ, ◌+◌, ◌<◌, List, [], ◌∷◌, ◌++◌, length, drop, get_or, Option, None, sym, ap, subst, ◌∙◌, append_assoc}
 use Rattle.toml.specs.Data.{Data, Items, item, Members}
 use Rattle.toml.specs.View.{view, items_view}
@@ -16,7 +16,7 @@ pub from_here : (vs : List Value) (i : ℕ) (v : Value) → i < length vs → v 
 from_here vs i v h e = items_view-drop vs i v h ∙ ap (λ (x : Value). item (view x) (items_view (drop (i + 1) vs))) (sym e)
 
 module _ (conditions : List ℕ → Members → Conditions) (key : List ℕ) (i : ℕ) (d : Data) (ds : Items) (total : Option WorldFault) where
-  -- if the conditions on the first element hold, the first fault of the rest is that of all elements
+  -- if the conditions on the first element hold, the first fault of the elements after it is that of all elements
   pub goes_on : first_fault (elements_conditions conditions key i (item d ds)) ≡ total → first_fault (element_conditions conditions (element_path key i) d) ≡ None → first_fault (elements_conditions conditions key (i + 1) ds) ≡ total
   goes_on so_far one = sym (passes (element_conditions conditions (element_path key i) d) (elements_conditions conditions key (i + 1) ds) one) ∙ so_far
 

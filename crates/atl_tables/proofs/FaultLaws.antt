@@ -37,7 +37,7 @@ stops_after e fs gs h s = subst (Stops e) (sym (passes fs gs h)) s
 pub passes_both : (fs gs : Conditions) → first_fault fs ≡ None → first_fault gs ≡ None → first_fault (fs ++ gs) ≡ None
 passes_both fs gs h s = passes fs gs h ∙ s
 
--- what a call gives for the fault of the second list it gives for that of the joined list, if the first has no fault
+-- if the first of two lists of conditions has no fault, a call with `Gives` for the second list has it for both joined
 pub gives_after : {X Y : Type 0} (view : X → Y) (r : Result X WorldFault) (fs gs : Conditions) (v : Y) → first_fault fs ≡ None → Gives view r (first_fault gs) v → Gives view r (first_fault (fs ++ gs)) v
 gives_after view (Ok x) fs gs v h g = (passes fs gs h ∙ g.0, g.1)
 gives_after view (Err e) fs gs v h g = stops_after e fs gs h g
@@ -53,7 +53,7 @@ pub stops_here : (e : WorldFault) (fault : Option WorldFault) (fs : Conditions) 
 stops_here Memory fault fs h = tt
 stops_here e fault fs h = rw h refl
 
--- what a call gives for the fault of one condition, it gives for the first fault of the list of this condition alone
+-- a call with `Gives` for the fault of one condition has it for the first fault of the list of this condition alone
 pub gives_last : {X Y : Type 0} (view : X → Y) (r : Result X WorldFault) (fault : Option WorldFault) (v : Y) → Gives view r fault v → Gives view r (first_fault (fault ∷ [])) v
 gives_last view r None v h = h
 gives_last view r (Some f) v h = h

@@ -28,7 +28,7 @@ entries_in_order [] h = refl
 entries_in_order (e ∷ es) h = rw (entries_in_order es h.1) (put_first e.0 (view e.1) es (is_before-sorted e.0 es h.0))
 
 module _ (at : List ℕ) (e : List ℕ × Data) (es : List (List ℕ × Data)) (n : ℕ) (one : amount_at at e ≡ Ok n) where
-  -- if the first amount of an output has no fault, the first fault of the other amounts is that of all amounts
+  -- if the first amount of an output has no fault, the first fault of the amounts after it is that of all amounts
   pub keys_on : (total : Option WorldFault) → first_fault (amounts_keys at (e ∷ es)) ≡ total → first_fault (amounts_keys at es) ≡ total
   keys_on total so_far = ap (λ (r : Result ℕ WorldFault). first_fault (fault_of r ∷ amounts_keys at es)) (sym one) ∙ so_far
 

@@ -73,31 +73,31 @@ pub record IsOutput (o : Output) : Type 0 where
 
 -- the wage, the number of work places, and the limits of money and peasants of a terrain are in their ranges
 pub record IsEconomy (e : Economy) : Type 0 where
-  -- the wage is at least 1
+  -- the money that a month of work pays a man is at least 1
   pub wage_least : 1 ≤ e.wage
-  -- the wage is at most most_price
+  -- the money that a month of work pays a man is at most most_price
   pub wage : e.wage ≤ most_price
-  -- the number of men who find work in a region in a month is at most most_amount
+  -- the number of men who find work in a region of the terrain in a month is at most most_amount
   pub places : e.places ≤ most_amount
-  -- the most money that income brings a region to is at most most_amount
+  -- the most money that income brings a region of the terrain to is at most most_amount
   pub money_limit : e.money_limit ≤ most_amount
-  -- the most peasants that births bring a region to are at most most_amount
+  -- the most peasants that births bring a region of the terrain to are at most most_amount
   pub peasant_limit : e.peasant_limit ≤ most_amount
 
 -- a table `[[terrain]]` has a name that keeps the rule of names, and numbers in their ranges
 pub record IsTerrainDraft (d : TerrainDraft) : Type 0 where
   -- the name of the terrain keeps the rule of names
   pub name : name_ok d.name ≡ true
-  -- the wage, the number of work places, and the limits of money and peasants are in their ranges
+  -- the wage, the number of work places, and the limits of money and peasants of the terrain are in their ranges
   pub economy : IsEconomy d.economy
   -- each amount of the terrain's output is in its range
   pub output : All IsOutput d.output
 
--- the level and the count of raw items that an item takes are in their ranges
+-- the level of the skill that making an item takes, and the count of its raw items, are in their ranges
 pub record IsRecipe (m : Recipe) : Type 0 where
-  -- the level that making the item takes is at least 1
+  -- the level of the skill that making the item takes is at least 1
   pub level_least : 1 ≤ m.level
-  -- the level that making the item takes is at most last_level
+  -- the level of the skill that making the item takes is at most last_level
   pub level : m.level ≤ last_level
   -- the count of raw items that one item is made of is at least 1
   pub raw_count_least : 1 ≤ m.raw_count
@@ -112,18 +112,18 @@ pub record IsItemDraft (d : ItemDraft) : Type 0 where
   pub weight : d.weight ≤ most_weight
   -- the weight of goods that the item carries is at most most_weight
   pub carry : d.carry ≤ most_weight
-  -- the level and the count of raw items that making the item takes are in their ranges
+  -- the level of the skill that making the item takes, and the count of its raw items, are in their ranges
   pub making : IsRecipe d.making
 
--- the size and the level of a kind of structure are in their ranges
+-- the size of a kind of structure, and the level of the skill that building it takes, are in their ranges
 pub record IsBuilding (b : Building) : Type 0 where
   -- the material of a complete structure is at least 1
   pub size_least : 1 ≤ b.size
   -- the material of a complete structure is at most most_size
   pub size : b.size ≤ most_size
-  -- the level that building the structure takes is at least 1
+  -- the level of the skill that building the structure takes is at least 1
   pub level_least : 1 ≤ b.level
-  -- the level that building the structure takes is at most last_level
+  -- the level of the skill that building the structure takes is at most last_level
   pub level : b.level ≤ last_level
 
 -- the capacity and the crew of a kind of structure are in their ranges
@@ -137,7 +137,7 @@ pub record IsPurpose (p : Purpose) : Type 0 where
 pub record IsKindDraft (d : KindDraft) : Type 0 where
   -- the name of the kind keeps the rule of names
   pub name : name_ok d.name ≡ true
-  -- the size and the level of the kind are in their ranges
+  -- the size of the structure, and the level of the skill that building it takes, are in their ranges
   pub building : IsBuilding d.building
   -- the capacity and the crew of the kind are in their ranges
   pub purpose : IsPurpose d.purpose
@@ -190,11 +190,11 @@ pub record AreOptionalTables (t : OptionalTables) : Type 0 where
   pub skills : All IsSkill t.skills
   -- each table `[[kind]]` has a name by the rule, and numbers in their ranges
   pub kinds : All IsKindDraft t.kinds
-  -- there are at most most_items items
+  -- the file has at most most_items items
   pub few_items : length t.items ≤ most_items
-  -- there are at most most_skills skills
+  -- the file has at most most_skills skills
   pub few_skills : length t.skills ≤ most_skills
-  -- there are at most most_kinds kinds
+  -- the file has at most most_kinds kinds
   pub few_kinds : length t.kinds ≤ most_kinds
 
 -- all tables of a world file have names by the rule, numbers in range, and no more of each than a world may have
@@ -211,15 +211,15 @@ pub record IsWorldDraft (t : WorldDraft) : Type 0 where
   pub kinds : All IsKindDraft t.kinds
   -- each table `[[region]]` has a name by the rule, and the numbers of the region and its markets in their ranges
   pub regions : All IsRegionDraft t.regions
-  -- there are at most most_terrains terrains
+  -- the file has at most most_terrains terrains
   pub few_terrains : length t.terrains ≤ most_terrains
-  -- there are at most most_items items
+  -- the file has at most most_items items
   pub few_items : length t.items ≤ most_items
-  -- there are at most most_skills skills
+  -- the file has at most most_skills skills
   pub few_skills : length t.skills ≤ most_skills
-  -- there are at most most_kinds kinds
+  -- the file has at most most_kinds kinds
   pub few_kinds : length t.kinds ≤ most_kinds
-  -- there are at most most_regions regions
+  -- the file has at most most_regions regions
   pub few_regions : length t.regions ≤ most_regions
 
 -- no two terrains, no two items, no two skills and no two kinds have the same name, ignoring ASCII case

@@ -16,11 +16,11 @@ pub record TableReading (A : Type 0) : Type 0 where
 abbrev pub Table : Type 0 → Type 0
 Table A = List ℕ → Members → TableReading A
 
--- the conditions on the keys of a table with members t, at the path `at`
+-- the conditions that `table`, a way to read a table, gives for a table with members t at the path `at`
 abbrev pub conditions_of : {A : Type 0} → Table A → List ℕ → Members → Conditions
 conditions_of table at t = (table at t).conditions
 
--- the value of a table with members t, at the path `at`
+-- the value that `table`, a way to read a table, gives for a table with members t at the path `at`
 abbrev pub value_of : {A : Type 0} → Table A → List ℕ → Members → A
 value_of table at t = (table at t).value
 
@@ -41,6 +41,7 @@ abbrev pub part : {A : Type 0} → Table A → Table A
 part table = λ at t. record { conditions = first_fault (conditions_of table at t) ∷ []; value = value_of table at t }
 
 -- ---- tables of one key
+
 -- reads one key; the value is the default d if the key has a fault
 abbrev pub one_key : {A : Type 0} → A → Key A → Table A
 one_key d key = λ at t. record { conditions = fault_of (key at t) ∷ []; value = value_or d (key at t) }

@@ -16,7 +16,7 @@ Key A = List ℕ → Members → Result A WorldFault
 abbrev pub path : List ℕ → List ℕ → List ℕ
 path at key = at ▸ codes "." ▸ key
 
--- the path of the i-th element of an array, as `region[0]`
+-- the path of the i-th element of the array at the path `key`, as `region[0]`
 abbrev pub element_path : List ℕ → ℕ → List ℕ
 element_path key i = key ▸ codes "[" ▸ decimal i ▸ codes "]"
 
@@ -30,7 +30,7 @@ abbrev pub or_else : {A : Type 0} → A → (Data → Result A WorldFault) → O
 or_else default read None = Ok default
 or_else default read (Some d) = read d
 
--- a result with its value x as Some x; a fault stays
+-- a result with its value x as Some x; a result that is a fault is given as it is
 abbrev pub some_of : {A : Type 0} → Result A WorldFault → Result (Option A) WorldFault
 some_of (Ok x) = Ok (Some x)
 some_of (Err f) = Err f
@@ -66,39 +66,43 @@ named p None = Err (WrongType p)
 named p (Some s) = if name_ok s then Ok s else Err (OutOfRange p)
 
 -- ---- keys of a table
--- the number under a key, from least to most, else the fault Missing, WrongType or OutOfRange
+
+-- the number under a key of a table, from least to most, else the fault Missing, WrongType or OutOfRange
 unfoldable pub number_at : ℕ → ℕ → List ℕ → List ℕ → Members → Result ℕ WorldFault
 number_at least most key at t = present (path at key) (λ d. integer_in_range (path at key) least most (as_integer d)) (get_member key t)
 
--- the name under a key, else the fault Missing, WrongType or OutOfRange
+-- the name under a key of a table, else the fault Missing, WrongType, or OutOfRange if it breaks the rule of names
 unfoldable pub name_at : List ℕ → List ℕ → Members → Result (List ℕ) WorldFault
 name_at key at t = present (path at key) (λ d. named (path at key) (as_str d)) (get_member key t)
 
--- the text under a key, else the fault Missing or WrongType
+-- the text under a key of a table, else the fault Missing or WrongType
 unfoldable pub text_at : List ℕ → List ℕ → Members → Result (List ℕ) WorldFault
 text_at key at t = present (path at key) (λ d. typed (path at key) (as_str d)) (get_member key t)
 
--- the truth value under a key, else the fault Missing or WrongType
+-- the truth value under a key of a table, else the fault Missing or WrongType
 unfoldable pub flag_at : List ℕ → List ℕ → Members → Result Bool WorldFault
 flag_at key at t = present (path at key) (λ d. typed (path at key) (as_bool d)) (get_member key t)
 
--- the number under a key, from least to most, or the default if it is missing; else the fault WrongType or OutOfRange
+-- the number under a key of a table, from least to most, or the default if the key is missing; else the fault WrongType
+-- or OutOfRange
 unfoldable pub number_or_at : ℕ → ℕ → ℕ → List ℕ → List ℕ → Members → Result ℕ WorldFault
 number_or_at default least most key at t = or_else default (λ d. integer_in_range (path at key) least most (as_integer d)) (get_member key t)
 
--- the number under a key, from least to most, None if the key is missing; else the fault WrongType or OutOfRange
+-- the number under a key of a table, from least to most, None if the key is missing; else the fault WrongType or
+-- OutOfRange
 unfoldable pub optional_number_at : ℕ → ℕ → List ℕ → List ℕ → Members → Result (Option ℕ) WorldFault
 optional_number_at least most key at t = optional (λ d. integer_in_range (path at key) least most (as_integer d)) (get_member key t)
 
--- the text under a key, None if the key is missing; else the fault WrongType
+-- the text under a key of a table, None if the key is missing; else the fault WrongType
 unfoldable pub optional_text_at : List ℕ → List ℕ → Members → Result (Option (List ℕ)) WorldFault
 optional_text_at key at t = optional (λ d. typed (path at key) (as_str d)) (get_member key t)
 
--- the table under a key, empty if the key is missing; else the fault WrongType
+-- the table under a key of a table, empty if the key is missing; else the fault WrongType
 unfoldable pub optional_table_at : List ℕ → List ℕ → Members → Result Members WorldFault
 optional_table_at key at t = or_else no_members (λ d. typed (path at key) (as_table d)) (get_member key t)
 
 -- ---- tables and arrays
+
 -- the table under a key of the document, else the fault Missing or WrongType
 unfoldable pub table_at : List ℕ → Members → Result Members WorldFault
 table_at key doc = present key (λ d. typed key (as_table d)) (get_member key doc)
@@ -117,6 +121,7 @@ array_of_size key least most (Some ds) = if nat_le least (count_of ds) && nat_le
 unfoldable pub array_at : ℕ → List ℕ → Members → Result Items WorldFault
 array_at most key doc = present key (λ d. array_of_size key 1 most (as_array d)) (get_member key doc)
 
--- the array under a key, of 0 to most elements, empty if missing, else the fault WrongType or OutOfRange at `array`
+-- the array under a key of a table, of 0 to most elements, empty if the key is missing; else the fault WrongType or
+-- OutOfRange at the path `array`
 unfoldable pub optional_array_at : ℕ → List ℕ → List ℕ → Members → Result Items WorldFault
 optional_array_at most array key t = or_else no_items (λ d. array_of_size array 0 most (as_array d)) (get_member key t)

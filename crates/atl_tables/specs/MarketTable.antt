@@ -59,7 +59,7 @@ market_path at = path at (codes "market")
 unfoldable pub markets_keys : List ℕ → Members → Conditions
 markets_keys at t = list_conditions market_keys (market_path at) (optional_array_at most_markets (market_path at) (codes "market") t)
 
--- the markets of a region, in the order of the file
+-- the markets of the region whose table is at a path, as read, in the order of the file
 unfoldable pub markets_from : List ℕ → Members → List MarketDraft
 markets_from at t = list_of market_from (market_path at) (optional_array_at most_markets (market_path at) (codes "market") t)
 

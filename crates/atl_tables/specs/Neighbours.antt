@@ -18,8 +18,8 @@ abbrev pub is_number : ℕ → Option ℕ → Bool
 is_number n None = false
 is_number n (Some m) = m == n
 
--- the fault BadNeighbour at the path p, if a region has a neighbour on one side, and that neighbour doesn't have the
--- region on its side `opposite`; else None
+-- the fault BadNeighbour at the path p, if the region `number` has a neighbour on one side, and that neighbour doesn't
+-- have this region on its side `opposite`; else None
 abbrev pub neighbour : List ℕ → FinMap nat_cmp RegionPlan → Direction → ℕ → Option ℕ → Option WorldFault
 neighbour p regions opposite number None = None
 neighbour p regions opposite number (Some m) = if is_number number (option_and_then (beside opposite) (get regions m)) then None else Some (BadNeighbour p)

@@ -18,6 +18,7 @@ use Rattle.atl_tables.specs.declared.output_table.Output.{Output}
 use Rattle.atl_tables.specs.declared.world_draft.WorldDraft.{WorldDraft}
 
 -- ---- the entries of a table in byte order
+
 -- entries sorted by key, with the entry of `key` put in before the first entry with a greater key
 abbrev pub put_key : List ℕ → Data → List (List ℕ × Data) → List (List ℕ × Data)
 put_key key d [] = (key, d) ∷ []
@@ -29,6 +30,7 @@ in_byte_order no_members = []
 in_byte_order (member key d ms) = put_key key d (in_byte_order ms)
 
 -- ---- each key with its amount
+
 -- the amount under a key, from 0 to most_amount, of the table at a path; else the fault WrongType or OutOfRange
 abbrev pub amount_at : List ℕ → List ℕ × Data → Result ℕ WorldFault
 amount_at at (key, d) = integer_in_range (path at key) 0 most_amount (as_integer d)

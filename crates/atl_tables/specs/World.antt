@@ -70,6 +70,7 @@ world_of_tables all = record {
 }
 
 -- ---- the conditions, in the order in which their faults count
+
 -- the conditions on the keys of items, skills and kinds: each has its type and range, and is not missing if needed
 unfoldable pub optional_conditions : Members → Conditions
 optional_conditions doc =
@@ -137,6 +138,7 @@ unfoldable pub conditions : Format → Members → Conditions
 conditions format doc = keys_conditions format doc ++ table_conditions (tables_of format doc)
 
 -- ---- the world of a text in a format, or its first fault
+
 -- the world of a document in a format, or its first fault; NotToml without a document
 abbrev pub world_in : Format → Option Members → Result WorldValue WorldFault
 world_in format None = Err NotToml

@@ -35,8 +35,8 @@ pub(crate) trait Element: Drop {
         ensures sound { IfOk result is_sound };
 }
 
-/// The i-th element of the array at the path `key`, else the fault WrongType if it is no table, or
-/// the first fault of its keys.
+/// The element `value`, the i-th of the array at the path `key`, as read, else the fault WrongType
+/// if it is no table, or the first fault of its keys.
 fn one_element<E: Element>(
     alloc: Global,
     key: &str,
@@ -57,7 +57,8 @@ fn one_element<E: Element>(
     }
 }
 
-/// All elements of the array at the path `key`, in order, else the first fault of an element.
+/// All elements of the array at the path `key`, as read, in order, else the first fault of an
+/// element.
 fn elements<E: Element>(alloc: Global, key: &str, values: &Array) -> Result<Vec<E>, WorldFault>
     ensures value { Gives (λ v. v.items) result
         (first_fault (elements_conditions E.conditions key.now 0 (array_view values.now)))

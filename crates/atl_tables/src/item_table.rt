@@ -68,6 +68,7 @@ impl Element for Recipe {
 
     ghost is_sound = { IsRecipe };
 
+    /// What making the item takes, as the table at a path says, else the first fault of these keys.
     #[tactic(auto, unfolding(crate::specs::ItemTable::making_at))]
     fn read(alloc: Global, at: &str, table: &Table) -> Result<Recipe, WorldFault> {
         let skill = keys::optional_text(alloc, "skill", at, table)?;
@@ -92,6 +93,7 @@ impl Element for ItemDraft {
 
     ghost is_sound = { IsItemDraft };
 
+    /// The item that the table at a path describes, else the first fault of the table's keys.
     #[tactic(auto, unfolding(crate::specs::ItemTable::item_at))]
     fn read(alloc: Global, at: &str, table: &Table) -> Result<ItemDraft, WorldFault> {
         let name = keys::name(alloc, "name", at, table)?;
@@ -111,6 +113,7 @@ impl Element for ItemDraft {
 impl Titled for ItemDraft {
     ghost title_of = { λ x. x.name };
 
+    /// The name of the item.
     fn title(&self) -> &Text {
         &self.name
     }
@@ -176,6 +179,8 @@ impl Draft for ItemDraft {
 
     ghost is_sound = { λ all i x. IsItem (length all.items) (length all.skills) i x };
 
+    /// The item with its skill and its raw item by number, else the fault UnknownName at the first
+    /// name that refers to nothing.
     #[tactic(auto, unfolding(crate::specs::ItemTable::item_known, crate::specs::ItemTable::item_of))]
     fn resolve(&self, alloc: Global, all: &WorldDraft, i: usize) -> Result<Item, WorldFault> {
         let place = element_path(alloc, "item", i)?;

@@ -75,7 +75,8 @@ pub(crate) fn integer_in_range(
     }
 }
 
-/// The number under a key, from `least` to `most`, else the fault Missing, WrongType or OutOfRange.
+/// The number under a key of the table at the path `at`, from `least` to `most`, else the fault
+/// Missing, WrongType or OutOfRange.
 #[tactic(auto, unfolding(crate::specs::Keys::number_at))]
 pub(crate) fn number(
     alloc: Global,
@@ -96,8 +97,8 @@ pub(crate) fn number(
     }
 }
 
-/// The number under a key, from `least` to `most`, or `default` if the key is missing, else the
-/// fault WrongType or OutOfRange.
+/// The number under a key of the table at the path `at`, from `least` to `most`, or `default` if
+/// the key is missing, else the fault WrongType or OutOfRange.
 #[tactic(auto, unfolding(crate::specs::Keys::number_or_at))]
 pub(crate) fn number_or(
     alloc: Global,
@@ -121,8 +122,8 @@ pub(crate) fn number_or(
     }
 }
 
-/// The number under a key, from `least` to `most`, `None` if the key is missing, else the fault
-/// WrongType or OutOfRange.
+/// The number under a key of the table at the path `at`, from `least` to `most`, `None` if the key
+/// is missing, else the fault WrongType or OutOfRange.
 #[tactic(auto, unfolding(crate::specs::Keys::optional_number_at))]
 pub(crate) fn optional_number(
     alloc: Global,
@@ -144,8 +145,8 @@ pub(crate) fn optional_number(
     }
 }
 
-/// The name under a key, else the fault Missing, WrongType, or OutOfRange if it breaks the rule of
-/// names.
+/// The name under a key of the table at the path `at`, else the fault Missing, WrongType, or
+/// OutOfRange if it breaks the rule of names.
 #[tactic(auto, unfolding(crate::specs::Keys::name_at))]
 pub(crate) fn name(alloc: Global, key: &str, at: &str, table: &Table) -> Result<Text, WorldFault>
     ensures value { Reads (λ t. t) result (name_at key.now at.now (table_view table.now)) }
@@ -175,7 +176,7 @@ fn text_value(alloc: Global, key: &str, at: &str, value: &Value) -> Result<Text,
     }
 }
 
-/// The text under a key, else the fault Missing or WrongType.
+/// The text under a key of the table at the path `at`, else the fault Missing or WrongType.
 #[tactic(auto, unfolding(crate::specs::Keys::text_at))]
 pub(crate) fn text(alloc: Global, key: &str, at: &str, table: &Table) -> Result<Text, WorldFault>
     ensures { Reads (λ t. t) result (text_at key.now at.now (table_view table.now)) }
@@ -186,7 +187,8 @@ pub(crate) fn text(alloc: Global, key: &str, at: &str, table: &Table) -> Result<
     }
 }
 
-/// The text under a key, `None` if the key is missing, else the fault WrongType.
+/// The text under a key of the table at the path `at`, `None` if the key is missing, else the fault
+/// WrongType.
 #[tactic(auto, unfolding(crate::specs::Keys::optional_text_at))]
 pub(crate) fn optional_text(
     alloc: Global,
@@ -205,7 +207,7 @@ pub(crate) fn optional_text(
     }
 }
 
-/// The truth value under a key, else the fault Missing or WrongType.
+/// The truth value under a key of the table at the path `at`, else the fault Missing or WrongType.
 #[tactic(auto, unfolding(crate::specs::Keys::flag_at))]
 pub(crate) fn flag(alloc: Global, key: &str, at: &str, table: &Table) -> Result<bool, WorldFault>
     ensures { Reads (λ b. b) result (flag_at key.now at.now (table_view table.now)) }

@@ -66,8 +66,8 @@ impl Drop for KindDraft {
     }
 }
 
-/// Reads the keys `material`, `size`, `skill` and `level` of a table `[[kind]]`: what building
-/// takes.
+/// Reads the keys `material`, `size`, `skill` and `level` of a table `[[kind]]`: what building a
+/// structure takes.
 impl Element for Building {
     ghost conditions = { conditions_of building_at };
 
@@ -75,6 +75,8 @@ impl Element for Building {
 
     ghost is_sound = { IsBuilding };
 
+    /// What building the structure takes, as the table at a path says, else the first fault of
+    /// these keys.
     #[tactic(auto, unfolding(crate::specs::KindTable::building_at))]
     fn read(alloc: Global, at: &str, table: &Table) -> Result<Building, WorldFault> {
         let material = keys::text(alloc, "material", at, table)?;
@@ -99,6 +101,8 @@ impl Element for Purpose {
 
     ghost is_sound = { IsPurpose };
 
+    /// What the structure is good for, as the table at a path says, else the first fault of these
+    /// keys.
     #[tactic(auto, unfolding(crate::specs::KindTable::purpose_at))]
     fn read(alloc: Global, at: &str, table: &Table) -> Result<Purpose, WorldFault> {
         let capacity = keys::number_or(alloc, 0, 0, MOST_AMOUNT, "capacity", at, table)?;
@@ -121,6 +125,7 @@ impl Element for KindDraft {
 
     ghost is_sound = { IsKindDraft };
 
+    /// The kind that the table at a path describes, else the first fault of the table's keys.
     #[tactic(auto, unfolding(crate::specs::KindTable::kind_at))]
     fn read(alloc: Global, at: &str, table: &Table) -> Result<KindDraft, WorldFault> {
         let name = keys::name(alloc, "name", at, table)?;
@@ -140,6 +145,7 @@ impl Element for KindDraft {
 impl Titled for KindDraft {
     ghost title_of = { λ x. x.name };
 
+    /// The name of the kind of structure.
     fn title(&self) -> &Text {
         &self.name
     }
@@ -157,6 +163,8 @@ impl Draft for KindDraft {
 
     ghost is_sound = { λ all i x. IsKind (length all.items) (length all.skills) x };
 
+    /// The kind with its material and its skills by number, else the fault UnknownName at the first
+    /// name that refers to nothing.
     #[tactic(auto, unfolding(crate::specs::KindTable::kind_known, crate::specs::KindTable::kind_of))]
     fn resolve(&self, alloc: Global, all: &WorldDraft, i: usize) -> Result<Kind, WorldFault> {
         let place = element_path(alloc, "kind", i)?;

@@ -51,6 +51,7 @@ impl Element for MarketDraft {
 
     ghost is_sound = { IsMarketDraft };
 
+    /// The market that the table at a path describes, else the first fault of the table's keys.
     #[tactic(auto, unfolding(crate::specs::MarketTable::market_keys, crate::specs::MarketTable::market_from))]
     fn read(alloc: Global, at: &str, table: &Table) -> Result<MarketDraft, WorldFault> {
         let item = keys::text(alloc, "item", at, table)?;
@@ -90,6 +91,7 @@ pub(crate) fn markets(
 impl Titled for MarketDraft {
     ghost title_of = { λ d. d.item };
 
+    /// The name of the market's item.
     fn title(&self) -> &Text {
         &self.item
     }
@@ -107,6 +109,7 @@ impl Draft for MarketDraft {
 
     ghost is_sound = { λ all i m. IsMarket (length all.items) m.item m };
 
+    /// The market with its item by number, else the fault UnknownName if no item has the name.
     #[tactic(auto, unfolding(crate::specs::MarketTable::market_known, crate::specs::MarketTable::market_of))]
     fn resolve(&self, alloc: Global, all: &WorldDraft, _i: usize) -> Result<Market, WorldFault> {
         let at = self.table_path.as_str();
@@ -125,6 +128,7 @@ impl Draft for MarketDraft {
 impl HasNumber for Market {
     ghost own_number_of = { λ m. m.item };
 
+    /// The number of the market's item.
     fn own_number(&self) -> u32 {
         u32::from(self.item)
     }

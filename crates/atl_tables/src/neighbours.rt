@@ -36,8 +36,8 @@ fn is_number(number: u32, other: Option<u32>) -> bool
     }
 }
 
-/// Checks that a region's neighbour on one side, if it has one, has the region on the side
-/// `opposite`, else gives the fault BadNeighbour at the key of the side.
+/// Checks that the neighbour `other` of the region `number`, if there is one, has this region on
+/// its side `opposite`, else gives the fault BadNeighbour at `key` of the table at the path `at`.
 fn neighbour(
     alloc: Global,
     key: &str,

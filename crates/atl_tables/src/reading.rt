@@ -160,7 +160,7 @@ fn resolve(alloc: Global, all: &WorldDraft) -> Result<WorldParts, WorldFault>
     })
 }
 
-/// Whether the terrain of a region is land.
+/// Whether the terrain of a region, looked up by its number in `terrains`, is land.
 fn is_land(terrains: &[Terrain], plan: &RegionPlan) -> bool
     ensures { result ≡ is_land terrains.now plan.now }
 {
@@ -213,8 +213,8 @@ fn with_land(
     Ok(World::from_parts(rules, terrains, items, skills, kinds, regions, land))
 }
 
-/// Makes the world of its parts, if neighbours are mutual and the terrain of some region is land,
-/// else gives the fault BadNeighbour or NoLand.
+/// Makes the world of `parts` and the skills of `all`, if neighbours are mutual and the terrain of
+/// some region is land, else gives the fault BadNeighbour or NoLand.
 #[tactic(auto, unfolding(crate::specs::World::neighbours_are_mutual))]
 fn join(alloc: Global, all: WorldDraft, parts: WorldParts) -> Result<World, WorldFault>
     requires all { IsWorldDraft all }

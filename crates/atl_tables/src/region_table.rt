@@ -86,6 +86,7 @@ impl Element for RegionBasics {
 
     ghost is_sound = { AreRegionBasics };
 
+    /// The basics that the table of a region gives, else the first fault of these keys.
     #[tactic(auto, unfolding(crate::specs::RegionTable::basics_keys, crate::specs::RegionTable::basics_from))]
     fn read(alloc: Global, at: &str, table: &Table) -> Result<RegionBasics, WorldFault> {
         let number = keys::number(alloc, 1, LAST_REGION, "number", at, table)?;
@@ -130,6 +131,8 @@ impl Element for OldRegion {
 
     ghost is_sound = { IsOldRegion };
 
+    /// The region that the table at a path describes, else the first fault of the keys that are
+    /// read.
     #[tactic(auto, unfolding(crate::specs::RegionTable::old_region_keys, crate::specs::RegionTable::old_region_from))]
     fn read(alloc: Global, at: &str, table: &Table) -> Result<OldRegion, WorldFault> {
         let basics = RegionBasics::read(alloc, at, table)?;
@@ -146,6 +149,8 @@ impl Element for RegionDraft {
 
     ghost is_sound = { IsRegionDraft };
 
+    /// The region that the table at a path describes, else the first fault of its keys and its
+    /// markets.
     #[tactic(auto, unfolding(crate::specs::RegionTable::region_keys, crate::specs::RegionTable::region_from))]
     fn read(alloc: Global, at: &str, table: &Table) -> Result<RegionDraft, WorldFault> {
         let OldRegion { basics, sides } = OldRegion::read(alloc, at, table)?;
@@ -182,6 +187,7 @@ pub(crate) fn without_markets(
 impl HasUniqueNames for RegionDraft {
     ghost no_twins = { duplicate_market_items };
 
+    /// Checks the markets of the i-th region, else gives TwoNames at the second market of an item.
     #[tactic(auto, unfolding(crate::specs::RegionTable::duplicate_market_items))]
     fn no_duplicates_inside(&self, alloc: Global, i: usize) -> Result<(), WorldFault> {
         let place = element_path(alloc, "region", i)?;
@@ -203,6 +209,8 @@ impl Draft for RegionDraft {
 
     ghost is_sound = { λ all i x. IsRegionPlan (length all.terrains) (length all.items) x.number x };
 
+    /// The region with its terrain and the items of its markets by number, else UnknownName at the
+    /// first name that refers to nothing.
     #[tactic(auto, unfolding(crate::specs::RegionTable::region_known, crate::specs::RegionTable::region_of))]
     fn resolve(&self, alloc: Global, all: &WorldDraft, i: usize) -> Result<RegionPlan, WorldFault> {
         let place = element_path(alloc, "region", i)?;
@@ -235,6 +243,7 @@ impl Draft for RegionDraft {
 impl HasNumber for RegionPlan {
     ghost own_number_of = { λ p. p.number };
 
+    /// The number of the region.
     fn own_number(&self) -> u32 {
         self.number
     }

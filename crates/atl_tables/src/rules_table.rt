@@ -91,6 +91,7 @@ impl Element for Prices {
 
     ghost is_sound = { ArePrices };
 
+    /// The rules on prices that the table at a path gives, else the first fault of these keys.
     #[tactic(auto, unfolding(crate::specs::RulesTable::prices_at, crate::specs::Keys::number_at))]
     fn read(alloc: Global, at: &str, table: &Table) -> Result<Prices, WorldFault> {
         let maintenance = keys::number(alloc, 1, MOST_PER_HEAD, "maintenance", at, table)?;
@@ -112,6 +113,7 @@ impl Element for PeasantRules {
 
     ghost is_sound = { ArePeasantRules };
 
+    /// The rules on peasants that the table at a path gives, else the first fault of these keys.
     #[tactic(auto, unfolding(crate::specs::RulesTable::peasants_at, crate::specs::Keys::number_at))]
     fn read(alloc: Global, at: &str, table: &Table) -> Result<PeasantRules, WorldFault> {
         let recruit_fraction = keys::number(
@@ -140,6 +142,7 @@ impl Element for MenRules {
 
     ghost is_sound = { AreMenRules };
 
+    /// The rules on men that the table at a path gives, else the first fault of these keys.
     #[tactic(auto, unfolding(crate::specs::RulesTable::men_at, crate::specs::Keys::number_at))]
     fn read(alloc: Global, at: &str, table: &Table) -> Result<MenRules, WorldFault> {
         let start_money = keys::number(alloc, 0, MOST_AMOUNT, "start_money", at, table)?;
@@ -179,6 +182,7 @@ impl Element for RulesDraft {
 
     ghost is_sound = { AreRulesDraft };
 
+    /// All rules that the table at a path gives, else the first fault of its keys.
     #[tactic(auto, unfolding(crate::specs::RulesTable::rules_at))]
     fn read(alloc: Global, at: &str, table: &Table) -> Result<RulesDraft, WorldFault> {
         let prices = Prices::read(alloc, at, table)?;

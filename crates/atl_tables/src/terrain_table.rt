@@ -58,6 +58,7 @@ impl Element for Economy {
 
     ghost is_sound = { IsEconomy };
 
+    /// The economy that the table of a terrain gives, else the first fault of these keys.
     #[tactic(auto, unfolding(crate::specs::TerrainTable::economy_at, crate::specs::Keys::number_at))]
     fn read(alloc: Global, at: &str, table: &Table) -> Result<Economy, WorldFault> {
         let wage = keys::number(alloc, 1, MOST_PRICE, "wage", at, table)?;
@@ -82,6 +83,7 @@ impl Element for TerrainDraft {
 
     ghost is_sound = { IsTerrainDraft };
 
+    /// The terrain that the table at a path describes, else the first fault of the table's keys.
     #[tactic(auto, unfolding(crate::specs::TerrainTable::terrain_at))]
     fn read(alloc: Global, at: &str, table: &Table) -> Result<TerrainDraft, WorldFault> {
         let name = keys::name(alloc, "name", at, table)?;
@@ -101,6 +103,7 @@ impl Element for TerrainDraft {
 impl Titled for TerrainDraft {
     ghost title_of = { λ x. x.name };
 
+    /// The name of the terrain.
     fn title(&self) -> &Text {
         &self.name
     }
@@ -118,6 +121,8 @@ impl Draft for TerrainDraft {
 
     ghost is_sound = { λ all i x. IsTerrain (length all.items) x };
 
+    /// The terrain with an amount of output for each item of the world, else the fault UnknownName
+    /// at the first key of its output that names no item.
     #[tactic(auto, unfolding(crate::specs::TerrainTable::terrain_known, crate::specs::TerrainTable::terrain_of))]
     fn resolve(&self, alloc: Global, all: &WorldDraft, i: usize) -> Result<Terrain, WorldFault> {
         let place = element_path(alloc, "terrain", i)?;
@@ -142,6 +147,8 @@ impl Draft for TerrainDraft {
 impl HasUniqueNames for TerrainDraft {
     ghost no_twins = { duplicate_output_keys };
 
+    /// Checks the keys of the i-th terrain's output, else gives TwoNames at the second of two
+    /// equal keys.
     #[tactic(auto, unfolding(crate::specs::TerrainTable::duplicate_output_keys))]
     fn no_duplicates_inside(&self, alloc: Global, i: usize) -> Result<(), WorldFault> {
         let place = element_path(alloc, "terrain", i)?;

@@ -42,8 +42,8 @@ pub(crate) fn is_new(
     Ok(new)
 }
 
-/// Checks that no two elements of the array at a path have equal titles, ignoring ASCII case, else
-/// gives the fault TwoNames at the second.
+/// Checks that no two elements of the array at the path `array` have equal titles, ignoring ASCII
+/// case, else gives the fault TwoNames at the key `key` of the second.
 pub(crate) fn no_duplicate_names<T: Titled>(
     alloc: Global,
     array: &str,

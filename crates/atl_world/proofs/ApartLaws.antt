@@ -34,7 +34,7 @@ contains-removed s n = set.contains-remove nat_cmp_total s n n ∙ ap (λ b. not
 len-new : (s : Numbers) (n : ℕ) → set.contains s n ≡ false → set.len (set.insert s n) ≡ set.len s + 1
 len-new s n h = set.len-insert nat_cmp_total s n ∙ ap (λ b. cond b (set.len s) (set.len s + 1)) h
 
--- a set has one number more than without one of its numbers
+-- a set with the number n in it has one number more than the same set without n
 len-put_back : (s : Numbers) (n : ℕ) → set.contains s n ≡ true → set.len s ≡ set.len (set.remove s n) + 1
 len-put_back s n h = ap set.len (sym (put_back s n h)) ∙ len-new (set.remove s n) n (contains-removed s n)
 
@@ -46,12 +46,12 @@ was_there s n q e = (and_parts (not (eq_by_cmp nat_cmp q n)) (set.contains s q) 
 len-less : (s : Numbers) (n : ℕ) → set.len (set.remove s n) ≤ set.len s
 len-less s n = len-within (set.remove s n) s (was_there s n)
 
--- a law of truth values: "not e, and" distributes over "or"
+-- a law of truth values: "not e and a, or not e and b" is "not e, and also a or b"
 both_without : (e a b : Bool) → ((not e && a) || (not e && b)) ≡ (not e && (a || b))
 both_without true a b = refl
 both_without false a b = refl
 
--- the union of two sets without n is their union without n
+-- if n is taken out of two sets, their union is the union of the whole sets with n taken out
 pub union-remove : (s t : Numbers) (n : ℕ) → set.union (set.remove s n) (set.remove t n) ≡ set.remove (set.union s t) n
 union-remove s t n = same _ _ (λ q.
     set.contains-union nat_cmp_total (set.remove s n) (set.remove t n) q
@@ -134,17 +134,17 @@ apart_remove s t n h = record {
 
 -- ---- marks in two sets
 
--- a set that is no larger than its room, together with no recent marks, is a set of marks kept in two sets (`AreMarks`)
+-- of a set within its room and an empty recent set, no number is in both, and the first has room for all (`AreMarks`)
 pub none_recent : (s : Numbers) (room recent : ℕ) → set.len s ≤ room → AreMarks (record { numbers = s; room = room }) (record { numbers = set.empty; room = recent })
 none_recent s room recent h = record { apart = apart_empty s; fits = let none : set.len {R = nat_cmp} set.empty ≡ 0 = set.len-empty nat_cmp in omega (arith, none, h) }
 
--- the empty set with any room, together with no recent marks, is a set of marks kept in two sets (`AreMarks`)
+-- of two empty sets with any rooms, no number is in both, and the first has room for all (`AreMarks`)
 pub no_marks : (room recent : ℕ) → AreMarks (record { numbers = set.empty; room = room }) (record { numbers = set.empty; room = recent })
 no_marks room recent = none_recent set.empty room recent (let none : set.len {R = nat_cmp} set.empty ≡ 0 = set.len-empty nat_cmp in omega (arith, none))
 
 -- a number n is to be marked, where v is the set of all marks: those of m and the recent ones of l
 module _ (m l v : RoomySet) (n : ℕ) (seen : ◌≡◌ {A = RoomySet} (record { numbers = set.union m.numbers l.numbers; room = m.room }) v) (marks : AreMarks m l) where
-  -- if n isn't marked (in v), it is neither in m nor in l
+  -- if n isn't in v, the set of all marks, it is neither in m nor among the recent marks of l
   in_neither : set.contains v.numbers n ≡ false → (set.contains m.numbers n ≡ false) × (set.contains l.numbers n ≡ false)
   in_neither h = neither _ _ (sym (set.contains-union nat_cmp_total m.numbers l.numbers n) ∙ ap (λ (w : RoomySet). set.contains w.numbers n) seen ∙ h)
 
@@ -152,7 +152,8 @@ module _ (m l v : RoomySet) (n : ℕ) (seen : ◌≡◌ {A = RoomySet} (record {
   pub fits_recent : set.contains v.numbers n ≡ false → set.len l.numbers < l.room → set.len (set.insert l.numbers n) ≤ l.room
   fits_recent missing room = let more = len-new l.numbers n (in_neither missing).1 in omega (arith, more, room)
 
-  -- if n isn't marked, and m has room for all marks and n, m and l with n put into l are marks in two sets (`AreMarks`)
+  -- after an unmarked n is put among the recent marks of l, still no number is both in m and in l, and m has room for
+  -- all (`AreMarks`), if it has room for all marks and n
   pub one_recent : set.contains v.numbers n ≡ false → set.len (set.insert v.numbers n) ≤ v.room → AreMarks m (record l { numbers = set.insert l.numbers n })
   one_recent missing h =
       let more = len-new v.numbers n missing in
@@ -162,12 +163,13 @@ module _ (m l v : RoomySet) (n : ℕ) (seen : ◌≡◌ {A = RoomySet} (record {
       let recent = len-new l.numbers n (in_neither missing).1 in
       record { apart = apart_insert m.numbers l.numbers n marks.apart (in_neither missing).0; fits = omega (arith, more, all, size, room, recent, h) }
 
-  -- if there is room for all marks and n, all of them in one set and none recent are marks in two sets (`AreMarks`)
+  -- if m has room for all marks and n: once these are in m, and none in l, no number is in both, and m has room for all
+  -- (`AreMarks`)
   pub one_more : set.len (set.insert v.numbers n) ≤ v.room → AreMarks (record { numbers = set.insert (set.union m.numbers l.numbers) n; room = m.room }) (record { numbers = set.empty; room = l.room })
   one_more h = none_recent (set.insert (set.union m.numbers l.numbers) n) m.room l.room
       (let size = ap (λ (w : RoomySet). set.len (set.insert w.numbers n)) seen in let room = ap (λ (w : RoomySet). w.room) seen in omega (arith, size, room, h))
 
--- marks in two sets (`AreMarks`) stay marks in two sets after a number is taken out of both
+-- after a number is taken out of m and of l, still no number is in both, and m has room for all (`AreMarks`)
 pub mark_taken : (m l : RoomySet) (n : ℕ) → AreMarks m l → AreMarks (record m { numbers = set.remove m.numbers n }) (record l { numbers = set.remove l.numbers n })
 mark_taken m l n h =
     record { apart = apart_remove m.numbers l.numbers n h.apart; fits = omega (arith, len-less m.numbers n, len-less l.numbers n, h.fits) }

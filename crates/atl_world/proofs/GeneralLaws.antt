@@ -43,11 +43,11 @@ key_turned q r = unsigned_tied q r ∙ equal_turned q r
 pub same_key : (q r : ℕ) → eq_by_cmp nat_cmp q r ≡ true → q ≡ r
 same_key q r test = is_equal q r (sym (unsigned_tied q r) ∙ test)
 
--- the choice of n or n + 1 is at most n + 1
+-- whichever of n and n + 1 a truth value b chooses, it is at most n + 1
 at_most : (b : Bool) (n : ℕ) → cond b n (n + 1) ≤ n + 1
 at_most true n = omega arith
 at_most false n = omega arith
 
--- a map with one entry put in has at most one more
+-- a map with an entry put in has at most one entry more than before
 pub one_more : {V : Type 0} (m : FinMap nat_cmp V) (k : ℕ) (v : V) → len (insert m k v) ≤ len m + 1
 one_more m k v = rw (len-insert nat_cmp_total m k v) (at_most (contains_key m k) (len m))

@@ -19,18 +19,18 @@ other_length (a ∷ xs) quoted (b ∷ ys) h =
     ap (λ t. eqb (to_ascii_lowercase a) (to_ascii_lowercase (letter_of quoted b)) && t) (other_length xs quoted ys (λ e. h (ap suc e)))
     ∙ and_right (eqb (to_ascii_lowercase a) (to_ascii_lowercase (letter_of quoted b))) false refl
 
--- a name and a word are equal from the i-th byte on exactly if the i-th bytes are, and the rests from i + 1 on
+-- a word means a name from the i-th byte on (`same_from`) exactly if it does at the i-th byte and from i + 1 on
 step : (name : List ℕ) (quoted : Bool) (word : List ℕ) (i : ℕ) → i < length name → i < length word → same_from name quoted word i ≡ (eq_ignore_ascii_case (get_or name i 0) (letter_of quoted (get_or word i 0)) && same_from name quoted word (i + 1))
 step name quoted word i h k = rw (drop_more name i 0 h, drop_more word i 0 k) refl
 
--- if the i-th bytes of a name and a word are equal, both are equal from i on exactly if they are from i + 1 on
+-- if a word means a name at the i-th byte, it does from i on (`same_from`) exactly if it does from i + 1 on
 pub same_letter : (name : List ℕ) (quoted : Bool) (word : List ℕ) (i : ℕ) → i < length name → i < length word → eq_ignore_ascii_case (get_or name i 0) (letter_of quoted (get_or word i 0)) ≡ true → same_from name quoted word (i + 1) ≡ same_from name quoted word i
 same_letter name quoted word i h k e = sym (step name quoted word i h k ∙ ap (λ t. t && same_from name quoted word (i + 1)) e)
 
--- if the i-th bytes of a name and a word differ, the two differ from the i-th byte on
+-- if a word doesn't mean a name at the i-th byte, it doesn't from the i-th byte on (`same_from`)
 pub other_letter : (name : List ℕ) (quoted : Bool) (word : List ℕ) (i : ℕ) → i < length name → i < length word → eq_ignore_ascii_case (get_or name i 0) (letter_of quoted (get_or word i 0)) ≡ false → same_from name quoted word i ≡ false
 other_letter name quoted word i h k e = step name quoted word i h k ∙ ap (λ t. t && same_from name quoted word (i + 1)) e
 
--- a name and a word are equal from an index on that is past the end of both
+-- a word means a name from an index on that is past the end of both (`same_from`)
 pub end_of_both : (name : List ℕ) (quoted : Bool) (word : List ℕ) (i : ℕ) → length name ≤ i → length word ≤ i → same_from name quoted word i ≡ true
 end_of_both name quoted word i h k = rw (drop_all i name h, drop_all i word k) refl

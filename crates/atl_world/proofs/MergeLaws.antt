@@ -22,7 +22,7 @@ use Rattle.atl_world.proofs.SetLaws.{same, nothing_more, swapped, joined}
 abbrev IsRising : List ℕ → Type 0
 IsRising xs = IsStrictlySortedBy nat_cmp xs
 
--- two sorted lists merged into one, with a number of both once
+-- two sorted lists merged into one; a number that both have comes once
 abbrev merged : List ℕ → List ℕ → List ℕ
 merged xs ys = sorted_merge nat_cmp true xs ys
 
@@ -125,7 +125,8 @@ pub merged_alone : (xs : List ℕ) → merged xs [] ≡ xs
 merged_alone [] = refl
 merged_alone (x ∷ xs) = refl
 
--- an iterator over one list yields what one over both merged does, if the other list is empty
+-- if an iterator over xs yields r and leaves us, one over xs merged with ys, which is empty, yields r and leaves us
+-- merged with ys
 pub first_alone : (xs us ys : List ℕ) (r : Option ℕ) → length ys ≡ 0 → YieldsFirstBy (λ n. n) (λ s. s) xs r us → YieldsFirstBy (λ n. n) (λ s. s) (merged xs ys) r (merged us ys)
 first_alone xs us (y ∷ ys) r e h = absurd (omega (arith, e))
 first_alone xs us [] r e h = rw (merged_alone xs, merged_alone us) h
@@ -142,7 +143,7 @@ module _ (n : ℕ) where
   own_last-step x xs on more h [] u = refl
   own_last-step x xs on more h (y ∷ ys) u = all_longer (nat_cmp x y) (n ∷ []) _ _ _ _ _ _ (ap (λ zs. x ∷ zs) (h (y ∷ ys) u)) (ap (λ zs. x ∷ zs) (h ys u.1)) (ap (λ zs. y ∷ zs) (own_last-step x xs on more h ys u.1))
 
-  -- n alone, merged with a list of lesser numbers, is at the end
+  -- the list of n alone, merged with a list of lesser numbers, is that list with n at its end
   own_last-only : (ys : List ℕ) → Under ys n → merged (n ∷ []) ys ≡ ys ++ n ∷ []
   own_last-only [] u = refl
   own_last-only (y ∷ ys) u =
@@ -178,7 +179,7 @@ under_last xs count n s l h = all_under (take count xs) n (λ k m.
     let rises : get_or xs k 0 ≤ get_or xs (count - 1) 0 = non_decreasing_from_sorted xs s k (count - 1) 0 (omega (arith, within)) (omega (arith, within, l)) in
     omega (arith, read, rises, h (omega (arith, within))))
 
--- after n is put at an index of a list, the rest of the list from this index on begins with n
+-- after n is put at an index of a list, the list from this index on is n, followed by what it had behind the index
 put_there : (xs : List ℕ) (place from n : ℕ) → place ≡ from → place < length xs → drop from (set xs place n) ≡ n ∷ drop (from + 1) xs
 put_there xs place from n e l = subst (λ p. drop p (set xs place n) ≡ n ∷ drop (p + 1) xs) e (drop-set xs place n l)
 
@@ -214,7 +215,7 @@ all_put xs ys now all own left none kept h =
     sym (take-append-drop own now) ∙ ap (λ zs. zs ++ drop own now) (kept ∙ sym (ap (merged (take own xs)) none_left ∙ merged_alone (take own xs)))
     ∙ ap (λ k. merged (take own xs) (take left ys) ++ drop k now) (sym there) ∙ h
 
--- a is at most b, if P holds, and P together with b < a would make a false test true
+-- if P holds, and P together with b < a leads to a contradiction, then a is at most b
 pub not_above : (P : Type 0) (a b : ℕ) → (P × (b < a) → IsTrue false) → P → a ≤ b
 not_above P a b h p = elim (cases_order a b) [
   | inl e ↦ omega (arith, e)

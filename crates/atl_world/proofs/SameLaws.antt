@@ -12,19 +12,19 @@ abbrev pub bare : List (ℕ × RegionPlan) → List (ℕ × RegionPlan)
 bare es = map (λ e. (e.0, without_market e.1)) es
 
 module _ (m n : FinMap nat_cmp RegionPlan) where
-  -- two maps of regions are equal but for markets, if their entries are
+  -- two maps of regions are equal but for markets, if their entries are equal but for markets
   pub same_maps : bare (entries m) ≡ bare (entries n) → mapped without_market m ≡ mapped without_market n
   same_maps same = same_entries_map _ _ (entries-mapped without_market m ∙ same ∙ sym (entries-mapped without_market n))
 
-  -- the entries of two maps of regions are equal but for markets, if the maps are
+  -- the entries of two maps of regions are equal but for markets, if the maps are equal but for markets
   pub same_entries : mapped without_market m ≡ mapped without_market n → bare (entries m) ≡ bare (entries n)
   same_entries same = sym (entries-mapped without_market m) ∙ ap entries same ∙ entries-mapped without_market n
 
 module _ (k n : ℕ) (p q : RegionPlan) (es fs : List (ℕ × RegionPlan)) where
-  -- if two lists of entries are equal but for markets, their rests are equal but for markets
+  -- if two lists of entries are equal but for markets, so are the lists without their first entries
   pub same_rest : bare ((k, p) ∷ es) ≡ bare ((n, q) ∷ fs) → bare es ≡ bare fs
   same_rest same = cc
 
-  -- two lists of entries are equal but for markets, if their first entries and their rests are
+  -- two lists of entries are equal but for markets, if their first entries are, and the lists behind these are
   pub one_more : k ≡ n → without_market p ≡ without_market q → bare es ≡ bare fs → bare ((k, p) ∷ es) ≡ bare ((n, q) ∷ fs)
   one_more number plan rest = cc

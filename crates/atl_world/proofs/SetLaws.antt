@@ -45,7 +45,7 @@ contains_inserted s n = set.contains-insert nat_cmp_total s n n ∙ ap (λ b. b 
 
 -- ---- how many
 
--- a set with a number in it, which has n numbers, has at least one: 1 ≤ n
+-- if a set of n numbers has some number k in it, then n is at least 1
 some : (n : ℕ) (t : set.FinSet nat_cmp) (k : ℕ) → set.len t ≡ n → set.contains t k ≡ true → 1 ≤ n
 some zero t k e h = absurd (false≢true (sym (set.contains-empty nat_cmp k) ∙ ap (λ u. set.contains u k) (sym (set.empty_of_len t e)) ∙ h))
 some (suc n) t k e h = omega arith
@@ -72,7 +72,7 @@ less_step true false m n f g h = absurd (false≢true (f refl))
 less_step false true m n f g h = omega arith
 less_step false false m n f g h = h
 
--- if a set t has all numbers of a set s, then s has no more numbers than t, where a list has all numbers of s
+-- if a set t has all numbers of a set s, and a list ks has them, too, then s has no more numbers than t
 fewer : (ks : List ℕ) (s t : set.FinSet nat_cmp) → ((q : ℕ) → set.contains s q ≡ true → list_any (eq_by_cmp nat_cmp q) ks ≡ true) → ((q : ℕ) → set.contains s q ≡ true → set.contains t q ≡ true) → set.len s ≤ set.len t
 fewer [] s t all h =
     let none : s ≡ set.empty = same s set.empty (λ q. false_from_ne_true _ (λ e. false≢true (all q e)) ∙ sym (set.contains-empty nat_cmp q)) in
@@ -123,7 +123,7 @@ insert-union s t k = same _ _ (λ q.
     set.contains-union nat_cmp_total (set.insert s k) t q ∙ ap (λ b. b || set.contains t q) (set.contains-insert nat_cmp_total s k q) ∙ joined (eq_by_cmp nat_cmp q k) (set.contains s q) (set.contains t q)
     ∙ sym (set.contains-insert nat_cmp_total (set.union s t) k q ∙ ap (λ b. eq_by_cmp nat_cmp q k || b) (set.contains-union nat_cmp_total s t q)))
 
--- the choice of n or n + 1 is at most n + 1
+-- whichever of n and n + 1 a truth value b chooses, it is at most n + 1
 at_most : (b : Bool) (n : ℕ) → cond b n (n + 1) ≤ n + 1
 at_most true n = omega arith
 at_most false n = omega arith
@@ -144,6 +144,7 @@ first true b h = refl
 first false b h = absurd (false≢true h)
 
 -- ---- the numbers of a list, which come one after another
+
 -- the union of a set with the numbers of k ∷ ks is that of the set with k put in, with the numbers of ks
 pub union-next : (s : set.FinSet nat_cmp) (k : ℕ) (ks : List ℕ) → set.union (set.insert s k) (set.from_list ks) ≡ set.union s (set.from_list (k ∷ ks))
 union-next s k ks = insert-union s (set.from_list ks) k ∙ sym (union-insert s (set.from_list ks) k)

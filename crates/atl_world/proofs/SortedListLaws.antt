@@ -24,6 +24,7 @@ by_cases : {P : Type 0} (a b : ℕ) → (a ≡ b → P) → (a < b → P) → (b
 by_cases a b alike less more = elim (cases_order a b) [ inl e ↦ alike e | inr r ↦ elim r [ inl l ↦ less l | inr m ↦ more m ] ]
 
 -- ---- a list stays sorted
+
 -- a sorted list stays sorted if n is put in at the index where it belongs
 pub rising-insert : (xs : List ℕ) (n i : ℕ) → IsRising xs → BelongsAt xs n i → IsRising (insert xs i n)
 rising-insert xs n i s b = sorted_from_strictly_increasing (insert xs i n) (λ k l.
@@ -80,12 +81,13 @@ rising-remove xs i s within = sorted_from_strictly_increasing (remove xs i) (λ 
     omega (arith, here, next, rises)))
 
 -- ---- how many numbers the set of a list has
+
 -- a number that is less than all numbers of a list is not in the list
 apart : (x : ℕ) (xs : List ℕ) → AllByRecursion (λ y. nat_cmp x y ≡ Less) xs → list_any (eq_by_cmp nat_cmp x) xs ≡ false
 apart x [] h = refl
 apart x (y ∷ xs) h = ap (λ r. is_eq r || list_any (eq_by_cmp nat_cmp x) xs) h.0 ∙ apart x xs h.1
 
--- the choice of m if b is true, else m + 1, is n + 1, if b is false and m is n
+-- if b is false and m is n, then the choice of m (for b true) or m + 1 (for b false) is n + 1
 one_more : (b : Bool) (m n : ℕ) → b ≡ false → m ≡ n → cond b m (m + 1) ≡ suc n
 one_more true m n e h = absurd (false≢true (sym e))
 one_more false m n e h = omega arith
@@ -98,6 +100,7 @@ len-rising (x ∷ xs) s =
     ∙ one_more _ _ _ (set.contains-from_list nat_cmp_total xs x ∙ apart x xs (sorted_head nat_cmp x xs s)) (len-rising xs (sorted_tail nat_cmp x xs s))
 
 -- ---- which numbers the set of a list has
+
 -- lists that are permutations of each other have the same set
 moved : (xs ys : List ℕ) → IsPermutation xs ys → set.from_list {R = nat_cmp} xs ≡ set.from_list ys
 moved xs ys p = same _ _ (λ q. set.contains-from_list nat_cmp_total xs q ∙ list_any-IsPermutation (eq_by_cmp nat_cmp q) xs ys p ∙ sym (set.contains-from_list nat_cmp_total ys q))
@@ -143,6 +146,7 @@ unfolding IsStrictlySortedBy
 rising-empty = tt
 
 -- ---- the index that a binary search returns
+
 -- of two elements of a sorted list the later one is no less than the earlier one
 not_falling : (xs : List ℕ) → IsRising xs → (i j : ℕ) → i ≤ j → j < length xs → get_or xs i 0 ≤ get_or xs j 0
 not_falling xs s i j l m = non_decreasing_from_sorted xs s i j 0 l m

@@ -27,7 +27,7 @@ under : (e a b c d : ℕ) → a + b ≡ c + d → (e + a) + b ≡ (e + c) + d
 under e a b c d h = omega arith
 
 module _ {X : Type 0} where
-  -- in the second branch of a choice, another choice by the same test b gives its own second branch
+  -- a choice by b in the second branch of a choice by the same b may be replaced by its own second branch
   twice : (b : Bool) (x y z : Option X) → cond b x z ≡ cond b x (cond b y z)
   twice true x y z = refl
   twice false x y z = refl
@@ -59,6 +59,7 @@ module _ {X : Type 0} where
       ] refl)
 
   -- ---- sums
+
   -- the sum of f over the values of entries
   abbrev weighed : (f : X → ℕ) → List (ℕ × X) → ℕ
   weighed f es = sum_by (λ e. f e.1) es
@@ -99,6 +100,7 @@ module _ {X : Type 0} where
       ∙ ap (λ n. sum_over f n + f v) (sym (put_back m k u h))
 
   -- ---- the numbers whose values pass a test
+
   -- the numbers of the entries whose values pass a test
   abbrev chosen : (p : X → Bool) → List (ℕ × X) → List ℕ
   chosen p es = map (λ e. e.0) (filter (λ e. p e.1) es)
@@ -109,11 +111,11 @@ module _ {X : Type 0} where
   chosen-cond p true e es = refl
   chosen-cond p false e es = refl
 
-  -- the numbers of e ∷ es that pass are those of es, with the number of e in front if e passes
+  -- the numbers of e ∷ es whose values pass the test p are those of es, with the number of e in front if e passes
   pub chosen-cons : (p : X → Bool) (e : ℕ × X) (es : List (ℕ × X)) → chosen p (e ∷ es) ≡ cond (p e.1) (e.0 ∷ chosen p es) (chosen p es)
   chosen-cons p e es = chosen-cond p (p e.1) e es
 
-  -- the numbers whose values pass are the same with u and with v under k, if both pass or both fail
+  -- the numbers whose values pass the test p are the same with u and with v under k, if u and v both pass or both fail
   chosen-put : (p : X → Bool) (k : ℕ) (u v : X) → p u ≡ p v → (es : List (ℕ × X)) → chosen p (put nat_cmp k v es) ≡ chosen p (put nat_cmp k u es)
   chosen-put p k u v h [] = chosen-cons p (k, v) [] ∙ ap (λ b. cond b (k ∷ []) []) (sym h) ∙ sym (chosen-cons p (k, u) [])
   chosen-put p k u v h (e ∷ es) =
@@ -123,7 +125,8 @@ module _ {X : Type 0} where
         | Greater ↦ chosen-cons p e (put nat_cmp k v es) ∙ ap (λ ns. cond (p e.1) (e.0 ∷ ns) ns) (chosen-put p k u v h es) ∙ sym (chosen-cons p e (put nat_cmp k u es))
       ]
 
-  -- an entry with a new number whose value fails the test adds no number that passes
+  -- an entry with a new number, put into entries, adds nothing to the numbers whose values pass the test p, if its own
+  -- value fails p
   chosen-put_other : (p : X → Bool) (k : ℕ) (v : X) → p v ≡ false → (es : List (ℕ × X)) → find nat_cmp k es ≡ None → chosen p (put nat_cmp k v es) ≡ chosen p es
   chosen-put_other p k v h [] g = chosen-cons p (k, v) [] ∙ ap (λ b. cond b (k ∷ []) []) h
   chosen-put_other p k v h (e ∷ es) g =
@@ -133,13 +136,13 @@ module _ {X : Type 0} where
         | Greater ↦ λ g. chosen-cons p e (put nat_cmp k v es) ∙ ap (λ ns. cond (p e.1) (e.0 ∷ ns) ns) (chosen-put_other p k v h es g) ∙ sym (chosen-cons p e es)
       ] g
 
-  -- the numbers whose values pass stay the same if v replaces u, and both pass or both fail
+  -- if v replaces u in a map, and the test p is the same of both, the numbers whose values pass p stay the same numbers
   pub numbers_where-insert_known : (p : X → Bool) (m : FinMap nat_cmp X) (k : ℕ) (u v : X) → get m k ≡ Some u → p u ≡ p v → numbers_where p (insert m k v) ≡ numbers_where p m
   numbers_where-insert_known p m k u v h same =
       ap (numbers_where p) (put_over m k v) ∙ ap (chosen p) (entries-insert nat_cmp_total (remove m k) k v) ∙ chosen-put p k u v same (entries (remove m k))
       ∙ ap (chosen p) (sym (entries-insert nat_cmp_total (remove m k) k u)) ∙ ap (numbers_where p) (sym (put_back m k u h))
 
-  -- the numbers whose values pass stay the same if a value that fails is put in under a new number
+  -- the numbers whose values pass the test p are still the same after a value that fails p is put in under a new number
   pub numbers_where-insert_other : (p : X → Bool) (m : FinMap nat_cmp X) (k : ℕ) (v : X) → get m k ≡ None → p v ≡ false → numbers_where p (insert m k v) ≡ numbers_where p m
   numbers_where-insert_other p m k v h fails =
       ap (chosen p) (entries-insert nat_cmp_total m k v) ∙ chosen-put_other p k v fails (entries m) (sym (get-entries m k) ∙ h)

@@ -28,17 +28,17 @@ at n q P here other = elim (eq_by_cmp nat_cmp q n) as (λ b. eq_by_cmp nat_cmp q
 module _ {V : Type 0} where
   -- ---- the numbers that have a value or a mark
 
-  -- a number has a value or a mark exactly if it is in `held`
+  -- `held v m` has exactly the numbers that have a value in the map v or a mark in m
   pub contains-held : (v : FinMap nat_cmp V) (m : set.FinSet nat_cmp) (q : ℕ) → set.contains (held v m) q ≡ (set.contains m q || is_some (get v q))
   contains-held v m q =
       set.contains-union nat_cmp_total m (set.from_list (keys v)) q
       ∙ ap (λ b. set.contains m q || b) (set.contains-from_list nat_cmp_total (keys v) q ∙ sym (contains_key-keys v q))
 
-  -- if a map has a value under n, and q is n, then q has a value or a mark
+  -- if a map has a value under n, and q is n, then q has a value in the map or a mark
   there : (v : FinMap nat_cmp V) (m : set.FinSet nat_cmp) (n q : ℕ) → is_some (get v n) ≡ true → q ≡ n → (set.contains m q || is_some (get v q)) ≡ true
   there v m n q h e = either (set.contains m q) (is_some (get v q)) (ap (λ k. is_some (get v k)) e ∙ h)
 
-  -- a mark on a number with a value adds none to the numbers with a value or a mark
+  -- to mark a number that has a value leaves the set of numbers with a value or a mark as it was
   pub held-marked : (v : FinMap nat_cmp V) (m : set.FinSet nat_cmp) (n : ℕ) → is_some (get v n) ≡ true → held v (set.insert m n) ≡ held v m
   held-marked v m n h = same _ _ (λ q.
       contains-held v (set.insert m n) q ∙ ap (λ b. b || is_some (get v q)) (set.contains-insert nat_cmp_total m n q)
@@ -72,7 +72,7 @@ module _ {V : Type 0} where
 
   -- ---- the room for marks
 
-  -- there is room for r marks, enough for all numbers with a value or a mark
+  -- room for r marks is enough for all numbers with a value in the map or a mark
   abbrev Room : FinMap nat_cmp V → set.FinSet nat_cmp → ℕ → Type 0
   Room v m r = set.len (held v m) ≤ r
 
@@ -81,30 +81,31 @@ module _ {V : Type 0} where
   fewer : (v w : FinMap nat_cmp V) (m n : set.FinSet nat_cmp) (r : ℕ) → ((q : ℕ) → (set.contains n q || is_some (get w q)) ≡ true → (set.contains m q || is_some (get v q)) ≡ true) → Room v m r → Room w n r
   fewer v w m n r h room = let l = len-within (held w n) (held v m) (λ q e. contains-held v m q ∙ h q (sym (contains-held w n q) ∙ e)) in omega (arith, l, room)
 
-  -- a map has as many numbers as entries
+  -- a map by number has as many keys, which are its numbers, as entries
   many : (v : FinMap nat_cmp V) → length (keys v) ≡ len v
   many v = length-map (entries v) (λ (e : ℕ × V). e.0) ∙ sym (len-entries v)
 
-  -- there is room for marks (`Room`), if the room is at least the number of marks and the number of values together
+  -- room for at least as many as the marks and the values together is enough for all numbers with a value or a mark
+  -- (`Room`)
   pub Room-all : (v : FinMap nat_cmp V) (m : set.FinSet nat_cmp) (r : ℕ) → set.len m + len v ≤ r → Room v m r
   Room-all v m r h = let l = len-union m (keys v) in let e = many v in omega (arith, l, e, h)
 
-  -- there is room for marks (`Room`), if nothing is marked and the room is the number of values
+  -- room for as many as the values is enough for all numbers with a value or a mark (`Room`), if nothing is marked
   pub Room-of : (v : FinMap nat_cmp V) → Room v set.empty (len v)
   Room-of v = Room-all v set.empty (len v) (let a : set.len {R = nat_cmp} set.empty ≡ 0 = set.len-empty nat_cmp in omega (arith, a))
 
-  -- there is room to mark a number that has a value
+  -- if there is room for all numbers with a value or a mark (`Room`), there is room to mark a number that has a value
   pub fits-marked : (v : FinMap nat_cmp V) (m : set.FinSet nat_cmp) (r n : ℕ) → is_some (get v n) ≡ true → Room v m r → set.len (set.insert m n) ≤ r
   fits-marked v m r n h room =
       let all : set.len (held v (set.insert m n)) ≡ set.len (held v m) = ap set.len (held-marked v m n h) in
       let l = len-within (set.insert m n) (held v (set.insert m n)) (λ q e. contains-held v (set.insert m n) q ∙ first _ _ e) in
       omega (arith, all, l, room)
 
-  -- room for marks stays enough (`Room`) if all marks are cleared
+  -- room enough for all numbers with a value or a mark (`Room`) still is enough after all marks are cleared
   pub Room-unmarked : (v : FinMap nat_cmp V) (m : set.FinSet nat_cmp) (r : ℕ) → Room v m r → Room v set.empty r
   Room-unmarked v m r = fewer v v m set.empty r (λ q e. either (set.contains m q) (is_some (get v q)) (ap (λ b. b || is_some (get v q)) (sym (set.contains-empty nat_cmp q)) ∙ e))
 
-  -- room for marks stays enough (`Room`) if the value and the mark of a number are taken out
+  -- room enough for all numbers with a value or a mark (`Room`) still is after one's value and mark are taken out
   pub Room-taken : (v : FinMap nat_cmp V) (m : set.FinSet nat_cmp) (r n : ℕ) → Room v m r → Room (remove v n) (set.remove m n) r
   Room-taken v m r n = fewer v (remove v n) m (set.remove m n) r (λ q e. at n q (λ b. ((not b && set.contains m q) || is_some (cond b None (get v q))) ≡ true → (set.contains m q || is_some (get v q)) ≡ true) (λ _ h. absurd (false≢true h)) (λ h. h)
       (ap (λ b. b || is_some (cond (eq_by_cmp nat_cmp q n) None (get v q))) (sym (set.contains-remove nat_cmp_total m n q)) ∙ ap (λ o. set.contains (set.remove m n) q || is_some o) (sym (get-remove nat_cmp_total v n q)) ∙ e))
@@ -122,42 +123,46 @@ module _ {V : Type 0} where
   pub there_itself : (m : FinMap nat_cmp V) (n : ℕ) (x : V) → get (insert m n x) n ≡ Some x
   there_itself m n x = get-insert nat_cmp_total m n x n ∙ ap (λ b. cond b (Some x) (get m n)) (key_itself n)
 
-  -- there is room to mark a value that is put in, if the room is at least the number of marks and of values together
+  -- there is room to mark a value that was put in, if the room is at least the marks so far and all values together
   pub fits-inserted : (v : FinMap nat_cmp V) (m : set.FinSet nat_cmp) (r n : ℕ) (x : V) → set.len m + len (insert v n x) ≤ r → set.len (set.insert m n) ≤ r
   fits-inserted v m r n x h = fits-marked (insert v n x) m r n (ap is_some (there_itself v n x)) (Room-all (insert v n x) m r h)
 
-  -- room for marks is enough after a value is put in and marked, if it is at least all marks and values together
+  -- room for at least the marks so far and all values, one of them just put in, is enough (`Room`) once this one is
+  -- marked
   pub Room-inserted : (v : FinMap nat_cmp V) (m : set.FinSet nat_cmp) (r n : ℕ) (x : V) → set.len m + len (insert v n x) ≤ r → Room (insert v n x) (set.insert m n) r
   Room-inserted v m r n x h = rw (held-marked (insert v n x) m n (ap is_some (there_itself v n x))) (Room-all (insert v n x) m r h)
 
-  -- room for marks stays enough (`Room`) if a number is marked in case that it has a value
+  -- room enough for all numbers with a value or a mark (`Room`) still is after a number is marked if it has a value
   pub Room-put : (v : FinMap nat_cmp V) (m : set.FinSet nat_cmp) (r n : ℕ) (o : Option V) → get v n ≡ o → Room v m r → Room v (marked_with m n o) r
   Room-put v m r n None e h = h
   Room-put v m r n (Some x) e h = rw (held-marked v m n (ap is_some e)) h
 
-  -- room for marks stays enough (`Room`) if a value, where there is one, is taken out and its number marked
+  -- room enough for all numbers with a value or a mark (`Room`) still is after a value, if there is one, is taken out
+  -- and its number marked
   pub Room-without : (v : FinMap nat_cmp V) (m : set.FinSet nat_cmp) (r n : ℕ) (o : Option V) → get v n ≡ o → Room v m r → Room (remove v n) (marked_with m n o) r
   Room-without v m r n None e h = rw (remove_none v n e) h
   Room-without v m r n (Some x) e h = rw (held-removed v m n (ap is_some e)) h
 
-  -- room for marks stays enough (`Room`) if the value under a number is replaced and the number marked
+  -- room enough for all numbers with a value or a mark (`Room`) still is after a value is replaced and its number
+  -- marked
   pub Room-lent : (v : FinMap nat_cmp V) (m : set.FinSet nat_cmp) (r n : ℕ) (o : Option V) (x : V) → get v n ≡ o → is_some o ≡ true → Room v m r → Room (insert v n x) (marked_with m n o) r
   Room-lent v m r n None x e s h = absurd (false≢true s)
   Room-lent v m r n (Some y) x e s h = rw (held-lent v m n x (ap is_some e)) h
 
-  -- room for marks stays enough (`Room`) if the value under a number is replaced, and no mark changes
+  -- room enough for all numbers with a value or a mark (`Room`) still is after a value is replaced, and no mark changes
   pub Room-over : (v : FinMap nat_cmp V) (m : set.FinSet nat_cmp) (r n : ℕ) (x : V) → is_some (get v n) ≡ true → Room v m r → Room (insert v n x) m r
   Room-over v m r n x s = fewer v (insert v n x) m m r (λ q e.
       at n q (λ b. (set.contains m q || is_some (cond b (Some x) (get v q))) ≡ true → (set.contains m q || is_some (get v q)) ≡ true) (λ same _. there v m n q s same) (λ h. h)
       (ap (λ o. set.contains m q || is_some o) (sym (get-insert nat_cmp_total v n x q)) ∙ e))
 
-  -- room for marks stays enough (`Room`) if all values are taken out and their numbers marked
+  -- room enough for all numbers with a value or a mark (`Room`) still is after all values are taken out and their
+  -- numbers marked
   pub Room-cleared : (v : FinMap nat_cmp V) (m : set.FinSet nat_cmp) (r : ℕ) → Room v m r → Room empty (held v m) r
   Room-cleared v m r h = rw (held-cleared v m) h
 
   -- ---- a value taken out, and a new one taken out again
 
-  -- maps with marks are equal if their values and their marks are
+  -- two maps with marks are equal if their values are equal and their marks are equal
   same_parts : (v w : FinMap nat_cmp V) (m n : set.FinSet nat_cmp) → v ≡ w → m ≡ n → ◌≡◌ {A = MarkedMapValue V} (record { values = v; marks = m }) (record { values = w; marks = n })
   same_parts v w m n p q = λ i. record { values = p i; marks = q i }
 
@@ -177,6 +182,6 @@ module _ {V : Type 0} where
   pub taken_out-undone : (c : MarkedMapValue V) (n : ℕ) (x : V) → get c.values n ≡ None → taken_out (with_value c n x) n (set.contains c.marks n) ≡ c
   taken_out-undone c n x fresh = undone c n x (set.contains c.marks n) fresh refl
 
--- for an empty map with nothing marked, room for 0 marks is enough
+-- room for 0 marks is enough for all numbers with a value or a mark, if the map is empty and nothing is marked
 pub Room-empty : (V : Type 0) → set.len (held (empty {X = V} {R = nat_cmp}) set.empty) ≤ 0
 Room-empty V = Room-all (empty {X = V}) set.empty 0 (let a : set.len {R = nat_cmp} set.empty ≡ 0 = set.len-empty nat_cmp in let b : len (empty {X = V} {R = nat_cmp}) ≡ 0 = len-empty nat_cmp V in omega (arith, a, b))

@@ -10,6 +10,7 @@ use Rattle.atl_world.specs.declared.world.Market.{Market}
 use Rattle.atl_world.specs.declared.world.Terrain.{Terrain}
 
 -- ---- look-ups by the number of a region
+
 -- the terrain of a region, by the region's number; None if the world has no such region
 abbrev pub terrain_of : WorldValue → (region : ℕ) → Option Terrain
 terrain_of w region = option_and_then (λ p. slice_get w.terrains p.terrain) (get w.regions region)
@@ -27,6 +28,7 @@ abbrev pub market_of : WorldValue → (region item : ℕ) → Option Market
 market_of w region item = option_and_then (λ p. get p.markets item) (get w.regions region)
 
 -- ---- look-ups by the number of a kind of structure
+
 -- whether a kind of structure, by its number, is a ship; false if there is no such kind
 abbrev pub is_ship : WorldValue → (kind : ℕ) → Bool
 is_ship w kind = option_map_or (λ k. k.ship) (slice_get w.kinds kind) false
@@ -36,6 +38,7 @@ abbrev pub size_of : WorldValue → (kind : ℕ) → ℕ
 size_of w kind = option_map_or (λ k. k.size) (slice_get w.kinds kind) most_size
 
 -- ---- look-up by the number of a skill
+
 -- the money that a month of study of a skill, by its number, costs each man; 0 if there is no such skill
 abbrev pub fee_of : WorldValue → (skill : ℕ) → ℕ
 fee_of w skill = option_map_or (λ s. s.fee) (slice_get w.skills skill) 0

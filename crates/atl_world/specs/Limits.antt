@@ -2,6 +2,7 @@
 use Rattle.std.specs.Prelude.{ℕ, ◌^◌}
 
 -- ---- how many of each a world has at most
+
 -- the most terrains of a world
 abbrev pub most_terrains : ℕ
 most_terrains = 20
@@ -47,6 +48,7 @@ abbrev pub most_name_bytes : ℕ
 most_name_bytes = 40
 
 -- ---- the ranges of the world file's keys
+
 -- the most money of one man or peasant a month: maintenance and tax of a man, income of a peasant
 abbrev pub most_per_head : ℕ
 most_per_head = 1000

@@ -4,7 +4,7 @@ use Rattle.std.specs.Str.{str_eq_ignore_ascii_case}
 use Rattle.atl_world.specs.Letters.{space, underscore}
 use Rattle.atl_world.specs.Worlds.{WorldValue}
 
--- the byte of a name that a byte of a word means: in a word without quotes `_` means a space
+-- the byte of a name that a byte of a word means: the byte itself, but a space for `_` in a word without quotes
 abbrev pub letter_of : Bool → ℕ → ℕ
 letter_of quoted b = if quoted then b else if b == underscore then space else b
 

@@ -9,7 +9,7 @@ use denote.RattleType.{RattleType}
 use Rattle.atl_world.specs.MarkedMaps.{MarkedMapValue}
 use Rattle.atl_world.specs.contracts.marked_map.MarkedMap.{the_row}
 
--- the marks with n added, given what a map has under n; if it has no value, the marks stay
+-- the marks with n added, if a map has a value under n (the option that is given); else the marks as they are
 abbrev pub marked_with : {V : Type 0} → set.FinSet nat_cmp → ℕ → Option V → set.FinSet nat_cmp
 marked_with marks n None = marks
 marked_with marks n (Some v) = set.insert marks n
@@ -26,7 +26,7 @@ module _ {V : Type 0} where
   abbrev pub with_value : MarkedMapValue V → ℕ → V → MarkedMapValue V
   with_value c n v = record { values = map.insert c.values n v; marks = set.insert c.marks n }
 
-  -- the map without the value under n, and n marked, given what c has under n; without a value c stays
+  -- the map c without the value under n, and n marked, given this value as `Some v`; given None, c as it is
   abbrev pub without_value_at : MarkedMapValue V → ℕ → Option V → MarkedMapValue V
   without_value_at c n None = c
   without_value_at c n (Some v) = record { values = map.remove c.values n; marks = set.insert c.marks n }
@@ -44,7 +44,7 @@ module _ {V : Type 0} where
   taken_out c n true = without_value c n
   taken_out c n false = record { values = map.remove c.values n; marks = set.remove c.marks n }
 
--- A map c with marks that lends its value under n as r ends with the last value written to r, and n marked; if it lends
--- none, it ends as it was.
+-- A map c with marks that lends its value under n as r ends with the last value written to r under n, and n marked; if
+-- it lends none, it ends as it was.
 abbrev pub WritesBackMarked : (V : RattleType) → MutBor (MarkedMapValue V.Denot) → ℕ → Option (MutBor V.Denot) → Fml
 WritesBackMarked V c n r = LendsIf (the_row V) V c r (with_value c.now n) c.now

@@ -28,13 +28,13 @@ use Rattle.atl_world.specs.Sums.{mapped, numbers_where}
 pub record WorldValue : Type 0 where
   -- the rules: costs, taxes, growth and weights, and the skills of sight and sailing
   pub rules : Rules
-  -- the terrains, each at the index of its number
+  -- the terrains of the world, each at the index of its number
   pub terrains : List Terrain
-  -- the items, each at the index of its number
+  -- the items of the world, each at the index of its number
   pub items : List Item
-  -- the skills, each at the index of its number
+  -- the skills of the world, each at the index of its number
   pub skills : List Skill
-  -- the kinds of structures, each at the index of its number
+  -- the kinds of structures of the world, each at the index of its number
   pub kinds : List Kind
   -- the regions, each under its number
   pub regions : FinMap nat_cmp RegionPlan
@@ -53,7 +53,7 @@ world_code =
     (λ q. world_of_parts q.0 q.1.0 q.1.1.0 q.1.1.1.0 q.1.1.1.1.0 q.1.1.1.1.1)
     (λ _. refl)
 
--- whether the terrain of a region is land
+-- whether the terrain of a region, looked up by its number in a list of terrains, is land; false if it is missing
 abbrev pub is_land : List Terrain → RegionPlan → Bool
 is_land terrains plan = option_map_or (λ t. t.land) (slice_get terrains plan.terrain) false
 
@@ -77,7 +77,8 @@ beside East p = p.east
 beside West p = p.west
 
 -- ---- what is true of every world: numbers are in their ranges, and the number of a thing is below how many there are
--- the numbers of the rules are in their ranges, and the skills that they refer to are below `skills`
+
+-- the numbers of the rules r are in their ranges, and the skills that r refers to are among `skills` skills
 pub record AreRules (skills : ℕ) (r : Rules) : Type 0 where
   -- the money that each man costs a month is at least 1
   pub maintenance_least : 1 ≤ r.maintenance
@@ -103,20 +104,20 @@ pub record AreRules (skills : ℕ) (r : Rules) : Type 0 where
   pub man_weight : r.man_weight ≤ most_weight
   -- the weight of goods that a man carries is at most most_weight
   pub man_carry : r.man_carry ≤ most_weight
-  -- the number of the skill that finds hidden units, if there is one, is below `skills`
+  -- the number of the skill that finds hidden units, if there is such a skill, is below the count of skills
   pub observation : IfSome r.observation (λ s. s < skills)
-  -- the number of the skill that hides units, if there is one, is below `skills`
+  -- the number of the skill that hides units, if there is such a skill, is below the count of skills
   pub stealth : IfSome r.stealth (λ s. s < skills)
-  -- the number of the skill that sails ships, if there is one, is below `skills`
+  -- the number of the skill that sails ships, if there is such a skill, is below the count of skills
   pub sailing : IfSome r.sailing (λ s. s < skills)
 
--- a terrain keeps the rule of names and its ranges, and its output has an amount for each of `items` items
+-- the terrain t has a name by the rule, numbers in their ranges, and an amount of output for each of `items` items
 pub record IsTerrain (items : ℕ) (t : Terrain) : Type 0 where
   -- the name of the terrain keeps the rule of names
   pub name : name_ok t.name ≡ true
-  -- the wage of the terrain is at least 1
+  -- the money that a month of work in a region of the terrain pays a man is at least 1
   pub wage_least : 1 ≤ t.wage
-  -- the wage of the terrain is at most most_price
+  -- the money that a month of work in a region of the terrain pays a man is at most most_price
   pub wage : t.wage ≤ most_price
   -- the number of men who find work in a region of the terrain is at most most_amount
   pub places : t.places ≤ most_amount
@@ -124,12 +125,13 @@ pub record IsTerrain (items : ℕ) (t : Terrain) : Type 0 where
   pub money_limit : t.money_limit ≤ most_amount
   -- the most peasants that births bring a region of the terrain to are at most most_amount
   pub peasant_limit : t.peasant_limit ≤ most_amount
-  -- the output of the terrain has `items` amounts, one for each item
+  -- the output of the terrain has `items` amounts, one for each item of the world
   pub outputs : length t.output ≡ items
   -- each amount of the terrain's output is at most most_amount
   pub output : All (λ amount. amount ≤ most_amount) t.output
 
--- the i-th item keeps the rule of names and its ranges; its skill is below `skills`, its raw item below `items`, not i
+-- x, the i-th of `items` items, has a name by the rule and numbers in their ranges; its skill is one of `skills`
+-- skills, and its raw item is another one of the items
 pub record IsItem (items skills i : ℕ) (x : Item) : Type 0 where
   -- the name of the item keeps the rule of names
   pub name : name_ok x.name ≡ true
@@ -137,15 +139,15 @@ pub record IsItem (items skills i : ℕ) (x : Item) : Type 0 where
   pub weight : x.weight ≤ most_weight
   -- the weight of goods that the item carries is at most most_weight
   pub carry : x.carry ≤ most_weight
-  -- the number of the skill that makes the item, if there is one, is below `skills`
+  -- the number of the skill that makes the item, if there is such a skill, is below the count of skills
   pub skill : IfSome x.skill (λ s. s < skills)
-  -- the level that making the item takes is at least 1
+  -- the level of the skill that making the item takes is at least 1
   pub level_least : 1 ≤ x.level
-  -- the level that making the item takes is at most last_level
+  -- the level of the skill that making the item takes is at most last_level
   pub level : x.level ≤ last_level
-  -- the number of the raw item, if there is one, is below `items`
+  -- the number of the raw item that the item is made of, if there is one, is below the count of items
   pub raw : IfSome x.raw (λ r. r < items)
-  -- the raw item, if there is one, is another item than this one, whose number is i
+  -- the raw item that the item is made of, if there is one, is another item than this one, whose number is i
   pub raw_is_other : IfSome x.raw (λ r. r ≢ i)
   -- the count of raw items that one item is made of is at least 1
   pub raw_count_least : 1 ≤ x.raw_count
@@ -159,34 +161,35 @@ pub record IsSkill (s : Skill) : Type 0 where
   -- the money that a month of study costs a man is at most most_price
   pub fee : s.fee ≤ most_price
 
--- a kind keeps the rule of names and its ranges; its material is below `items`, and its skills are below `skills`
+-- the kind k has a name by the rule and numbers in their ranges; its material is one of `items` items, its skills are
+-- of `skills` skills
 pub record IsKind (items skills : ℕ) (k : Kind) : Type 0 where
   -- the name of the kind keeps the rule of names
   pub name : name_ok k.name ≡ true
-  -- the number of the item that the structure is built of is below `items`
+  -- the number of the item that the structure is built of is below the count of items
   pub material : k.material < items
   -- the material of a complete structure is at least 1
   pub size_least : 1 ≤ k.size
   -- the material of a complete structure is at most most_size
   pub size : k.size ≤ most_size
-  -- the number of the skill that builds the structure is below `skills`
+  -- the number of the skill that builds the structure is below the count of skills
   pub skill : k.skill < skills
-  -- the level that building the structure takes is at least 1
+  -- the level of the skill that building the structure takes is at least 1
   pub level_least : 1 ≤ k.level
-  -- the level that building the structure takes is at most last_level
+  -- the level of the skill that building the structure takes is at most last_level
   pub level : k.level ≤ last_level
   -- the most weight with which a ship sails is at most most_amount
   pub capacity : k.capacity ≤ most_amount
   -- the least crew with which a ship sails, in men times levels, is at most most_size
   pub crew : k.crew ≤ most_size
-  -- the number of the skill that is studied better inside, if there is one, is below `skills`
+  -- the number of the skill that is studied better inside, if there is such a skill, is below the count of skills
   pub helps : IfSome k.helps (λ s. s < skills)
 
--- a market trades the item `number`, which is below `items`, and its prices, limit and restock are in their ranges
+-- the market m trades the item `number`, one of `items` items, and its prices, limit and restock are in their ranges
 pub record IsMarket (items number : ℕ) (m : Market) : Type 0 where
   -- the number of the item that the market trades is `number`
   pub number_is : m.item ≡ number
-  -- the number of the item that the market trades is below `items`
+  -- the number of the item that the market trades is below the count of items
   pub item : m.item < items
   -- the money that a unit pays the market for one item is at least 1
   pub price_least : 1 ≤ m.price
@@ -201,7 +204,8 @@ pub record IsMarket (items number : ℕ) (m : Market) : Type 0 where
   -- what comes into the market's stock in a month is at most most_amount
   pub restock : m.restock ≤ most_amount
 
--- a region has this number, a name by the rule, numbers and markets in their ranges, and a terrain below `terrains`
+-- the region p has the number `number`, a name by the rule, numbers and markets in their ranges, and one of `terrains`
+-- terrains
 pub record IsRegionPlan (terrains items number : ℕ) (p : RegionPlan) : Type 0 where
   -- the number of the region is `number`
   pub number_is : p.number ≡ number
@@ -211,7 +215,7 @@ pub record IsRegionPlan (terrains items number : ℕ) (p : RegionPlan) : Type 0 
   pub number_most : number ≤ last_region
   -- the name of the region keeps the rule of names
   pub name : name_ok p.name ≡ true
-  -- the number of the region's terrain is below `terrains`
+  -- the number of the region's terrain is below the count of terrains
   pub terrain : p.terrain < terrains
   -- the peasants of the region at founding are at most most_amount
   pub peasants : p.peasants ≤ most_amount
@@ -220,11 +224,11 @@ pub record IsRegionPlan (terrains items number : ℕ) (p : RegionPlan) : Type 0 
   -- each market of the region is listed under the number of the item that the market trades, and is in its ranges
   pub markets : (i : ℕ) (m : Market) → get p.markets i ≡ Some m → IsMarket items i m
 
--- a neighbour, if there is one, is a region whose own neighbour on the opposite side is the region with this number
+-- `neighbour`, if there is one, is a region whose neighbour on the opposite side (`opposite`) is the region `number`
 abbrev pub LeadsBack : FinMap nat_cmp RegionPlan → (RegionPlan → Option ℕ) → ℕ → Option ℕ → Type 0
 LeadsBack regions opposite number neighbour = IfSome neighbour (λ m. option_and_then opposite (get regions m) ≡ Some number)
 
--- the neighbours n, s, e and w of the region with this number have it on their opposite sides
+-- the neighbours of the region `number` in the north, south, east and west (n, s, e, w) have it on their opposite sides
 pub record HasNeighbours (regions : FinMap nat_cmp RegionPlan) (number : ℕ) (n s e w : Option ℕ) : Type 0 where
   -- the neighbour in the north, if there is one, is a region that has this region in the south
   pub north : LeadsBack regions (λ q. q.south) number n
@@ -244,7 +248,7 @@ pub record IsWorld (w : WorldValue) : Type 0 where
   pub terrains : (i : ℕ) (t : Terrain) → slice_get w.terrains i ≡ Some t → IsTerrain (length w.items) t
   -- each item is in its ranges, and refers only to skills and to other items of the world
   pub items : (i : ℕ) (x : Item) → slice_get w.items i ≡ Some x → IsItem (length w.items) (length w.skills) i x
-  -- the name and the fee of each skill are in their ranges
+  -- the name of each skill keeps the rule of names, and its fee is in its range
   pub skills : (i : ℕ) (s : Skill) → slice_get w.skills i ≡ Some s → IsSkill s
   -- each kind is in its ranges, and refers only to items and skills of the world
   pub kinds : (i : ℕ) (k : Kind) → slice_get w.kinds i ≡ Some k → IsKind (length w.items) (length w.skills) k

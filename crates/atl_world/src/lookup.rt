@@ -12,6 +12,7 @@ use crate::world::{Item, Kind, Skill, World};
 impl Titled for Item {
     ghost title_of = { λ item. item.name };
 
+    /// The name of the item.
     fn title(&self) -> &Text {
         &self.name
     }
@@ -21,6 +22,7 @@ impl Titled for Item {
 impl Titled for Skill {
     ghost title_of = { λ skill. skill.name };
 
+    /// The name of the skill.
     fn title(&self) -> &Text {
         &self.name
     }
@@ -30,12 +32,14 @@ impl Titled for Skill {
 impl Titled for Kind {
     ghost title_of = { λ kind. kind.name };
 
+    /// The name of the kind of structure.
     fn title(&self) -> &Text {
         &self.name
     }
 }
 
-/// The byte of a name that a byte of a word means: in a word without quotes `_` means a space.
+/// The byte of a name that a byte of a word means: the byte itself, but a space for `_` in a word
+/// without quotes.
 pub fn letter_of(byte: u8, quoted: bool) -> u8
     ensures { result ≡ letter_of quoted byte }
 {

@@ -181,7 +181,7 @@ impl<V: Drop> MarkedMap<V> {
         self.values.len()
     }
 
-    /// The numbers with their values, in ascending order.
+    /// The numbers of the map with their values, in ascending order of the numbers.
     pub fn iter(&self) -> Entries<'_, V>
         ensures { result ≡ map.entries self.now.values }
     {

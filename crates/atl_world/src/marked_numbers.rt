@@ -10,9 +10,9 @@ use std::slice::Iter;
 /// come.
 #[derive(Drop)]
 pub struct MarkedNumbers<'a> {
-    // What is left of the numbers that are merged already.
+    // What is left of the first list of the `Marks`: of the numbers except for the recent ones.
     pub(crate) numbers: Iter<'a, u32>,
-    // What is left of the recent numbers, which are not merged yet.
+    // What is left of its second list: of the recent numbers, not merged into the first one yet.
     pub(crate) recent: Iter<'a, u32>,
 }
 

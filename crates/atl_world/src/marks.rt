@@ -22,7 +22,7 @@ const RECENT_LIMIT: usize = 512;
 pub struct Marks {
     // The marked numbers except for the recent ones.
     numbers: SortedNumbers,
-    // The numbers that were marked last, few enough that it takes little time to add one.
+    // The numbers that were marked last, at most `RECENT_LIMIT`: to add one takes little time.
     recent: SortedNumbers,
 }
 

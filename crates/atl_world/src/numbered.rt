@@ -84,7 +84,7 @@ impl<V: Drop> Numbered<V> {
         self.entries.len()
     }
 
-    /// The numbers with their values, in ascending order.
+    /// The numbers of the map with their values, in ascending order of the numbers.
     pub fn iter(&self) -> Entries<'_, V>
         ensures { result ≡ map.entries self.now }
     {

@@ -37,6 +37,7 @@ fn are_same<T: Comparable>(things: &[T], others: &[T]) -> bool
 
 /// Compares all fields of two terrains, the names byte by byte.
 impl Comparable for Terrain {
+    /// Whether two terrains are equal in all their fields.
     fn is_same(&self, other: &Terrain) -> bool {
         self.name.is_same(&other.name)
             && agree!(self other: land wage places money_limit peasant_limit)
@@ -46,6 +47,7 @@ impl Comparable for Terrain {
 
 /// Compares all fields of two items, the names byte by byte.
 impl Comparable for Item {
+    /// Whether two items are equal in all their fields.
     fn is_same(&self, other: &Item) -> bool {
         self.name.is_same(&other.name) && agree!(self other: weight carry skill level raw raw_count)
     }
@@ -53,6 +55,7 @@ impl Comparable for Item {
 
 /// Compares the names of two skills, byte by byte, and their fees.
 impl Comparable for Skill {
+    /// Whether two skills are equal in their names and fees.
     fn is_same(&self, other: &Skill) -> bool {
         self.name.is_same(&other.name) && self.fee == other.fee
     }
@@ -60,6 +63,7 @@ impl Comparable for Skill {
 
 /// Compares all fields of two kinds of structures, the names byte by byte.
 impl Comparable for Kind {
+    /// Whether two kinds of structures are equal in all their fields.
     fn is_same(&self, other: &Kind) -> bool {
         self.name.is_same(&other.name)
             && agree!(self other: ship material size skill level capacity crew helps)

@@ -139,7 +139,7 @@ impl SortedNumbers {
         self.numbers.capacity()
     }
 
-    /// The numbers, in ascending order.
+    /// The numbers of the list, in ascending order.
     pub fn as_slice(&self) -> &[u32]
         ensures { Lists self.now.numbers result.now }
     {

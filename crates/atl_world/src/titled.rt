@@ -4,8 +4,8 @@ ghost use Rattle.std.specs.Prelude.{◌≡◌, ℕ, List};
 
 use crate::text::Text;
 
-/// A thing with a title: the name by which it is looked up, or that no other thing of its array
-/// has.
+/// A thing with a title: the name by which it is looked up, or by which it has to differ from the
+/// other things of its array.
 pub trait Titled {
     // The title of the thing, as bytes.
     ghost title_of: { Self → List ℕ };

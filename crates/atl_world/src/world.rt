@@ -264,7 +264,7 @@ impl World {
         &self.rules
     }
 
-    /// The terrains, each at the index of its number.
+    /// The terrains of the world, each at the index of its number.
     pub fn terrains(&self) -> &[Terrain]
         ensures value { result.now ≡ self.now.terrains }
         ensures world { IsWorld self.now }
@@ -272,7 +272,7 @@ impl World {
         self.terrains.as_slice()
     }
 
-    /// The items, each at the index of its number.
+    /// The items of the world, each at the index of its number.
     pub fn items(&self) -> &[Item]
         ensures value { result.now ≡ self.now.items }
         ensures world { IsWorld self.now }
@@ -280,7 +280,7 @@ impl World {
         self.items.as_slice()
     }
 
-    /// The skills, each at the index of its number.
+    /// The skills of the world, each at the index of its number.
     pub fn skills(&self) -> &[Skill]
         ensures value { result.now ≡ self.now.skills }
         ensures world { IsWorld self.now }
@@ -288,7 +288,7 @@ impl World {
         self.skills.as_slice()
     }
 
-    /// The kinds of structures, each at the index of its number.
+    /// The kinds of structures of the world, each at the index of its number.
     pub fn kinds(&self) -> &[Kind]
         ensures value { result.now ≡ self.now.kinds }
         ensures world { IsWorld self.now }
@@ -296,7 +296,7 @@ impl World {
         self.kinds.as_slice()
     }
 
-    /// The regions by their numbers.
+    /// The regions of the world by their numbers.
     pub fn regions(&self) -> &Numbered<RegionPlan>
         ensures value { result.now ≡ self.now.regions }
         ensures world { IsWorld self.now }

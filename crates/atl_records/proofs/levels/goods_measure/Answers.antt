@@ -7,7 +7,7 @@ use Rattle.atl_records.specs.Levels.{measure_of}
 use Rattle.atl_records.proofs.LevelLaws.{added, fits_next, no_more}
 use Rattle.atl_records.proofs.levels.goods_measure.Goals as goal
 
--- before the first item is counted, the sum is 0 and all items are left
+-- before the first item is counted, the sum is 0, and all items are still to be counted
 pub loop-item-init : goal.loop-item-init
 loop-item-init c =
     let all : c.into_iter-item-iterator.result ≡ entries c.args.holding.now.items = c.into_iter-item-iterator.ensures.into_iter_gives ∙ c.items-item-items.ensures in
@@ -17,7 +17,8 @@ loop-item-init c =
       fits = (0, omega arith, omega arith, begins_zero (entries c.args.holding.now.items));
     }
 
--- after one more item `sum` and what the items left count are still the whole sum, and `sum` is within its new bound
+-- after one more item, `sum` and what the items after it add are together the whole sum, and `sum` is within its new
+-- bound
 pub loop-item-preserved : goal.loop-item-preserved
 loop-item-preserved c =
     let e : ℕ × ℕ = (c.in-Some.item, c.in-Some.amount.now) in

@@ -7,8 +7,8 @@ use Rattle.atl_records.specs.Limits.{most_u32}
 use Rattle.atl_records.specs.Levels.{goods_measure, measure_of}
 use Rattle.atl_records.proofs.levels.goods_measure.Given as goal
 
--- `sum`, plus what the items that are left count, is the whole sum; they are sorted, and begin from a number `low` for
--- which `sum` is at most most_u32 * most_weight * low
+-- `sum`, plus what the items not counted yet add, is the whole sum; these items are sorted, and begin from a number
+-- `low` for which `sum` is at most most_u32 * most_weight * low
 abbrev pub invariant-loop-item : goal.invariant-loop-item
 invariant-loop-item l = record {
   rest : l.sum + sum_by (λ e. e.1 * measure_of l.of l.world e.0) l.item-iterator ≡ goods_measure l.of l.world l.holding;

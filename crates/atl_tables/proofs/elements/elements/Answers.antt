@@ -5,14 +5,14 @@ use Rattle.atl_tables.proofs.FaultLaws.{exits}
 use Rattle.atl_tables.proofs.ElementLaws.{from_here, goes_on, ends, one_more}
 use Rattle.atl_tables.proofs.elements.elements.Goals as goal
 
--- an error in reading one element is the first fault of the array, or Memory
+-- an error in reading one element is the first fault of all elements of the array, or Memory
 pub returns-in_err-one-clause-value : goal.returns-in_err-one-clause-value
 returns-in_err-one-clause-value g c =
     let vs = c.args.values.now.items in
     let here = from_here vs c.loop-i.i c.index.result.now (omega (arith, c.args.values.now.ok.0)) c.index.ensures in
     exits _ _ _ _ _ c.from_residual.ensures.1 (ends g.E.Element.conditions c.args.key.now c.loop-i.i (view c.index.result.now) (items_view (drop (c.loop-i.i + 1) vs)) _ c.in_err-one.field-0.0 (rw here at c.loop-i.invariant.faults) c.in_err-one.ensures.value)
 
--- after one more element, the first fault left is still the array's, and the values read and those left are all values
+-- after one more element, the first fault of those after it is the array's, and the values so far with theirs are all
 pub loop-i-preserved : goal.loop-i-preserved
 loop-i-preserved g c =
     let vs = c.args.values.now.items in

@@ -6,8 +6,8 @@ use Rattle.atl_tables.specs.Neighbours.{neighbours_at}
 use Rattle.atl_world.specs.Worlds.{HasNeighbours}
 use Rattle.atl_tables.proofs.neighbours.mutual_neighbours.Given as goal
 
--- the first fault of the regions left is that of all regions, and each region checked so far is on the opposite side
--- of its neighbours
+-- the first fault of the regions not checked yet is that of all regions, and each region checked so far is on the
+-- opposite side of each of its neighbours
 abbrev pub invariant-loop-i : goal.invariant-loop-i
 invariant-loop-i l = record {
   faults : first_fault (each (neighbours_at l.regions) l.i (drop l.i l.drafts)) ≡ first_fault (each (neighbours_at l.regions) 0 l.drafts);

@@ -8,14 +8,15 @@ use Rattle.atl_tables.specs.OutputTable.{in_byte_order, amount_at}
 use Rattle.atl_tables.proofs.OutputLaws.{pairs, entries_in_order, keys_on, amounts_on}
 use Rattle.atl_tables.proofs.output_table.amounts.Goals as goal
 
--- before the loop no amount is read, and all entries are left, in the byte order of their keys
+-- before the loop no amount is read, and all entries are still to be read, in the byte order of their keys
 pub loop-key-init : goal.loop-key-init
 loop-key-init c =
     let same = c.into_iter-key-iterator.ensures.into_iter_gives ∙ c.iter-key-items.ensures.rest in
     let order : in_byte_order (table_view c.args.table.now) ≡ pairs c.into_iter-key-iterator.result = entries_in_order c.args.table.now.entries c.iter-key-items.ensures.ordered ∙ ap pairs (sym same) in
     rw (order, c.new-outputs.ensures) (record { faults = refl; read = refl; sound = search rules })
 
--- after one more amount the first fault left is that of all entries, and the amounts read and those left are all
+-- after one more amount, the first fault of the entries after it is that of all, and the amounts so far with theirs are
+-- all
 pub loop-key-preserved : goal.loop-key-preserved
 loop-key-preserved c =
     let at = c.args.at.now in

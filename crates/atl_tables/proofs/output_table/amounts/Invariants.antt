@@ -7,8 +7,8 @@ use Rattle.atl_tables.specs.OutputTable.{in_byte_order, amounts_keys, amounts_fr
 use Rattle.atl_tables.proofs.OutputLaws.{pairs}
 use Rattle.atl_tables.proofs.output_table.amounts.Given as goal
 
--- the first fault of the entries left is that of all entries; the amounts read so far, followed by those of the
--- entries left, are all amounts
+-- the first fault of the entries not read yet is that of all entries; the amounts read so far, each in its range,
+-- followed by those of the entries not read yet, are all amounts
 abbrev pub invariant-loop-key : goal.invariant-loop-key
 invariant-loop-key l = record {
   faults : first_fault (amounts_keys l.at (pairs l.key-iterator)) ≡ first_fault (amounts_keys l.at (in_byte_order (table_view l.table)));

@@ -21,7 +21,7 @@ known_here : (all : WorldDraft) (at : List ℕ) (i : ℕ) (o : Output) → known
 unfolding known_key_at
 known_here all at i o h = rw h refl
 
--- an error at one key is the first fault of all keys, or Memory
+-- an error in looking up one key is the first fault of all keys, or Memory
 pub returns-in_err-known : goal.returns-in_err-known
 returns-in_err-known c =
     let o = c.index-outputs-i.result in
@@ -31,7 +31,7 @@ returns-in_err-known c =
     let e = c.in_err-known.field-0.0 in
     exits _ _ _ _ _ c.from_residual.ensures.1 (ends_at (known_key_at all at) outputs c.loop-i.i o _ c.loop-i-test.true c.index-outputs-i.is c.loop-i.invariant e (unknown_here e all at c.loop-i.i o (rw (c.as_slice.ensures, c.as_str.ensures, ← c.index-outputs-i.is) at c.in_err-known.ensures.value)))
 
--- after a key that names an item, the first fault of the keys left is still that of all keys
+-- after a key that names an item, the first fault of the keys after it is that of all keys
 pub loop-i-preserved : goal.loop-i-preserved
 loop-i-preserved c =
     let o = c.index-outputs-i.result in

@@ -11,13 +11,14 @@ use Rattle.atl_tables.proofs.EachLaws.{goes_on_at, ends_at}
 use Rattle.atl_tables.proofs.SeenLaws.{came_before, comes_first, has_one_more}
 use Rattle.atl_tables.proofs.output_table.no_duplicate_keys.Goals as goal
 
--- the condition on the i-th key of an output is broken (TwoNames) exactly if an earlier key is equal
+-- the condition on the i-th key of an output is broken (TwoNames) exactly if a key before it is equal, ignoring ASCII
+-- case
 by_test : (at : List ℕ) (all : List Output) (i : ℕ) (o : Output) (b : Bool) → list_any (λ p. same_name p.item o.item) (take i all) ≡ b → first_fault (duplicate_key_at at all i o) ≡ cond b (Some (TwoNames (path at o.item))) None
 unfolding duplicate_key_at
 by_test at all i o true h = rw h
 by_test at all i o false h = rw h
 
--- at a key that came before, TwoNames at its path is the first fault of all keys
+-- at a key that is equal to one before it, TwoNames at its path is the first fault of all keys
 pub returns-then-not-branch : goal.returns-then-not-branch
 returns-then-not-branch c =
     let o = c.output-item.result in
@@ -27,7 +28,7 @@ returns-then-not-branch c =
     let test = came_before (λ p. p.item) all i o c.loop-output.seen c.loop-output.invariant.seen _ c.in_ok-is_new.ensures.new c.if-not-branch.true in
     rw (c.in_ok-path.ensures, c.as_str.ensures) (ends_at (duplicate_key_at at all) all i o (first_fault (each (duplicate_key_at at all) 0 all)) c.loop-output-test.true c.output-item.is c.loop-output.invariant.faults (TwoNames (path at o.item)) (by_test at all i o true test))
 
--- after a new key `seen` has all keys checked so far, and the first fault of the keys left is that of all keys
+-- after a new key, `seen` has all keys checked so far, and the first fault of the keys after it is that of all keys
 pub loop-output-preserved : goal.loop-output-preserved
 loop-output-preserved c =
     let o = c.output-item.result in

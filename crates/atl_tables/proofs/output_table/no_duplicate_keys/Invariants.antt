@@ -5,7 +5,7 @@ use Rattle.atl_tables.specs.OutputTable.{duplicate_key_at}
 use Rattle.atl_tables.specs.SeenNames.{HasNames}
 use Rattle.atl_tables.proofs.output_table.no_duplicate_keys.Given as goal
 
--- `seen` has the keys checked so far, and the first fault of the keys left is that of all keys
+-- `seen` has the keys checked so far, and the first fault of the keys not checked yet is that of all keys
 abbrev pub invariant-loop-output : goal.invariant-loop-output
 invariant-loop-output l = record {
   seen : HasNames (λ o. o.item) (take l.output-index l.outputs) l.seen;

@@ -18,7 +18,7 @@ use Rattle.atl_tables.proofs.reading.join.Goals as goal
 abbrev land : WorldDraft → Conditions
 land all = is_some_land (land_of (world_of_tables all))
 
--- the map of the regions of a world's parts is the map of the regions that the tables give
+-- the map of the regions of a world's parts is the map of the regions that the tables of the file give (`regions_of`)
 regions_are : (all : WorldDraft) (p : WorldParts) (plans : List RegionPlan) → p ≡ world_parts_of all → plans ≡ p.regions → by_number (λ r. r.number) plans ≡ regions_of all
 unfolding regions_of
 regions_are all p plans e q = ap (by_number (λ r. r.number)) (q ∙ ap (λ (x : WorldParts). x.regions) e)
@@ -32,7 +32,7 @@ made_is_world : (all : WorldDraft) (p : WorldParts) (regions : FinMap nat_cmp Re
 unfolding world_of_tables
 made_is_world all p regions e q = ap (made_of all p) q ∙ ap (λ (x : WorldParts). made_of all x (regions_of all)) e
 
--- an error at a neighbour is the first fault of the conditions on neighbours and land, or Memory
+-- an error in checking the neighbours is the first fault of the conditions on neighbours and land, or Memory
 pub returns-in_err-mutual_neighbours : goal.returns-in_err-mutual_neighbours
 unfolding neighbours_are_mutual
 returns-in_err-mutual_neighbours c =
@@ -40,7 +40,7 @@ returns-in_err-mutual_neighbours c =
     let made = c.in_ok-regions.ensures.value ∙ regions_are all c.args.parts c.into_vec.result.items c.requires.parts c.into_vec.ensures in
     exits _ _ _ _ _ c.from_residual-in_err-mutual_neighbours.ensures.1 (stops_on c.in_err-mutual_neighbours.field-0.0 (neighbours_are_mutual all) (land all) (rw (c.as_slice.ensures, made) at c.in_err-mutual_neighbours.ensures.value))
 
--- the parts are a world if some region is land, as `with_land` requires
+-- the parts make a world (`IsWorld`) if the terrain of some region is land, as `with_land` requires
 pub with_land-requires : goal.with_land-requires
 with_land-requires c =
     let all = c.args.all in
@@ -49,7 +49,7 @@ with_land-requires c =
     let back = rw (c.as_slice.ensures, made) at c.in_ok-mutual_neighbours.ensures.back in
     record { world = rw c.into_skills-skills.ensures (subst (λ (w : WorldValue). 0 < length (land_of w) → IsWorld w) (sym e) (is_world all c.requires.all (subst (AreWorldPartsOf all) c.requires.parts c.requires.sound) c.requires.names back)) }
 
--- if neighbours are mutual, what `with_land` gives is the world that the tables describe, or the fault NoLand
+-- if neighbours are mutual, what `with_land` returns is the world that the tables describe, or the fault NoLand
 pub returns : goal.returns
 unfolding neighbours_are_mutual
 returns c =

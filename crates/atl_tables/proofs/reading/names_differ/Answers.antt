@@ -9,19 +9,19 @@ use Rattle.atl_tables.specs.declared.world_draft.WorldDraft.{WorldDraft}
 use Rattle.atl_tables.proofs.FaultLaws.{exits, stops_on, stops_after, gives_after}
 use Rattle.atl_tables.proofs.reading.names_differ.Goals as goal
 
--- the conditions that region numbers are unique
+-- the conditions that no two regions of the file have the same number
 abbrev numbers : WorldDraft → Conditions
 numbers all = duplicate_numbers all.regions
 
--- the conditions that the keys of each terrain's output are unique
+-- the conditions that no two keys of one terrain's output are equal
 abbrev outputs : WorldDraft → Conditions
 outputs all = each duplicate_output_keys 0 all.terrains
 
--- the conditions that the items of each region's markets are unique
+-- the conditions that no two markets of one region are of the same item
 abbrev markets : WorldDraft → Conditions
 markets all = each duplicate_market_items 0 all.regions
 
--- an error in comparing titles is the first fault of `names_differ`, or Memory
+-- an error in comparing the names of things is the first fault of `names_differ`, or Memory
 pub returns-in_err-titles_differ : goal.returns-in_err-titles_differ
 unfolding names_differ
 returns-in_err-titles_differ c =
@@ -45,7 +45,7 @@ returns-in_err-no_duplicates_inside c =
     let e = c.in_err-no_duplicates_inside.field-0.0 in
     exits _ _ _ _ _ c.from_residual-in_err-no_duplicates_inside.ensures.1 (stops_after e (titles_differ t) (numbers t ++ (outputs t ++ markets t)) c.in_ok-titles_differ.ensures.0 (stops_after e (numbers t) (outputs t ++ markets t) (rw c.as_slice.ensures at c.in_ok-no_duplicate_numbers.ensures.0) (stops_on e (outputs t) (markets t) (rw c.as_slice-2.ensures at c.in_err-no_duplicates_inside.ensures))))
 
--- if all other names differ, the answer for the market items of regions is that for all names
+-- if no condition before it is broken, the check of the market items returns what `names_differ` has to
 pub returns : goal.returns
 unfolding names_differ
 returns c =

@@ -11,23 +11,23 @@ use Rattle.atl_tables.specs.declared.world_draft.WorldDraft.{WorldDraft}
 use Rattle.atl_tables.proofs.FaultLaws.{exits, stops_on, stops_after, passes_both}
 use Rattle.atl_tables.proofs.reading.resolve.Goals as goal
 
--- the conditions that the skills that the rules name are known
+-- the conditions that each skill that the rules name is a skill of the file
 abbrev rules : WorldDraft → Conditions
 rules all = rules_known all
 
--- the conditions that the items in the outputs of terrains are known
+-- the conditions that each item that the output of a terrain names is an item of the file
 abbrev terrains : WorldDraft → Conditions
 terrains all = each (terrain_known all) 0 all.terrains
 
--- the conditions that the skills and raw items that items name are known
+-- the conditions that each skill and each raw item that an item names is one of the file
 abbrev items : WorldDraft → Conditions
 items all = each (item_known all) 0 all.items
 
--- the conditions that the materials and skills that kinds of structures name are known
+-- the conditions that each material and each skill that a kind of structure names is one of the file
 abbrev kinds : WorldDraft → Conditions
 kinds all = each (kind_known all) 0 all.kinds
 
--- the conditions that the terrains and market items that regions name are known
+-- the conditions that each terrain and each market item that a region names is one of the file
 abbrev regions : WorldDraft → Conditions
 regions all = each (region_known all) 0 all.regions
 

@@ -6,19 +6,19 @@ use Rattle.atl_tables.specs.declared.world_draft.WorldDraft.{WorldDraft}
 use Rattle.atl_tables.proofs.FaultLaws.{exits, stops_on, stops_after, gives_after}
 use Rattle.atl_tables.proofs.reading.titles_differ.Goals as goal
 
--- the conditions that the names of terrains are unique
+-- the conditions that no two terrains of the file have the same name
 abbrev terrains : WorldDraft → Conditions
 terrains all = no_twins (λ d. d.name) (codes "terrain") (codes "name") all.terrains
 
--- the conditions that the names of items are unique
+-- the conditions that no two items of the file have the same name
 abbrev items : WorldDraft → Conditions
 items all = no_twins (λ d. d.name) (codes "item") (codes "name") all.items
 
--- the conditions that the names of skills are unique
+-- the conditions that no two skills of the file have the same name
 abbrev skills : WorldDraft → Conditions
 skills all = no_twins (λ s. s.name) (codes "skill") (codes "name") all.skills
 
--- the conditions that the names of kinds are unique
+-- the conditions that no two kinds of structures of the file have the same name
 abbrev kinds : WorldDraft → Conditions
 kinds all = no_twins (λ d. d.name) (codes "kind") (codes "name") all.kinds
 
@@ -46,7 +46,7 @@ returns-in_err-no_duplicate_names-3 c =
     let e = c.in_err-no_duplicate_names-3.field-0.0 in
     exits _ _ _ _ _ c.from_residual-in_err-no_duplicate_names-3.ensures.1 (stops_after e (terrains t) (items t ++ (skills t ++ kinds t)) (rw c.as_slice.ensures at c.in_ok-no_duplicate_names.ensures.0) (stops_after e (items t) (skills t ++ kinds t) (rw c.as_slice-2.ensures at c.in_ok-no_duplicate_names-2.ensures.0) (stops_on e (skills t) (kinds t) (rw c.as_slice-3.ensures at c.in_err-no_duplicate_names-3.ensures))))
 
--- if the other names differ, the answer for the names of kinds is that for all these names
+-- if the names of terrains, items and skills differ, the check of the kinds' names returns what `titles_differ` has to
 pub returns : goal.returns
 unfolding titles_differ
 returns c =

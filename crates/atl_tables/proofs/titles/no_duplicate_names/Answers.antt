@@ -9,14 +9,14 @@ use Rattle.atl_tables.proofs.EachLaws.{goes_on_at, ends_at}
 use Rattle.atl_tables.proofs.SeenLaws.{came_before, comes_first, has_one_more}
 use Rattle.atl_tables.proofs.titles.no_duplicate_names.Goals as goal
 
--- the condition on the name of the i-th element is broken (TwoNames) exactly if an earlier element has the name
+-- the condition on the name of the i-th element is broken (TwoNames) exactly if an element before it has the name
 by_test : {A : Type 0} (title : A → List ℕ) (array key : List ℕ) (all : List A) (i : ℕ) (x : A) (b : Bool) → list_any (λ y. same_name (title y) (title x)) (take i all) ≡ b
     → first_fault (no_twin_before title array key all i x) ≡ cond b (Some (TwoNames (path (element_path array i) key))) None
 unfolding no_twin_before
 by_test title array key all i x true h = rw h
 by_test title array key all i x false h = rw h
 
--- at a title that came before, TwoNames at its path is the first fault of all elements
+-- at a title that is equal to one before it, TwoNames at its path is the first fault of all elements
 pub returns-then-not-branch : goal.returns-then-not-branch
 returns-then-not-branch g c =
     let x = c.index-items-i.result in
@@ -28,7 +28,7 @@ returns-then-not-branch g c =
     let test = came_before title all i x c.loop-i.seen c.loop-i.invariant.seen _ (rw c.title.ensures at c.in_ok-is_new.ensures.new) c.if-not-branch.true in
     rw (c.in_ok-path.ensures, c.as_str.ensures, c.in_ok-place.ensures) (ends_at (no_twin_before title array key all) all i x (first_fault (no_twins title array key all)) c.loop-i-test.true c.index-items-i.is c.loop-i.invariant.faults (TwoNames (path (element_path array i) key)) (by_test title array key all i x true test))
 
--- after a new title `seen` has all titles checked so far, and the first fault left is that of all elements
+-- after a new title, `seen` has all titles checked so far, and the first fault of the elements after it is that of all
 pub loop-i-preserved : goal.loop-i-preserved
 loop-i-preserved g c =
     let x = c.index-items-i.result in

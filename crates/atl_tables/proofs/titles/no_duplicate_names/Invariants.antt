@@ -5,7 +5,7 @@ use Rattle.atl_tables.specs.SeenNames.{HasNames}
 use Rattle.atl_tables.specs.Titles.{no_twin_before}
 use Rattle.atl_tables.proofs.titles.no_duplicate_names.Given as goal
 
--- `seen` has the titles checked so far, and the first fault of the elements left is that of all elements
+-- `seen` has the titles checked so far, and the first fault of the elements not checked yet is that of all elements
 abbrev pub invariant-loop-i : goal.invariant-loop-i
 invariant-loop-i g l = record {
   seen : HasNames g.T.Titled.title_of (take l.i l.items) l.seen;

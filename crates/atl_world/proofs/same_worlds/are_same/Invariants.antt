@@ -1,7 +1,7 @@
 use Rattle.std.proofs.Common.{◌≡◌, take, length}
 use Rattle.atl_world.proofs.same_worlds.are_same.Given as goal
 
--- the two lists are of the same length, and equal below index i
+-- the two lists have the same length, and equal things at all indices below i
 abbrev pub invariant-loop-i : goal.invariant-loop-i
 invariant-loop-i g l = record {
   count : length l.things ≡ length l.others;

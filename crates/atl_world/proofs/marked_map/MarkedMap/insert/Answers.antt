@@ -16,7 +16,7 @@ add-requires g c =
     let room : set.len marks.numbers + len more ≤ marks.room = omega (arith, size, same, c.in-Ok.ensures.room) in
     fits-inserted c.self.inside.values marks.numbers marks.room c.args.number c.args.value room
 
--- there is room for the marks after the value is put in
+-- the map has room for its marks after the value is put in and its number marked
 pub invariant_of-self-in-Ok : goal.invariant_of-self-in-Ok
 invariant_of-self-in-Ok g c =
     let more = insert c.self.inside.values c.args.number c.args.value in
@@ -26,7 +26,7 @@ invariant_of-self-in-Ok g c =
     let room : set.len marks.numbers + len more ≤ marks.room = omega (arith, size, same, c.in-Ok.ensures.room) in
     rw (c.add.ensures, c.in_ok-insert.ensures.ok) (Room-inserted c.self.inside.values marks.numbers marks.room c.args.number c.args.value room)
 
--- there is room for the marks after the value is taken out again, since memory ran out
+-- the map has room for its marks after the value is taken out again, since memory ran out
 pub invariant_of-self-in-Err : goal.invariant_of-self-in-Err
 invariant_of-self-in-Err g c =
     let values = c.self.inside.values in
@@ -34,7 +34,7 @@ invariant_of-self-in-Err g c =
     let same = ap (λ m. set.len (held values m)) c.make_room.ensures.numbers in
     rw (c.remove.ensures, c.in_ok-insert.ensures.ok, taken_back values c.args.number c.args.value fresh) (omega (arith, same, c.make_room.ensures.kept, c.self.invariant))
 
--- the map with the value put in is that of the definition (`with_value`)
+-- where there is memory, after the call the map has the value under the number, which is marked (`with_value`)
 pub returns-in-Ok-clause-ok : goal.returns-in-Ok-clause-ok
 returns-in-Ok-clause-ok g c = rw (← c.self.view_is, c.add.ensures, c.in_ok-insert.ensures.ok, c.make_room.ensures.numbers) refl
 

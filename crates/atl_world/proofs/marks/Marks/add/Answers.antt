@@ -11,17 +11,18 @@ returns-then-contains c =
     let marked : set.contains c.args.self.now.numbers c.args.number ≡ true = sym c.contains.ensures ∙ c.if-contains.true in
     λ i. record { numbers = sym (insert_twice c.args.self.now.numbers c.args.number marked) i; room = c.args.self.now.room }
 
--- there is room for the number among the recent ones
+-- there is room for the number in the set of the recent marks, to which it is added
 pub add-requires : goal.add-requires
 add-requires c =
     fits_recent c.self.inside.numbers c.self.inside.recent c.args.self.now c.args.number c.self.view_is c.self.invariant (sym c.contains.ensures ∙ c.if-contains.false) (c.has_recent_room.ensures c.if-has_recent_room.true)
 
--- the marks are still kept in two sets (`AreMarks`) after the number is added to the recent ones
+-- after the number is added to the recent ones, no number is in both sets, and the first has room for all (`AreMarks`)
 pub invariant_of-self : goal.invariant_of-self
 invariant_of-self c =
     rw c.add.ensures (one_recent c.self.inside.numbers c.self.inside.recent c.args.self.now c.args.number c.self.view_is c.self.invariant (sym c.contains.ensures ∙ c.if-contains.false) c.requires)
 
--- the marks are still kept in two sets (`AreMarks`) after all are merged into the first and the number is added there
+-- after all marks and the number are in the first set, no number is in both, and the first has room for all
+-- (`AreMarks`)
 pub invariant_of-self-else-has_recent_room : goal.invariant_of-self-else-has_recent_room
 invariant_of-self-else-has_recent_room c =
     rw (c.add-else-has_recent_room.ensures, c.merge_from.ensures.numbers, c.merge_from.ensures.others)

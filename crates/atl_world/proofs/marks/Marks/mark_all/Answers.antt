@@ -18,7 +18,7 @@ add-requires g c =
     let l = len-next c.loop-number.self.numbers (held c.args.values.now c.args.self.now.numbers) c.in-Some.number (map (λ (e : ℕ × g.row.V.Denot). e.0) c.next.new.self) so_far in
     omega (arith, l, c.loop-number.invariant.room, c.requires)
 
--- after one more mark the marks and the numbers still to come are together still the old marks and all numbers
+-- after one more mark, the marks and the numbers still to come are together the old marks and all numbers of the map
 pub loop-number-preserved : goal.loop-number-preserved
 loop-number-preserved g c =
     let so_far = rw c.in-Some.ensures.steps at c.loop-number.invariant.all in

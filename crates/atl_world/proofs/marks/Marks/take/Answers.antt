@@ -4,7 +4,7 @@ use Rattle.atl_world.specs.RoomySets.{RoomySet}
 use Rattle.atl_world.proofs.ApartLaws.{mark_taken, union-remove}
 use Rattle.atl_world.proofs.marks.Marks.take.Goals as goal
 
--- the marks are still kept in two sets (`AreMarks`) after a number is taken out of both
+-- after a number is taken out of both sets, still no number is in both, and the first has room for all (`AreMarks`)
 pub invariant_of-self : goal.invariant_of-self
 invariant_of-self c = rw (c.take.ensures, c.take-2.ensures) (mark_taken c.self.inside.numbers c.self.inside.recent c.args.number c.self.invariant)
 
