@@ -65,9 +65,9 @@ most_moved = 99999999999999
 
 -- two amounts differ by `most` or less
 pub record IsNear (most : ℕ) (before after : ℤ) : Type 0 where
-  -- the amount rises by at most `most`
+  -- the amount after is greater than the one before by at most `most`
   pub above : after ≤ℤ (before +ℤ pos most)
-  -- the amount falls by at most `most`
+  -- the amount after is less than the one before by at most `most`
   pub below : before ≤ℤ (after +ℤ pos most)
 
 -- The number of the month last closed, the reports and the set of factions (gone ones too) stay the same.
@@ -87,9 +87,9 @@ pub record IsSameMonth (before after : CampaignValue) : Type 0 where
 pub record LeavesWell (leaves : Condition) (moving : BookBound) (w : WorldValue) (before after : CampaignValue) : Type 0 where
   -- the condition `leaves` is true of the campaign after the phase
   pub leaves_it : leaves w after
-  -- the month's number, the reports and the set of factions stay
+  -- the phase keeps the number of the month last closed, the reports and the set of factions
   pub same_month : IsSameMonth before after
-  -- books that balanced before still balance
+  -- the books balance after the phase if they did before
   pub balances : Balances before → Balances after
   -- no amount of the books moves further than its bound
   pub near : (e : Entry) (t : Thing) → IsNear (moving e t) (amount_in before.books e t) (amount_in after.books e t)
