@@ -108,7 +108,7 @@ module _ {K X : Type 0} {R : K → K → Ordering} (o : IsTotalOrder R) where
     abbrev passing : (X → Bool) → List (K × X) → List (K × X)
     passing p es = filter (λ e. p e.1) es
 
-    -- the search among the entries that pass the test finds what the one among all finds, if that passes; otherwise None
+    -- a search among the entries that pass the test finds what the one among all finds, if that passes; otherwise None
     find-passing : (p : X → Bool) (es : List (K × X)) → IsDistinct same_entry_key es → (q : K) → find R q (passing p es) ≡ option_filter p (find R q es)
     find-passing p es apart q =
         find_is q (passing p es) ∙ lookup-filter-values (eq_by_cmp_equiv o) p q es (keys_apart es apart) ∙ ap (option_filter p) (sym (find_is q es))
