@@ -63,7 +63,7 @@ use Rattle.atl_phase.specs.declared.phase_order.Arrangement.TheVariants.{ByUnit}
 
 -- ---- things and entries
 
--- the amount if the two things are the same, and 0 otherwise
+-- how much of thing s an amount of thing t is: the amount if both are the same thing, and 0 otherwise
 abbrev pub part_of : Thing → Thing → ℕ → ℕ
 part_of s t amount = cond (thing_index s == thing_index t) amount 0
 
@@ -208,11 +208,11 @@ moves_what_leaves h e s =
 -- The campaign d is c with `off` of each thing booked as gone, and only the books differ. Campaign d is steady, what
 -- the books have of a thing falls by `off`, and no amount of the books moves further than `moving`.
 pub record BooksOff (w : WorldValue) (off : Thing → ℕ) (moving : BookBound) (c d : CampaignValue) : Type 0 where
-  -- campaign d is steady
+  -- campaign d, in which amounts are booked as gone, is steady
   pub steady : IsSteady w d
   -- the sum of each thing over all entries of the books is less by `off` in d than in c
   pub owed : (s : Thing) → booked c.books s ≡ booked d.books s +ℤ pos (off s)
-  -- no amount of the books moves further than `moving` says
+  -- no amount of the books moves further from c to d than `moving` says
   pub near : (e : Entry) (s : Thing) → IsNear (moving e s) (amount_in c.books e s) (amount_in d.books e s)
   -- campaign d is c but for the books
   pub same : d ≡ record c { books = d.books }
@@ -338,7 +338,7 @@ module _ (w : WorldValue) (c : CampaignValue) (n : ℕ) (u : Unit) (is : get c.u
   abbrev off : CampaignValue
   off = with_all_losses c u.holding
 
-  -- the campaign after the unit left
+  -- the campaign after unit n left with all that it holds
   abbrev after_leave : CampaignValue
   after_leave = without_unit off n
 
@@ -497,12 +497,12 @@ quit_orderly = record {
   bounded = reserve_within;
 }
   where
-    -- an order with the operands s keeps the campaign steady and in balance (`StepsWell`)
+    -- an order of QUIT with the operands s keeps the campaign steady and in balance (`StepsWell`)
     well : (w : WorldValue) (c : CampaignValue) (x : Unit) → IsSteady w c → (s : OperandsValue) → IfSome (quit_effect s) (λ deed. StepsWell IsSteady quit_reserve w c (deed c x).0)
     well w c x steady (operands.Number number) = quit_well w c number x steady
     well w c x steady other = tt
 
-    -- an order with the operands s leaves unit n no worse off, unless the unit's own faction quits by it
+    -- an order of QUIT with the operands s leaves unit n no worse off, unless the unit's own faction quits by it
     spared : (w : WorldValue) (c : CampaignValue) (t : Task) (x : Unit) → IsSteady w c → IsUnitOf c t x → (n : ℕ) (u : Unit) → get c.units n ≡ Some u → (s : OperandsValue) → ((t.faction ≡ u.faction) × (s ≡ operands.Number u.faction) → ⊥)
         → IfSome (quit_effect s) (λ deed. IsUnaffected IsNoWorse (deed c x).0 n u)
     spared w c t x steady own n u here (operands.Number number) other =

@@ -214,7 +214,7 @@ better_off n other v = record {
 -- ---- one order
 
 module _ {fit : Type 0} (w : WorldValue) (c : CampaignValue) (from to n : ℕ) (u : Unit) (sender : get c.units from ≡ Some u) where
-  -- a transfer to another unit keeps what an order should (`Keeps`), if it has no fault
+  -- a transfer to another unit, if it can be sent, keeps the campaign early, and other units no worse off (`Keeps`)
   moved_kept : (v : Unit) → get c.units to ≡ Some v → to ≢ from → CanSend n u v
       → Keeps IsEarly fit w c from u.faction (with_held (with_held c from (with_fewer n u.holding) (Some u)) to (with_more n u.holding v.holding) (Some v))
   moved_kept v receiver apart can = record {
@@ -227,12 +227,12 @@ module _ {fit : Type 0} (w : WorldValue) (c : CampaignValue) (from to n : ℕ) (
         (record { better = better_off n u.holding v; men = λ other. absurd (other (sym can.own)) });
   }
 
-  -- an order of TRANSFER keeps what it should (`Keeps`)
+  -- an order of TRANSFER keeps the campaign early, and all units but the sender no worse off (`Keeps`)
   transfer_kept : Keeps IsEarly fit w c from u.faction (transfer from to n c u).0
   unfolding transfer
   transfer_kept = by_receiver (get c.units to) refl
     where
-      -- the order keeps what it should (`Keeps`), whether the receiver is there or not
+      -- the order keeps the campaign early, and other units no worse off (`Keeps`), with a receiver there or without
       by_receiver : (o : Option Unit) → get c.units to ≡ o → Keeps IsEarly fit w c from u.faction (transfer_to c from to n u o).0
       by_receiver None is = keeps_all w c from u.faction
       by_receiver (Some v) receiver =
@@ -241,11 +241,11 @@ module _ {fit : Type 0} (w : WorldValue) (c : CampaignValue) (from to n : ℕ) (
 
 -- ---- the phase
 
--- each order of TRANSFER keeps what it should (`Keeps`)
+-- each order of TRANSFER keeps the campaign early, and all units but the sender no worse off (`Keeps`)
 pub transfer_keeps : StepKeeps IsEarly transfer_step
 transfer_keeps w a c t x own = by_operands t.order_value.operands
   where
-    -- an order with the operands o keeps what it should (`Keeps`)
+    -- an order with the operands o keeps the campaign early, and all units but the sender no worse off (`Keeps`)
     by_operands : (o : OperandsValue) → IfSome (transfer_effect a t.faction t.unit o) (λ deed. Keeps IsEarly (AreOperandsOf w o) w c t.unit x.faction (deed c x).0)
     by_operands (operands.UnitAndNumber to n) = transfer_kept w c t.unit (unit_of a t.faction to) n x own.there
     by_operands other = tt
