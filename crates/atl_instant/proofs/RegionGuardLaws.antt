@@ -146,7 +146,7 @@ module _ (c : CampaignValue) (m : GuardMap) (are : AreRegionGuards c m) (region 
   pub map_agrees : has_other_guard faction (get m region) ≡ is_guarded_against c region faction
   map_agrees = by_holder (get m region) refl
     where
-      -- if the map has a faction for the region, it says of another faction's guard just what is so in the campaign
+      -- if the map has `holder` for the region, another faction guards it exactly if `holder` isn't the given one
       other_holder : (holder : ℕ) → get m region ≡ Some holder → (b : Bool) → (holder == faction) ≡ b → not b ≡ is_guarded_against c region faction
       other_holder holder at true same =
           sym (all_own (λ u here noted. same_Some _ _ (sym noted ∙ ap (get m) here ∙ at) ∙ is_equal holder faction same))
@@ -156,7 +156,7 @@ module _ (c : CampaignValue) (m : GuardMap) (are : AreRegionGuards c m) (region 
           ap (guards_against faction) is ∙ ap (λ b. b && not (u.faction == faction)) guard.on_guard ∙ ap (λ f. not (f == faction)) guard.belongs ∙ ap not apart in
           sym (any_listed against (numbers_in region c.units) n (passing_listed stands_here c.units n u is (ap (λ r. r == region) guard.stands ∙ equal_itself region)) against_it)
 
-      -- the map says of another faction's guard just what is so in the campaign, whether it has a faction for the region
+      -- another faction guards the region exactly if the map has a faction for it that isn't the given one
       by_holder : (o : Option ℕ) → get m region ≡ o → has_other_guard faction o ≡ is_guarded_against c region faction
       by_holder None at = sym (all_own (λ u here noted. none_some u.faction (sym at ∙ ap (get m) (sym here) ∙ noted)))
       by_holder (Some holder) at = other_holder holder at (holder == faction) refl
