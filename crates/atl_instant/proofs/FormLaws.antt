@@ -272,11 +272,11 @@ module _ (w : WorldValue) (c : CampaignValue) (early : IsEarly w c) where
     form_fine : Fine (form_by c f n).0
     form_fine = by_unit (get c.units n) refl
 
-  -- a copied order of FORM keeps an early campaign early, in its month and with balanced books (`StepsWell`)
+  -- FORM, carried out by a copy of the order, keeps an early campaign early, in its month and balanced (`StepsWell`)
   pub order_well : (m : MonthValue) (o : Forming) → StepsWell IsEarly nothing_remaining w c (form_apart (c, m) o).0
   order_well m o = (form_fine o.faction o.unit).0
 
-  -- a copied order of FORM leaves each unit that was there unchanged
+  -- FORM, carried out by a copy of the order, leaves each unit that was there unchanged
   pub order_stays : (m : MonthValue) (o : Forming) → Every (λ k v. get (form_apart (c, m) o).0.units k ≡ Some v) c.units
   order_stays m o = (form_fine o.faction o.unit).1
 

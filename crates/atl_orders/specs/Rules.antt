@@ -31,7 +31,7 @@ outer (At n) = None
 outer (Forming parent alias) = Some (At parent)
 outer (Skipping parent) = Some (outside parent)
 
--- the first word of a line, w, is the keyword k
+-- a word, which is the first of a line, is this keyword
 abbrev pub Leads : WordText → Keyword → Type 0
 Leads w k = keyword_of w ≡ Some k
 
@@ -96,7 +96,7 @@ pub data LineSays (world : WorldValue) (state : ReaderState) (given : ℕ → Bo
 -- the rules for the lines after the header: which orders and which faulty lines they give; the first line's number,
 -- the reader's state and the given aliases come in front of the lines
 pub data BodySays (world : WorldValue) : ℕ → ReaderState → (ℕ → Bool) → List (List ℕ) → List EntryValue → List FaultyLine → Type 0 where
-  -- where no line is left: no orders and no faulty lines
+  -- where no line is left, there are no further orders and faulty lines
   text_ended : (n : ℕ) (state : ReaderState) (given : ℕ → Bool) → BodySays world n state given [] [] []
   -- a line that begins with `#END`: no orders and no faulty lines, from this line on
   orders_ended : (n : ℕ) (state : ReaderState) (given : ℕ → Bool) (line : List ℕ) (rest : List (List ℕ))

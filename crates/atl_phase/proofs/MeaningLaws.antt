@@ -122,11 +122,11 @@ well_unchanged moving w c h = record { leaves_it = h; same_month = same_month c;
 
 -- steps of one kind in turn, each of which keeps the books in balance and within one bound (`LeavesWell`)
 module _ {A : Type 0} {leaves : Condition} (moving : BookBound) (w : WorldValue) (step : CampaignValue → A → CampaignValue) (each : (c : CampaignValue) (x : A) → leaves w c → LeavesWell leaves moving w c (step c x)) where
-  -- the bound of one step, added to that of the other steps, is at most the bound of all of them
+  -- the bound of one step, added to that of the steps `xs`, is at most the bound of x and these steps together
   more : {B : Type 0} (x : B) (xs : List B) → MovesLess (both_move moving (moved_times (length xs) moving)) (moved_times (length (x ∷ xs)) moving)
   more x xs e t = let one : length (x ∷ xs) * moving e t ≡ length xs * moving e t + moving e t = suc-mul (length xs) (moving e t) in omega arith
 
-  -- the steps in turn keep the books in balance, and within the bound of one step times their number (`LeavesWell`)
+  -- steps in turn keep books balanced and within their number times one step's bound, if each does so (`LeavesWell`)
   pub fold_leaves_well : (c : CampaignValue) (xs : List A) → leaves w c → LeavesWell leaves (moved_times (length xs) moving) w c (fold step c xs)
   fold_leaves_well c [] h = well_unchanged (moved_times 0 moving) w c h
   fold_leaves_well c (x ∷ xs) h =
@@ -134,7 +134,7 @@ module _ {A : Type 0} {leaves : Condition} (moving : BookBound) (w : WorldValue)
       well_within (both_move moving (moved_times (length xs) moving)) (moved_times (length (x ∷ xs)) moving) w c (fold step (step c x) xs) (more x xs)
       (both_leave_well moving (moved_times (length xs) moving) w c (step c x) (fold step (step c x) xs) one (fold_leaves_well (step c x) xs one.leaves_it))
 
-  -- books with room for one or more steps together have room for one of them
+  -- books with room for one or more steps together have room for the first of them
   pub room_for_one : {B : Type 0} (c : CampaignValue) (y : B) (ys : List B) → HaveRoom (moved_times (length (y ∷ ys)) moving) c → HaveRoom moving c
   room_for_one c y ys room = room_less moving (moved_times (length (y ∷ ys)) moving) c (λ e t. omega (arith, more y ys e t)) room
 

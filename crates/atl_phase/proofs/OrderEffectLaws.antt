@@ -59,7 +59,7 @@ room_drawn r s a b h room = record { above = omega (arith, ints, h.above, room.a
 
 -- ---- steps
 
--- an unchanged campaign keeps its condition, month, balance and remaining bound (`StepsWell`)
+-- an unchanged campaign keeps its condition, month and balance, and uses no remaining bound (`StepsWell`)
 pub well_same : {holds : Condition} {reserve : RemainingBound} (w : WorldValue) (c : CampaignValue) → holds w c → StepsWell holds reserve w c c
 well_same {holds} {reserve} w c h = record { holds_still = h; same_month = same_month c; balances = λ b. b; drawn = λ e t. drawn_same (reserve c e t) (amount_in c.books e t) }
 
@@ -175,7 +175,7 @@ module _ (w : WorldValue) where
 
 -- ---- the mailings stay
 
--- adding an event leaves the readings as they are
+-- adding an event to a month leaves the readings of its mailings as they are
 told_readings : (m : MonthValue) (t : Task) (o : Option Outcome) → (with_event_of m t o).readings ≡ m.readings
 told_readings m t None = refl
 told_readings m t (Some outcome) = refl

@@ -1,5 +1,5 @@
--- Laws of a campaign in which one unit is in another structure of its region,
--- and structures have other names and owners: it stays steady.
+-- Laws of a refit, a campaign in which one unit is in another structure of its region, and structures have other owners
+-- and names: the campaign stays steady. A relabelled structure is one with another owner or name (`IsRelabelled`).
 use Rattle.std.proofs.Common.{◌≡◌, ◌≢◌, ◌==◌, ℕ, ◌+◌, ◌*◌, ◌≤◌, Bool, true, false, Option, Some, None, refl, sym, ap, subst, ◌∙◌, arith}
 use Rattle.std.specs.Prelude.{IsTrue, option_map}
 use Rattle.std.specs.Ordering.{nat_cmp}
@@ -94,11 +94,11 @@ module _ (w : WorldValue) (c : CampaignValue) (n : ℕ) (u : Unit) (s : ℕ) (is
   -- A refit: unit n is inside structure s of its region, which on water is a ship, or inside none (0), and g gives the
   -- structures, each changed in owner and name at most, and with its right owner.
   pub record IsRefit : Type 0 where
-    -- each structure is what g makes of it, and no structure is added
+    -- each structure of the refitted campaign is what g makes of the one before, and no structure is added
     pub at : (k : ℕ) → get structures k ≡ option_map (g k) (get c.structures k)
-    -- there are as many structures as before
+    -- the refitted campaign has as many structures as c
     pub count : len structures ≡ len c.structures
-    -- g changes a structure in owner and name at most
+    -- a structure, as g makes it, differs from the one before in owner and name at most
     pub same : Every (λ k y. IsRelabelled y (g k y)) c.structures
     -- each structure has its right owner in the refitted campaign
     pub owned : Every (λ k y. IsOwned refitted k (g k y)) c.structures

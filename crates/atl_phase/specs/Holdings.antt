@@ -10,7 +10,7 @@ use Rattle.atl_campaign.specs.Campaign.{MarkedCampaign, unit_changed}
 -- Unit n, if it is there, holds what `change` makes of what it held, and nothing else changes.
 -- All that changed is marked, and the same units as before have all their items and days marked at once.
 pub record ChangesHolding (before after : MarkedCampaign) (n : ℕ) (change : HoldingValue → HoldingValue) : Type 0 where
-  -- the unit's holding is what `change` makes of it, and nothing else changes
+  -- unit n holds what `change` makes of what it held, and nothing else of the campaign changes
   pub value : after.value ≡ unit_changed (λ u. record u { holding = change u.holding }) before.value n
   -- all that differs from `before` to `after` is marked
   pub marks : MarksChanges before after

@@ -14,13 +14,13 @@ use Rattle.atl_phase.specs.Month.{MonthValue}
 abbrev pub Meaning : Type 0
 Meaning = WorldValue → CampaignValue → MonthValue → CampaignValue × MonthValue
 
--- the effect of one phase, and then another
+-- the effect of two phases in turn: the second gets the campaign and the month that the first leaves
 abbrev pub then_also : Meaning → Meaning → Meaning
 then_also first second w c m = second w (first w c m).0 (first w c m).1
 
 -- ---- what a campaign keeps before a phase, and after it
 
--- a statement about a campaign in its world
+-- a statement about a world and a campaign in it
 abbrev pub Condition : Type 1
 Condition = WorldValue → CampaignValue → Type 0
 
@@ -55,7 +55,7 @@ BookBound = Entry → Thing → ℕ
 abbrev pub both_move : BookBound → BookBound → BookBound
 both_move first second e t = first e t + second e t
 
--- the bound on the books of a phase that moves one amount alone, by at most this much
+-- the bound on the books of a phase that moves the amount of this entry and thing alone, by at most this much
 abbrev pub moves_only : ℕ → Entry → Thing → BookBound
 moves_only most e t f u = if amount_number f u == amount_number e t then most else 0
 

@@ -41,7 +41,7 @@ with_line lines slot unit line = insert lines slot (insert (group_of lines slot)
 abbrev pub AreLastLines : List Task → Lines → Type 0
 AreLastLines ts lines = (slot : Slot) (unit : ℕ) → line_in lines (slot_number slot) unit ≡ last_line slot unit ts
 
--- whether an order counts by the noted lines: it has no slot, or its line is the one noted for its slot and its unit
+-- whether an order with this line counts by the noted lines: it has no slot, or its line is noted for its slot and unit
 abbrev pub stands_by : Lines → (unit line : ℕ) → Option Slot → Bool
 stands_by lines unit line None = true
 stands_by lines unit line (Some slot) = line == line_in lines (slot_number slot) unit
@@ -56,7 +56,7 @@ every_verb verb = true
 abbrev pub all_tasks : Aliases → List Mailing → List Task
 all_tasks aliases mailings = flat_map (λ m. tasks_for every_verb (tasks_of aliases m.faction (reading_of m))) mailings
 
--- whether an order has a verb of the phase
+-- whether an order has one of a phase's verbs, which are those that pass the test
 abbrev pub has_verb : (Verb → Bool) → Task → Bool
 has_verb is_of t = is_of t.order_value.verb
 
@@ -95,9 +95,9 @@ task_at mailings p = record {
 
 -- the mailing that an index names is there, and so is the order that it names in this mailing
 pub record IsThere (mailings : List Mailing) (p : OrderIndex) : Type 0 where
-  -- the index has a mailing's index that is one of the list of mailings
+  -- the index of the mailing is less than the number of mailings
   pub mailing : p.mailing < length mailings
-  -- the index has an order's index that is one of this mailing
+  -- the index of the order is less than the number of orders in this mailing
   pub entry : p.place < length (mailing_at mailings p.mailing).entries
 
 -- each index names an order that is there, and the orders that they name are ts, in this order

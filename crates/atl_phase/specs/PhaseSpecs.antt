@@ -31,7 +31,7 @@ entries_of moved Money = moved.money
 entries_of moved People = moved.people
 entries_of moved (Item i) = moved.items
 
--- whether an entry is in the list
+-- whether an entry of the books is in a list of entries
 abbrev pub is_among : Entry → List Entry → Bool
 is_among e [] = false
 is_among e (k ∷ ks) = is_among e ks || (entry_index e == entry_index k)
@@ -48,7 +48,7 @@ pub record PhaseSpec : Type 1 where
   pub meaning : Meaning
   -- by how much the phase may move each amount of the books
   pub moving : BookBound
-  -- the entries of the books that the phase may move
+  -- the entries of the books under which the phase may move amounts
   pub moved : MovedEntries
   -- what the phase leaves unchanged
   pub keeps : Frame
