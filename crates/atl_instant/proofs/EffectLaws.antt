@@ -123,7 +123,7 @@ module _ (c : CampaignValue) (from to : ℕ) (u v : Unit) (h k : HoldingValue) (
       let made : d ≡ between = first ∙ ap (λ z. with_held c from z (Some u)) x_is in
       rw (second (ap (λ (s : CampaignValue). get s.units to) made ∙ receiver_still), y_is, made, other) refl
 
-  -- giver and receiver together hold as much of each thing after as before
+  -- giver and receiver together hold as much of each thing with h and k as they held before
   abbrev pub BothHold : Type 0
   BothHold = (t : Thing) → unit_amount t h + unit_amount t k ≡ unit_amount t u.holding + unit_amount t v.holding
 

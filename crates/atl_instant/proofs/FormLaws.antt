@@ -167,7 +167,7 @@ module _ (w : WorldValue) (c : CampaignValue) (p : ℕ) (u : Unit) (is : get c.u
     structures = old.water.structures;
   }
 
-  -- units that pass a test are still of one faction in each region, if the new unit doesn't pass the test
+  -- the units of each region that pass a test are of one faction still, if the new unit doesn't pass the test
   one_faction_kept : (test : Unit → Bool) → test child ≡ false → AreOfOneFaction test c → AreOfOneFaction test begun
   one_faction_kept test fails one =
       every-insert (λ n x. Every (λ m y. test x ≡ true → test y ≡ true → x.region ≡ y.region → x.faction ≡ y.faction) units) c.units c.next_unit child (λ m y there e. absurd (true≢false (sym e ∙ fails)))

@@ -48,7 +48,7 @@ can_give gift n u v is =
     let two = none_fits little NotEnough ((full, NoRoom) ∷ []) one.1 in
     record { enough = not_less (held_of gift u.holding) n two.0; room = not_less holding_limit (held_of gift v.holding + n) (none_fits full NoRoom [] two.1).0 }
 
--- a unit holds at most `holding_limit` (999,999,999) of the money or the item that is given
+-- a holding within its limits (`IsHolding`) has at most `holding_limit` (999,999,999) of what is given
 pub held_within : (gift : Gift) (h : HoldingValue) → IsHolding h → held_of gift h ≤ holding_limit
 held_within Money h is = is.money
 held_within (Item i) h is = amount_within h i is
@@ -83,7 +83,7 @@ same_rest : (gift : Gift) (h : HoldingValue) (amount : ℕ) → ((with_held_of g
 same_rest Money h amount = (refl, refl)
 same_rest (Item i) h amount = (refl, refl)
 
--- giver and receiver together hold as much of each thing after a gift as before
+-- giver and receiver together hold as much of each thing after a gift as before, if the giver has what it gives
 pub both_hold : (gift : Gift) (n : ℕ) (h k : HoldingValue) → n ≤ held_of gift h → (t : Thing) → unit_amount t (with_held_of gift h (held_of gift h - n)) + unit_amount t (with_held_of gift k (held_of gift k + n)) ≡ unit_amount t h + unit_amount t k
 both_hold Money n h k l things.Money = omega (arith, l)
 both_hold Money n h k l things.People = refl

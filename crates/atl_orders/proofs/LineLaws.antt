@@ -76,7 +76,8 @@ take_front text n = record { back = drop n text; whole = sym (take-append-drop n
 pub front_further : (text mid front : List ℕ) → StartsWith text mid → StartsWith mid front → StartsWith text front
 front_further text mid front a b = record { back = b.back ++ a.back; whole = a.whole ∙ ap (λ l. l ++ a.back) b.whole ∙ append_assoc front b.back a.back }
 
--- a line at the start of `left`, the rest of a text, ends at the text's length, less that of `left`, plus the line's
+-- a line at the start of `left`, the rest of a text, ends in the text at the text's length, less that of `left`, plus
+-- the line's own
 pub line_ends_at : (text left line : List ℕ) → EndsWith text left → StartsWith left line → EndsAt text (length text - length left + length line) line
 line_ends_at text left line e s =
     let a : length text ≡ length e.front + length left = ap length e.whole ∙ length-append e.front left in

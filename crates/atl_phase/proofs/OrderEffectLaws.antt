@@ -53,7 +53,7 @@ drawn_near x reserve left a b e near = record { above = omega (arith, ints, e, n
 near_drawn : (r s most : ℕ) (a b : ℤ) → r ≤ most → UsesBound r s a b → IsNear most a b
 near_drawn r s most a b l h = record { above = omega (arith, ints, h.above); below = omega (arith, ints, h.below) }
 
--- an amount with room for its remaining bound has room, after a move, for the bound that remains then
+-- an amount with room for its remaining bound has room, after a move (`UsesBound`), for the bound that remains then
 room_drawn : (r s : ℕ) (a b : ℤ) → UsesBound r s a b → HasRoom r a → HasRoom s b
 room_drawn r s a b h room = record { above = omega (arith, ints, h.above, room.above); below = omega (arith, ints, h.below, room.below) }
 
@@ -72,7 +72,7 @@ well_twice {holds} {reserve} w a b c one two = record {
   drawn = λ e t. drawn_twice (reserve a e t) (reserve b e t) (reserve c e t) (amount_in a.books e t) (amount_in b.books e t) (amount_in c.books e t) (one.drawn e t) (two.drawn e t);
 }
 
--- if the books have room for the remaining bound before a step, they have room for the remaining bound after it
+-- books with room for the remaining bound have room, after a step within it (`StepsWell`), for what remains of it
 pub room_left : {holds : Condition} {reserve : RemainingBound} (w : WorldValue) (a b : CampaignValue) → StepsWell holds reserve w a b → HaveRoom (reserve a) a → HaveRoom (reserve b) b
 room_left {holds} {reserve} w a b well room e t = room_drawn (reserve a e t) (reserve b e t) (amount_in a.books e t) (amount_in b.books e t) (well.drawn e t) (room e t)
 

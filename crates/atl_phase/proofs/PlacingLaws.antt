@@ -170,11 +170,11 @@ module _ (w : WorldValue) (c : CampaignValue) (n : ℕ) (u : Unit) (s : ℕ) (is
       afloat = afloat;
     }
 
-    -- after unit n went, a steady campaign is steady, if s, where it isn't 0, is in the unit's region, and on water a ship
+    -- after unit n went, a steady campaign is steady, if s is 0 or in the unit's region, and on water is a ship
     pub placed_steady : IsSteady w behind
     placed_steady = steady-refitted w c n u s is after_entering.structures owner_behind refit steady
 
-    -- after unit n went, an early campaign is early, if s, where it isn't 0, is in the unit's region, and on water a ship
+    -- after unit n went, an early campaign is early, if s is 0 or in the unit's region, and on water is a ship
     pub placed_early : IsEarly w c → IsEarly w behind
     placed_early early = early-refitted w c n u s is after_entering.structures owner_behind refit early
 
