@@ -398,7 +398,7 @@ pub left_well : (w : WorldValue) (c : CampaignValue) (n : ℕ) → IsSteady w c 
 unfolding after_leaving
 left_well w c n steady = by_unit (get c.units n) refl
   where
-    -- the campaign stays steady and in balance (`StepsWell`), whether unit n is there or not
+    -- after unit n left, the campaign is still steady and in balance (`StepsWell`), whether the unit was there or not
     by_unit : (o : Option Unit) → get c.units n ≡ o → StepsWell IsSteady quit_reserve w c (without_leaver c n o)
     by_unit None is = well_same w c steady
     by_unit (Some u) is = leaving_well w c n u is steady
