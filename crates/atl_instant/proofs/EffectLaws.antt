@@ -48,7 +48,7 @@ pub record IsSpared (f : ℕ) (before after : Unit) : Type 0 where
 -- Campaign d, which an order of faction f for unit n makes of c, books nothing, and each unit but n is spared.
 -- Where `holds` is true of c and the order fits the world (`fit`), d is as good as c (`StepsWell`).
 pub record Keeps (holds : Condition) (fit : Type 0) (w : WorldValue) (c : CampaignValue) (n f : ℕ) (d : CampaignValue) : Type 0 where
-  -- `holds` is true of d if it was of c; the month and the books of d are those of c, and balance if they did
+  -- where `holds` is true of c and the order fits (`fit`), `holds` is true of d, and month, books and balance are kept
   pub well : holds w c → fit → StepsWell holds nothing_remaining w c d
   -- each unit but n is in d, no worse off than in c, and with exactly its men if it is of another faction than f
   pub others : (k : ℕ) (v : Unit) → get c.units k ≡ Some v → k ≢ n → IsUnaffected (IsSpared f) d k v

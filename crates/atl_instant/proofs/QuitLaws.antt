@@ -63,7 +63,7 @@ use Rattle.atl_phase.specs.declared.phase_order.Arrangement.TheVariants.{ByUnit}
 
 -- ---- things and entries
 
--- how much of thing s an amount of thing t is: the amount if both are the same thing, and 0 otherwise
+-- how much of the first thing an amount of the second is: the amount if both are the same thing, and 0 otherwise
 abbrev pub part_of : Thing → Thing → ℕ → ℕ
 part_of s t amount = cond (thing_index s == thing_index t) amount 0
 
