@@ -58,7 +58,7 @@ module _ (f : ℕ → ℕ) where
       both true none = refl
       both false none = none
 
-      -- q has its amount in the list n ∷ ns, whether f gives n 0 or not, and whether q is n or not
+      -- number q has the amount f q among the entries of n ∷ ns, or 0 if it isn't in n ∷ ns, if this holds with ns
       by_tests : found q ns ≡ cond (is_among q ns) (f q) 0 → (b k : Bool) → (f n == 0) ≡ b → eq_by_cmp nat_cmp q n ≡ k → unwrap_or (find nat_cmp q (cond (not b) ((n, f n) ∷ listed ns) (listed ns))) 0 ≡ cond (k || is_among q ns) (f q) 0
       by_tests rest true true none same = rest ∙ both (is_among q ns) (sym (ap f (same_key q n same) ∙ is_equal (f n) 0 none))
       by_tests rest true false none other = rest
@@ -80,7 +80,7 @@ module _ (f : ℕ → ℕ) where
 pub same_amounts : (m o : FinMap nat_cmp ℕ) → Every (λ n amount. 1 ≤ amount) m → Every (λ n amount. 1 ≤ amount) o → ((n : ℕ) → amount_of m n ≡ amount_of o n) → m ≡ o
 same_amounts m o some also same = same_map nat_cmp_total nat_cmp-IsAntisymmetric m o (λ n. by_options n (get m n) (get o n) refl refl (same n))
   where
-    -- the two maps have the same under n, whether each of them lists n or not
+    -- the two maps have the same value under n, or none, whether each of them lists n or not
     by_options : (n : ℕ) (a b : Option ℕ) → get m n ≡ a → get o n ≡ b → unwrap_or a 0 ≡ unwrap_or b 0 → a ≡ b
     by_options n None None one two e = refl
     by_options n None (Some y) one two e = let l = also n y two in absurd (omega (arith, l, e))

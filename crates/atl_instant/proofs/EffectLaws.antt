@@ -40,42 +40,42 @@ use Rattle.atl_phase.proofs.UnmailedLaws.{SparesMen}
 
 -- a unit is no worse off after an order of faction f, and has exactly as many men as before if it isn't of that faction
 pub record IsSpared (f : ℕ) (before after : Unit) : Type 0 where
-  -- the unit is no worse off
+  -- the unit is no worse off after the order than before (`IsNoWorse`)
   pub better : IsNoWorse before after
-  -- a unit of another faction has exactly as many men as before
+  -- a unit of another faction than f, which wrote the order, has exactly as many men as before
   pub men : f ≢ before.faction → after.holding.men ≡ before.holding.men
 
 -- Campaign d, which an order of faction f for unit n makes of c, books nothing, and each unit but n is spared.
 -- Where `holds` is true of c and the order fits the world (`fit`), d is as good as c (`StepsWell`).
 pub record Keeps (holds : Condition) (fit : Type 0) (w : WorldValue) (c : CampaignValue) (n f : ℕ) (d : CampaignValue) : Type 0 where
-  -- the condition is still true; month and books are the same, and still balance if they did
+  -- where `holds` is true of c and the order fits (`fit`), `holds` is true of d, and month, books and balance are kept
   pub well : holds w c → fit → StepsWell holds nothing_remaining w c d
-  -- each unit but n is no worse off, and has its men if it is of another faction
+  -- each unit but n is in d, no worse off than in c, and with exactly its men if it is of another faction than f
   pub others : (k : ℕ) (v : Unit) → get c.units k ≡ Some v → k ≢ n → IsUnaffected (IsSpared f) d k v
 
 module _ {holds : Condition} {fit : Type 0} (w : WorldValue) (c : CampaignValue) (n f : ℕ) where
-  -- an order whose effect is good (`StepsWell`) keeps what it should (`Keeps`), if it changes no unit but n
+  -- an order that changes no unit but n, and keeps `holds` and the books (`StepsWell`), keeps what `Keeps` says
   pub keeps_others : (d : CampaignValue) → (holds w c → fit → StepsWell holds nothing_remaining w c d) → ((k : ℕ) → k ≢ n → get d.units k ≡ get c.units k) → Keeps holds fit w c n f d
   keeps_others d well stay = record {
     well = well;
     others = λ k v there apart. record { unit = v; there = stay k apart ∙ there; spared = record { better = no_worse v; men = λ other. refl } };
   }
 
-  -- an order that changes nothing keeps what it should (`Keeps`)
+  -- an order that changes nothing keeps `holds`, the books and the other units (`Keeps`)
   pub keeps_all : Keeps holds fit w c n f c
   keeps_all = keeps_others c (λ h fits. well_same w c h) (λ k apart. refl)
 
-  -- an order keeps what it should (`Keeps`), whether it has a fault or not, if it does where it has none
+  -- an order keeps `holds`, the books and the other units (`Keeps`), with a fault or without, if it does without one
   pub keeps_unless : (fault : Option EventFault) (d : CampaignValue) (o : Outcome) → (fault ≡ None → Keeps holds fit w c n f d) → Keeps holds fit w c n f (unless c fault (d, o)).0
   keeps_unless (Some fault) d o keeps = keeps_all
   keeps_unless None d o keeps = keeps refl
 
--- the effect of each order keeps what it should (`Keeps`), if the order is for a unit of the faction that wrote it
+-- the effect of each order for a unit of its writer's faction keeps `holds`, the books and the other units (`Keeps`)
 abbrev pub StepKeeps : Condition → OrderMeaning → Type 0
 StepKeeps holds step = (w : WorldValue) (a : Aliases) (c : CampaignValue) (t : Task) (x : Unit) → IsUnitOf c t x → IfSome (step w a t) (λ deed. Keeps holds (IsOrderOf w t.order_value) w c t.unit x.faction (deed c x).0)
 
--- a phase is orderly (`IsOrderly`), if the effect of each order keeps what it should (`Keeps`), and it passes over a
--- unit's own order that doesn't concern the unit
+-- a phase is orderly (`IsOrderly`), if the effect of each order keeps `holds`, the books and the other units (`Keeps`),
+-- and the phase passes over a unit's own order that doesn't concern the unit
 pub orderly_by : {holds : Condition} {step : OrderMeaning} {concerns : Affects} → StepKeeps holds step
     → ((w : WorldValue) (a : Aliases) (t : Task) (n f : ℕ) → IsOwnOrder t n f → (concerns t n f → ⊥) → step w a t ≡ None) → IsOrderly step holds nothing_remaining moves_nothing concerns IsNoWorse
 orderly_by {holds} {step} keeps passed = record {
@@ -93,7 +93,7 @@ orderly_by {holds} {step} keeps passed = record {
         let one = kept.others n u there (other_unit c t x n u own there (λ mine. let none : Some deed ≡ None = passes mine in cc)) in
         record { unit = one.unit; there = one.there; spared = one.spared.better }
 
--- the orders of a phase leave units of other factions their men (`SparesMen`), if each keeps what it should (`Keeps`)
+-- the orders of a phase leave units of other factions their men (`SparesMen`), if each keeps the other units (`Keeps`)
 pub spares_men : (holds : Condition) (step : OrderMeaning) → StepKeeps holds step → SparesMen step
 spares_men holds step keeps w a c t x own =
     IfSome_then (step w a t) (keeps w a c t x own) (λ deed kept k v there other.
@@ -123,11 +123,11 @@ module _ (c : CampaignValue) (from to : ℕ) (u v : Unit) (h k : HoldingValue) (
       let made : d ≡ between = first ∙ ap (λ z. with_held c from z (Some u)) x_is in
       rw (second (ap (λ (s : CampaignValue). get s.units to) made ∙ receiver_still), y_is, made, other) refl
 
-  -- giver and receiver together hold as much of each thing after as before
+  -- giver and receiver together hold as much of each thing with h and k as they held before
   abbrev pub BothHold : Type 0
   BothHold = (t : Thing) → unit_amount t h + unit_amount t k ≡ unit_amount t u.holding + unit_amount t v.holding
 
-  -- the totals of the campaign stay the same, if both units together hold as much as before
+  -- the campaign's total of each thing stays the same, if giver and receiver together hold as much as before
   total-moved : WorldValue → BothHold → (t : Thing) → total moved t ≡ total c t
   total-moved w both t =
       sum (total moved t) (total between t) (total c t) (unit_amount t u.holding) (unit_amount t v.holding) (unit_amount t h) (unit_amount t k) (total-unit_amount w between to v k receiver_still t) (total-unit_amount w c from u h giver t) (both t)
@@ -137,14 +137,14 @@ module _ (c : CampaignValue) (from to : ℕ) (u v : Unit) (h k : HoldingValue) (
       sum : (a b x p q r s : ℕ) → a + q ≡ b + s → b + p ≡ x + r → r + s ≡ p + q → a ≡ x
       sum a b x p q r s e f g = omega arith
 
-  -- A move keeps the campaign early, its month and its balance (`StepsWell`), if both units may hold what they then
-  -- hold, neither has its guard flag newly set, and both hold as much together as before.
+  -- A move from giver to receiver keeps the campaign early, its month and its balance (`StepsWell`), if both may hold
+  -- what they then hold, neither has its guard flag newly set, and both hold as much together as before.
   pub steps-moved : (w : WorldValue) → MayHave w h → (h.guard ≡ true → u.holding.guard ≡ true) → MayHave w k → (k.guard ≡ true → v.holding.guard ≡ true) → BothHold → IsEarly w c → StepsWell IsEarly nothing_remaining w c moved
   steps-moved w less less_flag more more_flag both early =
       unbooked_well w c moved (early-having w between to v k receiver_still more more_flag (early-having w c from u h giver less less_flag early))
       (same_month_by refl) refl (total-moved w both)
 
-  -- a move leaves each unit but the giver spared (`IsSpared`), if it leaves the receiver so
+  -- a move leaves each unit but the giver spared (`IsSpared`), if it leaves the receiver spared
   pub others-moved : (f : ℕ) → IsSpared f v (record v { holding = k }) → (n : ℕ) (x : Unit) → get c.units n ≡ Some x → n ≢ from → IsUnaffected (IsSpared f) moved n x
   others-moved f spared n x there other = elim (cases_eq n to) [
     | inl same ↦

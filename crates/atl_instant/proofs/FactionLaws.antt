@@ -14,15 +14,15 @@ use Rattle.atl_records.proofs.EveryLaws.{every-insert, get-insert_other, none_so
 use Rattle.atl_campaign.proofs.RegionLaws.{changed-known, same_len}
 
 module _ (c : CampaignValue) (n : ℕ) (x : Faction) (name : List ℕ) (is : get c.factions n ≡ Some x) where
-  -- faction n with the other name
+  -- faction n with `name` in place of its own name
   abbrev renamed : Faction
   renamed = record x { name = name }
 
-  -- the factions, of which faction n shows the other name
+  -- the factions of the campaign, of which faction n shows `name`
   abbrev factions : FinMap nat_cmp Faction
   factions = insert c.factions n renamed
 
-  -- the campaign in which the faction shows the other name
+  -- the campaign in which faction n shows `name`
   abbrev shown : CampaignValue
   shown = record c { factions = factions }
 

@@ -167,7 +167,7 @@ module _ (w : WorldValue) (c : CampaignValue) (p : ℕ) (u : Unit) (is : get c.u
     structures = old.water.structures;
   }
 
-  -- units that pass a test are still of one faction in each region, if the new unit doesn't pass the test
+  -- the units of each region that pass a test are of one faction still, if the new unit doesn't pass the test
   one_faction_kept : (test : Unit → Bool) → test child ≡ false → AreOfOneFaction test c → AreOfOneFaction test begun
   one_faction_kept test fails one =
       every-insert (λ n x. Every (λ m y. test x ≡ true → test y ≡ true → x.region ≡ y.region → x.faction ≡ y.faction) units) c.units c.next_unit child (λ m y there e. absurd (true≢false (sym e ∙ fails)))
@@ -272,11 +272,11 @@ module _ (w : WorldValue) (c : CampaignValue) (early : IsEarly w c) where
     form_fine : Fine (form_by c f n).0
     form_fine = by_unit (get c.units n) refl
 
-  -- a copied order of FORM keeps an early campaign early, in its month and with balanced books (`StepsWell`)
+  -- FORM, carried out by a copy of the order, keeps an early campaign early, in its month and balanced (`StepsWell`)
   pub order_well : (m : MonthValue) (o : Forming) → StepsWell IsEarly nothing_remaining w c (form_apart (c, m) o).0
   order_well m o = (form_fine o.faction o.unit).0
 
-  -- a copied order of FORM leaves each unit that was there unchanged
+  -- FORM, carried out by a copy of the order, leaves each unit that was there unchanged
   pub order_stays : (m : MonthValue) (o : Forming) → Every (λ k v. get (form_apart (c, m) o).0.units k ≡ Some v) c.units
   order_stays m o = (form_fine o.faction o.unit).1
 

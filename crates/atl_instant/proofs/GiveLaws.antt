@@ -48,7 +48,7 @@ can_give gift n u v is =
     let two = none_fits little NotEnough ((full, NoRoom) ∷ []) one.1 in
     record { enough = not_less (held_of gift u.holding) n two.0; room = not_less holding_limit (held_of gift v.holding + n) (none_fits full NoRoom [] two.1).0 }
 
--- a unit holds at most `holding_limit` (999,999,999) of the money or the item that is given
+-- a holding within its limits (`IsHolding`) has at most `holding_limit` (999,999,999) of what is given
 pub held_within : (gift : Gift) (h : HoldingValue) → IsHolding h → held_of gift h ≤ holding_limit
 held_within Money h is = is.money
 held_within (Item i) h is = amount_within h i is
@@ -83,7 +83,7 @@ same_rest : (gift : Gift) (h : HoldingValue) (amount : ℕ) → ((with_held_of g
 same_rest Money h amount = (refl, refl)
 same_rest (Item i) h amount = (refl, refl)
 
--- giver and receiver together hold as much of each thing after a gift as before
+-- giver and receiver together hold as much of each thing after a gift as before, if the giver has what it gives
 pub both_hold : (gift : Gift) (n : ℕ) (h k : HoldingValue) → n ≤ held_of gift h → (t : Thing) → unit_amount t (with_held_of gift h (held_of gift h - n)) + unit_amount t (with_held_of gift k (held_of gift k + n)) ≡ unit_amount t h + unit_amount t k
 both_hold Money n h k l things.Money = omega (arith, l)
 both_hold Money n h k l things.People = refl
@@ -127,7 +127,7 @@ better_off (Item i) n v = record { faction = refl; region = refl; structure = re
 -- ---- one order
 
 module _ {fit : Type 0} (w : WorldValue) (c : CampaignValue) (from to : ℕ) (gift : Gift) (n : ℕ) (u : Unit) (giver : get c.units from ≡ Some u) (known : fit → IsKnown w gift) where
-  -- a gift to another unit keeps what an order should (`Keeps`), if it has no fault
+  -- a gift to another unit, if it can be given, keeps the campaign early, and other units no worse off (`Keeps`)
   moved_kept : (v : Unit) → get c.units to ≡ Some v → to ≢ from → CanGive gift n u v
       → Keeps IsEarly fit w c from u.faction (with_held (with_held c from (with_held_of gift u.holding (held_of gift u.holding - n)) (Some u)) to (with_held_of gift v.holding (held_of gift v.holding + n)) (Some v))
   moved_kept v receiver apart can =
@@ -145,12 +145,12 @@ module _ {fit : Type 0} (w : WorldValue) (c : CampaignValue) (from to : ℕ) (gi
             (record { better = better_off gift n v; men = λ other. (same_rest gift v.holding more).1 });
       }
 
-  -- an order of GIVE or PAY keeps what it should (`Keeps`), if the gift is of the world
+  -- an order of GIVE or PAY of a gift of the world keeps the campaign early, and other units no worse off (`Keeps`)
   gift_kept : Keeps IsEarly fit w c from u.faction (give from to gift n c u).0
   unfolding give
   gift_kept = by_receiver (get c.units to) refl
     where
-      -- the order keeps what it should (`Keeps`), whether the receiver is there or not
+      -- the order keeps the campaign early, and other units no worse off (`Keeps`), with a receiver there or without
       by_receiver : (o : Option Unit) → get c.units to ≡ o → Keeps IsEarly fit w c from u.faction (give_to c from to gift n u o).0
       by_receiver None is = keeps_all w c from u.faction
       by_receiver (Some v) receiver =
@@ -159,11 +159,11 @@ module _ {fit : Type 0} (w : WorldValue) (c : CampaignValue) (from to : ℕ) (gi
 
 -- ---- the phase
 
--- each order of GIVE or PAY keeps what it should (`Keeps`)
+-- each order of GIVE or PAY keeps the campaign early, and all units but the giver no worse off (`Keeps`)
 pub give_keeps : StepKeeps IsEarly give_step
 give_keeps w a c t x own = by_operands t.order_value.operands
   where
-    -- an order with the operands o keeps what it should (`Keeps`)
+    -- an order with the operands o keeps the campaign early, and all units but the giver no worse off (`Keeps`)
     by_operands : (o : OperandsValue) → IfSome (give_effect a t.faction t.unit o) (λ deed. Keeps IsEarly (AreOperandsOf w o) w c t.unit x.faction (deed c x).0)
     by_operands (operands.UnitAndGoods to n item) = gift_kept w c t.unit (unit_of a t.faction to) (Item item) n x own.there (λ fit. fit.2)
     by_operands (operands.UnitAndNumber to n) = gift_kept w c t.unit (unit_of a t.faction to) Money n x own.there (λ fit. tt)

@@ -68,7 +68,7 @@ own_guards c region faction none m v there guarding here =
 -- ---- a unit with another name and guard flag
 
 module _ (w : WorldValue) (c : CampaignValue) (n : ℕ) (u : Unit) (is : get c.units n ≡ Some u) (name : List ℕ) (flag : Bool) where
-  -- what the unit holds, with the other name and guard flag
+  -- what unit n holds, with the name `name` and the guard flag `flag` in place of its own
   abbrev pub labelled : HoldingValue
   labelled = record u.holding { name = name; guard = flag }
 
@@ -106,11 +106,11 @@ can_guard c u none =
     has_men n some = grind (arith, nat_tests)
 
 module _ (c : CampaignValue) (n : ℕ) (u : Unit) (is : get c.units n ≡ Some u) where
-  -- the unit with its guard flag set
+  -- unit n with its guard flag set
   abbrev pub guarding : Unit
   guarding = record u { holding = record u.holding { guard = true } }
 
-  -- the campaign in which the unit has its guard flag set
+  -- the campaign in which unit n has its guard flag set
   abbrev pub flagged : CampaignValue
   flagged = record c { units = insert c.units n guarding }
 
@@ -145,7 +145,7 @@ flag_marks c d n flag what marks =
 
 -- ---- one order
 
--- GUARD 1 keeps what an order should (`Keeps`)
+-- GUARD 1 for unit n keeps the campaign steady, and all other units no worse off (`Keeps`)
 guard_kept : {fit : Type 0} (w : WorldValue) (c : CampaignValue) (n : ℕ) (u : Unit) → get c.units n ≡ Some u → Keeps IsSteady fit w c n u.faction (guard n c u).0
 unfolding guard
 guard_kept w c n u is =
@@ -154,11 +154,11 @@ guard_kept w c n u is =
 
 -- ---- the phase
 
--- each order of GUARD 1 keeps what it should (`Keeps`)
+-- each order of GUARD 1 keeps the campaign steady, and all units but its own no worse off (`Keeps`)
 pub guard_keeps : StepKeeps IsSteady guard_step
 guard_keeps w a c t x own = by_operands t.order_value.operands
   where
-    -- an order with the operands o keeps what it should (`Keeps`)
+    -- an order with the operands o keeps the campaign steady, and all units but its own no worse off (`Keeps`)
     by_operands : (o : OperandsValue) → IfSome (guard_effect t.unit o) (λ deed. Keeps IsSteady (AreOperandsOf w o) w c t.unit x.faction (deed c x).0)
     by_operands (operands.Flag true) = guard_kept w c t.unit x own.there
     by_operands other = tt

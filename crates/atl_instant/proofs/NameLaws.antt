@@ -40,7 +40,7 @@ name_other w n text other a b = refl
 
 -- what an order of NAME or GUARD 0 for unit n keeps (`Keeps`), if the order fits the world (`fit`)
 module _ (fit : Type 0) (w : WorldValue) (c : CampaignValue) (n : ℕ) (u : Unit) (is : get c.units n ≡ Some u) where
-  -- campaign d, which an order makes of c, keeps what it should (`Keeps`)
+  -- campaign d, which an order for unit n makes of c, is early if c is, and no unit but n is worse off in it (`Keeps`)
   abbrev Kept : CampaignValue → Type 0
   Kept d = Keeps IsEarly fit w c n u.faction d
 
@@ -54,14 +54,14 @@ module _ (fit : Type 0) (w : WorldValue) (c : CampaignValue) (n : ℕ) (u : Unit
       subst (StepsWell IsEarly nothing_remaining w c) (sym made)
       (unbooked_well w c (with_held c n h (Some u)) (early-having w c n u h is (may_label w c n u is name flag ok early.steady) old early) (same_month_by refl) refl (total-labelled w c n u is name flag))
 
-  -- naming the unit keeps what it should (`Keeps`), if the name follows the name rule
+  -- naming the unit keeps the campaign early, and other units no worse off (`Keeps`), if the name follows the name rule
   unit_named : (name : List ℕ) → (fit → IsTrue (name_ok name)) → Kept (with_unit_name c n name)
   unit_named name ok =
       keeps_others w c n u.faction (with_unit_name c n name)
       (λ early fits. label_well name u.holding.guard (ok fits) (λ g. g) early (with_unit_name c n name) (changed_held (λ h. record h { name = name }) c (with_unit_name c n name) n refl u is))
       (others_held (λ (x : Unit). record x { holding = record x.holding { name = name } }) c n)
 
-  -- clearing the unit's guard flag keeps what it should (`Keeps`)
+  -- clearing the unit's guard flag keeps the campaign early, and other units no worse off (`Keeps`)
   flag_cleared : Kept (with_guard c n false)
   flag_cleared =
       keeps_others w c n u.faction (with_guard c n false)
@@ -70,7 +70,7 @@ module _ (fit : Type 0) (w : WorldValue) (c : CampaignValue) (n : ℕ) (u : Unit
 
   -- ---- the names of its faction and of a structure
 
-  -- naming the unit's faction keeps what it should (`Keeps`), if the name follows the name rule
+  -- naming the unit's faction keeps the campaign early, and units no worse off (`Keeps`), if the name follows the rule
   faction_named : (name : List ℕ) → (fit → IsTrue (name_ok name)) → Kept (with_faction_name c u.faction name)
   faction_named name ok =
       keeps_others w c n u.faction (with_faction_name c u.faction name) (λ early fits.
@@ -80,7 +80,7 @@ module _ (fit : Type 0) (w : WorldValue) (c : CampaignValue) (n : ℕ) (u : Unit
       (same_month_among refl (count-faction_name c u.faction x name there) (known-faction_name c u.faction x name there)) refl (same_total_of c (with_faction_name c u.faction name) refl refl))
       (λ k apart. refl)
 
-  -- a structure with another name
+  -- a structure with this name in place of its own
   abbrev titled : List ℕ → Structure → Structure
   titled name s = record s { name = name }
 
@@ -103,8 +103,8 @@ module _ (fit : Type 0) (w : WorldValue) (c : CampaignValue) (n : ℕ) (u : Unit
       owned q y true o = record { owned = o.owned; ownerless = o.ownerless }
       owned q y false o = o
 
-  -- an order to name structure k keeps what it should (`Keeps`), with a fault or without, if the name follows the name
-  -- rule
+  -- an order to name structure k keeps the campaign early, and units no worse off (`Keeps`), with a fault or without,
+  -- if the name follows the name rule
   structure_named : (k : ℕ) (ship : Bool) (name : List ℕ) → (fit → IsTrue (name_ok name)) → Kept (structure_name_result w c n k ship name).0
   structure_named k ship name ok =
       keeps_unless w c n u.faction (structure_fault w n ship (get c.structures k)) (with_structure_name c k name) (Done 0) (λ none.
@@ -112,18 +112,18 @@ module _ (fit : Type 0) (w : WorldValue) (c : CampaignValue) (n : ℕ) (u : Unit
 
   -- ---- an order
 
-  -- NAME keeps what it should (`Keeps`), whatever it names, if the name follows the name rule
+  -- NAME, whatever it names, keeps the campaign early, and units no worse off (`Keeps`), if the name follows the rule
   named : (what : NameKind) (name : List ℕ) → (fit → IsTrue (name_ok name)) → Kept (name_result w c n u.faction u.structure what name).0
   named kinds.Unit name ok = unit_named name ok
   named kinds.Faction name ok = faction_named name ok
   named kinds.Building name ok = structure_named u.structure false name ok
   named kinds.Ship name ok = structure_named u.structure true name ok
 
--- each order of NAME or GUARD 0 keeps what it should (`Keeps`)
+-- each order of NAME or GUARD 0 keeps the campaign early, and all units but its own no worse off (`Keeps`)
 pub name_keeps : StepKeeps IsEarly name_step
 name_keeps w a c t x own = by_operands t.order_value.operands
   where
-    -- an order with the operands o keeps what it should (`Keeps`)
+    -- an order with the operands o keeps the campaign early, and all units but its own no worse off (`Keeps`)
     by_operands : (o : OperandsValue) → IfSome (name_effect w t.unit o) (λ deed. Keeps IsEarly (AreOperandsOf w o) w c t.unit x.faction (deed c x).0)
     by_operands (operands.Name what name) = named (AreOperandsOf w (operands.Name what name)) w c t.unit x own.there what name (λ fit. fit)
     by_operands (operands.Flag false) = flag_cleared (AreOperandsOf w (operands.Flag false)) w c t.unit x own.there

@@ -47,13 +47,13 @@ place_other w a f n text other l b d = refl
 
 -- what an order of LEAVE, ENTER or PROMOTE for unit n keeps (`Keeps`)
 module _ (fit : Type 0) (w : WorldValue) (c : CampaignValue) (n : ℕ) (u : Unit) (is : get c.units n ≡ Some u) where
-  -- campaign d, which an order makes of c, keeps what it should (`Keeps`)
+  -- campaign d, which an order for unit n makes of c, is early if c is, and no unit but n is worse off in it (`Keeps`)
   abbrev Kept : CampaignValue → Type 0
   Kept d = Keeps IsEarly fit w c n u.faction d
 
   -- ---- LEAVE
 
-  -- an order of LEAVE keeps what it should (`Keeps`)
+  -- LEAVE for unit n keeps the campaign early, and all other units no worse off (`Keeps`)
   left : Kept (leave w n c u).0
   unfolding leave
   left =
@@ -66,7 +66,8 @@ module _ (fit : Type 0) (w : WorldValue) (c : CampaignValue) (n : ℕ) (u : Unit
 
   -- ---- ENTER
 
-  -- ENTER without a fault keeps what it should (`Keeps`), whether the unit is inside the structure already or not
+  -- ENTER without a fault keeps the campaign early, and other units no worse off (`Keeps`), whether unit n is already
+  -- inside structure s or not
   entered_by : (s : ℕ) (o : Option Structure) → get c.structures s ≡ o → (b : Bool) → (u.structure == s) ≡ b → not (is_in u.region o) ≡ false → Kept (if b then c else with_place c n u.region s)
   entered_by s None there b same near = absurd (true≢false near)
   entered_by s (Some x) there true same near = keeps_all w c n u.faction
@@ -76,7 +77,7 @@ module _ (fit : Type 0) (w : WorldValue) (c : CampaignValue) (n : ℕ) (u : Unit
       (λ early fits. place_well w c n u s is early (λ inside. is_unequal u.structure s same inside) (λ some. (x, there, here)) (λ wet. (x, there, (early.steady.water.structures s x there (ap (is_land_at w) here ∙ wet)).0)))
       (λ k apart. place_stays c n u.region s k apart)
 
-  -- an order of ENTER keeps what it should (`Keeps`)
+  -- ENTER for unit n keeps the campaign early, and all other units no worse off (`Keeps`)
   entered : (s : ℕ) → Kept (enter n s c u).0
   unfolding enter
   entered s =
@@ -116,7 +117,7 @@ module _ (fit : Type 0) (w : WorldValue) (c : CampaignValue) (n : ℕ) (u : Unit
           }
       owned q y false here old = old
 
-  -- an order of PROMOTE keeps what it should (`Keeps`)
+  -- PROMOTE by unit n keeps the campaign early, and all other units no worse off (`Keeps`)
   promoted : (to : ℕ) → Kept (promote n to c u).0
   unfolding promote
   promoted to =
@@ -130,11 +131,11 @@ module _ (fit : Type 0) (w : WorldValue) (c : CampaignValue) (n : ℕ) (u : Unit
 
 -- ---- the phase
 
--- each order of LEAVE, ENTER or PROMOTE keeps what it should (`Keeps`)
+-- each order of LEAVE, ENTER or PROMOTE keeps the campaign early, and all units but its own no worse off (`Keeps`)
 pub place_keeps : StepKeeps IsEarly place_step
 place_keeps w a c t x own = by_operands t.order_value.operands
   where
-    -- an order with the operands o keeps what it should (`Keeps`)
+    -- an order with the operands o keeps the campaign early, and all units but its own no worse off (`Keeps`)
     by_operands : (o : OperandsValue) → IfSome (place_effect w a t.faction t.unit o) (λ deed. Keeps IsEarly (AreOperandsOf w o) w c t.unit x.faction (deed c x).0)
     by_operands operands.Nothing = left (AreOperandsOf w operands.Nothing) w c t.unit x own.there
     by_operands (operands.Number s) = entered (AreOperandsOf w (operands.Number s)) w c t.unit x own.there s

@@ -63,7 +63,7 @@ use Rattle.atl_phase.specs.declared.phase_order.Arrangement.TheVariants.{ByUnit}
 
 -- ---- things and entries
 
--- the amount if the two things are the same, and 0 otherwise
+-- how much of the first thing an amount of the second is: the amount if both are the same thing, and 0 otherwise
 abbrev pub part_of : Thing → Thing → ℕ → ℕ
 part_of s t amount = cond (thing_index s == thing_index t) amount 0
 
@@ -208,11 +208,11 @@ moves_what_leaves h e s =
 -- The campaign d is c with `off` of each thing booked as gone, and only the books differ. Campaign d is steady, what
 -- the books have of a thing falls by `off`, and no amount of the books moves further than `moving`.
 pub record BooksOff (w : WorldValue) (off : Thing → ℕ) (moving : BookBound) (c d : CampaignValue) : Type 0 where
-  -- campaign d is steady
+  -- campaign d, in which amounts are booked as gone, is steady
   pub steady : IsSteady w d
   -- the sum of each thing over all entries of the books is less by `off` in d than in c
   pub owed : (s : Thing) → booked c.books s ≡ booked d.books s +ℤ pos (off s)
-  -- no amount of the books moves further than `moving` says
+  -- no amount of the books moves further from c to d than `moving` says
   pub near : (e : Entry) (s : Thing) → IsNear (moving e s) (amount_in c.books e s) (amount_in d.books e s)
   -- campaign d is c but for the books
   pub same : d ≡ record c { books = d.books }
@@ -299,12 +299,12 @@ first_room t amount next c room =
 pub rest_room : (t : Thing) (amount : ℕ) (next : BookBound) (c : CampaignValue) → HaveRoom (both_move (moves_only amount (loss_entry t) t) next) c → HaveRoom next (with_loss c t amount)
 rest_room t amount next c room = booked-room c.books (loss_entry t) t (neg_ℤ (pos amount)) amount (within-neg amount amount (omega arith)) next room
 
--- books with room for the items from i on have room for the item at i and those after it
+-- books with room to book the items from i on as lost have room to book the item at i and then those after it
 pub room_ahead : (xs : List (ℕ × ℕ)) (i : ℕ) (c : CampaignValue) → i < length xs → HaveRoom (moving_items (drop i xs)) c
     → HaveRoom (moving_items (get_or xs i (0, 0) ∷ drop (i + 1) xs)) c
 room_ahead xs i c inside room = subst (λ l. HaveRoom (moving_items l) c) (drop_more xs i (0, 0) inside) room
 
--- books with room for the items from i on have room to book the item at i as lost
+-- books with room to book the items from i on as lost have room to book the item at i
 pub next_room : (xs : List (ℕ × ℕ)) (i : ℕ) (c : CampaignValue) → i < length xs → HaveRoom (moving_items (drop i xs)) c
     → HasRoom (get_or xs i (0, 0)).1 (amount_in c.books Lost (Item (get_or xs i (0, 0)).0))
 next_room xs i c inside room = let x : ℕ × ℕ = get_or xs i (0, 0) in first_room (Item x.0) x.1 (moving_items (drop (i + 1) xs)) c (room_ahead xs i c inside room)
@@ -314,7 +314,7 @@ pub known_ahead : (w : WorldValue) (xs : List (ℕ × ℕ)) (i : ℕ) → i < le
     → EachOf (λ j a. j < length w.items) (get_or xs i (0, 0) ∷ drop (i + 1) xs)
 known_ahead w xs i inside known = subst (EachOf (λ j a. j < length w.items)) (drop_more xs i (0, 0) inside) known
 
--- the items that a unit holds are items of the world
+-- in a steady campaign the items that a unit holds are items of the world
 pub known_held : (w : WorldValue) (c : CampaignValue) (n : ℕ) (u : Unit) → get c.units n ≡ Some u → IsSteady w c → EachOf (λ j a. j < length w.items) (entries u.holding.items)
 known_held w c n u is steady = each-from_every (λ j a. j < length w.items) u.holding.items (steady.known.units n u is).items
 
@@ -338,7 +338,7 @@ module _ (w : WorldValue) (c : CampaignValue) (n : ℕ) (u : Unit) (is : get c.u
   abbrev off : CampaignValue
   off = with_all_losses c u.holding
 
-  -- the campaign after the unit left
+  -- the campaign after unit n left with all that it holds
   abbrev after_leave : CampaignValue
   after_leave = without_unit off n
 
@@ -398,7 +398,7 @@ pub left_well : (w : WorldValue) (c : CampaignValue) (n : ℕ) → IsSteady w c 
 unfolding after_leaving
 left_well w c n steady = by_unit (get c.units n) refl
   where
-    -- the campaign stays steady and in balance (`StepsWell`), whether unit n is there or not
+    -- after unit n left, the campaign is still steady and in balance (`StepsWell`), whether the unit was there or not
     by_unit : (o : Option Unit) → get c.units n ≡ o → StepsWell IsSteady quit_reserve w c (without_leaver c n o)
     by_unit None is = well_same w c steady
     by_unit (Some u) is = leaving_well w c n u is steady
@@ -497,12 +497,12 @@ quit_orderly = record {
   bounded = reserve_within;
 }
   where
-    -- an order with the operands s keeps the campaign steady and in balance (`StepsWell`)
+    -- an order of QUIT with the operands s keeps the campaign steady and in balance (`StepsWell`)
     well : (w : WorldValue) (c : CampaignValue) (x : Unit) → IsSteady w c → (s : OperandsValue) → IfSome (quit_effect s) (λ deed. StepsWell IsSteady quit_reserve w c (deed c x).0)
     well w c x steady (operands.Number number) = quit_well w c number x steady
     well w c x steady other = tt
 
-    -- an order with the operands s leaves unit n no worse off, unless the unit's own faction quits by it
+    -- an order of QUIT with the operands s leaves unit n no worse off, unless the unit's own faction quits by it
     spared : (w : WorldValue) (c : CampaignValue) (t : Task) (x : Unit) → IsSteady w c → IsUnitOf c t x → (n : ℕ) (u : Unit) → get c.units n ≡ Some u → (s : OperandsValue) → ((t.faction ≡ u.faction) × (s ≡ operands.Number u.faction) → ⊥)
         → IfSome (quit_effect s) (λ deed. IsUnaffected IsNoWorse (deed c x).0 n u)
     spared w c t x steady own n u here (operands.Number number) other =

@@ -1,4 +1,5 @@
--- Laws of the code's map of which faction guards each region: it is right when made, and when a unit begins to guard.
+-- Laws of the code's map of which faction guards each region: it has exactly the factions that guard, when it is made
+-- and when a unit begins to guard. To note a unit is to enter its faction under its region, if it guards.
 use Rattle.std.proofs.Common.{◌≡◌, ◌==◌, ℕ, Bool, true, false, not, ◌&&◌, ◌||◌, List, [], ◌∷◌, Option, Some, None, refl, sym, ap, subst, ◌∙◌, inl, inr}
 use Rattle.std.specs.Prelude.{if◌then◌else◌, nat_lt}
 use Rattle.std.specs.List.{list_any}
@@ -27,7 +28,7 @@ module _ (c : CampaignValue) where
   abbrev AreUnits : List (ℕ × Unit) → Type 0
   AreUnits es = EachOf (λ n u. get c.units n ≡ Some u) es
 
-  -- some unit of the given faction guards the region
+  -- some unit of the given faction guards the region in campaign c
   abbrev Held : (region faction : ℕ) → Type 0
   Held region faction = (n : ℕ) × (u : Unit) × (get c.units n ≡ Some u) × IsGuardOf region faction u
 
@@ -145,7 +146,7 @@ module _ (c : CampaignValue) (m : GuardMap) (are : AreRegionGuards c m) (region 
   pub map_agrees : has_other_guard faction (get m region) ≡ is_guarded_against c region faction
   map_agrees = by_holder (get m region) refl
     where
-      -- map and campaign agree where the map has a faction for the region, whether it is the given one or not
+      -- if the map has `holder` for the region, another faction guards it exactly if `holder` isn't the given one
       other_holder : (holder : ℕ) → get m region ≡ Some holder → (b : Bool) → (holder == faction) ≡ b → not b ≡ is_guarded_against c region faction
       other_holder holder at true same =
           sym (all_own (λ u here noted. same_Some _ _ (sym noted ∙ ap (get m) here ∙ at) ∙ is_equal holder faction same))
@@ -155,7 +156,7 @@ module _ (c : CampaignValue) (m : GuardMap) (are : AreRegionGuards c m) (region 
           ap (guards_against faction) is ∙ ap (λ b. b && not (u.faction == faction)) guard.on_guard ∙ ap (λ f. not (f == faction)) guard.belongs ∙ ap not apart in
           sym (any_listed against (numbers_in region c.units) n (passing_listed stands_here c.units n u is (ap (λ r. r == region) guard.stands ∙ equal_itself region)) against_it)
 
-      -- map and campaign agree, whether the map has a faction for the region or not
+      -- another faction guards the region exactly if the map has a faction for it that isn't the given one
       by_holder : (o : Option ℕ) → get m region ≡ o → has_other_guard faction o ≡ is_guarded_against c region faction
       by_holder None at = sym (all_own (λ u here noted. none_some u.faction (sym at ∙ ap (get m) (sym here) ∙ noted)))
       by_holder (Some holder) at = other_holder holder at (holder == faction) refl

@@ -72,7 +72,7 @@ days_within all most skill each = by_option (get all skill) refl
     by_option None e = omega arith
     by_option (Some days) e = (each skill days e).1
 
--- the days that go with n men are at most 450 for each of the n
+-- if men have at most 450 days each, the days that go with n of them are at most 450 for each of the n
 pub going_most : (n men days : ℕ) → days ≤ most_days * men → days_going n men days ≤ most_days * n
 going_most n men days most = div-le_of_le-mul men (subst (λ x. days * n ≤ x) (turned most_days men n) (mul-le-mul_right n most))
   where
@@ -110,20 +110,20 @@ rest_within k s n d some most = elim (cases_lt (k * s) d) [
     scaled : (y : ℕ) → y ≤ k * n → y * (s + n) ≤ (k * s + y) * n
     scaled y few = rw (turned k s n y, spread y s n) (sum (y * s) ((k * n) * s) (y * n) (mul-le-mul_right s few))
 
--- the days that stay when n men go are at most 450 for each man who stays
+-- if men have at most 450 days each, the days that stay when n of them go are at most 450 for each who stays
 pub staying_days_within : (n men days : ℕ) → n ≤ men → 1 ≤ days → days ≤ most_days * men → days - days_going n men days ≤ most_days * (men - n)
 staying_days_within n men days fewer some most =
     let whole : (men - n) + n ≡ men = omega arith in
     let men_there : 0 < men = some_men men days some most in
     subst (λ m. days - days * n / m ≤ most_days * (men - n)) whole (rest_within most_days (men - n) n days (omega arith) (subst (λ m. days ≤ most_days * m) (sym whole) most))
   where
-    -- a unit that has days of a skill has men
+    -- men with 1 day or more together, and at most 450 days each, are at least one man
     some_men : (men days : ℕ) → 1 ≤ days → days ≤ most_days * men → 0 < men
     some_men men days some most = omega arith
 
 -- ---- what both may hold
 
--- a skill of which a unit has days is a skill of the world
+-- if a unit may have what it holds (`MayHave`), a skill of which it has days is a skill of the world
 known_skill : (w : WorldValue) (h : HoldingValue) (s : ℕ) → MayHave w h → 1 ≤ amount_of h.days s → s < length w.skills
 known_skill w h s may some = by_option (get h.days s) refl some
   where
@@ -132,11 +132,11 @@ known_skill w h s may some = by_option (get h.days s) refl some
     by_option None there l = absurd (omega (arith, l))
     by_option (Some d) there l = may.skills s d there
 
--- a unit has at most 450 days of a skill for each man
+-- if a unit may have what it holds (`MayHave`), it has at most 450 days of a skill for each man
 days_may : (w : WorldValue) (h : HoldingValue) (s : ℕ) → MayHave w h → amount_of h.days s ≤ most_days * h.men
 days_may w h s may = days_within h.days (most_days * h.men) s may.days
 
--- what a unit holds after n of its men went is what a unit may have (`MayHave`)
+-- if a unit may have what it holds (`MayHave`), it may also have what it holds after n of its men went
 pub may_have_fewer : (w : WorldValue) (n : ℕ) (h : HoldingValue) → n ≤ h.men → MayHave w h → MayHave w (with_fewer n h)
 may_have_fewer w n h fewer may = record {
   limits = record { men = omega (arith, may.limits.men); money = may.limits.money; items = may.limits.items };
@@ -152,7 +152,8 @@ may_have_fewer w n h fewer may = record {
     had : (a g d : ℕ) → d ≡ a - g → 1 ≤ d → 1 ≤ a
     had a g d is some = omega (arith, is, some)
 
--- what a unit holds after n men came is what a unit may have (`MayHave`), if there is room for the men
+-- if two units may have what they hold (`MayHave`), one may also have what it holds after n men of the other came, if
+-- there is room for the men
 pub may_have_more : (w : WorldValue) (n : ℕ) (other h : HoldingValue) → h.men + n ≤ men_limit → MayHave w other → MayHave w h → MayHave w (with_more n other h)
 may_have_more w n other h room from may = record {
   limits = record { men = room; money = may.limits.money; items = may.limits.items };
@@ -189,7 +190,7 @@ may_have_more w n other h room from may = record {
         spread : (k s n : ℕ) → k * (s + n) ≡ k * s + k * n
         spread k s n = grind arith
 
--- sender and receiver together hold as much of each thing after as before
+-- sender and receiver together hold as much of each thing after n men went as before, if the sender had n men
 pub both_hold : (n : ℕ) (h k : HoldingValue) → n ≤ h.men → (t : Thing) → unit_amount t (with_fewer n h) + unit_amount t (with_more n h k) ≡ unit_amount t h + unit_amount t k
 both_hold n h k l things.Money = refl
 both_hold n h k l things.People = omega (arith, l)
@@ -214,7 +215,7 @@ better_off n other v = record {
 -- ---- one order
 
 module _ {fit : Type 0} (w : WorldValue) (c : CampaignValue) (from to n : ℕ) (u : Unit) (sender : get c.units from ≡ Some u) where
-  -- a transfer to another unit keeps what an order should (`Keeps`), if it has no fault
+  -- a transfer to another unit, if it can be sent, keeps the campaign early, and other units no worse off (`Keeps`)
   moved_kept : (v : Unit) → get c.units to ≡ Some v → to ≢ from → CanSend n u v
       → Keeps IsEarly fit w c from u.faction (with_held (with_held c from (with_fewer n u.holding) (Some u)) to (with_more n u.holding v.holding) (Some v))
   moved_kept v receiver apart can = record {
@@ -227,12 +228,12 @@ module _ {fit : Type 0} (w : WorldValue) (c : CampaignValue) (from to n : ℕ) (
         (record { better = better_off n u.holding v; men = λ other. absurd (other (sym can.own)) });
   }
 
-  -- an order of TRANSFER keeps what it should (`Keeps`)
+  -- an order of TRANSFER keeps the campaign early, and all units but the sender no worse off (`Keeps`)
   transfer_kept : Keeps IsEarly fit w c from u.faction (transfer from to n c u).0
   unfolding transfer
   transfer_kept = by_receiver (get c.units to) refl
     where
-      -- the order keeps what it should (`Keeps`), whether the receiver is there or not
+      -- the order keeps the campaign early, and other units no worse off (`Keeps`), with a receiver there or without
       by_receiver : (o : Option Unit) → get c.units to ≡ o → Keeps IsEarly fit w c from u.faction (transfer_to c from to n u o).0
       by_receiver None is = keeps_all w c from u.faction
       by_receiver (Some v) receiver =
@@ -241,11 +242,11 @@ module _ {fit : Type 0} (w : WorldValue) (c : CampaignValue) (from to n : ℕ) (
 
 -- ---- the phase
 
--- each order of TRANSFER keeps what it should (`Keeps`)
+-- each order of TRANSFER keeps the campaign early, and all units but the sender no worse off (`Keeps`)
 pub transfer_keeps : StepKeeps IsEarly transfer_step
 transfer_keeps w a c t x own = by_operands t.order_value.operands
   where
-    -- an order with the operands o keeps what it should (`Keeps`)
+    -- an order with the operands o keeps the campaign early, and all units but the sender no worse off (`Keeps`)
     by_operands : (o : OperandsValue) → IfSome (transfer_effect a t.faction t.unit o) (λ deed. Keeps IsEarly (AreOperandsOf w o) w c t.unit x.faction (deed c x).0)
     by_operands (operands.UnitAndNumber to n) = transfer_kept w c t.unit (unit_of a t.faction to) n x own.there
     by_operands other = tt

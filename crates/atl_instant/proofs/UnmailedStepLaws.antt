@@ -1,5 +1,4 @@
--- Laws of FORM, NAME, LEAVE, ENTER, PROMOTE, GIVE, TRANSFER, GUARD and QUIT:
--- what they leave to units of a faction that sent no mailing.
+-- Laws of the phases from FORM to QUIT: in each, units of a faction that sent no mailing keep their men and items.
 use Rattle.std.proofs.Common.{◌≡◌, ℕ, List, [], ◌∷◌, refl, sym, ◌∙◌, arith}
 use Rattle.std.specs.Prelude.{IfSome, fold}
 use Rattle.std.specs.FinMap.{values}

@@ -13,7 +13,7 @@ use Rattle.atl_instant.specs.Form.{alias_of, aliases_after, form_by}
 abbrev pub forming_of : Task → Forming
 forming_of t = record { unit = t.unit; line = t.line; faction = t.faction; verb = t.order_value.verb; alias = alias_of t.order_value.operands }
 
--- the event that reports the outcome of a copied order of FORM
+-- the event that reports the outcome of an order of FORM, made of the copy of the order
 abbrev pub forming_event : Forming → Outcome → Event
 forming_event o outcome = record { faction = o.faction; unit = o.unit; line = o.line; verb = Order o.verb; outcome = outcome }
 
@@ -22,6 +22,6 @@ forming_event o outcome = record { faction = o.faction; unit = o.unit; line = o.
 abbrev pub with_forming_result : MonthValue → Forming → CampaignValue × Outcome → CampaignValue × MonthValue
 with_forming_result m o (c, outcome) = (c, record m { aliases = aliases_after m.aliases o.faction o.alias outcome; events = m.events ++ forming_event o outcome ∷ [] })
 
--- the campaign and the month after one copied order of FORM
+-- the campaign and the month after one order of FORM, carried out by its copy
 abbrev pub form_apart : CampaignValue × MonthValue → Forming → CampaignValue × MonthValue
 form_apart (c, m) o = with_forming_result m o (form_by c o.faction o.unit)

@@ -31,7 +31,7 @@ is_giving verb = false
 
 -- ---- what is given
 
--- how much money, or how many pieces of an item, a unit holds, by what is given
+-- how much a unit holds of what is given: its money, or its pieces of the item
 abbrev pub held_of : Gift → HoldingValue → ℕ
 held_of Money h = h.money
 held_of (Item i) h = amount_of h.items i

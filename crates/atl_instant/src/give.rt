@@ -30,7 +30,7 @@ pub(crate) enum Gift {
     Item(u16),
 }
 
-/// How much money, or how many pieces of an item, a unit holds, by what is given.
+/// How much a unit holds of what is given: its money, or its pieces of the item.
 fn held_of(gift: Gift, holding: &Holding) -> u32
     ensures { result ≡ held_of gift holding.now }
 {

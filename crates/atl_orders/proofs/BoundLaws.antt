@@ -1,4 +1,4 @@
--- Every mailing that is read has its faction, its orders and its line numbers in bounds.
+-- Every mailing that is read is in bounds: numbers in range, names by their rule, things of the world, rising lines.
 use Rattle.std.proofs.Common.{◌≡◌, ℕ, ◌+◌, ◌<◌, Bool, List, [], ◌∷◌, ◌++◌, length, codes, Option, Some, None, Result, Ok, Err, nat_lt, refl, subst, arith}
 use Rattle.std.specs.List.{All, list_all, flat_map}
 use Rattle.std.proofs.lemmas.Bool.{cond_both}

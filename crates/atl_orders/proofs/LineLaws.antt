@@ -9,7 +9,7 @@ use Rattle.std.proofs.lemmas.Bool.Decides.{nat_tests}
 use Rattle.atl_orders.specs.Letters.{carriage_return}
 use Rattle.atl_orders.specs.Lines.{is_feed, with_front, pieces, without_return, lines}
 
--- a text b ∷ bs with a line feed is split at its first one, whether that is b or in bs, if bs is split so
+-- a text b ∷ bs with a line feed is split at its first one, whether that is b or in bs, if bs is split at its own first
 feed_step : (t : Bool) (b : ℕ) (bs : List ℕ) (m : ℕ) → cond (not t) (1 + m) 0 < suc (length bs) → (m < length bs → pieces bs ≡ take m bs ∷ pieces (drop (m + 1) bs)) → cond t ([] ∷ pieces bs) (with_front b (pieces bs)) ≡ take (cond (not t) (1 + m) 0) (b ∷ bs) ∷ pieces (drop (cond (not t) (1 + m) 0 + 1) (b ∷ bs))
 feed_step true b bs m h rest = refl
 feed_step false b bs m h rest =
@@ -72,11 +72,12 @@ all_front text = record { back = []; whole = sym (append-nil text) }
 pub take_front : (text : List ℕ) (n : ℕ) → StartsWith text (take n text)
 take_front text n = record { back = drop n text; whole = sym (take-append-drop n text) }
 
--- what a start of a text starts with, the text starts with
+-- if a text starts with `mid`, and `mid` with `front`, the text starts with `front`
 pub front_further : (text mid front : List ℕ) → StartsWith text mid → StartsWith mid front → StartsWith text front
 front_further text mid front a b = record { back = b.back ++ a.back; whole = a.whole ∙ ap (λ l. l ++ a.back) b.whole ∙ append_assoc front b.back a.back }
 
--- a line at the start of the rest `left` of a text ends at the text's length, less that of `left`, plus the line's own
+-- a line at the start of `left`, the rest of a text, ends in the text at the text's length, less that of `left`, plus
+-- the line's own
 pub line_ends_at : (text left line : List ℕ) → EndsWith text left → StartsWith left line → EndsAt text (length text - length left + length line) line
 line_ends_at text left line e s =
     let a : length text ≡ length e.front + length left = ap length e.whole ∙ length-append e.front left in

@@ -28,17 +28,17 @@ found u rest = Ok (u, rest)
 abbrev pub then_units : UnitRef × List WordText → Result (List UnitRef) LineFault
 then_units x = units_of x.1 >>= λ us. Ok (x.0 ∷ us)
 
--- reading a unit by its number or its alias in front of further units gives what reading the unit and then these units gives
+-- reading a unit, by number or alias, in front of further units gives what reading it and then these units gives
 ref_step : (o : Option ℕ) (f : LineFault) (c : ℕ → UnitRef) (ws : List WordText) → and_then_units (or_fault f o >>= λ n. Ok (c n)) (units_of ws) ≡ (or_fault f o >>= paired ws >>= as_unit c) >>= then_units
 ref_step None f c ws = refl
 ref_step (Some n) f c ws = refl
 
--- a choice of two results, each followed by `then_units`, is the choice followed by `then_units`
+-- if a and b are what `then_units` makes of c and d, the choice of a or b is what it makes of the choice of c or d
 choose : (t : Bool) (a b : Result (List UnitRef) LineFault) (c d : Result (UnitRef × List WordText) LineFault) → a ≡ c >>= then_units → b ≡ d >>= then_units → cond t a b ≡ cond t c d >>= then_units
 choose true a b c d p q = p
 choose false a b c d p q = q
 
--- the units that words name are the first unit and then the others
+-- the units that one or more words name are the unit that the words begin with, and then those of the words after it
 pub units_step : (w : WordText) (ws : List WordText) → units_of (w ∷ ws) ≡ unit_at (w ∷ ws) >>= then_units
 unfolding units_of unit_at count_at
 units_step w [] = choose (is_word (codes "NEW") w) _ _ _ _ refl (ref_step (not_zero (number_of most_number w.bytes)) BadNumber Number [])
@@ -49,7 +49,7 @@ started : (units : Result (List UnitRef) LineFault) (front : List UnitRef) (u : 
 started (Ok us) front u = ap (λ l. Ok l) (append_assoc front (u ∷ []) us)
 started (Err f) front u = refl
 
--- if the words left begin with the unit u, the units read so far with u and the units of the rest give the same list
+-- the units read so far, then u, then those of `rest` are those read so far and those of the words left, u and `rest`
 pub one_more : (front : List UnitRef) (ws : List WordText) (u : UnitRef) (rest : List WordText) → unit_at ws ≡ found u rest → with_units (front ++ u ∷ []) (units_of rest) ≡ with_units front (units_of ws)
 unfolding unit_at
 one_more front [] u rest h = cc

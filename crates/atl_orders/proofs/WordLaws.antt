@@ -111,11 +111,11 @@ end_of_words line i h = at_drop_all words line i h ∙ words-nil
 pub ends_after : (line : List ℕ) (n : ℕ) → EndsWith line (drop n line)
 ends_after line n = record { front = take n line; whole = sym (take-append-drop n line) }
 
--- what an end of a line ends with, the line ends with
+-- if a line ends with `mid`, and `mid` with `rest`, the line ends with `rest`
 pub ends_further : (line mid rest : List ℕ) → EndsWith line mid → EndsWith mid rest → EndsWith line rest
 ends_further line mid rest a b = record { front = a.front ++ b.front; whole = a.whole ∙ ap (λ l. a.front ++ l) b.whole ∙ sym (append_assoc a.front b.front rest) }
 
--- a part of an end of a line is a part of the line
+-- if a line ends with `mid`, a part of `mid` is a part of the line
 pub part_further : (line mid bytes : List ℕ) (to_end : ℕ) → EndsWith line mid → IsPartOf mid bytes to_end → IsPartOf line bytes to_end
 part_further line mid bytes to_end a b =
     record { front = a.front ++ b.front; back = b.back; whole = a.whole ∙ ap (λ l. a.front ++ l) b.whole ∙ sym (append_assoc a.front b.front (bytes ++ b.back)); to_end_is = b.to_end_is }

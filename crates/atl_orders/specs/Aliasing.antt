@@ -5,6 +5,6 @@ use Rattle.std.specs.Prelude.{ℕ, Bool, false, ◌||◌, ◌==◌}
 abbrev pub no_alias : ℕ → Bool
 no_alias k = false
 
--- the set `given` with one alias more
+-- a set of aliases with one alias more
 abbrev pub with_alias : (ℕ → Bool) → ℕ → ℕ → Bool
 with_alias given alias k = k == alias || given k

@@ -10,7 +10,7 @@ use Rattle.atl_orders.specs.declared.order.Operands.TheVariants as operands
 use Rattle.atl_orders.specs.Orders.{OperandsValue, OrderValue}
 use Rattle.atl_orders.specs.Mailing.{EntryValue, Reading, reading}
 
--- a number is from 1 to `most`
+-- the second number is from 1 to the first
 abbrev pub IsWithin : ℕ → ℕ → Type 0
 IsWithin most n = (1 ≤ n) × (n ≤ most)
 
@@ -53,10 +53,10 @@ IsOrderOf world order_value = AreOperandsOf world order_value.operands
 pub record IsEntry (world : WorldValue) (e : EntryValue) : Type 0 where
   -- the number or alias of the unit that the order is for is in its range
   pub target : IsUnitRef e.target
-  -- the operands of the order are in bounds
+  -- the operands of the order are in bounds (`IsOrderOf`)
   pub order : IsOrderOf world e.order_value
 
--- the line numbers of a mailing's orders are strictly ascending, and all are above n
+-- the line numbers of a mailing's orders are strictly ascending, and all are above the number given
 abbrev pub LinesRise : ℕ → List EntryValue → Type 0
 LinesRise n [] = Unit {0}
 LinesRise n (e ∷ es) = (n < e.line) × LinesRise e.line es
@@ -65,7 +65,7 @@ LinesRise n (e ∷ es) = (n < e.line) × LinesRise e.line es
 pub record IsReading (world : WorldValue) (r : Reading) : Type 0 where
   -- the number of the mailing's faction is from 1 to last_faction
   pub faction : IsWithin last_faction r.faction
-  -- each order of the mailing is in bounds
+  -- each order of the mailing is in bounds (`IsEntry`)
   pub entries : All (IsEntry world) r.entries
   -- the line numbers of the orders are above 0, and strictly ascending
   pub lines : LinesRise 0 r.entries

@@ -47,7 +47,7 @@ fault_of (n, nothing) = []
 fault_of (n, faulty fault) = record { line = n; fault = fault } ∷ []
 fault_of (n, says unit order_value) = []
 
--- the number of the faction, from 1 to 9,999, that is the second word of a header; None if that word is none
+-- the faction's number, from 1 to 9,999, that is the second word of a header; None if that word is no such number
 abbrev pub faction_of : List WordText → Option ℕ
 faction_of [] = None
 faction_of (w ∷ []) = None
@@ -100,7 +100,7 @@ reading world text =
 
 -- a text is a mailing of a faction: it isn't too long, and its header names the faction
 pub record IsMailingOf (faction : ℕ) (text : List ℕ) : Type 0 where
-  -- the text isn't too long
+  -- the text has at most most_bytes (65,536) bytes
   pub short : length text ≤ most_bytes
   -- the first header of the text names the faction
   pub header : (next : ℕ) × (rest : List (List ℕ)) × (header_from 1 (lines text) ≡ Ok (record { faction = faction; next = next; rest = rest }))
@@ -119,8 +119,8 @@ reading_of m = record { faction = m.faction; entries = map (entry_value m.text) 
 abbrev pub IsReadWith : WorldValue → Mailing → Type 0
 IsReadWith world m = reading world m.text ≡ Ok (reading_of m)
 
--- A call returned what the definition gives, which is `read`: its fault, or its value, compared by `view`; or it
--- returned Memory, whatever `read` is.
+-- The first result, which a call returned, shows the second, that of the definition: it is the same fault, or a value
+-- of which the function makes the definition's. Or the call returned Memory, whatever the definition gives.
 abbrev pub Reads : {X Y : Type 0} → (X → Y) → Result X MailFault → Result Y MailFault → Type 0
 Reads view (Ok x) read = read ≡ Ok (view x)
 Reads view (Err Memory) read = Unit {0}

@@ -12,12 +12,12 @@ use Rattle.atl_orders.specs.declared.fault.LineFault.{LineFault}
 use Rattle.atl_orders.specs.declared.fault.LineFault.TheVariants.{BadNumber, UnknownThing, MissingWord, BadAlias, BadDirection}
 use Rattle.atl_orders.specs.Words.{WordText, is_word, number_of}
 
--- the value of an option as a result, or `fault` if it has none
+-- the value of an option as a result, or the fault given if it has none
 abbrev pub or_fault : {X : Type 0} → LineFault → Option X → Result X LineFault
 or_fault fault None = Err fault
 or_fault fault (Some x) = Ok x
 
--- an optional number, None if it is 0
+-- an optional number, or None if it is 0
 abbrev pub not_zero : Option ℕ → Option ℕ
 not_zero None = None
 not_zero (Some n) = if n == 0 then None else Some n

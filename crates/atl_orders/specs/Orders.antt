@@ -66,7 +66,7 @@ kind_of_name w =
     else if is_word (codes "SHIP") w then Some kinds.Ship
     else None
 
--- a new name and what gets it; else BadName if the name breaks the rule of names
+-- the operands of NAME: what gets a new name, and the name; or BadName if the name breaks the rule of names
 abbrev pub name_by : NameKind → List ℕ → Result OperandsValue LineFault
 name_by what bytes = if name_ok bytes then Ok (operands.Name what bytes) else Err BadName
 

@@ -35,11 +35,11 @@ keyword_of w =
 
 -- the effect of a line: nothing, a fault, or an order for a unit
 pub data Effect : Type 0 where
-  -- no order and no fault
+  -- the line gives no order and no fault
   nothing : Effect
-  -- the fault of the line
+  -- the line gives this fault
   faulty : LineFault → Effect
-  -- an order, and the unit that it is for
+  -- the line gives this order, for this unit
   says : UnitRef → OrderValue → Effect
 
 -- the step of a line: what reading it gives, which is its effect, the reader's state after it (`state`), and the
@@ -84,7 +84,7 @@ end_step (Skipping parent) given = step nothing (outside parent) given
 abbrev pub form_value : ℕ → OrderValue
 form_value alias = order_of verbs.Form (operands.Alias alias)
 
--- the step of a FORM line by the unit `parent`, outside blocks; on a fault the block that it opens is skipped
+-- the step of a FORM line for the unit of this number, outside of blocks; on a fault the block that it opens is skipped
 abbrev pub block_step : ℕ → (ℕ → Bool) → Result (ℕ × List WordText) LineFault → LineStep
 block_step parent given (Ok n) =
     if given n.0

@@ -31,7 +31,7 @@ outer (At n) = None
 outer (Forming parent alias) = Some (At parent)
 outer (Skipping parent) = Some (outside parent)
 
--- the first word of a line, w, is the keyword k
+-- a word, which is the first of a line, is this keyword
 abbrev pub Leads : WordText → Keyword → Type 0
 Leads w k = keyword_of w ≡ Some k
 
@@ -46,19 +46,19 @@ pub data WordsSay (world : WorldValue) (state : ReaderState) (given : ℕ → Bo
   -- END in a block: the block is closed
   block_closed : Leads w keywords.End → (out : ReaderState) → outer state ≡ Some out
       → s ≡ step nothing out given → WordsSay world state given w ws s
-  -- END outside of blocks: EndAlone
+  -- END outside of blocks: the line has the fault EndAlone
   end_alone : Leads w keywords.End → outer state ≡ None
       → s ≡ step (faulty EndAlone) state given → WordsSay world state given w ws s
-  -- FORM in a block: NestedForm, and the block stays open
+  -- FORM in a block: the line has the fault NestedForm, and the block stays open
   form_nested : Leads w keywords.Form → (out : ReaderState) → outer state ≡ Some out
       → s ≡ step (faulty NestedForm) state given → WordsSay world state given w ws s
-  -- FORM where no unit is named: NoUnit, and a block opens that is skipped
+  -- FORM where no unit is named: the line has the fault NoUnit, and a block opens that is skipped
   form_nowhere : Leads w keywords.Form → state ≡ Nowhere
       → s ≡ step (faulty NoUnit) (Skipping None) given → WordsSay world state given w ws s
   -- FORM with a faulty alias: the line has this fault, and a block opens that is skipped
   form_faulty : Leads w keywords.Form → (n : ℕ) → state ≡ At n → (fault : LineFault) → alias_at ws ≡ Err fault
       → s ≡ step (faulty fault) (Skipping (Some n)) given → WordsSay world state given w ws s
-  -- FORM with an alias that an earlier FORM gave: BadAlias, and a block opens that is skipped
+  -- FORM with an alias that an earlier FORM gave: the line has the fault BadAlias, and a block opens that is skipped
   form_again : Leads w keywords.Form → (n : ℕ) → state ≡ At n
       → (alias : ℕ) (rest : List WordText) → alias_at ws ≡ Ok (alias, rest) → given alias ≡ true
       → s ≡ step (faulty BadAlias) (Skipping (Some n)) given → WordsSay world state given w ws s
@@ -66,7 +66,7 @@ pub data WordsSay (world : WorldValue) (state : ReaderState) (given : ℕ → Bo
   form_new : Leads w keywords.Form → (n : ℕ) → state ≡ At n
       → (alias : ℕ) (rest : List WordText) → alias_at ws ≡ Ok (alias, rest) → given alias ≡ false
       → s ≡ step (says (Number n) (form_value alias)) (Forming n alias) (with_alias given alias) → WordsSay world state given w ws s
-  -- an order where no unit is named, or in a block that is skipped: NoUnit
+  -- an order where no unit is named, or in a block that is skipped: the line has the fault NoUnit
   order_nowhere : (verb : Verb) → Leads w (keywords.Order verb) → target state ≡ None
       → s ≡ step (faulty NoUnit) state given → WordsSay world state given w ws s
   -- an order whose words have a fault: the line has this fault
@@ -77,26 +77,26 @@ pub data WordsSay (world : WorldValue) (state : ReaderState) (given : ℕ → Bo
   order_said : (verb : Verb) → Leads w (keywords.Order verb) → (unit : UnitRef) → target state ≡ Some unit
       → (order_value : OrderValue) → said_by world verb ws ≡ Ok order_value
       → s ≡ step (says unit order_value) state given → WordsSay world state given w ws s
-  -- any other first word: UnknownOrder
+  -- any other first word: the line has the fault UnknownOrder
   unknown : keyword_of w ≡ None
       → s ≡ step (faulty UnknownOrder) state given → WordsSay world state given w ws s
 
 -- the rules for one line of a mailing: the line has the step s
 pub data LineSays (world : WorldValue) (state : ReaderState) (given : ℕ → Bool) (line : List ℕ) (s : LineStep) : Type 0 where
-  -- a line with a byte that no line may have: BadByte
+  -- a line with a byte that no line may have: it has the fault BadByte
   bad_byte : list_all is_plain line ≡ false
       → s ≡ step (faulty BadByte) state given → LineSays world state given line s
-  -- a line without words, such as a comment: nothing
+  -- a line without words, such as a comment: it gives nothing
   no_word : list_all is_plain line ≡ true → words line ≡ []
       → s ≡ step nothing state given → LineSays world state given line s
-  -- a line with words: what the rules for its words (`WordsSay`) say
+  -- a line with words: it has the step that the rules for its words (`WordsSay`) allow
   some_words : list_all is_plain line ≡ true → (w : WordText) (ws : List WordText) → words line ≡ w ∷ ws
       → WordsSay world state given w ws s → LineSays world state given line s
 
 -- the rules for the lines after the header: which orders and which faulty lines they give; the first line's number,
 -- the reader's state and the given aliases come in front of the lines
 pub data BodySays (world : WorldValue) : ℕ → ReaderState → (ℕ → Bool) → List (List ℕ) → List EntryValue → List FaultyLine → Type 0 where
-  -- where no line is left: no orders and no faulty lines
+  -- where no line is left, there are no further orders and faulty lines
   text_ended : (n : ℕ) (state : ReaderState) (given : ℕ → Bool) → BodySays world n state given [] [] []
   -- a line that begins with `#END`: no orders and no faulty lines, from this line on
   orders_ended : (n : ℕ) (state : ReaderState) (given : ℕ → Bool) (line : List ℕ) (rest : List (List ℕ))
@@ -127,13 +127,13 @@ pub record HaveHeader (lines above : List (List ℕ)) (header : List ℕ) (below
 
 -- the rules for a whole text: it is read as `read`, a mailing or a fault
 pub data TextSays (world : WorldValue) (text : List ℕ) (read : Result Reading MailFault) : Type 0 where
-  -- a text of more than most_bytes bytes: TooLong
+  -- a text of more than most_bytes bytes: it is no mailing, by the fault TooLong
   too_long : most_bytes < length text
       → read ≡ Err TooLong → TextSays world text read
-  -- a text without a header: NoHeader
+  -- a text without a header: it is no mailing, by the fault NoHeader
   no_header : length text ≤ most_bytes → HaveNoHeader (lines text)
       → read ≡ Err NoHeader → TextSays world text read
-  -- a text whose first header names no faction: BadHeader
+  -- a text whose first header names no faction: it is no mailing, by the fault BadHeader
   bad_header : length text ≤ most_bytes
       → (above : List (List ℕ)) (header : List ℕ) (below : List (List ℕ)) → HaveHeader (lines text) above header below
       → faction_of (words header) ≡ None

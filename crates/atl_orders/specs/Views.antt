@@ -30,16 +30,17 @@ abbrev pub rest_size : Option (List ℕ) → ℕ
 rest_size None = 0
 rest_size (Some text) = length text + 1
 
--- a result with its value mapped by `view`; a fault stays
+-- a result with its value mapped by the function; a fault stays
 abbrev pub view_of_result : {X Y : Type 0} → (X → Y) → Result X LineFault → Result Y LineFault
 view_of_result view (Ok x) = Ok (view x)
 view_of_result view (Err e) = Err e
 
--- a call returned what the definition gives, which is `read`: its fault, or its value, compared by `view`
+-- the first result, which a call returned, shows the second, that of the definition: it is the same fault, or a value
+-- of which the function makes the definition's
 abbrev pub Gives : {X Y : Type 0} → (X → Y) → Result X LineFault → Result Y LineFault → Type 0
 Gives view result read = read ≡ view_of_result view result
 
--- the units `front`, and then those of the result `units`; or the fault of `units`
+-- the units of a list, and then those of a result; or the fault of the result
 abbrev pub with_units : List UnitRef → Result (List UnitRef) LineFault → Result (List UnitRef) LineFault
 with_units front units = units >>= λ us. Ok (front ++ us)
 

@@ -40,16 +40,16 @@ words_after zero (b ∷ bs) =
 abbrev pub words : List ℕ → List WordText
 words line = words_after zero line
 
--- whether a word is the keyword `name`, ignoring ASCII case
+-- whether a word is this keyword, ignoring ASCII case
 abbrev pub is_word : List ℕ → WordText → Bool
 is_word name w = str_eq_ignore_ascii_case w.bytes name
 
--- whether the first word of a line is the keyword `name`, ignoring ASCII case
+-- whether the first word of a line is this keyword, ignoring ASCII case
 abbrev pub begins : List ℕ → List WordText → Bool
 begins name [] = false
 begins name (w ∷ ws) = is_word name w
 
--- the number that one or more digits write, if it is at most `most`
+-- the number that one or more digits write, if it is at most the number given
 abbrev pub number_of : ℕ → List ℕ → Option ℕ
 number_of most bytes =
     if nat_lt 0 (length bytes) && list_all is_ascii_digit bytes && nat_le (digits_value 10 bytes) most

@@ -18,7 +18,7 @@ pub fold_mapped : {S A B : Type 0} (f : S → B → S) (g : A → B) (s : S) (xs
 fold_mapped f g s [] = refl
 fold_mapped f g s (x ∷ xs) = fold_mapped f g (f s (g x)) xs
 
--- if P holds of all elements of a mapped list, it holds of g of the element at index i
+-- if P holds of all elements of a list mapped by g (`ys`), it holds of g of the element at index i of the list
 pub each_mapped : {A B : Type 0} (P : B → Type 0) (g : A → B) (xs : List A) (ys : List B) → map g xs ≡ ys → All P ys → (i : ℕ) (d : A) → i < length xs → P (g (get_or xs i d))
 each_mapped P g xs ys is all i d inside =
     let long : length (map g xs) ≡ length xs = length-map xs g in

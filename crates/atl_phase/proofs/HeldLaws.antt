@@ -28,7 +28,7 @@ sum_within {V} f most (e ∷ es) each =
     more : (s x y a b m : ℕ) → s ≡ x + y → a ≡ b + m → x ≤ m → y ≤ b → s ≤ a
     more s x y a b m e f k l = omega (arith, e, f, k, l)
 
--- a unit holds at most `holding_limit` (999,999,999) of each thing: money, men, or an item
+-- a holding within its limits (`IsHolding`) has at most `holding_limit` (999,999,999) of each thing
 within_limit : (t : Thing) (h : HoldingValue) → IsHolding h → unit_amount t h ≤ holding_limit
 within_limit Money h is = is.money
 within_limit People h is = omega (arith, is.men)

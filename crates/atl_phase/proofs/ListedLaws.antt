@@ -26,7 +26,7 @@ alike None None f g = refl
 alike None (Some w) f g = g w refl
 alike (Some v) b f g = sym (f v refl)
 
--- a comparison that isn't Equal is Less, if the comparison the other way round isn't
+-- a comparison is Less, if it isn't Equal, and the same comparison the other way round isn't Less
 left_less : (r : Ordering) → is_lt (ordering_reverse r) ≡ false → is_eq r ≡ false → r ≡ Less
 left_less Less up apart = refl
 left_less Equal up apart = cc
@@ -61,12 +61,12 @@ module _ {K X : Type 0} {R : K → K → Ordering} (o : IsTotalOrder R) where
   keys_apart es = IsDistinct-map (λ (e : K × X). e.0) (eq_by_cmp R) es
 
   module _ {A : Type 0} (entry : A → K × X) where
-    -- an entry whose key is less than those of all elements is put in front
+    -- an entry whose key is less than those of all elements is put in front of the elements' entries
     put_first : (e : K × X) (xs : List A) → AllByRecursion (λ x. R e.0 (entry x).0 ≡ Less) xs → put R e.0 e.1 (map entry xs) ≡ e ∷ map entry xs
     put_first e [] h = refl
     put_first e (x ∷ xs) h = rw h.0
 
-    -- the map of elements that are strictly sorted by their keys lists them
+    -- elements that are strictly sorted by their keys are what the map of them lists
     pub entries_of : (xs : List A) → IsStrictlySortedBy (λ x y. R (entry x).0 (entry y).0) xs → entries (from_entries {R = R} (map entry xs)) ≡ map entry xs
     unfolding IsStrictlySortedBy
     entries_of [] h = no_entries R
@@ -93,12 +93,12 @@ module _ {K X : Type 0} {R : K → K → Ordering} (o : IsTotalOrder R) where
     find_is q [] = refl
     find_is q (e ∷ es) = ap (cond (eq_by_cmp R q e.0) (Some e.1)) (find_is q es)
 
-    -- what is found by key in entries of which no two have the same key is found in them in another order
+    -- a value found by its key in a list of entries is found in the list in another order too, if no two keys are equal
     found : (es fs : List (K × X)) → IsPermutation es fs → IsDistinct same_entry_key fs → (q : K) (v : X) → find R q es ≡ Some v → find R q fs ≡ Some v
     found es fs p apart q v h =
         find_is q fs ∙ lookup-from_Contains (eq_by_cmp_equiv o) q v fs (keys_apart fs apart) (Contains-permutation es fs (q, v) p (Contains-from_lookup (tells_apart exact) q v es (sym (find_is q es) ∙ h)))
 
-    -- two orders of a list of entries make the same map, if no two have the same key
+    -- a list of entries in two orders makes the same map, if no two entries have the same key
     pub from_entries-permutation : (es fs : List (K × X)) → IsPermutation es fs → IsDistinct same_entry_key es → from_entries {R = R} es ≡ from_entries fs
     from_entries-permutation es fs p apart =
         let other = IsDistinct-IsPermutation same_entry_key (λ e f. (eq_by_cmp_equiv o).symm e.0 f.0) es fs p apart in
@@ -108,7 +108,7 @@ module _ {K X : Type 0} {R : K → K → Ordering} (o : IsTotalOrder R) where
     abbrev passing : (X → Bool) → List (K × X) → List (K × X)
     passing p es = filter (λ e. p e.1) es
 
-    -- the search among the entries that pass the test finds what it finds among all, if that passes, and None otherwise
+    -- a search among the entries that pass the test finds what the one among all finds, if that passes; otherwise None
     find-passing : (p : X → Bool) (es : List (K × X)) → IsDistinct same_entry_key es → (q : K) → find R q (passing p es) ≡ option_filter p (find R q es)
     find-passing p es apart q =
         find_is q (passing p es) ∙ lookup-filter-values (eq_by_cmp_equiv o) p q es (keys_apart es apart) ∙ ap (option_filter p) (sym (find_is q es))

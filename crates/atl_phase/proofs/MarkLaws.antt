@@ -14,7 +14,7 @@ use Rattle.atl_campaign.proofs.HoldingLaws.{marks-unit_row}
 use Rattle.atl_campaign.proofs.LeavingLaws.{marks-after_handover}
 use Rattle.atl_campaign.proofs.OwnerLaws.{place-what}
 
--- a change marks all that it changes, if it has the value and the marks of another change that does
+-- a change marks all that it changes, if it makes the same campaign and the same marks as another change that does
 pub marks_by : (a b m : MarkedCampaign) → b.value ≡ m.value → b.marks ≡ m.marks → MarksChanges a m → MarksChanges a b
 marks_by a b m what marks h = rw (what, marks) (record { stay = h.stay; covers = h.covers })
 

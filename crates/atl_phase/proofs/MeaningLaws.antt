@@ -55,17 +55,18 @@ room_when_sound w c moving l sound e t =
     within : (a : ℤ) (bound change : ℕ) → bound ≤ 3000000000000000000 → change ≤ 5000000000000000000 → IsWithin bound a → HasRoom change a
     within a bound change few little h = record { above = omega (arith, ints, h.most); below = omega (arith, ints, h.least) }
 
--- books with room for two phases have room for the second after the first
+-- books with room for two phases have room for the second after the first, if that keeps its bound (`LeavesWell`)
 pub room_behind : {leaves : Condition} (j k : BookBound) (w : WorldValue) (c d : CampaignValue) → LeavesWell leaves j w c d → HaveRoom (both_move j k) c → HaveRoom k d
 room_behind j k w c d well room e t = near_room (j e t) (k e t) (amount_in c.books e t) (amount_in d.books e t) (well.near e t) (room e t)
 
 -- ---- the same month
 
--- the number of the month last closed, and the reports
+-- of a campaign, the number of the month last closed, and the reports
 abbrev pub counted_month : CampaignValue → ℕ × FinMap nat_cmp (List ℕ)
 counted_month c = (c.month, c.reports)
 
--- a campaign is of the same month if its month, its reports and its number of factions stay, and no faction is added
+-- campaign d is of the same month as c (`IsSameMonth`) if its month, its reports and its number of factions are those
+-- of c, and no faction is added
 pub same_month_among : {c d : CampaignValue} → counted_month d ≡ counted_month c → len d.factions ≡ len c.factions → ((n : ℕ) → IsThere d.factions n → IsThere c.factions n) → IsSameMonth c d
 same_month_among {c} {d} same count factions = record {
   month = ap (λ (p : ℕ × FinMap nat_cmp (List ℕ)). p.0) same;
@@ -74,17 +75,17 @@ same_month_among {c} {d} same count factions = record {
   factions = factions;
 }
 
--- all that stays in a month: the month last closed, the reports and the factions
+-- all that stays of a campaign within a month: the month last closed, the reports and the factions
 abbrev pub kept_in_month : CampaignValue → (ℕ × FinMap nat_cmp (List ℕ)) × FinMap nat_cmp Faction
 kept_in_month c = (counted_month c, c.factions)
 
--- a campaign is of the same month if the month last closed, the reports and the factions stay
+-- campaign d is of the same month as c (`IsSameMonth`) if the month last closed, the reports and the factions stay
 pub same_month_by : {c d : CampaignValue} → kept_in_month d ≡ kept_in_month c → IsSameMonth c d
 same_month_by {c} {d} same =
     let factions : d.factions ≡ c.factions = ap (λ (p : (ℕ × FinMap nat_cmp (List ℕ)) × FinMap nat_cmp Faction). p.1) same in
     same_month_among (ap (λ (p : (ℕ × FinMap nat_cmp (List ℕ)) × FinMap nat_cmp Faction). p.0) same) (ap len factions) (λ n there. subst (λ (m : FinMap nat_cmp Faction). IsThere m n) factions there)
 
--- an unchanged campaign is of the same month
+-- an unchanged campaign is of the same month as before (`IsSameMonth`)
 pub same_month : (c : CampaignValue) → IsSameMonth c c
 same_month c = same_month_by refl
 
@@ -111,21 +112,21 @@ pub both_keep_well : (first : Meaning) (early late : Frame) (w : WorldValue) (m 
     → (b, n) ≡ first w a m → early w m a b → late w n b c → both_keep first early late w m a c
 both_keep_well first early late w m n a b c is one two = rw (sym is) (one, two)
 
--- a phase that keeps its promises within a bound on the books (`LeavesWell`) keeps them within a greater bound
+-- a phase that keeps the books balanced and within a bound (`LeavesWell`) keeps them within a greater bound, too
 pub well_within : {leaves : Condition} (j k : BookBound) (w : WorldValue) (a b : CampaignValue) → MovesLess j k → LeavesWell leaves j w a b → LeavesWell leaves k w a b
 well_within j k w a b l h = record { leaves_it = h.leaves_it; same_month = h.same_month; balances = h.balances; near = λ e t. near_more (j e t) (k e t) (amount_in a.books e t) (amount_in b.books e t) (l e t) (h.near e t) }
 
--- an unchanged campaign keeps its books within any bound and in balance (`LeavesWell`), if it has the condition
+-- a phase that changes nothing keeps the books in balance and within any bound (`LeavesWell`), if `leaves` holds of c
 pub well_unchanged : {leaves : Condition} (moving : BookBound) (w : WorldValue) (c : CampaignValue) → leaves w c → LeavesWell leaves moving w c c
 well_unchanged moving w c h = record { leaves_it = h; same_month = same_month c; balances = λ b. b; near = λ e t. near_same (moving e t) (amount_in c.books e t) }
 
 -- steps of one kind in turn, each of which keeps the books in balance and within one bound (`LeavesWell`)
 module _ {A : Type 0} {leaves : Condition} (moving : BookBound) (w : WorldValue) (step : CampaignValue → A → CampaignValue) (each : (c : CampaignValue) (x : A) → leaves w c → LeavesWell leaves moving w c (step c x)) where
-  -- the bound of one step, added to that of the other steps, is at most the bound of all of them
+  -- the bound of one step, added to that of the steps `xs`, is at most the bound of x and these steps together
   more : {B : Type 0} (x : B) (xs : List B) → MovesLess (both_move moving (moved_times (length xs) moving)) (moved_times (length (x ∷ xs)) moving)
   more x xs e t = let one : length (x ∷ xs) * moving e t ≡ length xs * moving e t + moving e t = suc-mul (length xs) (moving e t) in omega arith
 
-  -- the steps in turn keep the books in balance, and within the bound of one step times their number (`LeavesWell`)
+  -- steps in turn keep books balanced and within their number times one step's bound, if each does so (`LeavesWell`)
   pub fold_leaves_well : (c : CampaignValue) (xs : List A) → leaves w c → LeavesWell leaves (moved_times (length xs) moving) w c (fold step c xs)
   fold_leaves_well c [] h = well_unchanged (moved_times 0 moving) w c h
   fold_leaves_well c (x ∷ xs) h =
@@ -133,7 +134,7 @@ module _ {A : Type 0} {leaves : Condition} (moving : BookBound) (w : WorldValue)
       well_within (both_move moving (moved_times (length xs) moving)) (moved_times (length (x ∷ xs)) moving) w c (fold step (step c x) xs) (more x xs)
       (both_leave_well moving (moved_times (length xs) moving) w c (step c x) (fold step (step c x) xs) one (fold_leaves_well (step c x) xs one.leaves_it))
 
-  -- books with room for one or more steps together have room for one of them
+  -- books with room for one or more steps together have room for the first of them
   pub room_for_one : {B : Type 0} (c : CampaignValue) (y : B) (ys : List B) → HaveRoom (moved_times (length (y ∷ ys)) moving) c → HaveRoom moving c
   room_for_one c y ys room = room_less moving (moved_times (length (y ∷ ys)) moving) c (λ e t. omega (arith, more y ys e t)) room
 

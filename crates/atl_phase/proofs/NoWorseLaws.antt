@@ -1,4 +1,5 @@
--- Laws of being no worse off: it is reflexive and transitive, for a unit and for all units of a campaign.
+-- Laws of being no worse off (`IsNoWorse`: in the same place, with the same name and guard flag, and nothing lost):
+-- it is reflexive and transitive, for a unit and for all units of a campaign.
 use Rattle.std.proofs.Common.{refl, ◌∙◌, arith}
 use Rattle.atl_records.specs.declared.records.Unit.{Unit}
 use Rattle.atl_campaign.specs.Campaign.{CampaignValue}

@@ -53,13 +53,13 @@ drawn_near x reserve left a b e near = record { above = omega (arith, ints, e, n
 near_drawn : (r s most : ℕ) (a b : ℤ) → r ≤ most → UsesBound r s a b → IsNear most a b
 near_drawn r s most a b l h = record { above = omega (arith, ints, h.above); below = omega (arith, ints, h.below) }
 
--- an amount with room for its remaining bound has room, after a move, for the bound that remains then
+-- an amount with room for its remaining bound has room, after a move (`UsesBound`), for the bound that remains then
 room_drawn : (r s : ℕ) (a b : ℤ) → UsesBound r s a b → HasRoom r a → HasRoom s b
 room_drawn r s a b h room = record { above = omega (arith, ints, h.above, room.above); below = omega (arith, ints, h.below, room.below) }
 
 -- ---- steps
 
--- an unchanged campaign keeps its condition, month, balance and remaining bound (`StepsWell`)
+-- an unchanged campaign keeps its condition, month and balance, and uses no remaining bound (`StepsWell`)
 pub well_same : {holds : Condition} {reserve : RemainingBound} (w : WorldValue) (c : CampaignValue) → holds w c → StepsWell holds reserve w c c
 well_same {holds} {reserve} w c h = record { holds_still = h; same_month = same_month c; balances = λ b. b; drawn = λ e t. drawn_same (reserve c e t) (amount_in c.books e t) }
 
@@ -72,7 +72,7 @@ well_twice {holds} {reserve} w a b c one two = record {
   drawn = λ e t. drawn_twice (reserve a e t) (reserve b e t) (reserve c e t) (amount_in a.books e t) (amount_in b.books e t) (amount_in c.books e t) (one.drawn e t) (two.drawn e t);
 }
 
--- if the books have room for the remaining bound before a step, they have room for the remaining bound after it
+-- books with room for the remaining bound have room, after a step within it (`StepsWell`), for what remains of it
 pub room_left : {holds : Condition} {reserve : RemainingBound} (w : WorldValue) (a b : CampaignValue) → StepsWell holds reserve w a b → HaveRoom (reserve a) a → HaveRoom (reserve b) b
 room_left {holds} {reserve} w a b well room e t = room_drawn (reserve a e t) (reserve b e t) (amount_in a.books e t) (amount_in b.books e t) (well.drawn e t) (room e t)
 
@@ -108,7 +108,8 @@ carried_cases P deed c faction n other own = by_unit (get c.units n) refl
     by_unit None there = other
     by_unit (Some u) there = by_faction u there (u.faction == faction) refl
 
--- P holds of the campaign after an order, if it holds of the campaign before and after the effect on the order's unit
+-- P holds of the campaign after an order, if it holds of the campaign before, and of what the order's effect makes of
+-- that for a unit of the faction that wrote the order
 pub ordered_cases : (P : CampaignValue → Type 0) (step : Option OrderEffect) (c : CampaignValue) (t : Task) → P c → ((x : Unit) → IsUnitOf c t x → IfSome step (λ deed. P (deed c x).0)) → P (order_result step c t.faction t.unit).0
 ordered_cases P None c t same done = same
 ordered_cases P (Some deed) c t same done = carried_cases (λ p. P p.0) deed c t.faction t.unit same (λ x there faction. done x (record { there = there; faction = faction }))
@@ -174,7 +175,7 @@ module _ (w : WorldValue) where
 
 -- ---- the mailings stay
 
--- adding an event leaves the readings as they are
+-- adding an event to a month leaves the readings of its mailings as they are
 told_readings : (m : MonthValue) (t : Task) (o : Option Outcome) → (with_event_of m t o).readings ≡ m.readings
 told_readings m t None = refl
 told_readings m t (Some outcome) = refl

@@ -1,4 +1,5 @@
--- Laws of the owners of structures when one unit goes elsewhere, and all other units stay.
+-- Laws of the owners of structures when one unit goes elsewhere, and all other units stay. A structure is rightly owned
+-- (`IsOwned`) if a unit inside it owns it, or nobody does and no unit is inside.
 use Rattle.std.proofs.Common.{◌≡◌, ◌≢◌, ◌==◌, ℕ, ◌≤◌, not, Some, sym, ap, subst, ◌∙◌, inl, inr}
 use Rattle.std.proofs.lemmas.Bool.{cases_eq, not-true, not-false}
 use Rattle.std.specs.FinMap.{get}

@@ -1,5 +1,5 @@
--- Laws of a unit that goes from one structure to another of its region, or to none:
--- the campaign stays steady, other units stay.
+-- Laws of a unit that goes to another structure of its region, or to none, while structures change owners (handovers):
+-- the campaign stays steady, and other units stay.
 use Rattle.std.proofs.Common.{◌≡◌, ◌≢◌, ◌==◌, ◌&&◌, ℕ, ◌≤◌, Bool, true, false, Option, Some, None, refl, sym, ap, subst, ◌∙◌, arith}
 use Rattle.std.proofs.lemmas.Bool.{true≢false}
 use Rattle.std.proofs.lemmas.Option.{same_Some}
@@ -63,7 +63,7 @@ module _ (w : WorldValue) (c : CampaignValue) (n : ℕ) (u : Unit) (s : ℕ) (is
   abbrev moved : Unit
   moved = record u { structure = s }
 
-  -- the campaign with the unit inside structure s, before owners change
+  -- the campaign with unit n inside structure s, before structures change owners
   abbrev begun : CampaignValue
   begun = placed c n u.region s
 
@@ -80,7 +80,7 @@ module _ (w : WorldValue) (c : CampaignValue) (n : ℕ) (u : Unit) (s : ℕ) (is
   abbrev owner_behind : ℕ → Structure → Structure
   owner_behind q y = handed_on s 0 n q (handed_on old_place n next q y)
 
-  -- the campaign after unit n went, as a refit: unit n inside structure s, and each structure with its owner then
+  -- the campaign after unit n went, given as a refit: unit n inside structure s, and each structure with its new owner
   abbrev pub behind : CampaignValue
   behind = refitted w c n u s is after_entering.structures owner_behind
 
@@ -122,7 +122,7 @@ module _ (w : WorldValue) (c : CampaignValue) (n : ℕ) (u : Unit) (s : ℕ) (is
   away : (k : ℕ) → k ≢ n → get behind.units k ≡ get c.units k
   away k other = get-insert_other c.units n k moved other
 
-  -- unit n is inside structure s after it went
+  -- unit n, after it went, is inside structure s
   stands : (v : Unit) → get behind.units n ≡ Some v → v.structure ≡ s
   stands v there = sym (ap (λ (x : Unit). x.structure) (same_Some moved v (sym (get-insert_same c.units n moved) ∙ there)))
 
@@ -170,11 +170,11 @@ module _ (w : WorldValue) (c : CampaignValue) (n : ℕ) (u : Unit) (s : ℕ) (is
       afloat = afloat;
     }
 
-    -- a steady campaign stays steady, if the unit's new structure is in its region, and on water is a ship
+    -- after unit n went, a steady campaign is steady, if s is 0 or in the unit's region, and on water is a ship
     pub placed_steady : IsSteady w behind
     placed_steady = steady-refitted w c n u s is after_entering.structures owner_behind refit steady
 
-    -- an early campaign stays early, if the unit's new structure is in its region, and on water is a ship
+    -- after unit n went, an early campaign is early, if s is 0 or in the unit's region, and on water is a ship
     pub placed_early : IsEarly w c → IsEarly w behind
     placed_early early = early-refitted w c n u s is after_entering.structures owner_behind refit early
 

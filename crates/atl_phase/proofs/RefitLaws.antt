@@ -1,5 +1,5 @@
--- Laws of a campaign in which one unit is in another structure of its region,
--- and structures have other names and owners: it stays steady.
+-- Laws of a refit, a campaign in which one unit is in another structure of its region, and structures have other owners
+-- and names: the campaign stays steady. A relabelled structure is one with another owner or name (`IsRelabelled`).
 use Rattle.std.proofs.Common.{◌≡◌, ◌≢◌, ◌==◌, ℕ, ◌+◌, ◌*◌, ◌≤◌, Bool, true, false, Option, Some, None, refl, sym, ap, subst, ◌∙◌, arith}
 use Rattle.std.specs.Prelude.{IsTrue, option_map}
 use Rattle.std.specs.Ordering.{nat_cmp}
@@ -25,13 +25,13 @@ use Rattle.atl_campaign.proofs.RegionLaws.{same_len}
 
 -- The structure after is the structure before, but for owner and name; the name follows the name rule if it did before.
 pub record IsRelabelled (before after : Structure) : Type 0 where
-  -- the structure's kind stays
+  -- a relabelled structure, which gets another owner or name, keeps its kind
   pub kind : after.kind ≡ before.kind
-  -- the structure's region stays
+  -- a relabelled structure stays in its region
   pub region : after.region ≡ before.region
-  -- how much of the structure is built stays
+  -- a relabelled structure is built as far as before
   pub done : after.done ≡ before.done
-  -- the new name follows the name rule if the old one did
+  -- the name of a relabelled structure follows the name rule if the old one did
   pub name : IsTrue (name_ok before.name) → IsTrue (name_ok after.name)
 
 -- if what a look-up o found, mapped by f, is x, then o found a value v of which f makes x
@@ -41,7 +41,7 @@ under f (Some v) x is = let same : f v ≡ x = cc in (v, refl, same)
 
 -- a campaign with other units and structures
 module _ (c : CampaignValue) (units : FinMap nat_cmp Unit) (structures : FinMap nat_cmp Structure) where
-  -- the campaign with other units and structures
+  -- campaign c with `units` and `structures` in place of its own
   abbrev pub replaced : CampaignValue
   replaced = record c { units = units; structures = structures }
 
@@ -87,18 +87,18 @@ module _ (w : WorldValue) (c : CampaignValue) (n : ℕ) (u : Unit) (s : ℕ) (is
   abbrev units : FinMap nat_cmp Unit
   units = insert c.units n moved_unit
 
-  -- the campaign in which unit n is inside structure s, with other structures
+  -- the campaign in which unit n is inside structure s, and `structures` are in place of its own
   abbrev pub refitted : CampaignValue
   refitted = record c { units = units; structures = structures }
 
   -- A refit: unit n is inside structure s of its region, which on water is a ship, or inside none (0), and g gives the
   -- structures, each changed in owner and name at most, and with its right owner.
   pub record IsRefit : Type 0 where
-    -- each structure is what g makes of it, and no structure is added
+    -- each structure of the refitted campaign is what g makes of the one before, and no structure is added
     pub at : (k : ℕ) → get structures k ≡ option_map (g k) (get c.structures k)
-    -- there are as many structures as before
+    -- the refitted campaign has as many structures as c
     pub count : len structures ≡ len c.structures
-    -- g changes a structure in owner and name at most
+    -- a structure, as g makes it, differs from the one before in owner and name at most
     pub same : Every (λ k y. IsRelabelled y (g k y)) c.structures
     -- each structure has its right owner in the refitted campaign
     pub owned : Every (λ k y. IsOwned refitted k (g k y)) c.structures
@@ -177,11 +177,11 @@ module _ (w : WorldValue) (c : CampaignValue) (n : ℕ) (u : Unit) (s : ℕ) (is
     -- Units that pass a test are of one faction in each region after the refit, if they were before.
     -- The moved unit passes the test only if it did before.
     module _ (test : Unit → Bool) (only : test moved_unit ≡ true → test u ≡ true) where
-      -- two units that pass the test in one region are of one faction
+      -- two units are of one faction, if they are in one region and both pass `test`
       abbrev Agree : Unit → Unit → Type 0
       Agree x y = test x ≡ true → test y ≡ true → x.region ≡ y.region → x.faction ≡ y.faction
 
-      -- units that pass the test are of one faction in each region after the refit, if they were before
+      -- the units of each region that pass `test` are of one faction after the refit, if they were before
       pub of_one_faction_refitted : AreOfOneFaction test c → AreOfOneFaction test refitted
       of_one_faction_refitted old =
           every-insert (λ k x. Every (λ m y. Agree x y) units) c.units n moved_unit

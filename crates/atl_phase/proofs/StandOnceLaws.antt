@@ -29,13 +29,13 @@ use Rattle.atl_phase.proofs.PhaseOrderLaws.{Counts, orders_count}
 
 -- ---- lines
 
--- an entry is on a line above n, if lines rise from n
+-- an entry is on a line above n, if the lines of the entries are strictly ascending from above n (`LinesRise`)
 above : (n i : ℕ) (es : List EntryValue) (e : EntryValue) → LinesRise n es → slice_get es i ≡ Some e → n < e.line
 above n i [] e rise is = cc
 above n zero (x ∷ es) e rise is = let same = ap (λ (y : EntryValue). y.line) (same_Some x e is) in omega (arith, same, rise.0)
 above n (suc i) (x ∷ es) e rise is = let behind = above x.line i es e rise.1 is in omega (arith, behind, rise.0)
 
--- two entries of one mailing on one line have one index, since lines rise
+-- two entries of a mailing with one line have one index, since the lines are strictly ascending (`LinesRise`)
 same_place : (n : ℕ) (es : List EntryValue) (i j : ℕ) (d e : EntryValue) → LinesRise n es → slice_get es i ≡ Some d → slice_get es j ≡ Some e → d.line ≡ e.line → i ≡ j
 same_place n [] i j d e rise one two line = cc
 same_place n (x ∷ es) zero zero d e rise one two line = refl
@@ -107,7 +107,7 @@ module _ (w : WorldValue) (is_of : Verb → Bool) (a : Arrangement) (aliases : A
       let said = sym one.there.says ∙ ap (λ (e : EntryValue). e.order_value) entry ∙ two.there.says in
       λ i. record { faction = faction i; unit = unit i; line = line i; place = place i; order_value = said i }
 
-  -- an order under its key (`key_of`), which is in its mailing and counts there
+  -- the order is under its key (`key_of`), is in its faction's mailing and counts there
   abbrev UnderKey : List ℕ × Task → Type 0
   UnderKey e = (e.0 ≡ key_of a e.1) × Counts is_of aliases readings e.1
 

@@ -44,7 +44,7 @@ use Rattle.atl_phase.proofs.PhaseOrderLaws.{orders_are_in_mailings}
 pub record LeavesUnmailed (meaning : Meaning) (keeps : Frame) : Type 0 where
   -- the phase keeps the mailings
   pub readings : (w : WorldValue) (c : CampaignValue) (m : MonthValue) → (meaning w c m).1.readings ≡ m.readings
-  -- the events report no fewer men of a unit as starved than before the phase
+  -- after the phase the events report no fewer men of a unit as starved than before it
   pub starved_reported : (w : WorldValue) (c : CampaignValue) (m : MonthValue) (n : ℕ) → starved_in m.events n ≤ starved_in (meaning w c m).1.events n
   -- each unit of a faction without a mailing loses just the men whom the new events report as starved
   pub left : (w : WorldValue) (c : CampaignValue) (m : MonthValue) → keeps w m c (meaning w c m).0 →
@@ -54,7 +54,7 @@ pub record LeavesUnmailed (meaning : Meaning) (keeps : Frame) : Type 0 where
 -- name, no less of any item, and its men less exactly those who starve. The phase takes back no Starved event, and may
 -- change the mailings.
 pub record ClosesUnmailed (meaning : Meaning) (keeps : Frame) : Type 0 where
-  -- the events report no fewer men of a unit as starved than before the phase
+  -- after the phase the events report no fewer men of a unit as starved than before it
   pub starved_reported : (w : WorldValue) (c : CampaignValue) (m : MonthValue) (n : ℕ) → starved_in m.events n ≤ starved_in (meaning w c m).1.events n
   -- each unit of a faction without a mailing, unless all its men starved, loses just those whom the new events report
   pub left : (w : WorldValue) (c : CampaignValue) (m : MonthValue) → keeps w m c (meaning w c m).0 →
@@ -115,12 +115,12 @@ module _ {first second : Meaning} {early late : Frame} where
 
 -- The unit has after a change the same faction and exactly as many men as before.
 pub record HasItsMen (before after : Unit) : Type 0 where
-  -- the unit's faction stays
+  -- the unit is of the same faction after the change as before
   pub faction : after.faction ≡ before.faction
-  -- the number of the unit's men stays
+  -- the unit has as many men after the change as before
   pub men : after.holding.men ≡ before.holding.men
 
--- each unit is there after, and has exactly as many men as before
+-- each unit of the campaign before is in the campaign after, with its faction and exactly as many men
 abbrev pub HaveTheirMen : CampaignValue → CampaignValue → Type 0
 HaveTheirMen before after = Every (λ n u. IsUnaffected HasItsMen after n u) before.units
 
@@ -164,7 +164,8 @@ pub men_in_turn : {X : Type 0} (step : CampaignValue → X → CampaignValue) �
 men_in_turn step each c [] = men_stay c
 men_in_turn step each c (x ∷ xs) = men_twice c (step c x) (fold step (step c x) xs) (each c x) (men_in_turn step each (step c x) xs)
 
--- all units have their men (`HaveTheirMen`) after an order, if they have when the order has no fault
+-- all units have their men (`HaveTheirMen`) after an order, with a fault or without, if what is done without a fault
+-- leaves them their men
 pub men_unless : (c d : CampaignValue) (o : Outcome) (fault : Option EventFault) → HaveTheirMen c d → HaveTheirMen c (unless c fault (d, o)).0
 men_unless c d o (Some fault) h = men_stay c
 men_unless c d o None h = h
@@ -186,16 +187,16 @@ place_men c n r s =
 
 -- The unit has after a change the same name, and no less of any item than before.
 pub record HasItsItems (before after : Unit) : Type 0 where
-  -- the unit's name stays
+  -- the unit has the same name after the change as before
   pub name : after.holding.name ≡ before.holding.name
-  -- the unit has no less of any item
+  -- the unit has no less of any item after the change than before
   pub items : (i : ℕ) → amount_of before.holding.items i ≤ amount_of after.holding.items i
 
 -- a unit that is no worse off has its name, and no less of any item (`HasItsItems`)
 pub items_of_no_worse : (u v : Unit) → IsNoWorse u v → HasItsItems u v
 items_of_no_worse u v h = record { name = h.name; items = h.items }
 
--- each unit whose faction sent no mailing is there after, and `spares` relates what it was to what it is then
+-- each unit whose faction sent no mailing is in the campaign after, and `spares` relates what it was to what it is then
 abbrev pub UnmailedAre : Unaffected → MonthValue → CampaignValue → CampaignValue → Type 0
 UnmailedAre spares m before after = Every (λ n u. get m.readings u.faction ≡ None → IsUnaffected spares after n u) before.units
 
@@ -242,7 +243,7 @@ told_of_order events t outcome n =
     by_unit true x = omega arith
     by_unit false x = omega arith
 
--- each unit of another faction than this one is there after, and has exactly its men
+-- each unit of another faction than this one is in the campaign after, with exactly as many men as in the one before
 abbrev pub OthersHaveMen : (faction : ℕ) → CampaignValue → CampaignValue → Type 0
 OthersHaveMen f c d = Every (λ n u. f ≢ u.faction → IsUnaffected HasItsMen d n u) c.units
 

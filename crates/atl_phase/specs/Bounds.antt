@@ -20,7 +20,7 @@ use Rattle.atl_phase.specs.Unbooked.{moves_nothing}
 
 -- ---- by how much the amounts of the books may move
 
--- the bound on the books of a number of steps, each of which moves the amounts by at most this bound
+-- the bound on the books of this many steps together, if each step moves the amounts by at most the bound given
 abbrev pub moved_times : ℕ → BookBound → BookBound
 moved_times steps moving e t = steps * moving e t
 
@@ -30,9 +30,9 @@ amount_limit = 9000000000000000000 + most_moved
 
 -- an amount that can move by `most`, up or down, without passing `amount_limit` in size
 pub record HasRoom (most : ℕ) (amount : ℤ) : Type 0 where
-  -- a rise by `most` doesn't pass the limit
+  -- the amount, after a rise by `most`, is at most `amount_limit`
   pub above : (amount +ℤ pos most) ≤ℤ pos amount_limit
-  -- a fall by `most` doesn't pass the limit below 0
+  -- the amount, after a fall by `most`, is no further below 0 than `amount_limit`
   pub below : pos most ≤ℤ (amount +ℤ pos amount_limit)
 
 -- each amount of the books can move as far as its bound says without passing `amount_limit` in size
@@ -45,9 +45,9 @@ RemainingBound = CampaignValue → BookBound
 
 -- an amount moves, up or down, by at most what its remaining bound falls: from `reserve` to `left`
 pub record UsesBound (reserve left : ℕ) (before after : ℤ) : Type 0 where
-  -- the amount rises by at most what the remaining bound falls
+  -- the amount rises by at most what its remaining bound falls, from `reserve` to `left`
   pub above : (after +ℤ pos left) ≤ℤ (before +ℤ pos reserve)
-  -- the amount falls by at most what the remaining bound falls
+  -- the amount falls by at most what its remaining bound falls, from `reserve` to `left`
   pub below : (before +ℤ pos left) ≤ℤ (after +ℤ pos reserve)
 
 -- ---- the step of one order
@@ -55,22 +55,22 @@ pub record UsesBound (reserve left : ℕ) (before after : ℤ) : Type 0 where
 -- After a step `holds` is true of the campaign, which is of the same month, and whose books balance if they did before.
 -- No amount of the books moves further than its remaining bound falls.
 pub record StepsWell (holds : Condition) (reserve : RemainingBound) (w : WorldValue) (before after : CampaignValue) : Type 0 where
-  -- the condition is true of the campaign after the step
+  -- the condition `holds` is true of the campaign after the step
   pub holds_still : holds w after
-  -- the month's number, the reports and the set of factions stay
+  -- the step keeps the number of the month last closed, the reports and the set of factions
   pub same_month : IsSameMonth before after
-  -- books that balanced before still balance
+  -- the books balance after the step if they did before
   pub balances : Balances before → Balances after
   -- each amount of the books moves by at most what its remaining bound falls
   pub drawn : (e : Entry) (t : Thing) → UsesBound (reserve before e t) (reserve after e t) (amount_in before.books e t) (amount_in after.books e t)
 
 -- `spares` is reflexive and transitive, and relates only units of the same faction
 pub record IsUnaffectedRelation (spares : Unaffected) : Type 0 where
-  -- a unit that stays as it is is spared
+  -- `spares` relates each unit to itself, so a unit that doesn't change is spared
   pub same : (u : Unit) → spares u u
-  -- a unit that is spared twice in turn is spared by both together
+  -- `spares` is transitive: a unit that is spared by each of two changes in turn is spared by both together
   pub again : (u v x : Unit) → spares u v → spares v x → spares u x
-  -- a unit that is spared keeps its faction
+  -- `spares` relates only units of the same faction, so a unit that is spared keeps its faction
   pub faction : (u v : Unit) → spares u v → v.faction ≡ u.faction
 
 -- unit u is there under the number that an order is for, and is of the faction that wrote the order
@@ -84,15 +84,15 @@ pub record IsUnitOf (c : CampaignValue) (t : Task) (u : Unit) : Type 0 where
 -- remaining bound (`StepsWell`), `spares` relates each unit that an order doesn't concern to what it is after it, and
 -- no remaining bound is above the bound of the phase.
 pub record IsOrderly (step : OrderMeaning) (holds : Condition) (reserve : RemainingBound) (moving : BookBound) (concerns : Affects) (spares : Unaffected) : Type 0 where
-  -- each order for a unit of its faction keeps condition, month, balance and remaining bound
+  -- each order for a unit of its writer's faction keeps condition, month, balance and remaining bound (`StepsWell`)
   pub well : (w : WorldValue) (a : Aliases) (c : CampaignValue) (t : Task) (x : Unit) → holds w c → IsOrderOf w t.order_value → IsUnitOf c t x →
       IfSome (step w a t) (λ deed. StepsWell holds reserve w c (deed c x).0)
   -- `spares` can be used over several orders: it is reflexive, transitive, and keeps the faction
   pub sparing : IsUnaffectedRelation spares
-  -- each unit that an order doesn't concern is left as `spares` says
+  -- each unit that an order doesn't concern is there after it, and `spares` relates what it was to what it is then
   pub spared : (w : WorldValue) (a : Aliases) (c : CampaignValue) (t : Task) (x : Unit) → holds w c → IsUnitOf c t x →
       (n : ℕ) (u : Unit) → get c.units n ≡ Some u → (concerns t n u.faction → ⊥) → IfSome (step w a t) (λ deed. IsUnaffected spares (deed c x).0 n u)
-  -- no remaining bound is above the bound of the phase
+  -- for no amount of the books is the remaining bound above the bound of the phase
   pub bounded : (w : WorldValue) (c : CampaignValue) → holds w c → (e : Entry) (t : Thing) → reserve c e t ≤ moving e t
 
 -- ---- what is left of the bounds of single phases

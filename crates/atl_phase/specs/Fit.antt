@@ -6,7 +6,6 @@ use Rattle.atl_world.specs.Worlds.{WorldValue}
 use Rattle.atl_orders.specs.Bounds.{IsReading}
 use Rattle.atl_orders.specs.Mailing.{Reading}
 
--- each faction's reading satisfies `IsReading`:
--- its names follow the name rule, its numbers and things are within bounds
+-- each faction's reading is in bounds (`IsReading`): names follow the name rule, numbers and things are in range
 abbrev pub AreFit : WorldValue → FinMap nat_cmp Reading → Type 0
 AreFit w readings = (f : ℕ) (r : Reading) → get readings f ≡ Some r → IsReading w r

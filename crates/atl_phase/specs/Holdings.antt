@@ -10,18 +10,18 @@ use Rattle.atl_campaign.specs.Campaign.{MarkedCampaign, unit_changed}
 -- Unit n, if it is there, holds what `change` makes of what it held, and nothing else changes.
 -- All that changed is marked, and the same units as before have all their items and days marked at once.
 pub record ChangesHolding (before after : MarkedCampaign) (n : ℕ) (change : HoldingValue → HoldingValue) : Type 0 where
-  -- the unit's holding is what `change` makes of it, and nothing else changes
+  -- unit n holds what `change` makes of what it held, and nothing else of the campaign changes
   pub value : after.value ≡ unit_changed (λ u. record u { holding = change u.holding }) before.value n
-  -- all that changed is marked
+  -- all that differs from `before` to `after` is marked
   pub marks : MarksChanges before after
-  -- the same units have all their items and days marked at once as before
+  -- the marks of goods, each for all items and days of a unit at once, are those from before
   pub goods : after.marks.goods ≡ before.marks.goods
 
 -- before and after the same units have all their items and days marked, and the same single items are marked
 pub record MarksNoItems (before after : Marks) : Type 0 where
-  -- the same units have all their items and days marked at once
+  -- the marks of goods, each for all items and days of a unit at once, are those from before
   pub goods : after.goods ≡ before.goods
-  -- the same single items are marked
+  -- the marks of single items are those from before
   pub items : after.items ≡ before.items
 
 -- before and after the same units have all their items and days marked, and the same single items and skills are marked

@@ -14,13 +14,13 @@ use Rattle.atl_phase.specs.Month.{MonthValue}
 abbrev pub Meaning : Type 0
 Meaning = WorldValue → CampaignValue → MonthValue → CampaignValue × MonthValue
 
--- the effect of one phase, and then another
+-- the effect of two phases in turn: the second gets the campaign and the month that the first leaves
 abbrev pub then_also : Meaning → Meaning → Meaning
 then_also first second w c m = second w (first w c m).0 (first w c m).1
 
 -- ---- what a campaign keeps before a phase, and after it
 
--- a statement about a campaign in its world
+-- a statement about a world and a campaign in it
 abbrev pub Condition : Type 1
 Condition = WorldValue → CampaignValue → Type 0
 
@@ -55,7 +55,7 @@ BookBound = Entry → Thing → ℕ
 abbrev pub both_move : BookBound → BookBound → BookBound
 both_move first second e t = first e t + second e t
 
--- the bound on the books of a phase that moves one amount alone, by at most this much
+-- the bound on the books of a phase that moves the amount of this entry and thing alone, by at most this much
 abbrev pub moves_only : ℕ → Entry → Thing → BookBound
 moves_only most e t f u = if amount_number f u == amount_number e t then most else 0
 
@@ -65,9 +65,9 @@ most_moved = 99999999999999
 
 -- two amounts differ by `most` or less
 pub record IsNear (most : ℕ) (before after : ℤ) : Type 0 where
-  -- the amount rises by at most `most`
+  -- the amount after is greater than the one before by at most `most`
   pub above : after ≤ℤ (before +ℤ pos most)
-  -- the amount falls by at most `most`
+  -- the amount after is less than the one before by at most `most`
   pub below : before ≤ℤ (after +ℤ pos most)
 
 -- The number of the month last closed, the reports and the set of factions (gone ones too) stay the same.
@@ -87,9 +87,9 @@ pub record IsSameMonth (before after : CampaignValue) : Type 0 where
 pub record LeavesWell (leaves : Condition) (moving : BookBound) (w : WorldValue) (before after : CampaignValue) : Type 0 where
   -- the condition `leaves` is true of the campaign after the phase
   pub leaves_it : leaves w after
-  -- the month's number, the reports and the set of factions stay
+  -- the phase keeps the number of the month last closed, the reports and the set of factions
   pub same_month : IsSameMonth before after
-  -- books that balanced before still balance
+  -- the books balance after the phase if they did before
   pub balances : Balances before → Balances after
   -- no amount of the books moves further than its bound
   pub near : (e : Entry) (t : Thing) → IsNear (moving e t) (amount_in before.books e t) (amount_in after.books e t)

@@ -30,7 +30,7 @@ pub record MonthValue : Type 0 where
   pub readings : FinMap nat_cmp Reading
   -- the units that FORM made, by faction and alias
   pub aliases : Aliases
-  -- the words of the dice
+  -- the words of the dice (random numbers) that the month was given
   pub words : List ℕ
   -- the events so far, in the order in which they came
   pub events : List Event

@@ -93,11 +93,11 @@ Unaffected = Unit → Unit → Type 0
 
 -- the unit of this number, which was u before, is there after, and `spares` relates u to what it is then
 pub record IsUnaffected (spares : Unaffected) (after : CampaignValue) (number : ℕ) (u : Unit) : Type 0 where
-  -- the unit as it is after
+  -- the unit of this number as it is in the campaign after
   pub unit : Unit
-  -- the campaign has this unit under the number
+  -- the campaign after has the unit under this number
   pub there : get after.units number ≡ Some unit
-  -- `spares` relates the unit before to the unit after
+  -- `spares` relates u, which the unit was before, to the unit as it is after
   pub spared : spares u unit
 
 -- each unit that none of these orders concerns is there after, and `spares` relates what it was to what it is then

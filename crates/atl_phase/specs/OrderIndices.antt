@@ -33,7 +33,7 @@ Lines = FinMap nat_cmp (FinMap nat_cmp ℕ)
 abbrev pub line_in : Lines → (slot unit : ℕ) → ℕ
 line_in lines slot unit = unwrap_or (get (group_of lines slot) unit) 0
 
--- the noted lines with one more for a slot and a unit, of which the greater of it and the one noted before is kept
+-- the noted lines with a line noted for a slot and a unit: the greater of it and the one that was noted for them before
 abbrev pub with_line : Lines → (slot unit line : ℕ) → Lines
 with_line lines slot unit line = insert lines slot (insert (group_of lines slot) unit (max (line_in lines slot unit) line))
 
@@ -41,7 +41,7 @@ with_line lines slot unit line = insert lines slot (insert (group_of lines slot)
 abbrev pub AreLastLines : List Task → Lines → Type 0
 AreLastLines ts lines = (slot : Slot) (unit : ℕ) → line_in lines (slot_number slot) unit ≡ last_line slot unit ts
 
--- whether an order counts by the noted lines: it has no slot, or its line is the one noted for its slot and its unit
+-- whether an order with this line counts by the noted lines: it has no slot, or its line is noted for its slot and unit
 abbrev pub stands_by : Lines → (unit line : ℕ) → Option Slot → Bool
 stands_by lines unit line None = true
 stands_by lines unit line (Some slot) = line == line_in lines (slot_number slot) unit
@@ -52,11 +52,11 @@ stands_by lines unit line (Some slot) = line == line_in lines (slot_number slot)
 abbrev pub every_verb : Verb → Bool
 every_verb verb = true
 
--- the orders of all mailings that count
+-- the orders that count of all mailings, mailing by mailing
 abbrev pub all_tasks : Aliases → List Mailing → List Task
 all_tasks aliases mailings = flat_map (λ m. tasks_for every_verb (tasks_of aliases m.faction (reading_of m))) mailings
 
--- whether an order has a verb of the phase
+-- whether an order has one of a phase's verbs, which are those that pass the test
 abbrev pub has_verb : (Verb → Bool) → Task → Bool
 has_verb is_of t = is_of t.order_value.verb
 
@@ -95,9 +95,9 @@ task_at mailings p = record {
 
 -- the mailing that an index names is there, and so is the order that it names in this mailing
 pub record IsThere (mailings : List Mailing) (p : OrderIndex) : Type 0 where
-  -- the index of the mailing is that of one of the mailings
+  -- the index of the mailing is less than the number of mailings
   pub mailing : p.mailing < length mailings
-  -- the index in the mailing is that of one of its orders
+  -- the index of the order is less than the number of orders in this mailing
   pub entry : p.place < length (mailing_at mailings p.mailing).entries
 
 -- each index names an order that is there, and the orders that they name are ts, in this order
@@ -114,15 +114,15 @@ pub record Adds (mailings : List Mailing) (ts : List Task) (old new : List Order
   -- the new indices name the orders of the old ones, and then ts
   pub tasks : map (task_at mailings) new ≡ map (task_at mailings) old ++ ts
 
--- the new indices name the orders that the old ones name, and after them the orders of one mailing that count
+-- the new indices name the orders that the old ones name, and after them those that count of the mailing at this index
 abbrev pub AddsMailing : Aliases → List Mailing → ℕ → List OrderIndex → List OrderIndex → Type 0
 AddsMailing aliases mailings place = Adds mailings (tasks_for every_verb (tasks_at aliases mailings place))
 
--- the indices name the orders of all mailings that count, mailing by mailing
+-- the indices name the orders that count of all mailings, mailing by mailing
 abbrev pub AreIndicesByMailing : Aliases → List Mailing → List OrderIndex → Type 0
 AreIndicesByMailing aliases mailings = AreAt mailings (all_tasks aliases mailings)
 
--- the indices name the orders of all mailings that count, sorted as the arrangement says
+-- the indices name the orders that count of all mailings, sorted as the arrangement says
 abbrev pub AreOrderIndices : Arrangement → Aliases → List Mailing → List OrderIndex → Type 0
 AreOrderIndices arrangement aliases mailings = AreAt mailings (values (orders_of every_verb arrangement aliases (by_faction (map reading_of mailings))))
 
@@ -133,7 +133,7 @@ tasks_picked is_of mailings places = filter (has_verb is_of) (map (task_at maili
 -- The invariant of a month: its mailings are sorted by faction, and its gathered indices by unit.
 -- The gathered indices, if there are any, name all orders that count.
 pub record IsSortedMonth {Z : Type 0} (aliases : Aliases) (mailings : List Mailing) (standing : Option (Vec OrderIndex Z)) : Type 0 where
-  -- the mailings are sorted by faction, no two of one faction
+  -- the month's mailings are sorted by faction, and no two are of one faction
   pub sorted : AreByFaction mailings
   -- the gathered indices, if there are any, name all orders that count, sorted by unit
   pub gathered : IfSome standing (λ places. AreOrderIndices ByUnit aliases mailings places.items)

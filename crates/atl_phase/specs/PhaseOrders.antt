@@ -42,7 +42,7 @@ abbrev pub unit_of : Aliases → ℕ → UnitRef → ℕ
 unit_of aliases faction (Number n) = n
 unit_of aliases faction (Alias alias) = unwrap_or (alias_unit aliases faction alias) 0
 
--- the orders of some entries of a faction's mailing; the first of them has the index `place`
+-- the orders in some entries of a mailing; the numbers are the faction, and the index of the first entry in the mailing
 abbrev pub tasks_from : Aliases → ℕ → ℕ → List EntryValue → List Task
 tasks_from aliases faction place [] = []
 tasks_from aliases faction place (e ∷ es) =
@@ -83,7 +83,7 @@ abbrev pub stands_in : List Task → Task → Option Slot → Bool
 stands_in ts t None = true
 stands_in ts t (Some slot) = t.line == last_line slot t.unit ts
 
--- whether an order counts among the orders ts of its mailing
+-- whether an order counts among these orders, which are all of its mailing
 abbrev pub stands : List Task → Task → Bool
 stands ts t = stands_in ts t (row_of t.order_value.verb).slot
 

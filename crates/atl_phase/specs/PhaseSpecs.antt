@@ -31,7 +31,7 @@ entries_of moved Money = moved.money
 entries_of moved People = moved.people
 entries_of moved (Item i) = moved.items
 
--- whether an entry is in the list
+-- whether an entry of the books is in a list of entries
 abbrev pub is_among : Entry → List Entry → Bool
 is_among e [] = false
 is_among e (k ∷ ks) = is_among e ks || (entry_index e == entry_index k)
@@ -48,7 +48,7 @@ pub record PhaseSpec : Type 1 where
   pub meaning : Meaning
   -- by how much the phase may move each amount of the books
   pub moving : BookBound
-  -- the entries of the books that the phase may move
+  -- the entries of the books under which the phase may move amounts
   pub moved : MovedEntries
   -- what the phase leaves unchanged
   pub keeps : Frame
@@ -57,7 +57,7 @@ pub record PhaseSpec : Type 1 where
 abbrev pub MovesItsOwn : PhaseSpec → Type 0
 MovesItsOwn phase = (e : Entry) (t : Thing) → phase.moving e t ≤ (if may_move phase.moved e t then most_moved else 0)
 
--- the specification of a phase that moves no amount of the books
+-- the specification of a phase with this effect, which moves no amount of the books and keeps what the frame says
 abbrev pub spec_without_books : Meaning → Frame → PhaseSpec
 spec_without_books meaning keeps = record { meaning = meaning; moving = moves_nothing; moved = no_moved_entries; keeps = keeps }
 
@@ -99,7 +99,7 @@ moving_of [] = λ e t. 0
 moving_of (phase ∷ []) = phase.moving
 moving_of (phase ∷ next ∷ rest) = both_move phase.moving (moving_of (next ∷ rest))
 
--- what these phases leave unchanged, one after the other
+-- what these phases in turn leave unchanged: each its own, with the campaign and the month that those before it made
 abbrev pub keeps_of : List PhaseSpec → Frame
 keeps_of [] = λ w m before after. ⊤
 keeps_of (phase ∷ []) = phase.keeps

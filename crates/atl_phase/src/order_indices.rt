@@ -1,4 +1,4 @@
-//! Finds the orders of all mailings that count, and sorts their indices. See docs/RULES.md,
+//! Finds the orders that count of all mailings, and sorts their indices. See docs/RULES.md,
 //! "Orders of a month".
 ghost use Rattle.std.specs.Prelude.{◌≡◌, ◌<◌, length, IfOk, OnOk};
 ghost use Rattle.std.specs.List.Sorted.{IsPermutation, IsSortedByKey};
@@ -76,7 +76,7 @@ fn add_standing(
     Ok(())
 }
 
-/// The indices of the orders of all mailings that count, mailing by mailing.
+/// The indices of all orders that count, mailing by mailing.
 fn indices_by_mailing(
     alloc: Global,
     aliases: &Numbered<Numbered<u32>>,
@@ -92,7 +92,7 @@ fn indices_by_mailing(
     Ok(list)
 }
 
-/// The indices of the orders of all mailings that count, sorted as the arrangement says.
+/// The indices of the orders that count of all mailings, sorted as the arrangement says.
 /// The mailings are sorted by faction, no two of one faction. It takes memory for each order, and
 /// n log n steps.
 pub(crate) fn order_indices(

@@ -23,7 +23,7 @@ fn number_of(slot: Slot) -> u32
     }
 }
 
-/// Whether the second slot is there (`Some`), and is the same as the first.
+/// Whether the slot `other` is there (`Some`), and is the same as `slot`.
 pub(crate) fn is_same_slot(slot: Slot, other: Option<Slot>) -> bool
     ensures { result ≡ is_same_slot slot other }
 {

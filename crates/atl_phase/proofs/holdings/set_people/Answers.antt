@@ -56,6 +56,6 @@ returns-clause-what c =
       goods = old.goods;
     })
 
--- the same single items are marked as before
+-- no single item is marked by setting men and days: the same ones are marked as before
 pub returns-clause-items : goal.returns-clause-items
 returns-clause-items c = c.loop-skill.invariant.items ∙ ap (λ (m : Marks). m.items) c.set_men.ensures.marks

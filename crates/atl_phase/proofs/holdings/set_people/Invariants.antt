@@ -4,8 +4,8 @@ use Rattle.atl_campaign.specs.Covers.{MarksChanges}
 use Rattle.atl_phase.specs.Holdings.{with_days}
 use Rattle.atl_phase.proofs.holdings.set_people.Given as goal
 
--- before each skill: setting the days of the skills still to come makes what setting all of them makes; what changed so
--- far is marked, without marks of goods as a whole or of items
+-- before each skill: setting the days of the skills still to come makes of the campaign so far what setting all of them
+-- makes of it at first; what changed so far is marked, without marks of goods as a whole or of items
 abbrev pub invariant-loop-skill : goal.invariant-loop-skill
 invariant-loop-skill l = record {
   value :

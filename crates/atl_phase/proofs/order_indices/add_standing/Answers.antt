@@ -39,7 +39,7 @@ loop-place-preserved c =
           subst (Added aliases ms at old (i + 1)) (sym same) (passed aliases ms at old list i inside c.loop-place.invariant (counts ∙ w.if-stands.false))
     ]
 
--- after the loop the list has the old indices and those of all orders of the mailing that count (`AddsMailing`)
+-- after the loop the list has the old indices and those of all orders that count of the mailing (`AddsMailing`)
 pub returns : goal.returns
 returns c =
     let ms = c.args.mailings.now in

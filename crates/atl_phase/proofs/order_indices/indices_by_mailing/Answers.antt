@@ -11,7 +11,7 @@ loop-at-preserved c =
       tasks = next_mailing c.args.aliases.now c.args.mailings.now c.loop-at.at c.loop-at.list.items _ c.loop-at-test.true added c.loop-at.invariant.tasks;
     }
 
--- after the loop the list names the orders of all mailings that count (`AreIndicesByMailing`)
+-- after the loop the list names the orders that count of all mailings (`AreIndicesByMailing`)
 pub returns : goal.returns
 returns c =
     let ms = c.args.mailings.now in

@@ -94,7 +94,7 @@ returns-clause-leaves g c =
     leaves_well c.args.world.now c.args.campaign.now.value c.loop-order.campaign.value
     (c.is_orderly.ensures.bounded c.args.world.now c.args.campaign.now.value c.requires.holds) c.loop-order.invariant.well
 
--- units that no order concerns are spared (`spares_others`)
+-- each unit that no order concerns is there after all of them, as `spares` says (`spares_others`)
 pub returns-clause-keeps : goal.returns-clause-keeps
 unfolding meaning_by_orders
 returns-clause-keeps g c =
