@@ -95,6 +95,7 @@ impl<'a, C: Clock> Write for Peer<'a, C> {
         written
     }
 
+    /// Flushes the stream; this takes nothing from the time left.
     fn flush(&mut self) -> io::Result<()> {
         let mut stream = self.stream;
         stream.flush()

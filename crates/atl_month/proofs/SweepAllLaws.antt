@@ -37,8 +37,8 @@ use Rattle.std.proofs.lemmas.List.Sums.{count_by-le-length, length-filter}
 -- ---- one unit
 
 module _ (c : CampaignValue) (n : ℕ) where
-  -- After unit `n` was swept, what holds of the campaign as it was if no unit `n` without men is there, and else of the
-  -- campaign after unit `n` passed on what it has and was removed.
+  -- P holds after unit `n` was swept if it holds, where no unit `n` without men is there, of the campaign as it was,
+  -- and else of the campaign in which unit `n` passed on what it has and was removed.
   by_sweeping : (P : CampaignValue → Type 0) → (((u : Unit) → get c.units n ≡ Some u → u.holding.men ≢ 0) → P c)
       → ((u : Unit) → get c.units n ≡ Some u → u.holding.men ≡ 0 → P (without_unit (after_passing_all c (receiver c u.region u.faction) u) n))
       → P (after_sweeping_unit c n)
@@ -58,7 +58,8 @@ module _ (c : CampaignValue) (n : ℕ) where
       by_unit (Some u) is = by_men u is (u.holding.men == 0) refl
 
 module _ (w : WorldValue) (c : CampaignValue) (n : ℕ) (steady : IsSteady w c) where
-  -- sweeping a unit keeps a steady campaign steady and its books balanced, within the sweep's bound for one unit
+  -- Sweeping a unit keeps a steady campaign steady and its books balanced, and books at most what one unit may lose
+  -- (`loses_by`).
   pub swept_at_leaves_well : LeavesWell IsSteady (loses_by most_amount) w c (after_sweeping_unit c n)
   swept_at_leaves_well =
       by_sweeping c n (LeavesWell IsSteady (loses_by most_amount) w c) (λ some. well_unchanged (loses_by most_amount) w c steady)
@@ -118,8 +119,8 @@ module _ (w : WorldValue) where
 -- ---- factions
 
 module _ (c : CampaignValue) (n : ℕ) where
-  -- After faction `n` was swept, what holds of the campaign as it was if faction `n` isn't there or has a unit, and else
-  -- of the campaign in which it is gone.
+  -- P holds after faction `n` was swept if it holds, where the faction isn't there or has a unit, of the campaign as it
+  -- was, and else of the campaign in which it is gone.
   by_gone : (P : CampaignValue → Type 0) → (((f : Faction) → get c.factions n ≡ Some f → numbers_of n c.units ≢ []) → P c)
       → ((f : Faction) → get c.factions n ≡ Some f → numbers_of n c.units ≡ [] → P (with_gone c n)) → P (after_sweeping_faction c n)
   by_gone P stays gone = by_units (numbers_of n c.units) refl
@@ -200,19 +201,20 @@ module _ (w : WorldValue) (c : CampaignValue) (steady : IsSteady w c) where
   abbrev units_swept : CampaignValue
   units_swept = fold after_sweeping_unit c (menless_units c)
 
-  -- sweeping the units without men keeps the campaign steady and its books balanced, within the bound of the sweep
+  -- Sweeping the units without men keeps the campaign steady and its books balanced, and moves each amount by less than
+  -- 10^14.
   units_well : LeavesWell IsSteady (loses_by most_moved) w c units_swept
   units_well =
       well_within (moved_times (length (menless_units c)) (loses_by most_amount)) (loses_by most_moved) w c units_swept (loses_little (length (menless_units c)) (few_menless w c steady))
       (fold_leaves_well (loses_by most_amount) w after_sweeping_unit (λ d n. swept_at_leaves_well w d n) c (menless_units c) steady)
 
-  -- sweeping the factions then keeps the campaign steady and the books as they are
+  -- sweeping the factions after the units keeps the campaign steady and leaves the books as they are
   factions_well : LeavesWell IsSteady moves_nothing w units_swept (sweep c)
   factions_well =
       well_within (moved_times (length (active units_swept)) moves_nothing) moves_nothing w units_swept (sweep c) (λ e t. omega arith)
       (fold_leaves_well moves_nothing w after_sweeping_faction (λ d n. gone_at_leaves_well d n w) units_swept (active units_swept) units_well.leaves_it)
 
-  -- the sweep keeps the campaign steady and its books balanced, within its bound
+  -- the sweep keeps the campaign steady and its books balanced, and moves each amount by less than 10^14
   both_well : LeavesWell IsSteady (loses_by most_moved) w c (sweep c)
   both_well =
       well_within (both_move (loses_by most_moved) moves_nothing) (loses_by most_moved) w c (sweep c) (λ e t. omega arith)
@@ -228,7 +230,8 @@ module _ (w : WorldValue) (c : CampaignValue) (steady : IsSteady w c) where
   are_gone : UnitlessAreGone (sweep c)
   are_gone = all_are_gone (active units_swept) units_swept (λ m f there none stays. passing_listed (λ (x : Faction). not x.gone) units_swept.factions m f there (ap not stays))
 
-  -- the sweep of a steady campaign leaves it swept (`IsSwept`) and its books balanced, within its bound
+  -- The sweep of a steady campaign leaves it as `IsSwept` says, with its books balanced, and moves each amount by less
+  -- than 10^14.
   pub sweep_leaves_well : LeavesWell IsSwept (loses_by most_moved) w c (sweep c)
   sweep_leaves_well = record {
     leaves_it = record { steady = both_well.leaves_it; men = have_men; gone = are_gone };

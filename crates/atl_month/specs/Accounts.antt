@@ -38,7 +38,7 @@ short_among maintenance region faction inputs = sum_by (short_of maintenance) (p
 abbrev pub to_give : Account → ℕ
 to_give a = min a.left a.short
 
--- an account with what one more unit has left and is short of added
+-- an account to which is added what one more unit has left and what it is short of
 abbrev pub with_counted : ℕ → UpkeepInput → Account → Account
 with_counted maintenance input a = record a { left = a.left + left_of maintenance input; short = a.short + short_of maintenance input }
 

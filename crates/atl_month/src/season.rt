@@ -115,6 +115,8 @@ impl Phase for SeasonPhase {
 
     ghost keeps = { season_keeps };
 
+    /// Returns the campaign after the season of its regions, and the month as it was; AllocError
+    /// without memory.
     fn run(&self, _: Global, world: &World, mut campaign: Campaign, month: Month) -> PhaseResult {
         turn_regions(world, &mut campaign, month.words())?;
         Ok((campaign, month))

@@ -25,7 +25,7 @@ pub record UpgradesTo {S : Type 0} (g : Ghosts S) (old : Held S) (text : List �
   pub upgrades : Upgrades g text old made.conn made.world campaign
   -- if the disk is clean, the world text that the tables hold is the new text
   pub text_is : HasCleanDisk (state g made.conn) → text_in g made.conn ≡ text
-  -- no doubt of the disk, no failure and no test of reads is lost (`IsLater`)
+  -- a disk in doubt stays so, no failure of it is forgotten, and tested reads stay tested (`IsLater`)
   pub later : IsLater (state g old) (state g made.conn)
 
 -- the cause that `upgrade` reports for a fault of the store's upgrade, of the same name
@@ -47,5 +47,5 @@ pub record RefusesUpgrade {S : Type 0} (g : Ghosts S) (old : Held S) (text : Lis
   pub why_is : why ≡ of_upgrading fault
   -- the store's upgrade may be refused with this fault, and leaves what `RefusesToUpgrade` says
   pub refused : RefusesToUpgrade g text old new fault
-  -- no doubt of the disk, no failure and no test of reads is lost (`IsLater`)
+  -- a disk in doubt stays so, no failure of it is forgotten, and tested reads stay tested (`IsLater`)
   pub later : IsLater (state g old) (state g new)

@@ -17,7 +17,7 @@ charge_all-requires c =
     let list : c.deref-2.result.now ≡ upkeep_results w before = search rules in
     (w, rw list (all_can_pay w before c.rules.ensures.world.rules.maintenance_least c.requires.needs c.requires.room))
 
--- upkeep keeps the campaign steady and its books balanced, within the phase's bound
+-- upkeep keeps the campaign steady and its books balanced, and moves each amount by less than 10^14
 pub returns-clause-leaves : goal.returns-clause-leaves
 returns-clause-leaves c =
     let w = c.args.world.now in
