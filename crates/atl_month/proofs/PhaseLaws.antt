@@ -127,7 +127,6 @@ infixr 5 ◌▹◌
 ◌▹◌ : {A B : Type 0} → A → B → A × B
 one ▹ others = (one, others)
 
--- the fact `one` of a phase, paired with the facts of the phases that follow it
 -- each phase from FORM to RECRUIT moves its own entries alone, and leaves units without a mailing their items, and
 -- their men less the starved
 pub early_are : EachPhase IsPhase early_phases
