@@ -20,7 +20,8 @@ use Rattle.std.specs.Prelude.{nat_lt, nat_le}
 
 -- ---- the rest of a path after a prefix
 
--- `after_prefix` compares the first bytes, and then the rest
+-- What a path has after a prefix (`after_prefix`) is found by comparing their first bytes, and then what follows in
+-- both.
 behind_step : (x y : ℕ) (w p : List ℕ) → after_prefix (x ∷ w) (y ∷ p) ≡ cond (y == x) (after_prefix w p) None
 behind_step x y w p =
     elim (y == x) as (λ t. cond (t && pointwise nat_eq (take (length w) p) w) (Some (drop (length w) p)) None ≡ cond t (after_prefix w p) None) [
@@ -28,7 +29,8 @@ behind_step x y w p =
       | false ↦ refl
     ]
 
--- if the first bytes and then the rest compare equal, the path is the prefix followed by the rest of the path
+-- If the first bytes are equal, and the rest of a path begins with the rest of a prefix, the path is the prefix
+-- followed by `rest`.
 behind_by : (x y : ℕ) (w p rest : List ℕ) (t : Bool) → (y == x) ≡ t → (after_prefix w p ≡ Some rest → p ≡ w ++ rest) → cond t (after_prefix w p) None ≡ Some rest → y ∷ p ≡ x ∷ (w ++ rest)
 behind_by x y w p rest true e ih k =
     let same : y ≡ x = grind (arith, nat_tests) in

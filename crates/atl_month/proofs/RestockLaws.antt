@@ -51,13 +51,13 @@ abbrev pub stocking : List (ℕ × Market) → BookBound
 stocking [] e t = 0
 stocking (x ∷ xs) e t = moves_only most_amount Stocked (Item x.0) e t + stocking xs e t
 
--- new goods of an item move amounts within the bound of restocking
+-- the bound on the new goods of one item is within the bound of restocking (`stocks_by`)
 one_stocked : (k : ℕ) (e : Entry) (t : Thing) → moves_only most_amount Stocked (Item k) e t ≤ stocks_by most_amount e t
 one_stocked k e Money = grind (arith, nat_tests, entry_small e)
 one_stocked k e People = grind (arith, nat_tests, entry_small e)
 one_stocked k e (Item i) = grind (arith, nat_tests, entry_small e)
 
--- new goods of one item move no amount of another
+-- new goods of an item move no amount of another thing
 other_item : (k : ℕ) (e : Entry) (t : Thing) → thing_index t ≢ 2 + k → moves_only most_amount Stocked (Item k) e t ≡ 0
 other_item k e t apart = grind (arith, nat_tests, entry_small e)
 
@@ -233,7 +233,8 @@ room_alone c i room =
 pub room_for_market : (x : ℕ × Market) (xs : List (ℕ × Market)) (c : CampaignValue) → HaveRoom (stocking (x ∷ xs)) c → HaveRoom (moves_only most_amount Stocked (Item x.0)) c
 room_for_market x xs c room = room_less (moves_only most_amount Stocked (Item x.0)) (stocking (x ∷ xs)) c (λ e t. omega arith) room
 
--- after the first market got its new goods, the books have room for those of the others
+-- If the books have room for the new goods of all markets, they have room, after those of the first, for those of the
+-- others.
 pub room_behind_market : (w : WorldValue) (n : ℕ) → IsThere w.regions n → (x : ℕ × Market) (xs : List (ℕ × Market)) (c : CampaignValue) → IsMarketOf w n x.0 x.1 → IsSteady w c → HaveRoom (stocking (x ∷ xs)) c → HaveRoom (stocking xs) (after_market_restock n c x)
 room_behind_market w n there x xs c of steady room = room_behind (moves_only most_amount Stocked (Item x.0)) (stocking xs) w c (after_market_restock n c x) (one_leaves_well w n there c x of steady) room
 

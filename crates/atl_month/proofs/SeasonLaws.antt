@@ -253,7 +253,7 @@ pub season_goes_on : (w : WorldValue) (c d all : CampaignValue) (regions rest : 
     → fold (season_at w) c (zip (map (λ e. e.0) regions) words) ≡ all → fold (season_at w) d (zip (map (λ e. e.0) rest) tail) ≡ all
 season_goes_on w c d all regions rest words tail n word plan listed given is whole = rw is (rw (listed, given) at whole)
 
--- after the season of the first region, the books have room for the season of the others
+-- if the books have room for the season of all regions, they have room, after that of the first, for that of the others
 pub room_goes_on : (w : WorldValue) → IsWorld w → (c d : CampaignValue) (regions rest : List (ℕ × RegionPlan)) (n word : ℕ) (plan : RegionPlan)
     → regions ≡ (n, plan) ∷ rest → d ≡ season_at w c (n, word) → IsSteady w c → HaveRoom (moved_times (length regions) (season_moves most_amount)) c → HaveRoom (moved_times (length rest) (season_moves most_amount)) d
 room_goes_on w world c d regions rest n word plan listed is steady room =

@@ -152,7 +152,7 @@ module _ (c : CampaignValue) (n : ℕ) where
   abbrev Remains : CampaignValue → Type 0
   Remains d = Every (λ m f. numbers_of m c.units ≡ [] → f.gone ≡ false → (m ≢ n) × (get c.factions m ≡ Some f)) d.factions
 
-  -- after sweeping faction `n`, each faction without a unit that isn't gone is as before, and isn't faction `n`
+  -- after sweeping faction `n`, each faction that has no unit and isn't gone is as before, and isn't faction `n`
   pub gone_at_remains : Remains (after_sweeping_faction c n)
   gone_at_remains =
       by_gone Remains

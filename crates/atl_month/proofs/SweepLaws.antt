@@ -219,7 +219,8 @@ module _ (w : WorldValue) (c : CampaignValue) (steady : IsSteady w c) where
   pub money_steady : (to amount : ℕ) → IsSteady w (after_passing_money c to amount)
   money_steady to amount = (pass_money w c (suc to) to (another to) steady amount).steady
 
-  -- after the money of a unit without men was passed on, the books have room for its items
+  -- After the money of a unit without men was passed on, the books have room for its items, if they had room for all
+  -- that it may lose.
   pub items_room : (n to : ℕ) (u : Unit) → get c.units n ≡ Some u → u.holding.men ≡ 0 → HaveRoom (loses_by most_amount) c
       → HaveRoom (moving_items (entries u.holding.items)) (after_passing_money c to u.holding.money)
   items_room n to u is none room =

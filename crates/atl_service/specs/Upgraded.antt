@@ -13,8 +13,8 @@ use Rattle.atl_service.specs.declared.command.Cause.TheVariants.{World, NotACamp
 use Rattle.atl_service.specs.Service.{ServiceValue, text_in}
 
 -- A file was upgraded: the service is open with the new text's world and a campaign with empty stocks. On a clean disk
--- it is the campaign that the tables held, and they now hold it with the new text. No doubt of the disk, no failure and
--- no test of reads is lost (`IsLater`).
+-- it is the campaign that the tables held, and they now hold it with the new text. A disk in doubt stays so, no failure
+-- of it is forgotten, and tested reads stay tested (`IsLater`).
 pub record UpgradesTo {S : Type 0} (g : Ghosts S) (old : Held S) (text : List ℕ) (made : ServiceValue S) : Type 0 where
   -- the upgraded campaign, with its marks
   pub campaign : MarkedCampaign
