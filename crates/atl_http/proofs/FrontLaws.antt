@@ -148,7 +148,7 @@ all_utf8 test small p h =
     let none = list_all_at test p k d l e in
     cc)))
 
--- digits are UTF-8
+-- a text of digits is UTF-8
 digits_utf8 : (p : List ℕ) → list_all is_ascii_digit p ≡ true → IsUtf8 p
 digits_utf8 p h = all_utf8 is_ascii_digit (λ b e. grind (arith, nat_tests)) p h
 

@@ -139,7 +139,7 @@ births_first c room = room_less (both_move (moves_only most_amount Births People
 
 -- ---- marks
 
--- setting a region's peasants and money, and booking births and income, marks all that changes
+-- setting a region's peasants and money, and booking births and income, marks all that these steps change
 pub growth_marks : (c d e f g : MarkedCampaign) (n peasants money born earned : ℕ)
     → d.value ≡ with_peasants c.value n peasants → d.marks ≡ mark_region c n
     → e.value ≡ with_region_money d.value n money → e.marks ≡ mark_region d n

@@ -37,21 +37,21 @@ use Rattle.std.proofs.lemmas.List.Sums.{count_by-le-length, length-filter}
 -- ---- one unit
 
 module _ (c : CampaignValue) (n : ℕ) where
-  -- P holds after unit `n` was swept if it holds, where no unit `n` without men is there, of the campaign as it was,
-  -- and else of the campaign in which unit `n` passed on what it has and was removed.
+  -- The property P holds after unit `n` was swept if it holds, where no unit `n` without men is there, of the campaign
+  -- as it was, and else of the campaign in which unit `n` passed on what it has and was removed.
   by_sweeping : (P : CampaignValue → Type 0) → (((u : Unit) → get c.units n ≡ Some u → u.holding.men ≢ 0) → P c)
       → ((u : Unit) → get c.units n ≡ Some u → u.holding.men ≡ 0 → P (without_unit (after_passing_all c (receiver c u.region u.faction) u) n))
       → P (after_sweeping_unit c n)
   unfolding after_sweeping_unit
   by_sweeping P stays swept = by_unit (get c.units n) refl
     where
-      -- P holds after unit `n`, which is there, was swept, whether it has no men (`b`) or some
+      -- the property P holds after unit `n`, which is there, was swept, whether the unit has no men (`b`) or some
       by_men : (u : Unit) → get c.units n ≡ Some u → (b : Bool) → (u.holding.men == 0) ≡ b
           → P (if b then without_unit (after_passing_all c (receiver c u.region u.faction) u) n else c)
       by_men u is true t = swept u is (is_equal u.holding.men 0 t)
       by_men u is false t = stays (λ v there none. is_unequal u.holding.men 0 t (ap (λ (x : Unit). x.holding.men) (same_Some u v (sym is ∙ there)) ∙ none))
 
-      -- P holds after unit `n` was swept, whether it is there or not
+      -- the property P holds after unit `n` was swept, whether the unit is there or not
       by_unit : (o : Option Unit) → get c.units n ≡ o
           → P (option_map_or (λ u. if u.holding.men == 0 then without_unit (after_passing_all c (receiver c u.region u.faction) u) n else c) o c)
       by_unit None is = stays (λ v there. none_some v (sym is ∙ there))
@@ -119,18 +119,19 @@ module _ (w : WorldValue) where
 -- ---- factions
 
 module _ (c : CampaignValue) (n : ℕ) where
-  -- P holds after faction `n` was swept if it holds, where the faction isn't there or has a unit, of the campaign as it
-  -- was, and else of the campaign in which it is gone.
+  -- The property P holds after faction `n` was swept if it holds, where the faction isn't there or has a unit, of the
+  -- campaign as it was, and else of the campaign in which it is gone.
   by_gone : (P : CampaignValue → Type 0) → (((f : Faction) → get c.factions n ≡ Some f → numbers_of n c.units ≢ []) → P c)
       → ((f : Faction) → get c.factions n ≡ Some f → numbers_of n c.units ≡ [] → P (with_gone c n)) → P (after_sweeping_faction c n)
   by_gone P stays gone = by_units (numbers_of n c.units) refl
     where
-      -- P holds after faction `n`, which has no units, was set to gone, whether it is there or not
+      -- The property P holds after faction `n`, which has no units, was set to gone, whether the faction is there or
+      -- not.
       by_faction : numbers_of n c.units ≡ [] → (o : Option Faction) → get c.factions n ≡ o → P (with_gone c n)
       by_faction none None is = subst P (sym (none-gone c n is)) (stays (λ f there. none_some f (sym is ∙ there)))
       by_faction none (Some f) is = gone f is none
 
-      -- P holds after faction `n` was swept, whether it has no units or some
+      -- the property P holds after faction `n` was swept, whether the faction has no units or some
       by_units : (ns : List ℕ) → numbers_of n c.units ≡ ns → P (if is_empty ns then with_gone c n else c)
       by_units [] is = by_faction is (get c.factions n) refl
       by_units (k ∷ ns) is = stays (λ f there none. let one : k ∷ ns ≡ [] = sym is ∙ none in cc)

@@ -139,7 +139,8 @@ module _ (w : WorldValue) (c : CampaignValue) (s : UpkeepResult) (u : Unit) (is 
       let range = steady.days s.unit u is k days there in
       (skills k days there, range.0, range.1)
 
-  -- the unit's holding with the men left has days that these may have, and the rest as it was
+  -- The unit's holding with the men left has days that these may have, and its name, guard flag and items as they were
+  -- (`IsWithMen`).
   with_less : IsWithMen w old left (omega arith) studied (with_men_left left old)
   with_less = less_men w old left (omega arith) studied
 
@@ -184,7 +185,7 @@ module _ (w : WorldValue) (c : CampaignValue) (s : UpkeepResult) (u : Unit) (is 
       steady-amount w paid_off Starved People (neg_ℤ (pos s.starved)) (omega arith)
       (steady-amount w held_back Upkeep Money (neg_ℤ (pos s.paid)) (omega arith) (steady-unit_amount w c s.unit u now is may_hold steady))
 
-  -- the total of money falls by what the unit paid, that of people by those who starved, and others stay the same
+  -- the total of money falls by what the unit paid, that of people by those who starved, and each other total stays
   total_after : (t : Thing)
       → pos (total after t) ≡ (pos (total c t) +ℤ share_of t Money (neg_ℤ (pos s.paid))) +ℤ share_of t People (neg_ℤ (pos s.starved))
   total_after t =

@@ -55,7 +55,7 @@ account left short given covered = record { left = left; short = short; given = 
 account_is : (a b c d e f g h : ℕ) → a ≡ e → b ≡ f → c ≡ g → d ≡ h → account a b c d ≡ account e f g h
 account_is a b c d e f g h x y z u = rw (x, y, z, u) refl
 
--- what holds of the account that is set, and of each of another faction or region, holds of all accounts
+-- what holds of the account that is set, and of each account of another faction or region, holds of all accounts
 pub each_account : (P : ℕ → ℕ → Account → Type 0) (m : FactionAccounts) (p : UpkeepInput) (a : Account)
     → P p.region p.faction a → ((s g : ℕ) → is_input_of s g p ≡ false → P s g (account_at m s g))
     → (s g : ℕ) → P s g (account_at (with_account m p.region p.faction a) s g)
@@ -66,7 +66,7 @@ each_account P m p a here others s g = by_test (is_input_of s g p) refl
         → account_at (with_account m p.region p.faction a) s g ≡ unwrap_or (cond test (Some a) (get (group_of m s) g)) no_account
     at test is = ap (λ o. unwrap_or o no_account) (get-grouped m p.region p.faction a s g ∙ ap (λ b. cond b (Some a) (get (group_of m s) g)) is)
 
-    -- P holds of the account of a faction in a region, whether the unit is of both (`test`) or not
+    -- the property P holds of the account of a faction in a region, whether the unit is of both (`test`) or not
     by_test : (test : Bool) → is_input_of s g p ≡ test → P s g (account_at (with_account m p.region p.faction a) s g)
     by_test true is =
         let region : p.region ≡ s = grind (arith, nat_tests) in

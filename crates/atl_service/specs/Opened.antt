@@ -24,8 +24,8 @@ pub record Opens {S : Type 0} (g : Ghosts S) (old : Held S) (made : ServiceValue
   pub is_open : made.campaign ≡ Some campaign.value
   -- the loaded campaign is good, and, if the disk is clean, the tables hold it and a text of the world (`Loads`)
   pub loads : Loads g old made.conn made.world campaign
-  -- If the disk is clean, nothing is changed; a disk in doubt stays so and no failure is forgotten (`Survives`); and
-  -- the connection is in a transaction exactly if it was in one (`LeavesAlone`).
+  -- If the disk is clean, nothing is changed, and a crash leaves what it could have left before (`Survives`); the
+  -- connection is in a transaction exactly if it was in one (`LeavesAlone`).
   pub alone : LeavesAlone g old made.conn
   -- a disk in doubt stays so, no failure of it is forgotten, and tested reads stay tested (`IsLater`)
   pub later : IsLater (state g old) (state g made.conn)
@@ -54,8 +54,8 @@ pub record RefusesOpening {S : Type 0} (g : Ghosts S) (old : Held S) (why : Caus
   pub why_is : why ≡ of_loading fault
   -- if the disk is clean, loading may return this fault (`RefusesToLoad`)
   pub cause : HasCleanDisk (state g new) → RefusesToLoad g old fault
-  -- If the disk is clean, nothing is changed; a disk in doubt stays so and no failure is forgotten (`Survives`); and
-  -- the connection is in a transaction exactly if it was in one (`LeavesAlone`).
+  -- If the disk is clean, nothing is changed, and a crash leaves what it could have left before (`Survives`); the
+  -- connection is in a transaction exactly if it was in one (`LeavesAlone`).
   pub alone : LeavesAlone g old new
   -- a disk in doubt stays so, no failure of it is forgotten, and tested reads stay tested (`IsLater`)
   pub later : IsLater (state g old) (state g new)
