@@ -120,7 +120,7 @@ module _ (m : ReceiverMap) (n : ℕ) (u : Unit) (es : List (ℕ × Unit)) (low :
   opened : (r f : ℕ) → first_or_zero (numbers_among (receives r f) ((n, u) ∷ es)) ≡ cond (receives r f u) n (behind r f)
   opened r f = ap first_or_zero (chosen-cons (receives r f) (n, u) es) ∙ first_of_cond (receives r f u) (numbers_among (receives r f) es)
     where
-      -- the first number of a list with, perhaps, `n` in front is `n`, or the first of the list
+      -- the first number of a list with `n` in front (if `b`) is `n`, and without it that of the list
       first_of_cond : (b : Bool) (ns : List ℕ) → first_or_zero (cond b (n ∷ ns) ns) ≡ cond b n (first_or_zero ns)
       first_of_cond b ns = grind arith
 

@@ -215,7 +215,7 @@ module _ (w : WorldValue) (c : CampaignValue) (steady : IsSteady w c) where
   rest_room to x xs known room =
       near_leaves_room (moves_only x.1 Lost (Item x.0)) (moving_items xs) c (after_passing_item to c x) (item_passes to x.0 x.1 known).near room
 
-  -- a campaign stays steady when money is passed on
+  -- a steady campaign stays steady when money goes to unit `to`, up to its room, and the rest is booked as lost
   pub money_steady : (to amount : ℕ) → IsSteady w (after_passing_money c to amount)
   money_steady to amount = (pass_money w c (suc to) to (another to) steady amount).steady
 

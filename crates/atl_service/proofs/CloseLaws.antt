@@ -241,7 +241,7 @@ read_ends w c r rest none (mailings, all, outcome, sent) = record {
 pub fold_further : {A B : Type 0} (step : A → B → A) (old new last : A) (all : List B) (i : ℕ) (d : B) → i < length all → new ≡ step old (get_or all i d) → fold step old (drop i all) ≡ last → fold step new (drop (i + 1) all) ≡ last
 fold_further step old new last all i d h is whole = ap (λ a. fold step a (drop (i + 1) all)) is ∙ subst (λ l. fold step old l ≡ last) (drop_more all i d h) whole
 
--- lists of the structures by region (`AreSites`) stay right when a report is stored, which changes no structure
+-- lists of the structures by region are still those of the campaign's structures (`AreSites`) after a report is stored
 pub sites_stay : (w : WorldValue) (faults : ℕ → List FaultyLine) (events : List Event) (c d : CampaignValue) (n : ℕ) → d ≡ reported_to w faults events c n → (sites : FinMap nat_cmp (List ℕ)) → AreSites c.structures sites → AreSites d.structures sites
 sites_stay w faults events c d n is sites listed =
     subst (λ (s : CampaignValue). AreSites s.structures sites) (sym is) listed

@@ -18,7 +18,7 @@ returns-clause-good c = finished_good c.args.world.now c.args.campaign.value c.i
 pub returns-clause-same : goal.returns-clause-same
 returns-clause-same c = c.in_ok-campaign.ensures.leaves.same_month
 
--- each faction of the campaign is still there
+-- each faction that the campaign had before the month is still there
 pub returns-clause-factions : goal.returns-clause-factions
 returns-clause-factions c = factions_stay c.args.world.now c.args.campaign.value c.in_ok-campaign.campaign.value c.in_ok-campaign.ensures.leaves
 
