@@ -82,9 +82,9 @@ no_accounts m s g = rw (get-empty nat_cmp s, get-empty nat_cmp g) refl
 
 -- the sums of an account are at most what `n` units may have left and be short of
 pub record IsFew (n : ℕ) (a : Account) : Type 0 where
-  -- the money that the units have left is within what `n` units may have
+  -- the money that the account's units have left is within what `n` units may have
   pub left : a.left ≤ holding_limit * n
-  -- the money that the units are short of is within what `n` units may be short of
+  -- the money that the account's units are short of is within what `n` units may be short of
   pub short : a.short ≤ most_per_head * men_limit * n
 
 -- in the empty map the sums of each account are within those of 0 units
