@@ -33,6 +33,7 @@ pub struct Books;
 impl Subcommand for Books {
     const NAME: &'static str = "books";
 
+    // What the help says of `books`.
     const ABOUT: &'static str =
         "Prints the books: of each thing all entries, and how much there is";
 

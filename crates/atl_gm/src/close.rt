@@ -42,6 +42,7 @@ pub struct Close;
 impl Subcommand for Close {
     const NAME: &'static str = "close";
 
+    // What the help says of `close`.
     const ABOUT: &'static str =
         "Closes a month, with the words that the dice of a seed give for it";
 

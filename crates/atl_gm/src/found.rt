@@ -33,6 +33,7 @@ pub struct Found;
 impl Subcommand for Found {
     const NAME: &'static str = "found";
 
+    // What the help says of `found`.
     const ABOUT: &'static str = "Founds a campaign in a database file, which is made where none is";
 
     /// The options `--world`, `--db` and `--pass`.

@@ -43,6 +43,7 @@ pub struct Join;
 impl Subcommand for Join {
     const NAME: &'static str = "join";
 
+    // What the help says of `join`.
     const ABOUT: &'static str = "Has a faction join, where the dice of a seed say";
 
     /// The options `--db`, `--name`, `--pass` and `--seed`.

@@ -35,6 +35,7 @@ pub struct Mail;
 impl Subcommand for Mail {
     const NAME: &'static str = "mail";
 
+    // What the help says of `mail`.
     const ABOUT: &'static str = "Keeps a faction's orders, in place of those that it sent before";
 
     /// The options `--db`, `--faction`, `--pass` and `--file`.

@@ -37,7 +37,7 @@ pub const SEED: &str = "seed";
 /// What `--help` says of the option for the seed.
 const SEED_HELP: &str = "The number that the campaign's dice come from: keep to the same one";
 
-/// An option whose value is a text, and what the help says of it.
+/// The option `name`, whose value is a text; `help` is what the help says of it.
 pub fn text<'a>(alloc: Global, name: &'a str, help: &'a str) -> Arg<'a> {
     Arg::new(alloc, name)
         .long(name)
@@ -46,26 +46,26 @@ pub fn text<'a>(alloc: Global, name: &'a str, help: &'a str) -> Arg<'a> {
         .help(help)
 }
 
-/// An option whose value is the path of a file.
+/// The option `name`, whose value is the path of a file; `help` is what the help says of it.
 pub fn file<'a>(alloc: Global, name: &'a str, help: &'a str) -> Arg<'a> {
     text(alloc, name, help).value_name("FILE")
 }
 
-/// An option whose value is a number of 32 bits.
+/// The option `name`, whose value is a number of 32 bits; `help` is what the help says of it.
 pub fn number<'a>(alloc: Global, name: &'a str, help: &'a str) -> Arg<'a> {
     text(alloc, name, help)
         .value_name("N")
         .value_parser(value_parser!(u32))
 }
 
-/// An option whose value is the number of a port.
+/// The option `name`, whose value is the number of a port; `help` is what the help says of it.
 pub fn port<'a>(alloc: Global, name: &'a str, help: &'a str) -> Arg<'a> {
     text(alloc, name, help)
         .value_name("N")
         .value_parser(value_parser!(u16))
 }
 
-/// An option whose value is a number of 64 bits.
+/// The option `name`, whose value is a number of 64 bits; `help` is what the help says of it.
 fn long_number<'a>(alloc: Global, name: &'a str, help: &'a str) -> Arg<'a> {
     text(alloc, name, help)
         .value_name("N")
@@ -96,27 +96,27 @@ pub fn seed<'a>(alloc: Global) -> Arg<'a> {
     long_number(alloc, SEED, SEED_HELP)
 }
 
-/// The text that was given for this option.
+/// The text that was given for the option `name`; NoValue without one.
 pub fn text_of<'a>(options: &ArgMatches<'a>, name: &str) -> Result<&'a str, Failure> {
     options.get_str(name).ok_or(Failure::NoValue)
 }
 
-/// The number of 32 bits that was given for this option.
+/// The number of 32 bits that was given for the option `name`; NoValue without one.
 pub fn number_of(options: &ArgMatches<'_>, name: &str) -> Result<u32, Failure> {
     options.get_one(name).ok_or(Failure::NoValue)
 }
 
-/// The port that was given for this option.
+/// The port that was given for the option `name`; NoValue without one.
 pub fn port_of(options: &ArgMatches<'_>, name: &str) -> Result<u16, Failure> {
     options.get_one(name).ok_or(Failure::NoValue)
 }
 
-/// The number of 64 bits that was given for this option.
+/// The number of 64 bits that was given for the option `name`; NoValue without one.
 fn long_number_of(options: &ArgMatches<'_>, name: &str) -> Result<u64, Failure> {
     options.get_one(name).ok_or(Failure::NoValue)
 }
 
-/// The dice of the seed that was given.
+/// The dice of the seed that was given; NoValue without one.
 pub fn dice_of(options: &ArgMatches<'_>) -> Result<Dice, Failure> {
     Ok(Dice {
         seed: long_number_of(options, SEED)?,

@@ -24,6 +24,7 @@ pub struct Report;
 impl Subcommand for Report {
     const NAME: &'static str = "report";
 
+    // What the help says of `report`.
     const ABOUT: &'static str = "Prints a faction's report";
 
     /// The options `--db`, `--faction` and `--pass`.

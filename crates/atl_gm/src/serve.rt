@@ -60,6 +60,7 @@ pub struct Serve;
 impl Subcommand for Serve {
     const NAME: &'static str = "serve";
 
+    // What the help says of `serve`.
     const ABOUT: &'static str =
         "Serves the campaign over HTTP to this machine, for so many connections";
 

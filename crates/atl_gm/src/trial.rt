@@ -72,6 +72,7 @@ pub struct Trial;
 impl Subcommand for Trial {
     const NAME: &'static str = "trial";
 
+    // What the help says of `trial`.
     const ABOUT: &'static str =
         "Founds a campaign in memory by the world text on standard input, and prints a first report";
 

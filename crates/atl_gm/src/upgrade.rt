@@ -37,6 +37,7 @@ pub struct Upgrade;
 impl Subcommand for Upgrade {
     const NAME: &'static str = "upgrade";
 
+    // What the help says of `upgrade`.
     const ABOUT: &'static str =
         "Upgrades a campaign of the first format, with a world that adds markets";
 

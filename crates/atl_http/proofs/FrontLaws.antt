@@ -20,7 +20,8 @@ use Rattle.std.specs.Prelude.{nat_lt, nat_le}
 
 -- ---- the rest of a path after a prefix
 
--- `after_prefix` compares the first bytes, and then the rest
+-- What a path has after a prefix (`after_prefix`) is found by comparing their first bytes, and then what follows in
+-- both.
 behind_step : (x y : ℕ) (w p : List ℕ) → after_prefix (x ∷ w) (y ∷ p) ≡ cond (y == x) (after_prefix w p) None
 behind_step x y w p =
     elim (y == x) as (λ t. cond (t && pointwise nat_eq (take (length w) p) w) (Some (drop (length w) p)) None ≡ cond t (after_prefix w p) None) [
@@ -28,7 +29,8 @@ behind_step x y w p =
       | false ↦ refl
     ]
 
--- if the first bytes and then the rest compare equal, the path is the prefix followed by the rest of the path
+-- If the first bytes are equal, and the rest of a path begins with the rest of a prefix, the path is the prefix
+-- followed by `rest`.
 behind_by : (x y : ℕ) (w p rest : List ℕ) (t : Bool) → (y == x) ≡ t → (after_prefix w p ≡ Some rest → p ≡ w ++ rest) → cond t (after_prefix w p) None ≡ Some rest → y ∷ p ≡ x ∷ (w ++ rest)
 behind_by x y w p rest true e ih k =
     let same : y ≡ x = grind (arith, nat_tests) in
@@ -79,7 +81,7 @@ no_slash : (p : List ℕ) → list_all is_ascii_digit p ≡ true → has_slash p
 no_slash [] h = refl
 no_slash (b ∷ p) h = slash_step b p (is_ascii_digit b) refl (λ k. no_slash p k) h
 
--- a digit is not the parameter's token
+-- the first byte of a text of digits is not the parameter's token
 first_digit : (b : ℕ) (p : List ℕ) (t : Bool) → is_ascii_digit b ≡ t → (t && list_all is_ascii_digit p) ≡ true → (param_token == b) ≡ false
 first_digit b p true e h = grind (arith, nat_tests)
 first_digit b p false e h = cc
@@ -100,18 +102,18 @@ or_either : (key : ℕ) (a b : Option ℕ) → IsAt key a → IsAt key b → IsA
 or_either key a b (inl e) h = inl (ap (λ x. or_else x b) e)
 or_either key a b (inr e) h = subst (λ x. IsAt key (or_else x b)) (sym e) h
 
--- a row without further bytes finds nothing for a path with further bytes
+-- a row whose text is matched to its end finds nothing for a path that has further bytes
 pub end_none : (key b : ℕ) (p : List ℕ) → seek 0 (([], key) ∷ []) (b ∷ p) ≡ None
 unfolding seek
 end_none key b p = simp (seek-empty 0 p, param_step-empty (b ∷ p), seek-empty ((param_step {K = ℕ} [] (b ∷ p)).0 - 1) p)
 
--- a row without further bytes finds its key or nothing
+-- a row whose text is matched to its end finds its key or nothing
 end_alone : (key : ℕ) (p : List ℕ) → IsAt key (seek 0 (([], key) ∷ []) p)
 unfolding seek
 end_alone key [] = inl refl
 end_alone key (b ∷ p) = inr (end_none key b p)
 
--- a row without further bytes, kept or dropped by a test, finds its key or nothing
+-- a row whose text is matched to its end, kept or dropped by a test, finds its key or nothing
 stepped : (key b : ℕ) (p : List ℕ) (t : Bool) → IsAt key (seek 0 (cond t (([], key) ∷ []) []) p)
 stepped key b p true = end_alone key p
 stepped key b p false = inr (seek-empty 0 p)
@@ -146,7 +148,7 @@ all_utf8 test small p h =
     let none = list_all_at test p k d l e in
     cc)))
 
--- digits are UTF-8
+-- a text of digits is UTF-8
 digits_utf8 : (p : List ℕ) → list_all is_ascii_digit p ≡ true → IsUtf8 p
 digits_utf8 p h = all_utf8 is_ascii_digit (λ b e. grind (arith, nat_tests)) p h
 

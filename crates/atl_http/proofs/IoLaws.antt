@@ -41,7 +41,8 @@ appends_next before between after bytes sent count h k =
 
 -- ---- reading
 
--- a fault of a read ends the reading of an unfinished request (`Receives`)
+-- If a read of a request that isn't whole ends in a fault, so does reading the request, with the bytes read so far
+-- (`Receives`).
 pub stopped : (before between after : Option (List ℕ)) (seen new : List ℕ) (fault : HttpFault) → Consumes before between seen → Judges seen More → ReadsMore between after seen new (Err fault) → Receives before after new (Err fault)
 stopped before between after seen new Cut h judged (kept, at_end, same) =
     (subst (λ l. Consumes before after l) (sym same) (consumes_kept before between after seen h kept), subst (λ l. Judges l More) (sym same) judged, at_end)
@@ -50,11 +51,12 @@ stopped before between after seen new ReadFault h judged (kept, same) =
 stopped before between after seen new WriteFault h judged none = absurd none
 stopped before between after seen new Memory h judged done = tt
 
--- after one more read without a fault, exactly the bytes collected so far were read
+-- if the bytes collected were exactly those read, they are so still after one more read without a fault
 pub went_on : (before between after : Option (List ℕ)) (seen new : List ℕ) (count : ℕ) → Consumes before between seen → ReadsMore between after seen new (Ok count) → Consumes before after new
 went_on before between after seen new count h (piece, is, few, more, same) = subst (λ l. Consumes before after l) (sym same) (consumes_more before between after seen piece h more)
 
--- if the bytes before the last read had the verdict More, no read was done too many (`IsReadSoFar`)
+-- If the bytes before the last read had the verdict More, no read was done after the request was whole or refused
+-- (`IsReadSoFar`).
 pub read_so_far : (between after : Option (List ℕ)) (seen new : List ℕ) (count : ℕ) → Judges seen More → ReadsMore between after seen new (Ok count) → IsReadSoFar new
 read_so_far between after seen new count h (piece, is, few, more, same) = inr (seen, piece, same, omega (arith, is, few), h)
 
@@ -68,7 +70,7 @@ lacks seen items told count e f h = subst (λ l. ComesTo l (Lacks count)) e (sub
 pub no_outcome : (items : List ℕ) (count : ℕ) → ComesTo items (Lacks count) → Judges items More
 no_outcome items count (some, short) = subst (λ l. Judges l More) (append-nil items) (short [] some)
 
--- after a read of `count` bytes, `count` fewer are missing
+-- if `lacking` bytes were missing, after a read of `count` bytes still `lacking` less `count` are missing (`IsShortBy`)
 pub short_by_less : (between after : Option (List ℕ)) (seen new : List ℕ) (lacking count : ℕ) → ComesTo seen (Lacks lacking) → ReadsMore between after seen new (Ok count) → IsShortBy new (lacking - count)
 short_by_less between after seen new lacking count (some, short) (piece, is, few, came, same) more fewer =
     let together : length (piece ++ more) < lacking = (let k = length-append piece more in omega (arith, k, is, fewer)) in

@@ -165,12 +165,14 @@ after_slash = (codes "close/" ++ param_token ∷ [], 0) ∷ (codes "join", 1) �
 slash_first : (path : List ℕ) → first rows path ≡ option_and_then (λ rest. first after_slash rest) (after_prefix (codes "/") path)
 slash_first path = lookup_after_prefix (codes "/") after_slash path (lit< tt, tt)
 
--- looking up the rest after the slash steps to the rows that begin with its first letter
+-- Looking up the rest of a path after its slash looks for what follows its first letter, in the rows that begin with
+-- the letter.
 letter_step : (c : ℕ) (q : List ℕ) → first after_slash (c ∷ q) ≡ seek 0 (step c after_slash) q
 unfolding seek
 letter_step c q = simp (param_step-empty (c ∷ q), seek-empty ((param_step {K = ℕ} [] (c ∷ q)).0 - 1) q, or_else-none)
 
--- looking up a path that begins with a slash steps to the rows that have its next letter
+-- Looking up a path that begins with a slash looks for what follows its next letter, in the rows with this letter after
+-- the slash.
 letter_first : (c : ℕ) (q : List ℕ) → first rows (47 ∷ c ∷ q) ≡ seek 0 (step c after_slash) q
 letter_first c q = slash_first (47 ∷ c ∷ q) ∙ letter_step c q
 
@@ -282,7 +284,7 @@ leads (a ∷ q) = leads_begin a q (a == 47) refl
 
 -- ---- the laws that the code needs
 
--- the router finds the route whose index its rows give
+-- what a path finds among the routes (`kept`) is the route of the index that it finds among the rows (`rows`)
 kept_first : (path : List ℕ) (found : Option ℕ) → first rows path ≡ found → first kept path ≡ map_key kept_at found
 kept_first path found e = first-rename kept_at rows path ∙ ap (map_key kept_at) e
 

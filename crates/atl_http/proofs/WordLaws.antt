@@ -10,7 +10,7 @@ words_step : (n : ℕ) (g : Lcg) (w : ℕ) (next : Lcg) → (w, next) ≡ pcg32 
 unfolding first_words word_of next_generator
 words_step n g w next e = ap (λ (q : ℕ × Lcg). q.0 ∷ first_words n q.1) (sym e)
 
--- words found so far followed by those still to be found stay the same when the next word is found
+-- the list of the words found so far and of those still to be found stays the same when the next word is found
 pub word_more : (found : List ℕ) (count counter : ℕ) (g : Lcg) (w : ℕ) (next : Lcg) → (w, next) ≡ pcg32 g → counter < count → (found ++ w ∷ []) ++ first_words (count - (counter + 1)) next ≡ found ++ first_words (count - counter) g
 word_more found count counter g w next e h =
     append_assoc found (w ∷ []) (first_words (count - (counter + 1)) next)

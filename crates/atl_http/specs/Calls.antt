@@ -67,7 +67,8 @@ ReadFaultOf reads ReadFault = (reads.last ≡ came.Failed) ⊎ (GoesOn reads.las
 ReadFaultOf reads WriteFault = ⊥
 ReadFaultOf reads Memory = GoesOn reads.last
 
--- The reads agree with the result of reading a request: at most `most_reads` were done, and they explain a fault.
+-- The reads agree with the result of reading a request: at most `most_reads` were done; with Ok another might follow
+-- (`GoesOn`), and a fault is explained (`ReadFaultOf`).
 abbrev pub EndsReading : {X : Type 0} → Reads → Result X HttpFault → Type 0
 EndsReading reads (Ok x) = (reads.count ≤ most_reads) × GoesOn reads.last
 EndsReading reads (Err fault) = (reads.count ≤ most_reads) × ReadFaultOf reads fault

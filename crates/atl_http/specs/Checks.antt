@@ -102,7 +102,8 @@ joining body = do
   pass ← or_problem BadJson (text_at (codes "pass") said)
   Ok (request.Join name pass)
 
--- the request that a route, pass text and body make; BadJson for a join whose body is not right
+-- The request that a route, pass text and body make; BadJson if the body of a join is no object with the texts of a
+-- join.
 abbrev pub request_of : Route → (pass body : List ℕ) → Result Request Problem
 request_of Join pass body = joining body
 request_of (Orders faction) pass body = Ok (request.Orders faction pass body)

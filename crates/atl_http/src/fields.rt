@@ -10,8 +10,11 @@ use httparse::spans::{HeaderSpan, Span};
 /// The result of a lookup by name: no field, one field with the span of its value, or several.
 #[derive(Drop, Clone, Copy)]
 pub enum FieldLookup {
+    /// No field has the name.
     Nowhere,
+    /// One field has the name: the span of its value.
     Once(Span),
+    /// Several fields have the name.
     Several,
 }
 

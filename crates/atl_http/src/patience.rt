@@ -74,6 +74,7 @@ impl<'a, C: Clock> Drop for Peer<'a, C> {
 
 /// Reads from the peer, for at most 10 seconds, and subtracts the time from that of the connection.
 impl<'a, C: Clock> Read for Peer<'a, C> {
+    /// Reads once, and returns the number of bytes; TimedOut once no time is left.
     fn read(&mut self, buf: &mut [u8]) -> io::Result<usize> {
         let (wait, begun) = self.patience.begin()?;
         let _ = self.stream.set_read_timeout(Some(wait));
@@ -86,6 +87,7 @@ impl<'a, C: Clock> Read for Peer<'a, C> {
 
 /// Writes to the peer, for at most 10 seconds, and subtracts the time from that of the connection.
 impl<'a, C: Clock> Write for Peer<'a, C> {
+    /// Writes once, and returns the number of bytes taken; TimedOut once no time is left.
     fn write(&mut self, buf: &[u8]) -> io::Result<usize> {
         let (wait, begun) = self.patience.begin()?;
         let _ = self.stream.set_write_timeout(Some(wait));
@@ -95,6 +97,7 @@ impl<'a, C: Clock> Write for Peer<'a, C> {
         written
     }
 
+    /// Flushes the stream; this takes nothing from the time left.
     fn flush(&mut self) -> io::Result<()> {
         let mut stream = self.stream;
         stream.flush()

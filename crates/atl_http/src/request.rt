@@ -11,23 +11,32 @@ use std::alloc::{AllocError, Global};
 pub enum Request {
     /// A faction joins, under a name, with a pass text of its own.
     Join {
+        /// The name that the faction takes.
         name: Sequence<u8>,
+        /// The pass text that the faction's later requests must give.
         pass: Sequence<u8>,
     },
     /// A faction sends its orders.
     Orders {
+        /// The faction's number.
         faction: u32,
+        /// The faction's pass text.
         pass: Sequence<u8>,
+        /// The mailing: the bytes of the body.
         text: Sequence<u8>,
     },
     /// The moderator closes a month.
     Close {
+        /// The month's number.
         month: u32,
+        /// The moderator's pass text.
         pass: Sequence<u8>,
     },
     /// A faction asks for its report.
     Report {
+        /// The faction's number.
         faction: u32,
+        /// The faction's pass text.
         pass: Sequence<u8>,
     },
 }

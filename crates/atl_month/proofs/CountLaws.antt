@@ -38,8 +38,8 @@ module _ {V : Type 0} where
   at_least zero a b count all = omega arith
   at_least (suc k) a b count all = by_entries (λ c d less has. at_least k c d less has) (entries b) refl
     where
-      -- map `a` has at least size `k + 1`, from the entries of map `b`: without the first of them, both maps are as for
-      -- size `k`
+      -- If map `b` has size `k + 1`, and map `a` each of its numbers, `a` has at least that size, given that it is so
+      -- for size `k`.
       by_entries : ((c d : FinMap nat_cmp V) → len d ≡ k → HasAllNumbers c d → k ≤ len c) → (es : List (ℕ × V)) → entries b ≡ es → suc k ≤ len a
       by_entries step [] is = absurd (omega (arith, count, len-entries b ∙ ap length is))
       by_entries step (e ∷ es) is =

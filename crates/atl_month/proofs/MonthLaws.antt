@@ -48,7 +48,8 @@ module _ (w : WorldValue) (d : CampaignValue) where
   finished_balances old t = old t
 
 module _ (w : WorldValue) (c d : CampaignValue) (moving : BookBound) (little : MovesLess moving moves_in_month) (early : c.month < last_month) (well : LeavesWell IsSwept moving w c d) where
-  -- the phases of a month leave the month's number, the reports and the factions as before
+  -- The phases of a month leave the number of the month last closed, the reports and the set of factions
+  -- (`IsSameMonth`).
   abbrev same : IsSameMonth c d
   same = well.same_month
 
@@ -99,12 +100,14 @@ module _ {leaves : Condition} (w : WorldValue) (c d : CampaignValue) (well : Lea
 pub phases_room : (w : WorldValue) (c : CampaignValue) → IsSound w c → HaveRoom phases_moving c
 phases_room w c sound = room_when_sound w c phases_moving (λ e t. omega (arith, phases_little e t)) sound
 
--- the campaign and the events that some phases make of month `m` are what they make of `begin`, if `m` is `begin`
+-- If some phases, run on month `m`, made campaign `d` and some events, they make the same of `begin`, where `m` is
+-- `begin`.
 phases_result : (phases : Meaning) (w : WorldValue) (c d : CampaignValue) (m n : MonthValue) (begin : MonthValue) (events : List Event) → (d, n) ≡ phases w c m → m ≡ begin → events ≡ n.events
     → ◌≡◌ {A = CampaignValue × List Event} (d, events) ((phases w c begin).0, (phases w c begin).1.events)
 phases_result phases w c d m n begin events meaning begins events_are = ap (λ (es : List Event). (d, es)) events_are ∙ ap (λ (p : CampaignValue × MonthValue). (p.0, p.1.events)) (meaning ∙ ap (phases w c) begins)
 
--- the campaign and the events that the phases of a month make of a new month are those of `month_of`
+-- If the phases of a month, run on a new month, made campaign `d` and some events, these are the two that `month_of`
+-- gives.
 pub month_is : (w : WorldValue) (c d : CampaignValue) (m n : MonthValue) (readings : FinMap nat_cmp Reading) (words : List ℕ) (events : List Event)
     → (d, n) ≡ month_meaning w c m → m ≡ new_month readings words → events ≡ n.events → (d, events) ≡ month_of w c readings words
 unfolding month_of
@@ -127,7 +130,7 @@ month_leaves =
 none_read : (f : ℕ) (ms : List Mailing) → SentNone ms f → get (by_faction (map reading_of ms)) f ≡ None
 none_read f ms none = get-from_entries nat_cmp_total (map (λ r. (r.faction, r)) (map reading_of ms)) f ∙ not_found ms (recursion_from_All (λ m. m.faction ≢ f) ms none)
   where
-    -- the search finds no reading of the faction among the readings of these mailings
+    -- if none of the mailings is of faction `f`, the search for the faction finds nothing among their readings
     not_found : (ms : List Mailing) → AllByRecursion (λ m. m.faction ≢ f) ms → find nat_cmp f (map (λ r. (r.faction, r)) (map reading_of ms)) ≡ None
     not_found [] none = refl
     not_found (m ∷ ms) none =
@@ -137,8 +140,8 @@ none_read f ms none = get-from_entries nat_cmp_total (map (λ r. (r.faction, r))
           | Greater ↦ λ o. not_found ms none.1
         ] refl
 
--- Phases that leave units without a mailing their items, and their men less the starved leave them, over a month that
--- begins without events, exactly the men whom its events don't report as starved.
+-- After phases that close well without a mailing (`ClosesUnmailed`), over a month that begins without events, each unit
+-- of a faction without a mailing has its items and all men but those whom the events report as starved (`IsLeft`).
 left_behind : (phases : Meaning) (keeps : Frame) → ClosesUnmailed phases keeps → (w : WorldValue) (c d : CampaignValue) (m : MonthValue) (events : List Event) → m.events ≡ [] → ◌≡◌ {A = CampaignValue × List Event} (d, events) ((phases w c m).0, (phases w c m).1.events) → keeps w m c d
     → Every (λ n u. get m.readings u.faction ≡ None → IsLeft (starved_in events n) d n u) c.units
 left_behind phases keeps closes w c d m events begins is kept n u there none some =
@@ -149,7 +152,8 @@ left_behind phases keeps closes w c d m events begins is kept n u there none som
     subst (λ k. IsUnaffected (IsLessBy k) d n u) so_many (subst (λ s. IsUnaffected (IsLessBy (starved_in (phases w c m).1.events n - starved_in m.events n)) s n u) (sym state)
     (closes.left w c m (subst (keeps w m c) state kept) n u there none (subst (λ k. k < u.holding.men) (sym so_many) some)))
 
--- after a month units without a mailing have name, items and all men who didn't starve (`UnmailedAreLeft`)
+-- After a month each unit of a faction without a mailing has its name, its items and all men who didn't starve
+-- (`UnmailedAreLeft`).
 pub unmailed_left : (w : WorldValue) (c d : CampaignValue) (ms : List Mailing) (words : List ℕ) (events : List Event) → (d, events) ≡ month_of w c (by_faction (map reading_of ms)) words
     → month_keeps w (new_month (by_faction (map reading_of ms)) words) c d → UnmailedAreLeft ms events c d
 unfolding month_of

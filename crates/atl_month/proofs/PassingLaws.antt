@@ -73,15 +73,15 @@ pub record PassesOn (w : WorldValue) (n : ℕ) (owing : Thing → ℕ) (moving :
   pub steady : IsSteady w d
   -- of each thing the total is above the books by `owing` more than before
   pub owes : (s : Thing) (x : ℕ) → Owes c s x → Owes d s (x + owing s)
-  -- each amount of the books moves by at most its bound
+  -- each amount of the books moves by at most its bound in `moving`
   pub near : (e : Entry) (s : Thing) → IsNear (moving e s) (amount_in c.books e s) (amount_in d.books e s)
-  -- the month's number, the reports and the set of factions stay
+  -- the number of the month last closed, the reports and the set of factions stay
   pub same : IsSameMonth c d
-  -- unit `n` stays as it is
+  -- unit `n`, whose money or items are passed on, is itself unchanged
   pub unit : get d.units n ≡ get c.units n
-  -- each unit that was there is there, and nothing is taken from it
+  -- each unit of campaign `c` is in campaign `d`, and nothing is taken from it
   pub forth : Every (λ m u. (v : Unit) × (get d.units m ≡ Some v) × IsKept u v) c.units
-  -- each unit that is there was there before, and nothing was taken from it
+  -- each unit of campaign `d` was in campaign `c`, and nothing was taken from it
   pub back : Every (λ m v. (u : Unit) × (get c.units m ≡ Some u) × IsKept u v) d.units
 
 -- a steady campaign that stays as it is has passed on nothing (`PassesOn` with 0 of each thing)
@@ -142,11 +142,11 @@ module _ (w : WorldValue) (c : CampaignValue) (n : ℕ) (t : Thing) (inside : th
   module _ (k : ℕ) (v : Unit) (h : HoldingValue) (is : get c.units k ≡ Some v) (apart : n ≢ k) (may : MayHold w v h)
       (kept : IsKept v (record v { holding = h })) (taken lost : ℕ)
       (more : (s : Thing) → unit_amount s h ≡ unit_amount s v.holding + part_of s t taken) where
-    -- the campaign in which the receiver has its part, without booking the rest
+    -- the campaign in which the receiver has the part that it takes, while the rest isn't booked yet
     abbrev given : CampaignValue
     given = with_held c k h (Some v)
 
-    -- the total of each thing grows by the part that is given
+    -- giving the part raises the total of the thing by that part, and no other total
     grown : (s : Thing) → total given s ≡ total c s + part_of s t taken
     grown s = omega (arith, total-unit_amount w c k v h is s, more s)
 
@@ -184,7 +184,7 @@ module _ (w : WorldValue) (c : CampaignValue) (n : ℕ) (t : Thing) (inside : th
 
 -- ---- a holding with more of an item
 
--- a holding with more of one item has that much more of it, and as much as before of others
+-- if `n` of item `i` are added to some items, there are `n` more of it, and as many as before of each other item `j`
 more_amount : (items : FinMap nat_cmp ℕ) (i n j : ℕ)
     → amount_of (with_amount_of items i (amount_of items i + n)) j ≡ amount_of items j + cond (2 + j == 2 + i) n 0
 more_amount items i n j = elim (cases_eq j i) [
@@ -194,11 +194,11 @@ more_amount items i n j = elim (cases_eq j i) [
 
 -- ---- the part that a unit takes, and the rest
 
--- the part that is accepted and the rest are the amount
+-- what a unit accepts of an amount and what it doesn't accept together are the amount
 whole : (amount have : ℕ) → accepted_of amount have + (amount - accepted_of amount have) ≡ amount
 whole amount have = omega arith
 
--- what a unit accepts is within the room that its holding has
+-- a unit that has `have` of a thing, within the limit of a holding, is still within it with what it accepts more
 fits : (amount have : ℕ) → have ≤ holding_limit → have + accepted_of amount have ≤ holding_limit
 fits amount have l = omega arith
 
@@ -213,7 +213,8 @@ module _ (w : WorldValue) (c : CampaignValue) (n k : ℕ) (apart : n ≢ k) (ste
   more_money h n People = grind (arith, nat_tests)
   more_money h n (Item i) = grind (arith, nat_tests)
 
-  -- if unit `k` takes nothing of an amount, all of it is booked as lost
+  -- If booking all of an amount as lost is passing it on (`Passed`), so is booking the amount less the 0 that unit `k`
+  -- takes.
   all_left : (t : Thing) (amount : ℕ) → Passed t amount (with_lost c t amount) → Passed t amount (with_lost c t (amount - 0))
   all_left t amount lost = let same : amount ≡ amount - 0 = omega arith in subst (λ a. Passed t amount (with_lost c t a)) same lost
 

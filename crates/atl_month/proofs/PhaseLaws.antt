@@ -45,23 +45,26 @@ use Rattle.atl_month.proofs.UnmailedEndLaws.{season_leaves, sweep_leaves, upkeep
 abbrev MovesAlone : BookBound → MovedEntries → Type 0
 MovesAlone moving moved = (e : Entry) (t : Thing) → moving e t ≤ (if may_move moved e t then most_moved else 0)
 
--- a bound of 0 is within any list of entries
+-- a phase that moves nothing moves only the entries that it lists (`MovesAlone`), whichever these are
 nothing : (moved : MovedEntries) → MovesAlone moves_nothing moved
 nothing moved e t = omega arith
 
--- moving one amount of money moves the listed entry of money alone
+-- A phase that moves money under entry `k` alone moves only the entries that it lists (`MovesAlone`), if these are `k`
+-- for money.
 money_alone : (k : Entry) → MovesAlone (moves_only most_moved k Money) (record { money = k ∷ []; people = []; items = [] })
 money_alone k e Money = grind (arith, nat_tests)
 money_alone k e People = grind (arith, nat_tests, entry_small k)
 money_alone k e (Item i) = grind (arith, nat_tests, entry_small k)
 
--- moving one amount of people moves the listed entry of people alone
+-- A phase that moves people under entry `k` alone moves only the entries that it lists (`MovesAlone`), if these are `k`
+-- for people.
 people_alone : (k : Entry) → MovesAlone (moves_only most_moved k People) (record { money = []; people = k ∷ []; items = [] })
 people_alone k e Money = grind (arith, nat_tests, entry_small e)
 people_alone k e People = grind (arith, nat_tests)
 people_alone k e (Item i) = grind (arith, nat_tests, entry_small k)
 
--- moving an amount of money and one of people moves the two listed entries alone
+-- A phase that moves money under `k` and people under `j` moves only the entries that it lists (`MovesAlone`), if these
+-- are those two.
 money_and_people : (k j : Entry) → MovesAlone (both_move (moves_only most_moved k Money) (moves_only most_moved j People)) (record { money = k ∷ []; people = j ∷ []; items = [] })
 money_and_people k j e Money = omega (arith, money_alone k e Money, people_alone j e Money)
 money_and_people k j e People = omega (arith, money_alone k e People, people_alone j e People)

@@ -28,28 +28,29 @@ use Rattle.atl_world.proofs.GeneralLaws.{is_equal}
 -- ---- the first number whose value passes a test
 
 module _ {V : Type 0} (p : V → Bool) where
-  -- a number listed in a list with, perhaps, one more in front is that one or one of the others
+  -- What follows if `k` is `n`, and also if `k` is listed in `ns`, follows if `k` is listed in `ns` with `n` in front
+  -- (if `b`) or without.
   either_listed : {P : Type 0} (b : Bool) (n k : ℕ) (ns : List ℕ) → (k ≡ n → P) → (IsListed k ns → P) → IsListed k (cond b (n ∷ ns) ns) → P
   either_listed true n k ns here rest (inl same) = here same
   either_listed true n k ns here rest (inr h) = rest h
   either_listed false n k ns here rest h = rest h
 
-  -- a number below those of all entries is below each number listed among them
+  -- a number below those of all entries is below each of the numbers among them whose values pass the test
   below_listed : (x k : ℕ) (es : List (ℕ × V)) → below_all nat_cmp x es ≡ true → IsListed k (numbers_among p es) → x < k
   below_listed x k [] low h = absurd h
   below_listed x k (e ∷ es) low h =
       either_listed (p e.1) e.0 k (numbers_among p es) (λ same. let l = below x e.0 (and_parts _ _ low).0 in omega (arith, same, l)) (below_listed x k es (and_parts _ _ low).1)
       (subst (IsListed k) (chosen-cons p e es) h)
 
-  -- of the numbers listed among sorted entries, the first is the least
+  -- of the numbers in sorted entries whose values pass the test, the first is the least
   first_least : (k : ℕ) (es : List (ℕ × V)) → is_sorted nat_cmp es ≡ true → IsListed k (numbers_among p es) → first_or_zero (numbers_among p es) ≤ k
   first_least k [] s h = absurd h
   first_least k (e ∷ es) s h =
       subst (λ ns. first_or_zero ns ≤ k) (sym (chosen-cons p e es))
       (by_test (p e.1) (first_least k es (and_parts _ _ s).1) (below_listed e.0 k es (and_parts _ _ s).0) (subst (IsListed k) (chosen-cons p e es) h))
     where
-      -- number `k` is at least the first one listed, whether the first entry passes the test (`b`) and is listed in
-      -- front, or not
+      -- Among entries with one more in front, the first number that passes is at most each one that passes, whether the
+      -- front one passes (`b`) or not.
       by_test : (b : Bool) → (IsListed k (numbers_among p es) → first_or_zero (numbers_among p es) ≤ k) → (IsListed k (numbers_among p es) → e.0 < k)
           → IsListed k (cond b (e.0 ∷ numbers_among p es) (numbers_among p es)) → first_or_zero (cond b (e.0 ∷ numbers_among p es) (numbers_among p es)) ≤ k
       by_test true least above (inl same) = omega (arith, same)
@@ -119,7 +120,7 @@ module _ (m : ReceiverMap) (n : ℕ) (u : Unit) (es : List (ℕ × Unit)) (low :
   opened : (r f : ℕ) → first_or_zero (numbers_among (receives r f) ((n, u) ∷ es)) ≡ cond (receives r f u) n (behind r f)
   opened r f = ap first_or_zero (chosen-cons (receives r f) (n, u) es) ∙ first_of_cond (receives r f u) (numbers_among (receives r f) es)
     where
-      -- the first number of a list with, perhaps, `n` in front is `n`, or the first of the list
+      -- the first number of a list with `n` in front (if `b`) is `n`, and without it that of the list
       first_of_cond : (b : Bool) (ns : List ℕ) → first_or_zero (cond b (n ∷ ns) ns) ≡ cond b n (first_or_zero ns)
       first_of_cond b ns = grind arith
 
@@ -140,18 +141,20 @@ module _ (m : ReceiverMap) (n : ℕ) (u : Unit) (es : List (ℕ × Unit)) (low :
       (λ region faction. ap (λ k. receiver_in m k f) (sym (is_equal u.region r region)) ∙ ap (receiver_in m u.region) (sym (is_equal u.faction f faction)))
       ∙ ap (or_if_zero (receiver_in m r f)) (sym (opened r f))
     where
-      -- The receiver goes on, for a faction in a region with receiver `o` in the map, and `next` the first of the units
-      -- that come after unit `n`. Tests `p` and `q` say whether unit `n` is in the region and of the faction, and `k`
-      -- whether it has men; `x` is the receiver of its own faction in its own region.
+      -- Noting unit `n` keeps the receiver of a faction in a region: `o`, which the map has, else `next`, the first of
+      -- the units after `n`. Tests `p`, `q` and `k` say whether unit `n` is in the region, is of the faction, and has
+      -- men; `x` is the receiver of its own faction in its own region.
       goes_on : (p q k : Bool) (o : Option ℕ) (x next : ℕ) → (p ≡ true → q ≡ true → unwrap_or o 0 ≡ x)
           → or_if_zero (unwrap_or (cond ((k && (x == 0)) && (p && q)) (Some n) o) 0) next ≡ or_if_zero (unwrap_or o 0) (cond (p && (q && k)) n next)
       goes_on p q k o x next same = grind (arith, nat_tests, low)
 
--- before any unit is noted, the receivers are the first of all units
+-- Before any unit is noted, the first of all units that receives for a faction in a region is the campaign's receiver
+-- there.
 pub nothing_noted : (c : CampaignValue) (m : ReceiverMap) → m ≡ empty → (r f : ℕ) → or_if_zero (receiver_in m r f) (first_or_zero (numbers_among (receives r f) (entries c.units))) ≡ receiver c r f
 nothing_noted c m none r f = rw (none, get-empty nat_cmp r, get-empty nat_cmp f) refl
 
--- after all units were noted, the map has the receivers of the campaign
+-- If the map alone, with no unit to come, gives each receiver of the campaign, it has the campaign's receivers
+-- (`AreReceivers`).
 pub all_noted : (c : CampaignValue) (m : ReceiverMap) → ((r f : ℕ) → or_if_zero (receiver_in m r f) (first_or_zero (numbers_among (receives r f) [])) ≡ receiver c r f) → AreReceivers c m
 all_noted c m h r f = plain (receiver_in m r f) ∙ h r f
   where

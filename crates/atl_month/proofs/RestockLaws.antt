@@ -46,18 +46,18 @@ use Rattle.atl_campaign.proofs.OrderedLaws.{below}
 
 -- ---- how far new goods move the books
 
--- the bound on what new goods of some markets book: 999,999,999 for each market's item
+-- the bound on what the new goods of some markets book: up to 999,999,999 under Stocked of each market's item
 abbrev pub stocking : List (ℕ × Market) → BookBound
 stocking [] e t = 0
 stocking (x ∷ xs) e t = moves_only most_amount Stocked (Item x.0) e t + stocking xs e t
 
--- new goods of an item move amounts within the bound of restocking
+-- the bound on the new goods of one item is within the bound of restocking (`stocks_by`)
 one_stocked : (k : ℕ) (e : Entry) (t : Thing) → moves_only most_amount Stocked (Item k) e t ≤ stocks_by most_amount e t
 one_stocked k e Money = grind (arith, nat_tests, entry_small e)
 one_stocked k e People = grind (arith, nat_tests, entry_small e)
 one_stocked k e (Item i) = grind (arith, nat_tests, entry_small e)
 
--- new goods of one item move no amount of another
+-- new goods of an item move no amount of another thing
 other_item : (k : ℕ) (e : Entry) (t : Thing) → thing_index t ≢ 2 + k → moves_only most_amount Stocked (Item k) e t ≡ 0
 other_item k e t apart = grind (arith, nat_tests, entry_small e)
 
@@ -91,11 +91,11 @@ module _ (w : WorldValue) (c : CampaignValue) (n i : ℕ) (m : Market) (r : Regi
   abbrev more : ℕ
   more = restock m stock
 
-  -- the stock of the market in the campaign is that of its region
+  -- the campaign's stock of item `i` in region `n` (`stock_of`) is what the region has in stock of it
   stock_is : stock_of c n i ≡ stock
   stock_is = ap (λ o. option_map_or (λ (q : Region). amount_of q.stocks i) o 0) here
 
-  -- the limit of the stock of the region for the item is the market's limit
+  -- the most that region `n` may have in stock of item `i` (`stock_limit`) is the market's limit
   limit_is : stock_limit w n i ≡ m.limit
   limit_is = ap (λ o. option_map_or (λ (k : Market). k.limit) o most_amount) market
 
@@ -124,7 +124,7 @@ module _ (w : WorldValue) (c : CampaignValue) (n i : ℕ) (m : Market) (r : Regi
   filled_steady : IsSteady w filled
   filled_steady = steady-stock c n i (stock + more) r here w (ap is_some market) (omega (arith, stock_fits, limit_is)) steady
 
-  -- the total of the item grows by the new goods
+  -- the total of the market's item grows by the new goods, and each other total stays
   filled_total : (t : Thing) → total filled t ≡ total c t + cond (thing_index t == 2 + i) more 0
   filled_total t = elim (cases_eq (thing_index t) (2 + i)) [
     | inl place ↦
@@ -145,7 +145,8 @@ module _ (w : WorldValue) (c : CampaignValue) (n i : ℕ) (m : Market) (r : Regi
       added : (b : Bool) (x : ℕ) (z : ℤ) → pos x ≡ z → pos (x + cond b more 0) ≡ z +ℤ cond b (pos more) (pos 0)
       added b x z e = grind (arith, ints, e)
 
-  -- new goods of a market of region `n` keep a steady campaign steady and its books balanced, and book only that item
+  -- New goods of a market of region `n` keep a steady campaign steady and its books balanced, and book at most
+  -- 999,999,999 of its item.
   pub market_leaves_well : LeavesWell IsSteady (moves_only most_amount Stocked (Item i)) w c (after_market_restock n c (i, m))
   unfolding after_market_restock
   market_leaves_well =
@@ -164,11 +165,13 @@ abbrev pub IsMarketOf : WorldValue → (n i : ℕ) → Market → Type 0
 IsMarketOf w n i m = (market_of w n i ≡ Some m) × IsMarket (length w.items) i m
 
 module _ (w : WorldValue) (n : ℕ) (there : IsThere w.regions n) where
-  -- new goods of a market of the region keep a steady campaign steady and its books balanced, and book only its item
+  -- New goods of a market of the region keep a steady campaign steady and its books balanced, and book at most
+  -- 999,999,999 of its item.
   pub one_leaves_well : (c : CampaignValue) (x : ℕ × Market) → IsMarketOf w n x.0 x.1 → IsSteady w c → LeavesWell IsSteady (moves_only most_amount Stocked (Item x.0)) w c (after_market_restock n c x)
   one_leaves_well c x of steady = let (r, here) = (steady.known.regions n).1 there in market_leaves_well w c n x.0 x.1 r here of.0 of.1 steady
 
-  -- new goods of a region's markets, in turn, keep a steady campaign steady and its books balanced, within `stocking`
+  -- New goods of a region's markets, in turn, keep a steady campaign steady and its books balanced, and book at most
+  -- `stocking`.
   all_leave_well : (xs : List (ℕ × Market)) → EachOf (IsMarketOf w n) xs → (c : CampaignValue) → IsSteady w c → LeavesWell IsSteady (stocking xs) w c (after_restock n c xs)
   all_leave_well [] each c steady = well_unchanged (stocking []) w c steady
   all_leave_well (x ∷ xs) each c steady =
@@ -193,7 +196,8 @@ module _ (w : WorldValue) (world : IsWorld w) (n : ℕ) where
   pub markets_are : (p : RegionPlan) → get w.regions n ≡ Some p → EachOf (IsMarketOf w n) (entries p.markets)
   markets_are p is = each-from_every (IsMarketOf w n) p.markets (λ i m at. (ap (λ o. option_and_then (λ (q : RegionPlan). get q.markets i) o) is ∙ at, (world.regions n p is).markets i m at))
 
-  -- restocking a region keeps a steady campaign steady and its books balanced, within the bound for one region
+  -- Restocking a region keeps a steady campaign steady and its books balanced, and books at most 999,999,999 of each
+  -- item.
   pub restocked_leaves_well : (c : CampaignValue) → IsSteady w c → LeavesWell IsSteady (stocks_by most_amount) w c (after_restock n c (entries (markets_of w n)))
   restocked_leaves_well c steady = by_plan (get w.regions n) refl
     where
@@ -220,7 +224,7 @@ restocked_keeps n c (x ∷ xs) = restocked_keeps n (after_market_restock n c x) 
 pub restock_small : (m : Market) (stock : ℕ) → m.limit ≤ most_amount → restock m stock ≤ most_amount
 restock_small m stock l = omega (arith, l)
 
--- books with room for an item's new goods have room for its amount under Stocked
+-- if the books have room for the new goods of item `i`, its amount under Stocked has room for 999,999,999 more
 pub room_alone : (c : CampaignValue) (i : ℕ) → HaveRoom (moves_only most_amount Stocked (Item i)) c → HasRoom most_amount (amount_in c.books Stocked (Item i))
 room_alone c i room =
     subst (λ b. HasRoom (if b then most_amount else 0) (amount_in c.books Stocked (Item i))) (same_number (amount_number Stocked (Item i))) (room Stocked (Item i))
@@ -229,11 +233,12 @@ room_alone c i room =
 pub room_for_market : (x : ℕ × Market) (xs : List (ℕ × Market)) (c : CampaignValue) → HaveRoom (stocking (x ∷ xs)) c → HaveRoom (moves_only most_amount Stocked (Item x.0)) c
 room_for_market x xs c room = room_less (moves_only most_amount Stocked (Item x.0)) (stocking (x ∷ xs)) c (λ e t. omega arith) room
 
--- after the first market got its new goods, the books have room for those of the others
+-- If the books have room for the new goods of all markets, they have room, after those of the first, for those of the
+-- others.
 pub room_behind_market : (w : WorldValue) (n : ℕ) → IsThere w.regions n → (x : ℕ × Market) (xs : List (ℕ × Market)) (c : CampaignValue) → IsMarketOf w n x.0 x.1 → IsSteady w c → HaveRoom (stocking (x ∷ xs)) c → HaveRoom (stocking xs) (after_market_restock n c x)
 room_behind_market w n there x xs c of steady room = room_behind (moves_only most_amount Stocked (Item x.0)) (stocking xs) w c (after_market_restock n c x) (one_leaves_well w n there c x of steady) room
 
--- setting a stock and booking its new goods marks all that changes
+-- setting a stock and booking the new goods marks all that these two steps change
 pub market_marks : (stock more n i : ℕ) (c d e : MarkedCampaign) → d.value ≡ with_stock c.value n i (stock + more) → MarksStock c n i (stock + more) d.marks
     → e.value ≡ with_amount d.value Stocked (Item i) (pos more) → e.marks ≡ mark_amount d Stocked (Item i) → MarksChanges c e
 market_marks stock more n i c d e d_is d_marks e_is e_marks =

@@ -77,7 +77,7 @@ module _ (w : WorldValue) (c : CampaignValue) (n : ℕ) (r : Region) (born earne
   peopled_there : get peopled.regions n ≡ Some (more_people r)
   peopled_there = region-changed more_people c n r is
 
-  -- births and income within 999,999,999 keep a steady campaign steady
+  -- births and income that leave a region at most 999,999,999 peasants and as much money keep a steady campaign steady
   growth_steady : r.peasants + born ≤ most_amount → r.money + earned ≤ most_amount → IsSteady w c → IsSteady w (with_growth c n r.peasants r.money born earned)
   growth_steady p m old =
       let grown = IsRegion-peasants r (r.peasants + born) p (old.numbers.regions n r is) in
@@ -85,7 +85,7 @@ module _ (w : WorldValue) (c : CampaignValue) (n : ℕ) (r : Region) (born earne
       steady-amount w counted Income Money (pos earned) (omega arith) (steady-amount w paid Births People (pos born) (omega arith)
       (steady-region more_money peopled n (more_people r) peopled_there w (IsRegion-money (more_people r) (r.money + earned) m grown) stocks (steady-region more_people c n r is w grown stocks old)))
 
-  -- the totals of the campaign grow by the births and the income
+  -- births and income raise the total of people by those born and that of money by the income, and no other total
   total_grown : (t : Thing) → pos (total (with_growth c n r.peasants r.money born earned) t) ≡ (pos (total c t) +ℤ share_of t People (pos born)) +ℤ share_of t Money (pos earned)
   total_grown t =
       total_of t (total-amount counted Income Money t (pos earned)) (total-amount paid Births People t (pos born))
@@ -112,7 +112,8 @@ module _ (w : WorldValue) (c : CampaignValue) (n : ℕ) (r : Region) (born earne
       ∙ ap (λ z. z +ℤ share_of t Money (pos earned)) (sym (booked-after_booking c.books Births People (pos born) t))
       ∙ sym (booked-after_booking one_booked Income Money (pos earned) t)
 
-  -- births and income of at most 999,999,999 move the books by at most that
+  -- Births and income of at most 999,999,999 each move Births of people and Income of money by at most that, and
+  -- nothing else.
   growth_near : born ≤ most_amount → earned ≤ most_amount → (e : Entry) (t : Thing) → IsNear (grows_by most_amount e t) (amount_in c.books e t) (amount_in (with_growth c n r.peasants r.money born earned).books e t)
   growth_near b m e t =
       let people = moves_only most_amount Births People e t in
@@ -122,7 +123,8 @@ module _ (w : WorldValue) (c : CampaignValue) (n : ℕ) (r : Region) (born earne
       (booked-near c.books Births People (pos born) most_amount (within-pos born most_amount b) e t)
       (booked-near one_booked Income Money (pos earned) most_amount (within-pos earned most_amount m) e t))
 
-  -- births and income within 999,999,999 keep a steady campaign steady and its books balanced, within their bound
+  -- Births and income that leave a region at most 999,999,999 peasants and as much money keep a steady campaign steady
+  -- and its books balanced, and book at most `grows_by`.
   pub growth_leaves_well : r.peasants + born ≤ most_amount → r.money + earned ≤ most_amount → IsSteady w c → LeavesWell IsSteady (grows_by most_amount) w c (with_growth c n r.peasants r.money born earned)
   growth_leaves_well p m steady = record {
     leaves_it = growth_steady p m steady;
@@ -137,7 +139,7 @@ births_first c room = room_less (both_move (moves_only most_amount Births People
 
 -- ---- marks
 
--- setting a region's peasants and money, and booking births and income, marks all that changes
+-- setting a region's peasants and money, and booking births and income, marks all that these steps change
 pub growth_marks : (c d e f g : MarkedCampaign) (n peasants money born earned : ℕ)
     → d.value ≡ with_peasants c.value n peasants → d.marks ≡ mark_region c n
     → e.value ≡ with_region_money d.value n money → e.marks ≡ mark_region d n
@@ -150,18 +152,19 @@ growth_marks c d e f g n peasants money born earned d_is d_marks e_is e_marks f_
 
 -- ---- the terrains of a world
 
--- the limits of a terrain of the world are at most 999,999,999, for the terrain of a region's plan
+-- the limits of peasants and of money of a terrain that is found by a region's plan (`o`) are at most 999,999,999
 terrain_in : (w : WorldValue) (o : Option RegionPlan) (t : Terrain) → IsWorld w → option_and_then (λ (p : RegionPlan). slice_get w.terrains p.terrain) o ≡ Some t → (t.peasant_limit ≤ most_amount) × (t.money_limit ≤ most_amount)
 terrain_in w None t world is = none_some t is
 terrain_in w (Some p) t world is = let terrain = world.terrains p.terrain t is in (terrain.peasant_limit, terrain.money_limit)
 
--- the limits of the terrain of a region of the world are at most 999,999,999
+-- the limits of peasants and of money of the terrain of a region of the world are at most 999,999,999
 pub limits_fit : (w : WorldValue) (n : ℕ) (t : Terrain) → IsWorld w → terrain_of w n ≡ Some t → (t.peasant_limit ≤ most_amount) × (t.money_limit ≤ most_amount)
 limits_fit w n t world is = terrain_in w (get w.regions n) t world is
 
 -- ---- the season of a region, and of all
 
--- births and income of a region that is there keep a steady campaign steady and its books balanced, within their bound
+-- Births and income of a region that is there keep a steady campaign steady and its books balanced, and book at most
+-- `grows_by`.
 pub region_grows_well : (w : WorldValue) → IsWorld w → (c : CampaignValue) (n word : ℕ) (t : Terrain) (r : Region) → terrain_of w n ≡ Some t → get c.regions n ≡ Some r → IsSteady w c
     → LeavesWell IsSteady (grows_by most_amount) w c (with_growth c n r.peasants r.money (births w.rules.growth t.peasant_limit word r.peasants) (income w.rules.income t.money_limit (r.peasants + births w.rules.growth t.peasant_limit word r.peasants) r.money))
 region_grows_well w world c n word t r here is steady =
@@ -172,12 +175,14 @@ region_grows_well w world c n word t r here is steady =
     (births_fit w.rules.growth t.peasant_limit word r.peasants peasant_limit within.peasants)
     (income_fits w.rules.income t.money_limit (r.peasants + born) r.money money_limit within.money) steady
 
--- the season of one region keeps a steady campaign steady and its books balanced, within the bound for one region
+-- The season of one region keeps a steady campaign steady and its books balanced, and books at most what one region may
+-- (`season_moves`).
 pub season_at_leaves_well : (w : WorldValue) → IsWorld w → (c : CampaignValue) (x : ℕ × ℕ) → IsSteady w c → LeavesWell IsSteady (season_moves most_amount) w c (season_at w c x)
 unfolding season_at
 season_at_leaves_well w world c (n, word) steady = by_terrain (terrain_of w n) refl
   where
-    -- an unchanged campaign stays steady and in balance, as after the season of a region that isn't there
+    -- A campaign that is left unchanged, as by the season of a region that isn't there, stays steady and its books
+    -- balanced.
     same : LeavesWell IsSteady (season_moves most_amount) w c c
     same = well_unchanged (season_moves most_amount) w c steady
 
@@ -203,7 +208,8 @@ season_at_leaves_well w world c (n, word) steady = by_terrain (terrain_of w n) r
 pub season_little : (k : ℕ) → k ≤ most_regions → (e : Entry) (t : Thing) → moved_times k (season_moves most_amount) e t ≤ season_moves most_moved e t
 season_little k few e t = grind (arith, few)
 
--- the season of all regions keeps a steady campaign steady and its books balanced, within the phase's bound
+-- The season of all regions keeps a steady campaign steady and its books balanced, and moves each amount by less than
+-- 10^14.
 pub season_leaves_well : (w : WorldValue) → IsWorld w → (c : CampaignValue) (words : List ℕ) → IsSteady w c → LeavesWell IsSteady (season_moves most_moved) w c (season w c words)
 season_leaves_well w world c words steady =
     let numbers = map (λ (e : ℕ × RegionPlan). e.0) (entries w.regions) in
@@ -247,7 +253,7 @@ pub season_goes_on : (w : WorldValue) (c d all : CampaignValue) (regions rest : 
     → fold (season_at w) c (zip (map (λ e. e.0) regions) words) ≡ all → fold (season_at w) d (zip (map (λ e. e.0) rest) tail) ≡ all
 season_goes_on w c d all regions rest words tail n word plan listed given is whole = rw is (rw (listed, given) at whole)
 
--- after the season of the first region, the books have room for the season of the others
+-- if the books have room for the season of all regions, they have room, after that of the first, for that of the others
 pub room_goes_on : (w : WorldValue) → IsWorld w → (c d : CampaignValue) (regions rest : List (ℕ × RegionPlan)) (n word : ℕ) (plan : RegionPlan)
     → regions ≡ (n, plan) ∷ rest → d ≡ season_at w c (n, word) → IsSteady w c → HaveRoom (moved_times (length regions) (season_moves most_amount)) c → HaveRoom (moved_times (length rest) (season_moves most_amount)) d
 room_goes_on w world c d regions rest n word plan listed is steady room =

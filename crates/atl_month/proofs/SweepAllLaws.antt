@@ -37,28 +37,29 @@ use Rattle.std.proofs.lemmas.List.Sums.{count_by-le-length, length-filter}
 -- ---- one unit
 
 module _ (c : CampaignValue) (n : ℕ) where
-  -- After unit `n` was swept, what holds of the campaign as it was if no unit `n` without men is there, and else of the
-  -- campaign after unit `n` passed on what it has and was removed.
+  -- The property P holds after unit `n` was swept if it holds, where no unit `n` without men is there, of the campaign
+  -- as it was, and else of the campaign in which unit `n` passed on what it has and was removed.
   by_sweeping : (P : CampaignValue → Type 0) → (((u : Unit) → get c.units n ≡ Some u → u.holding.men ≢ 0) → P c)
       → ((u : Unit) → get c.units n ≡ Some u → u.holding.men ≡ 0 → P (without_unit (after_passing_all c (receiver c u.region u.faction) u) n))
       → P (after_sweeping_unit c n)
   unfolding after_sweeping_unit
   by_sweeping P stays swept = by_unit (get c.units n) refl
     where
-      -- P holds after unit `n`, which is there, was swept, whether it has no men (`b`) or some
+      -- the property P holds after unit `n`, which is there, was swept, whether the unit has no men (`b`) or some
       by_men : (u : Unit) → get c.units n ≡ Some u → (b : Bool) → (u.holding.men == 0) ≡ b
           → P (if b then without_unit (after_passing_all c (receiver c u.region u.faction) u) n else c)
       by_men u is true t = swept u is (is_equal u.holding.men 0 t)
       by_men u is false t = stays (λ v there none. is_unequal u.holding.men 0 t (ap (λ (x : Unit). x.holding.men) (same_Some u v (sym is ∙ there)) ∙ none))
 
-      -- P holds after unit `n` was swept, whether it is there or not
+      -- the property P holds after unit `n` was swept, whether the unit is there or not
       by_unit : (o : Option Unit) → get c.units n ≡ o
           → P (option_map_or (λ u. if u.holding.men == 0 then without_unit (after_passing_all c (receiver c u.region u.faction) u) n else c) o c)
       by_unit None is = stays (λ v there. none_some v (sym is ∙ there))
       by_unit (Some u) is = by_men u is (u.holding.men == 0) refl
 
 module _ (w : WorldValue) (c : CampaignValue) (n : ℕ) (steady : IsSteady w c) where
-  -- sweeping a unit keeps a steady campaign steady and its books balanced, within the sweep's bound for one unit
+  -- Sweeping a unit keeps a steady campaign steady and its books balanced, and books at most what one unit may lose
+  -- (`loses_by`).
   pub swept_at_leaves_well : LeavesWell IsSteady (loses_by most_amount) w c (after_sweeping_unit c n)
   swept_at_leaves_well =
       by_sweeping c n (LeavesWell IsSteady (loses_by most_amount) w c) (λ some. well_unchanged (loses_by most_amount) w c steady)
@@ -118,18 +119,19 @@ module _ (w : WorldValue) where
 -- ---- factions
 
 module _ (c : CampaignValue) (n : ℕ) where
-  -- After faction `n` was swept, what holds of the campaign as it was if faction `n` isn't there or has a unit, and else
-  -- of the campaign in which it is gone.
+  -- The property P holds after faction `n` was swept if it holds, where the faction isn't there or has a unit, of the
+  -- campaign as it was, and else of the campaign in which it is gone.
   by_gone : (P : CampaignValue → Type 0) → (((f : Faction) → get c.factions n ≡ Some f → numbers_of n c.units ≢ []) → P c)
       → ((f : Faction) → get c.factions n ≡ Some f → numbers_of n c.units ≡ [] → P (with_gone c n)) → P (after_sweeping_faction c n)
   by_gone P stays gone = by_units (numbers_of n c.units) refl
     where
-      -- P holds after faction `n`, which has no units, was set to gone, whether it is there or not
+      -- The property P holds after faction `n`, which has no units, was set to gone, whether the faction is there or
+      -- not.
       by_faction : numbers_of n c.units ≡ [] → (o : Option Faction) → get c.factions n ≡ o → P (with_gone c n)
       by_faction none None is = subst P (sym (none-gone c n is)) (stays (λ f there. none_some f (sym is ∙ there)))
       by_faction none (Some f) is = gone f is none
 
-      -- P holds after faction `n` was swept, whether it has no units or some
+      -- the property P holds after faction `n` was swept, whether the faction has no units or some
       by_units : (ns : List ℕ) → numbers_of n c.units ≡ ns → P (if is_empty ns then with_gone c n else c)
       by_units [] is = by_faction is (get c.factions n) refl
       by_units (k ∷ ns) is = stays (λ f there none. let one : k ∷ ns ≡ [] = sym is ∙ none in cc)
@@ -151,7 +153,7 @@ module _ (c : CampaignValue) (n : ℕ) where
   abbrev Remains : CampaignValue → Type 0
   Remains d = Every (λ m f. numbers_of m c.units ≡ [] → f.gone ≡ false → (m ≢ n) × (get c.factions m ≡ Some f)) d.factions
 
-  -- after sweeping faction `n`, each faction without a unit that isn't gone is as before, and isn't faction `n`
+  -- after sweeping faction `n`, each faction that has no unit and isn't gone is as before, and isn't faction `n`
   pub gone_at_remains : Remains (after_sweeping_faction c n)
   gone_at_remains =
       by_gone Remains
@@ -200,19 +202,20 @@ module _ (w : WorldValue) (c : CampaignValue) (steady : IsSteady w c) where
   abbrev units_swept : CampaignValue
   units_swept = fold after_sweeping_unit c (menless_units c)
 
-  -- sweeping the units without men keeps the campaign steady and its books balanced, within the bound of the sweep
+  -- Sweeping the units without men keeps the campaign steady and its books balanced, and moves each amount by less than
+  -- 10^14.
   units_well : LeavesWell IsSteady (loses_by most_moved) w c units_swept
   units_well =
       well_within (moved_times (length (menless_units c)) (loses_by most_amount)) (loses_by most_moved) w c units_swept (loses_little (length (menless_units c)) (few_menless w c steady))
       (fold_leaves_well (loses_by most_amount) w after_sweeping_unit (λ d n. swept_at_leaves_well w d n) c (menless_units c) steady)
 
-  -- sweeping the factions then keeps the campaign steady and the books as they are
+  -- sweeping the factions after the units keeps the campaign steady and leaves the books as they are
   factions_well : LeavesWell IsSteady moves_nothing w units_swept (sweep c)
   factions_well =
       well_within (moved_times (length (active units_swept)) moves_nothing) moves_nothing w units_swept (sweep c) (λ e t. omega arith)
       (fold_leaves_well moves_nothing w after_sweeping_faction (λ d n. gone_at_leaves_well d n w) units_swept (active units_swept) units_well.leaves_it)
 
-  -- the sweep keeps the campaign steady and its books balanced, within its bound
+  -- the sweep keeps the campaign steady and its books balanced, and moves each amount by less than 10^14
   both_well : LeavesWell IsSteady (loses_by most_moved) w c (sweep c)
   both_well =
       well_within (both_move (loses_by most_moved) moves_nothing) (loses_by most_moved) w c (sweep c) (λ e t. omega arith)
@@ -228,7 +231,8 @@ module _ (w : WorldValue) (c : CampaignValue) (steady : IsSteady w c) where
   are_gone : UnitlessAreGone (sweep c)
   are_gone = all_are_gone (active units_swept) units_swept (λ m f there none stays. passing_listed (λ (x : Faction). not x.gone) units_swept.factions m f there (ap not stays))
 
-  -- the sweep of a steady campaign leaves it swept (`IsSwept`) and its books balanced, within its bound
+  -- The sweep of a steady campaign leaves it as `IsSwept` says, with its books balanced, and moves each amount by less
+  -- than 10^14.
   pub sweep_leaves_well : LeavesWell IsSwept (loses_by most_moved) w c (sweep c)
   sweep_leaves_well = record {
     leaves_it = record { steady = both_well.leaves_it; men = have_men; gone = are_gone };

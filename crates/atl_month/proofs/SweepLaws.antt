@@ -49,7 +49,7 @@ owing_all h s = part_of s Money h.money + owing_items (entries h.items) s
 abbrev pub moving_all : HoldingValue → BookBound
 moving_all h = both_move (moves_only h.money Lost Money) (moving_items (entries h.items))
 
--- a unit without men passes on all that it has of each thing
+-- what a unit without men passes on of each thing is all that it has of it
 all_owed : (h : HoldingValue) → h.men ≡ 0 → (s : Thing) → owing_all h s ≡ unit_amount s h
 all_owed h none Money = omega (arith, no_money (entries h.items))
 all_owed h none People = omega (arith, none, no_people (entries h.items))
@@ -59,7 +59,8 @@ all_owed h none (Item j) =
 
 -- ---- how far it moves the books
 
--- what a unit without men has of a thing is within the sweep's bound for one unit, under the entry for its loss
+-- What a unit without men has of a thing, under the entry for losses of that thing, is within the sweep's bound for one
+-- unit.
 little_lost : (h : HoldingValue) → h.men ≡ 0 → h.money ≤ holding_limit → ((i : ℕ) → amount_of h.items i ≤ holding_limit) → (e : Entry) (s : Thing)
     → loss_under e s h ≤ loses_by most_amount e s
 little_lost h none money items e Money = grind arith
@@ -145,7 +146,8 @@ module _ (w : WorldValue) (c : CampaignValue) (n : ℕ) (u : Unit) (is : get c.u
       within : (m a b d : ℕ) → m + a ≤ b → b ≤ d → a ≤ d
       within m a b d k l = omega arith
 
-  -- sweeping unit `n` keeps the campaign steady and its books balanced, within the sweep's bound for one unit
+  -- Sweeping unit `n` keeps the campaign steady and its books balanced, and books at most what one unit may lose
+  -- (`loses_by`).
   pub swept_leaves_well : LeavesWell IsSteady (loses_by most_amount) w c swept
   swept_leaves_well =
       let only = only_reduced w passed n u there_still in
@@ -201,7 +203,8 @@ another : (n : ℕ) → suc n ≢ n
 another n same = omega (arith, same)
 
 module _ (w : WorldValue) (c : CampaignValue) (steady : IsSteady w c) where
-  -- an item of the world that goes to a unit, or is lost, is passed on (`PassesOn`), whichever unit it comes from
+  -- An item of the world that goes to unit `to`, or is lost, is passed on (`PassesOn`), as if from the unit with the
+  -- next number.
   pub item_passes : (to i amount : ℕ) → i < length w.items
       → PassesOn w (suc to) (λ s. part_of s (Item i) amount) (moves_only amount Lost (Item i)) c (after_passing_item to c (i, amount))
   item_passes to i amount known = pass_item w c (suc to) to (another to) steady i amount known
@@ -212,11 +215,12 @@ module _ (w : WorldValue) (c : CampaignValue) (steady : IsSteady w c) where
   rest_room to x xs known room =
       near_leaves_room (moves_only x.1 Lost (Item x.0)) (moving_items xs) c (after_passing_item to c x) (item_passes to x.0 x.1 known).near room
 
-  -- a campaign stays steady when money is passed on
+  -- a steady campaign stays steady when money goes to unit `to`, up to its room, and the rest is booked as lost
   pub money_steady : (to amount : ℕ) → IsSteady w (after_passing_money c to amount)
   money_steady to amount = (pass_money w c (suc to) to (another to) steady amount).steady
 
-  -- after the money of a unit without men was passed on, the books have room for its items
+  -- After the money of a unit without men was passed on, the books have room for its items, if they had room for all
+  -- that it may lose.
   pub items_room : (n to : ℕ) (u : Unit) → get c.units n ≡ Some u → u.holding.men ≡ 0 → HaveRoom (loses_by most_amount) c
       → HaveRoom (moving_items (entries u.holding.items)) (after_passing_money c to u.holding.money)
   items_room n to u is none room =

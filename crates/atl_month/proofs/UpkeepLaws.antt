@@ -139,7 +139,8 @@ module _ (w : WorldValue) (c : CampaignValue) (s : UpkeepResult) (u : Unit) (is 
       let range = steady.days s.unit u is k days there in
       (skills k days there, range.0, range.1)
 
-  -- the unit's holding with the men left has days that these may have, and the rest as it was
+  -- The unit's holding with the men left has days that these may have, and its name, guard flag and items as they were
+  -- (`IsWithMen`).
   with_less : IsWithMen w old left (omega arith) studied (with_men_left left old)
   with_less = less_men w old left (omega arith) studied
 
@@ -184,7 +185,7 @@ module _ (w : WorldValue) (c : CampaignValue) (s : UpkeepResult) (u : Unit) (is 
       steady-amount w paid_off Starved People (neg_ℤ (pos s.starved)) (omega arith)
       (steady-amount w held_back Upkeep Money (neg_ℤ (pos s.paid)) (omega arith) (steady-unit_amount w c s.unit u now is may_hold steady))
 
-  -- the total of money falls by what the unit paid, that of people by those who starved, and others stay the same
+  -- the total of money falls by what the unit paid, that of people by those who starved, and each other total stays
   total_after : (t : Thing)
       → pos (total after t) ≡ (pos (total c t) +ℤ share_of t Money (neg_ℤ (pos s.paid))) +ℤ share_of t People (neg_ℤ (pos s.starved))
   total_after t =
@@ -230,7 +231,8 @@ module _ (w : WorldValue) (c : CampaignValue) (s : UpkeepResult) (u : Unit) (is 
       (booked-near one_booked Starved People (neg_ℤ (pos s.starved)) most_amount
       (within-neg s.starved most_amount few_starved) e t)
 
-  -- the upkeep of a unit that can pay keeps the campaign steady and its books balanced, within the bound for one unit
+  -- The upkeep of a unit that can pay keeps the campaign steady and its books balanced, and books at most what one unit
+  -- may (`takes_up_to`).
   unit_leaves_well : LeavesWell IsSteady (takes_up_to most_amount) w c after
   unit_leaves_well = record {
     leaves_it = after_steady;
@@ -246,7 +248,8 @@ pub upkeep_at_is : (c : CampaignValue) (s : UpkeepResult) (u : Unit) → get c.u
 unfolding upkeep_at
 upkeep_at_is c s u is = ap (upkeep_in c s) is
 
--- upkeep by a result that can be paid keeps the campaign steady and its books balanced, within the bound for one unit
+-- Upkeep by a result that can be paid keeps the campaign steady and its books balanced, and books at most what one unit
+-- may (`takes_up_to`).
 pub upkeep_at_leaves_well : (w : WorldValue) (c : CampaignValue) (s : UpkeepResult) → CanPayUpkeep w c s
     → LeavesWell IsSteady (takes_up_to most_amount) w c (upkeep_at c s)
 upkeep_at_leaves_well w c s can = rw (upkeep_at_is c s can.unit can.there) (unit_leaves_well w c s can.unit can.there can.spare can.steady)
@@ -261,7 +264,8 @@ other_unit c s n apart = by_unit (get c.units s.unit)
     by_unit None = refl
     by_unit (Some u) = get-insert_other c.units s.unit n (record u { holding = after_upkeep s u.holding }) apart
 
--- the units after the one that pays are still as they were
+-- If the campaign has the listed units, all with higher numbers than the one that pays, it has them as listed also
+-- after that one paid.
 pub each_still : (c : CampaignValue) (s : UpkeepResult) (es : List (ℕ × Unit)) → AllByRecursion (λ e. s.unit < e.0) es
     → EachOf (λ n u. get c.units n ≡ Some u) es → EachOf (λ n u. get (upkeep_at c s).units n ≡ Some u) es
 each_still c s [] above there = tt
@@ -284,7 +288,8 @@ module _ (w : WorldValue) (some : 1 ≤ w.rules.maintenance) (all : List UpkeepI
   abbrev each_of : List (ℕ × Unit) → List UpkeepResult
   each_of es = settled_each w.rules.maintenance all es
 
-  -- the upkeep of some units can be paid in turn, if they are as they were and the books have room for all of them
+  -- The upkeep of some units can be paid in turn, if the campaign has them as listed, and its books have room for the
+  -- upkeep of all.
   settled_in_turn : (es : List (ℕ × Unit)) (c : CampaignValue) → Rise es → EachOf (λ n u. get c.units n ≡ Some u) es
       → IsSteady w c → HaveRoom (moved_times (length (each_of es)) step_moves) c → CanInTurn (CanPayUpkeep w) upkeep_at c (each_of es)
   settled_in_turn [] c rise there steady room = tt
@@ -338,7 +343,8 @@ module _ (w : WorldValue) (c : CampaignValue) (some : 1 ≤ w.rules.maintenance)
       (each-from_every (λ n u. get c.units n ≡ Some u) c.units (λ n u is. is)) steady
       (room_less (moved_times (length list) (takes_up_to most_amount)) (takes_up_to most_moved) c little room)
 
-  -- the upkeep of all units keeps a steady campaign steady and its books balanced, within the phase's bound
+  -- The upkeep of all units keeps a steady campaign steady and its books balanced, and moves each amount by less than
+  -- 10^14.
   pub upkeep_leaves_well : LeavesWell IsSteady (takes_up_to most_moved) w c (upkeep c list)
   upkeep_leaves_well =
       well_within (moved_times (length list) (takes_up_to most_amount)) (takes_up_to most_moved) w c (upkeep c list) little
@@ -363,14 +369,15 @@ pays_nothing c s u is fed none =
 
 -- ---- where somebody starves
 
--- amounts of a map that are all at least 1 are so after some of them are set
+-- if each amount of a map is at least 1, it is still so after some amounts are set, of which those set to 0 are removed
 every_set : (f : ℕ → ℕ → ℕ) (es : List (ℕ × ℕ)) (had : FinMap nat_cmp ℕ) → Every (λ k d. 1 ≤ d) had
     → Every (λ k d. 1 ≤ d) (fold (λ (m : FinMap nat_cmp ℕ) (e : ℕ × ℕ). with_amount_of m e.0 (f e.0 e.1)) had es)
 every_set f [] had old = old
 every_set f (e ∷ es) had old =
     every_set f es (with_amount_of had e.0 (f e.0 e.1)) (every_amount (λ k d. 1 ≤ d) had e.0 (f e.0 e.1) (λ some. some) old)
 
--- setting the days of each skill one by one to those that stay gives the days that stay
+-- Setting the days of each skill, one by one, to those that stay with fewer men gives the map of the days that stay
+-- (`days_left`).
 days_set : (left : ℕ) (h : HoldingValue) → Every (λ k d. 1 ≤ d) h.days → with_days h.days (staying_list left h.men h.days) ≡ days_left left h
 days_set left h listed =
     set_again h.days stays none listed
@@ -401,7 +408,8 @@ days_set left h listed =
         by_option None is = refl
         by_option (Some d) is = cc
 
--- setting the men, the money and the days of each skill gives the holding after upkeep
+-- Setting the men, the money and the days of each skill to what upkeep leaves gives the holding after upkeep
+-- (`after_upkeep`).
 pub starved_supplied : (s : UpkeepResult) (h : HoldingValue) → 1 ≤ s.starved → s.starved ≤ h.men → Every (λ k d. 1 ≤ d) h.days
     → record h { men = h.men - s.starved; money = h.money - s.paid; days = with_days h.days (staying_list (h.men - s.starved) h.men h.days) } ≡ after_upkeep s h
 starved_supplied s h some fewer listed =

@@ -41,7 +41,7 @@ module _ (amount : UpkeepInput → ℕ) (xs : List UpkeepInput) (p : UpkeepInput
   more_own : sum_by amount (peers_of p.region p.faction (xs ++ p ∷ [])) ≡ sum_by amount (peers_of p.region p.faction xs) + amount p
   more_own = more_among p.region p.faction ∙ ap (λ b. sum_by amount (peers_of p.region p.faction xs) + cond b (amount p) 0) (own p)
 
-  -- a sum over the units of another faction or region stays the same
+  -- a sum over the units of a faction in a region stays with a further unit that isn't one of them
   more_other : (s g : ℕ) → is_input_of s g p ≡ false → sum_by amount (peers_of s g (xs ++ p ∷ [])) ≡ sum_by amount (peers_of s g xs)
   more_other s g is = more_among s g ∙ ap (λ b. sum_by amount (peers_of s g xs) + cond b (amount p) 0) is ∙ add-zero (sum_by amount (peers_of s g xs))
 
@@ -55,7 +55,7 @@ account left short given covered = record { left = left; short = short; given = 
 account_is : (a b c d e f g h : ℕ) → a ≡ e → b ≡ f → c ≡ g → d ≡ h → account a b c d ≡ account e f g h
 account_is a b c d e f g h x y z u = rw (x, y, z, u) refl
 
--- what holds of the account that is set, and of each of another faction or region, holds of all accounts
+-- what holds of the account that is set, and of each account of another faction or region, holds of all accounts
 pub each_account : (P : ℕ → ℕ → Account → Type 0) (m : FactionAccounts) (p : UpkeepInput) (a : Account)
     → P p.region p.faction a → ((s g : ℕ) → is_input_of s g p ≡ false → P s g (account_at m s g))
     → (s g : ℕ) → P s g (account_at (with_account m p.region p.faction a) s g)
@@ -66,7 +66,7 @@ each_account P m p a here others s g = by_test (is_input_of s g p) refl
         → account_at (with_account m p.region p.faction a) s g ≡ unwrap_or (cond test (Some a) (get (group_of m s) g)) no_account
     at test is = ap (λ o. unwrap_or o no_account) (get-grouped m p.region p.faction a s g ∙ ap (λ b. cond b (Some a) (get (group_of m s) g)) is)
 
-    -- P holds of the account of a faction in a region, whether the unit is of both (`test`) or not
+    -- the property P holds of the account of a faction in a region, whether the unit is of both (`test`) or not
     by_test : (test : Bool) → is_input_of s g p ≡ test → P s g (account_at (with_account m p.region p.faction a) s g)
     by_test true is =
         let region : p.region ≡ s = grind (arith, nat_tests) in
@@ -82,9 +82,9 @@ no_accounts m s g = rw (get-empty nat_cmp s, get-empty nat_cmp g) refl
 
 -- the sums of an account are at most what `n` units may have left and be short of
 pub record IsFew (n : ℕ) (a : Account) : Type 0 where
-  -- the money that the units have left is within what `n` units may have
+  -- the money that the account's units have left is within what `n` units may have
   pub left : a.left ≤ holding_limit * n
-  -- the money that the units are short of is within what `n` units may be short of
+  -- the money that the account's units are short of is within what `n` units may be short of
   pub short : a.short ≤ most_per_head * men_limit * n
 
 -- in the empty map the sums of each account are within those of 0 units
@@ -92,7 +92,7 @@ pub none_few : (s g : ℕ) → IsFew 0 (account_at empty s g)
 none_few s g = rw (no_accounts 0 s g) (record { left = omega arith; short = omega arith })
 
 module _ (m : ℕ) (before : List UpkeepInput) (p : UpkeepInput) where
-  -- the lesser of 0 and a number is the same for any two numbers
+  -- the lesser of 0 and `x` is the lesser of 0 and `y`, since both are 0
   none_given : (x y : ℕ) → min 0 x ≡ min 0 y
   none_given x y = omega arith
 
@@ -107,7 +107,8 @@ module _ (m : ℕ) (before : List UpkeepInput) (p : UpkeepInput) where
       (λ s g apart. each s g
       ∙ account_is _ _ _ _ _ _ _ _ (sym (more_other (left_of m) before p s g apart)) (sym (more_other (short_of m) before p s g apart)) (none_given _ _) (none_given _ _))
 
--- with one more unit counted, the sums of each account are at most those of one more unit
+-- If the sums of each account are within those of `n` units (`IsFew`), they are, with one more unit counted, within
+-- those of `n + 1`.
 pub few_more : (m n : ℕ) (accounts : FactionAccounts) (p : UpkeepInput) (a : Account) → left_of m p ≤ holding_limit → short_of m p ≤ most_per_head * men_limit
     → ((s g : ℕ) → IsFew n (account_at accounts s g)) → a ≡ with_counted m p (account_at accounts p.region p.faction)
     → (s g : ℕ) → IsFew (n + 1) (account_at (with_account accounts p.region p.faction a) s g)
@@ -177,7 +178,8 @@ module _ (m : ℕ) (all before : List UpkeepInput) (p : UpkeepInput) (accounts :
   abbrev amount : ℕ
   amount = given_among m peers
 
-  -- after a unit had its turn, the accounts are those of all units after one unit more had its turn
+  -- After a unit had its turn, each account is as `account_of` says for the units that had their turn before and this
+  -- one.
   pub settled_more : (a : Account) → a ≡ account_after m (account_at accounts p.region p.faction) p
       → (s g : ℕ) → account_at (with_account accounts p.region p.faction a) s g ≡ account_of m all (before ++ p ∷ []) s g
   settled_more a is =
@@ -195,7 +197,7 @@ module _ (m : ℕ) (all before : List UpkeepInput) (p : UpkeepInput) (accounts :
   before_among first =
       filters_swap (is_input_of p.region p.faction) (is_lower p.unit) all ∙ ap (peers_of p.region p.faction) first
 
-  -- what upkeep takes from a unit by its account is what the definition takes from it
+  -- what upkeep takes from a unit by its account is what it takes by the definition (`upkeep_result_among`)
   pub settled_is : filter (is_lower p.unit) all ≡ before → upkeep_result_by m (account_at accounts p.region p.faction) p ≡ upkeep_result_among m peers p
   settled_is first =
       ap (λ b. upkeep_result_by m b p) (each p.region p.faction)
@@ -215,7 +217,8 @@ module _ (m : ℕ) (all before : List UpkeepInput) (p : UpkeepInput) (accounts :
       same_settled : (a b c d : ℕ) → a ≡ c → b ≡ d → settled a b ≡ settled c d
       same_settled a b c d x y = rw (x, y) refl
 
-  -- of an account, at most the amount to give was given so far, and at most that amount covered
+  -- Of the account of the unit's faction in its region, at most the amount to give was given so far, and at most that
+  -- amount covered.
   pub account_open : IsOpen (account_at accounts p.region p.faction)
   account_open = rw (each p.region p.faction) (record { given = omega arith; covered = omega arith })
 

@@ -26,11 +26,13 @@ account_at m region faction = unwrap_or (get (group_of m region) faction) no_acc
 abbrev pub with_account : FactionAccounts → (region faction : ℕ) → Account → FactionAccounts
 with_account m region faction a = insert m region (insert (group_of m region) faction a)
 
--- the money that the listed units of a faction in a region have left after their own upkeep
+-- The money that the listed units of a faction in a region have left after their own upkeep, at this maintenance for
+-- each man.
 abbrev pub left_among : ℕ → (region faction : ℕ) → List UpkeepInput → ℕ
 left_among maintenance region faction inputs = sum_by (left_of maintenance) (peers_of region faction inputs)
 
--- the money that the listed units of a faction in a region are short of for their own upkeep
+-- The money that the listed units of a faction in a region are short of for their own upkeep, at this maintenance for
+-- each man.
 abbrev pub short_among : ℕ → (region faction : ℕ) → List UpkeepInput → ℕ
 short_among maintenance region faction inputs = sum_by (short_of maintenance) (peers_of region faction inputs)
 
@@ -38,7 +40,7 @@ short_among maintenance region faction inputs = sum_by (short_of maintenance) (p
 abbrev pub to_give : Account → ℕ
 to_give a = min a.left a.short
 
--- an account with what one more unit has left and is short of added
+-- an account to which is added what one more unit has left and what it is short of
 abbrev pub with_counted : ℕ → UpkeepInput → Account → Account
 with_counted maintenance input a = record a { left = a.left + left_of maintenance input; short = a.short + short_of maintenance input }
 

@@ -100,7 +100,7 @@ phases_moving = both_move orders_moving (moving_of last_phases)
 abbrev pub month_moves : BookBound
 month_moves e t = moving_phases e t * most_moved
 
--- each amount of the books differs from what it was by at most its bound
+-- each amount of the books of campaign `after` differs from that of campaign `before` by at most its bound in `moving`
 abbrev pub BooksAreNear : BookBound → (before after : CampaignValue) → Type 0
 BooksAreNear moving before after = (e : Entry) (t : Thing) → IsNear (moving e t) (amount_in before.books e t) (amount_in after.books e t)
 

@@ -16,7 +16,8 @@ use Rattle.atl_phase.specs.PhaseSpecs.{PhaseSpec}
 use Rattle.atl_phase.specs.There.{at_region}
 use Rattle.atl_month.specs.Restock.{after_restock, markets_of, stocks_by}
 
--- How many peasants are born: a percentage of them from 0 to `growth`, by the word of the dice, at most up to `limit`.
+-- How many peasants are born: a percentage of them from 0 to `growth`, by the word of the dice, at most what is missing
+-- to `limit`.
 abbrev pub births : (growth limit word peasants : ℕ) → ℕ
 births growth limit word peasants = min (peasants * (word % (growth + 1)) / per_hundred) (limit - peasants)
 

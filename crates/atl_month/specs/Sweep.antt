@@ -113,7 +113,7 @@ pub record IsSwept (w : WorldValue) (c : CampaignValue) : Type 0 where
 
 -- a unit is no worse off, and its men and their days are as they were
 pub record IsKept (before after : Unit) : Type 0 where
-  -- the unit is no worse off
+  -- the unit keeps faction, region, structure, name and guard flag, and has no less of anything (`IsNoWorse`)
   pub no_worse : IsNoWorse before after
   -- the number of the unit's men stays
   pub men : after.holding.men ≡ before.holding.men

@@ -20,15 +20,15 @@ AreInOrder inputs = AllPairs (λ p q. p.unit < q.unit) inputs
 
 -- ---- a unit by itself
 
--- the money that a unit pays for its own men: the lesser of its money and what they cost
+-- the money that a unit pays for its own men: the lesser of its money and what they cost at this maintenance for each
 abbrev pub paid_by : ℕ → UpkeepInput → ℕ
 paid_by maintenance input = min input.money (maintenance * input.men)
 
--- the money that a unit has left after it paid for its own men
+-- the money that a unit has left after it paid for its own men, at this maintenance for each
 abbrev pub left_of : ℕ → UpkeepInput → ℕ
 left_of maintenance input = input.money - paid_by maintenance input
 
--- the money that a unit is short of for its own men
+-- the money that a unit is short of for its own men, at this maintenance for each
 abbrev pub short_of : ℕ → UpkeepInput → ℕ
 short_of maintenance input = maintenance * input.men - paid_by maintenance input
 
@@ -42,7 +42,8 @@ is_input_of region faction input = (input.region == region) && (input.faction ==
 abbrev pub peers_of : (region faction : ℕ) → List UpkeepInput → List UpkeepInput
 peers_of region faction inputs = filter (is_input_of region faction) inputs
 
--- the money that units with some left give to those that are short: the lesser of all left and all short
+-- The money that units with some left give to those that are short, at this maintenance: the lesser of all left and all
+-- short.
 abbrev pub given_among : ℕ → (peers : List UpkeepInput) → ℕ
 given_among maintenance peers =
     min (sum_by (left_of maintenance) peers) (sum_by (short_of maintenance) peers)

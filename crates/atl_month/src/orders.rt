@@ -27,6 +27,7 @@ impl Phase for OrderPhases {
 
     ghost keeps = { orders_keep };
 
+    /// Returns the campaign and the month after PRODUCE, or AllocError without memory.
     fn run(&self, alloc: Global, world: &World, campaign: Campaign, month: Month) -> PhaseResult {
         let pots = (SellPhase {}, (BuyPhase {}, (TaxPhase, RecruitPhase)));
         let goods = (GivePhase, (TransferPhase, pots));

@@ -8,7 +8,8 @@ use atl_campaign::{Campaign, Unit};
 use atl_world::Numbered;
 use std::alloc::{AllocError, Global};
 
-/// The number of the lowest-numbered unit with men, by region and then by faction.
+/// The number of the lowest-numbered unit with men of each faction in each region, by region and
+/// then by faction.
 pub(crate) type Receivers = Numbered<Numbered<u32>>;
 
 /// The number of the receiving unit of a faction in a region; 0 where there is none.

@@ -17,7 +17,8 @@ use atl_campaign::{Campaign, Entry, Thing};
 use atl_world::{Market, World};
 use std::alloc::AllocError;
 
-/// How many new goods a market with this stock gets: its `restock`, at most up to its limit.
+/// How many new goods a market with this stock gets: its `restock`, at most what is missing to its
+/// limit.
 fn restock(market: &Market, stock: u32) -> u32
     ensures { result ≡ restock market.now stock }
 {

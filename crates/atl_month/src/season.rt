@@ -22,7 +22,7 @@ use std::alloc::{AllocError, Global};
 pub struct SeasonPhase;
 
 /// How many peasants are born: a percentage of them from 0 to `growth`, by the word of the dice, at
-/// most up to the limit.
+/// most as many as are missing to the limit.
 fn births(growth: u32, limit: u32, word: u32, peasants: u32) -> u32
     requires growth { growth ≤ most_growth }
     requires peasants { peasants ≤ most_amount }
@@ -32,7 +32,8 @@ fn births(growth: u32, limit: u32, word: u32, peasants: u32) -> u32
     born.min(u64::from(limit.saturating_sub(peasants))) as u32
 }
 
-/// How much money a region gets: `per_peasant` for each of its peasants, at most up to the limit.
+/// How much money a region gets: `per_peasant` for each of its peasants, at most what is missing to
+/// the limit.
 fn income(per_peasant: u32, limit: u32, peasants: u32, money: u32) -> u32
     ensures { result ≡ income per_peasant limit peasants money }
 {
@@ -115,6 +116,8 @@ impl Phase for SeasonPhase {
 
     ghost keeps = { season_keeps };
 
+    /// Returns the campaign after the season of its regions, and the month as it was; AllocError
+    /// without memory.
     fn run(&self, _: Global, world: &World, mut campaign: Campaign, month: Month) -> PhaseResult {
         turn_regions(world, &mut campaign, month.words())?;
         Ok((campaign, month))

@@ -197,6 +197,7 @@ impl Phase for SweepPhase {
 
     ghost keeps = { sweep_keeps };
 
+    /// Returns the campaign after the sweep, and the month as it was; AllocError without memory.
     fn run(&self, alloc: Global, world: &World, campaign: Campaign, month: Month) -> PhaseResult {
         let mut campaign = campaign;
         let receivers = receivers_of(alloc, &campaign)?;

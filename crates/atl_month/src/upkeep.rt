@@ -166,6 +166,8 @@ impl Phase for UpkeepPhase {
 
     ghost keeps = { upkeep_keeps };
 
+    /// Returns the campaign after upkeep, and the month with the Starved events; AllocError without
+    /// memory.
     fn run(&self, alloc: Global, world: &World, campaign: Campaign, month: Month) -> PhaseResult {
         let (mut campaign, mut month) = (campaign, month);
         let inputs = upkeep_inputs_of(alloc, &campaign)?;

@@ -111,7 +111,7 @@ own_factions w c ms good is =
 
 -- ---- the faulty lines of each mailing
 
--- the faulty lines found under a number are those of that faction's mailing
+-- the faulty lines found under a number are those of that faction's mailing, or none without a mailing (`faults_in`)
 pub faulty_lines_under : (w : WorldValue) (mail : FinMap nat_cmp (List ℕ)) (n : ℕ) → unwrap_or (get (mapped (λ text. faults_of (reading w text)) mail) n) [] ≡ faults_in w (get mail n)
 faulty_lines_under w mail n = ap (λ o. unwrap_or o []) (get-mapped (λ text. faults_of (reading w text)) mail n) ∙ at (get mail n)
   where
@@ -123,7 +123,7 @@ faulty_lines_under w mail n = ap (λ o. unwrap_or o []) (get-mapped (λ text. fa
 -- ---- the reports
 
 module _ (w : WorldValue) (events : List Event) where
-  -- functions that give equal faulty lines for each faction give the same campaign with reports
+  -- reports made by two functions (`f`, `g`) that give the same faulty lines for each faction make the same campaign
   pub same_reports : (f g : ℕ → List FaultyLine) → ((n : ℕ) → f n ≡ g n) → (c : CampaignValue) (ns : List ℕ) → fold (reported_to w f events) c ns ≡ fold (reported_to w g events) c ns
   same_reports f g same c [] = refl
   same_reports f g same c (n ∷ ns) =
@@ -241,7 +241,7 @@ read_ends w c r rest none (mailings, all, outcome, sent) = record {
 pub fold_further : {A B : Type 0} (step : A → B → A) (old new last : A) (all : List B) (i : ℕ) (d : B) → i < length all → new ≡ step old (get_or all i d) → fold step old (drop i all) ≡ last → fold step new (drop (i + 1) all) ≡ last
 fold_further step old new last all i d h is whole = ap (λ a. fold step a (drop (i + 1) all)) is ∙ subst (λ l. fold step old l ≡ last) (drop_more all i d h) whole
 
--- storing a report doesn't change the structures, so the lists of structures by region stay right
+-- lists of the structures by region are still those of the campaign's structures (`AreSites`) after a report is stored
 pub sites_stay : (w : WorldValue) (faults : ℕ → List FaultyLine) (events : List Event) (c d : CampaignValue) (n : ℕ) → d ≡ reported_to w faults events c n → (sites : FinMap nat_cmp (List ℕ)) → AreSites c.structures sites → AreSites d.structures sites
 sites_stay w faults events c d n is sites listed =
     subst (λ (s : CampaignValue). AreSites s.structures sites) (sym is) listed

@@ -71,7 +71,8 @@ arrival w name pass word c good =
       report = is_there _ report (get_inserted c.reports c.next_faction report);
     }
 
--- if `join_of` succeeds in a good campaign, the new faction, unit and report are in the result with its first report
+-- After a join that succeeds in a good campaign, with its first report, the new faction, unit and report are there
+-- (`HasArrival`).
 pub arrives : (w : WorldValue) (name pass : List ℕ) (word : ℕ) (c d : CampaignValue) (n m : ℕ) → IsGood w c → join_of w name pass word c ≡ Ok (d, (n, m)) → HasArrival (reported w d n) n
 unfolding join_of
 arrives w name pass word c d n m good e =

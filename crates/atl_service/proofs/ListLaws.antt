@@ -140,8 +140,8 @@ module _ {S : Type 0} (g : Ghosts S) where
 
   -- ---- the loop of `run_all`
 
-  -- if the answers before command `i` continue to answers of the whole list, so do those with the answer of command `i`
-  -- added
+  -- If the answers before command `i`, with any that the commands from `i` on may get, are answers to the whole list
+  -- (`RunsAll`), so are they with the answer to command `i` added.
   pub one_more : (e mid now new : ServiceValue S) (cs : List Command) (i : ℕ) (c : Command) (a : Answer) (sofar rs : List Answer) → i < length cs → c ≡ get_or cs i c
       → ((ts : List Answer) (n : ServiceValue S) → RunsAll g mid (drop i cs) ts n → RunsAll g e cs (sofar ++ ts) n) → IfSome mid.campaign (λ d. HoldsCampaign g mid.conn (text_in g mid.conn) d) → Runs g mid c a now → IsLater (state g mid.conn) (state g now.conn)
       → RunsAll g now (drop (i + 1) cs) rs new → RunsAll g e cs ((sofar ++ a ∷ []) ++ rs) new

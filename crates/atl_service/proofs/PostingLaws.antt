@@ -105,7 +105,8 @@ last_or n before other (Mail faction pass text ∷ more) = ap (λ o. last_text n
 last_or n before other (Close _ _ _ ∷ more) = last_or n before other more
 last_or n before other (Report _ _ ∷ more) = last_or n before other more
 
--- two lists of commands with the same last text of each faction give the same mail
+-- Two lists of commands with the same last text of each faction leave the same mail (`posted`) from the same mail
+-- before.
 same_mail : (mail : FinMap nat_cmp (List ℕ)) (sent others : List Command) → ((n : ℕ) → last_text n None sent ≡ last_text n None others) → posted mail sent ≡ posted mail others
 same_mail mail sent others same = same_map nat_cmp_total nat_cmp-IsAntisymmetric (posted mail sent) (posted mail others) (λ n.
     get_posted mail sent n ∙ last_or n None (get mail n) sent ∙ ap (λ o. option_or o (get mail n)) (same n) ∙ sym (get_posted mail others n ∙ last_or n None (get mail n) others))

@@ -55,12 +55,13 @@ pub record Answers {S : Type 0} (g : Ghosts S) (w : WorldValue) (before : Campai
 abbrev pub CommandLeavesAfterFault : {S : Type 0} → Ghosts S → WorldValue → CampaignValue → Held S → Command → Held S → Type 0
 CommandLeavesAfterFault g w before old command new = HasCleanDisk (state g new) → (text : List ℕ) → Keeps (state g old) text before → LeavesAfterFault (state g old).faults (state g new) text before (step w before command).0
 
--- After any command, answered or failed: the connection is in no transaction; no doubt of the disk, no failure and no
--- test of reads is lost (`IsLater`); and, if the disk is clean, other tables are unchanged.
+-- After any command, answered or failed: the connection is in no transaction; a disk in doubt stays so, no failure is
+-- forgotten, and tested reads stay tested (`IsLater`); and, if the disk is clean, tables that aren't the campaign's are
+-- unchanged.
 pub record LeavesIdle {S : Type 0} (g : Ghosts S) (old new : Held S) : Type 0 where
   -- the connection is in no transaction
   pub idle : new.in_transaction ≡ false
-  -- no doubt of the disk, no failure and no test of reads is lost (`IsLater`)
+  -- a disk in doubt stays so, no failure of it is forgotten, and tested reads stay tested (`IsLater`)
   pub later : IsLater (state g old) (state g new)
   -- if the disk is clean, tables that aren't the campaign's hold what they held (`LeavesOthersAlone`)
   pub others : HasCleanDisk (state g new) → LeavesOthersAlone (state g old) (state g new)

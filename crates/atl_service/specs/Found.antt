@@ -23,7 +23,7 @@ use Rattle.atl_service.specs.Service.{ServiceValue, text_in}
 -- A campaign was founded: the service is open with the text's world and the founded campaign, and, if the disk is
 -- clean, its tables hold both. There was no table `campaign`.
 pub record Founds {S : Type 0} (g : Ghosts S) (old : Held S) (text pass : List ℕ) (made : ServiceValue S) : Type 0 where
-  -- there was no table `campaign`
+  -- before the founding there was no table `campaign`
   pub fresh : has_campaign old.schema ≡ false
   -- the text reads as the service's world
   pub world : world_of text ≡ Ok made.world
@@ -35,7 +35,7 @@ pub record Founds {S : Type 0} (g : Ghosts S) (old : Held S) (text pass : List �
   pub tables : HoldsCampaign g made.conn text (founded_of made.world pass)
   -- if the disk is clean, the world text that the tables hold is the given text
   pub text_is : HasCleanDisk (state g made.conn) → text_in g made.conn ≡ text
-  -- no doubt of the disk, no failure and no test of reads is lost (`IsLater`)
+  -- a disk in doubt stays so, no failure of it is forgotten, and tested reads stay tested (`IsLater`)
   pub later : IsLater (state g old) (state g made.conn)
 
 -- The text is a world: it parses without a fault.
@@ -60,7 +60,7 @@ MayBeCause text pass is_there Memory = ⊤
 -- left before, or the founded campaign. The facts about tables and crash need a clean disk. If the text is no world, or
 -- the pass text isn't good, nothing is changed at all.
 pub record FailsToFound {S : Type 0} (g : Ghosts S) (old : Held S) (text pass : List ℕ) (new : Held S) : Type 0 where
-  -- if the disk is clean, nothing is changed (`ChangesNothing`)
+  -- if the disk is clean, the tables are as before while the connection is open (`ChangesNothing`)
   pub tables : HasCleanDisk (state g new) → ChangesNothing (state g old) (state g new)
   -- if the text is no world, or the pass text isn't good, the connection is unchanged
   pub unfounded : (¬ IsWorldText text) ⊎ (pass_ok pass ≡ false) → new ≡ old
@@ -94,7 +94,7 @@ pub record RefusesFounding {S : Type 0} (g : Ghosts S) (old : Held S) (text pass
   pub cause : MayBeCause text pass (has_campaign old.schema) why
   -- founding leaves what its cause allows (`LeavesByCause`)
   pub leaves : LeavesByCause g old text pass new why
-  -- no doubt of the disk, no failure and no test of reads is lost (`IsLater`)
+  -- a disk in doubt stays so, no failure of it is forgotten, and tested reads stay tested (`IsLater`)
   pub later : IsLater (state g old) (state g new)
 
 -- What founding builds before it writes: `w` is the world of the text and `c` the campaign founded in it; the pass text

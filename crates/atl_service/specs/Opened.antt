@@ -24,10 +24,10 @@ pub record Opens {S : Type 0} (g : Ghosts S) (old : Held S) (made : ServiceValue
   pub is_open : made.campaign ≡ Some campaign.value
   -- the loaded campaign is good, and, if the disk is clean, the tables hold it and a text of the world (`Loads`)
   pub loads : Loads g old made.conn made.world campaign
-  -- nothing is changed, if the disk is clean; what `Survives` says holds, with nothing committed; and the connection is
-  -- in a transaction exactly if it was in one (`LeavesAlone`)
+  -- If the disk is clean, nothing is changed, and a crash leaves what it could have left before (`Survives`); the
+  -- connection is in a transaction exactly if it was in one (`LeavesAlone`).
   pub alone : LeavesAlone g old made.conn
-  -- no doubt of the disk, no failure and no test of reads is lost (`IsLater`)
+  -- a disk in doubt stays so, no failure of it is forgotten, and tested reads stay tested (`IsLater`)
   pub later : IsLater (state g old) (state g made.conn)
 
 -- Opening returns the text, world and campaign that were stored. This holds if the disk is clean and the tables held a
@@ -54,8 +54,8 @@ pub record RefusesOpening {S : Type 0} (g : Ghosts S) (old : Held S) (why : Caus
   pub why_is : why ≡ of_loading fault
   -- if the disk is clean, loading may return this fault (`RefusesToLoad`)
   pub cause : HasCleanDisk (state g new) → RefusesToLoad g old fault
-  -- nothing is changed, if the disk is clean; what `Survives` says holds, with nothing committed; and the connection is
-  -- in a transaction exactly if it was in one (`LeavesAlone`)
+  -- If the disk is clean, nothing is changed, and a crash leaves what it could have left before (`Survives`); the
+  -- connection is in a transaction exactly if it was in one (`LeavesAlone`).
   pub alone : LeavesAlone g old new
-  -- no doubt of the disk, no failure and no test of reads is lost (`IsLater`)
+  -- a disk in doubt stays so, no failure of it is forgotten, and tested reads stay tested (`IsLater`)
   pub later : IsLater (state g old) (state g new)

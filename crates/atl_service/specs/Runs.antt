@@ -98,7 +98,7 @@ FollowsAt g old commands answers new None = AreClosed commands answers Ã— (new â
 pub record RunsAll {S : Type 0} (g : Ghosts S) (old : ServiceValue S) (commands : List Command) (answers : List Answer) (new : ServiceValue S) : Type 0 where
   -- answers and service are as `Follows` says, or, if the service was closed, each answer is Closed and nothing changes
   pub follows : FollowsAt g old commands answers new old.campaign
-  -- no doubt of the disk, no failure and no test of reads is lost (`IsLater`)
+  -- a disk in doubt stays so, no failure of it is forgotten, and tested reads stay tested (`IsLater`)
   pub later : IsLater (state g old.conn) (state g new.conn)
 
 -- The main theorem: answers and campaign are those of `run_of`, and if the disk has been clean so far, the tables hold

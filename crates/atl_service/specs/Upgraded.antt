@@ -13,8 +13,8 @@ use Rattle.atl_service.specs.declared.command.Cause.TheVariants.{World, NotACamp
 use Rattle.atl_service.specs.Service.{ServiceValue, text_in}
 
 -- A file was upgraded: the service is open with the new text's world and a campaign with empty stocks. On a clean disk
--- it is the campaign that the tables held, and they now hold it with the new text. No doubt of the disk, no failure and
--- no test of reads is lost (`IsLater`).
+-- it is the campaign that the tables held, and they now hold it with the new text. A disk in doubt stays so, no failure
+-- of it is forgotten, and tested reads stay tested (`IsLater`).
 pub record UpgradesTo {S : Type 0} (g : Ghosts S) (old : Held S) (text : List ℕ) (made : ServiceValue S) : Type 0 where
   -- the upgraded campaign, with its marks
   pub campaign : MarkedCampaign
@@ -25,7 +25,7 @@ pub record UpgradesTo {S : Type 0} (g : Ghosts S) (old : Held S) (text : List �
   pub upgrades : Upgrades g text old made.conn made.world campaign
   -- if the disk is clean, the world text that the tables hold is the new text
   pub text_is : HasCleanDisk (state g made.conn) → text_in g made.conn ≡ text
-  -- no doubt of the disk, no failure and no test of reads is lost (`IsLater`)
+  -- a disk in doubt stays so, no failure of it is forgotten, and tested reads stay tested (`IsLater`)
   pub later : IsLater (state g old) (state g made.conn)
 
 -- the cause that `upgrade` reports for a fault of the store's upgrade, of the same name
@@ -47,5 +47,5 @@ pub record RefusesUpgrade {S : Type 0} (g : Ghosts S) (old : Held S) (text : Lis
   pub why_is : why ≡ of_upgrading fault
   -- the store's upgrade may be refused with this fault, and leaves what `RefusesToUpgrade` says
   pub refused : RefusesToUpgrade g text old new fault
-  -- no doubt of the disk, no failure and no test of reads is lost (`IsLater`)
+  -- a disk in doubt stays so, no failure of it is forgotten, and tested reads stay tested (`IsLater`)
   pub later : IsLater (state g old) (state g new)

@@ -32,7 +32,7 @@ pub enum Command {
     Mail {
         /// The faction's number.
         faction: u32,
-        /// Its pass text.
+        /// The faction's pass text.
         pass: Sequence<u8>,
         /// The mailing, which is kept byte for byte.
         text: Sequence<u8>,
@@ -50,7 +50,7 @@ pub enum Command {
     Report {
         /// The faction's number.
         faction: u32,
-        /// Its pass text.
+        /// The faction's pass text.
         pass: Sequence<u8>,
     },
 }

@@ -4,8 +4,8 @@ use Rattle.atl_http.specs.Heads.{IsReadSoFar, IsShortBy, most_at_once}
 use Rattle.atl_http.specs.Calls.{most_reads, GoesOn}
 use Rattle.atl_http.proofs.io.receive_in.Given as goal
 
--- `seen` is what was read, no read was done too many, and the request isn't whole with fewer than `lacking` further
--- bytes; the reads are within their limit, and the last one gave a piece or was interrupted
+-- `seen` is what was read, no read was done after the request was whole or refused, and with fewer than `lacking`
+-- further bytes it isn't whole; the reads are within their limit, and the last one gave a piece or was interrupted.
 abbrev pub invariant-loop-outcome : goal.invariant-loop-outcome
 invariant-loop-outcome g l = record {
   -- the bytes that the reader has given are those of `seen`

@@ -18,7 +18,7 @@ returns-clause-good c = finished_good c.args.world.now c.args.campaign.value c.i
 pub returns-clause-same : goal.returns-clause-same
 returns-clause-same c = c.in_ok-campaign.ensures.leaves.same_month
 
--- each faction of the campaign is still there
+-- each faction that the campaign had before the month is still there
 pub returns-clause-factions : goal.returns-clause-factions
 returns-clause-factions c = factions_stay c.args.world.now c.args.campaign.value c.in_ok-campaign.campaign.value c.in_ok-campaign.ensures.leaves
 
@@ -26,7 +26,7 @@ returns-clause-factions c = factions_stay c.args.world.now c.args.campaign.value
 pub returns-clause-books : goal.returns-clause-books
 returns-clause-books c = books_near c.args.world.now c.args.campaign.value c.in_ok-campaign.campaign.value c.in_ok-campaign.ensures.leaves
 
--- the month keeps what its phases keep (`month_keeps`)
+-- what each phase of the month leaves alone over itself is left alone (`month_keeps`)
 pub returns-clause-keeps : goal.returns-clause-keeps
 returns-clause-keeps c =
     let is : c.new-month.result ≡ new_month (by_faction (map reading_of c.args.mailings.items)) c.args.words.now = search rules in
@@ -56,7 +56,7 @@ returns-clause-definition c =
     month_is c.args.world.now c.args.campaign.value c.in_ok-campaign.campaign.value c.new-month.result c.in_ok-campaign.month (by_faction (map reading_of c.args.mailings.items)) c.args.words.now c.into_events.result.items
     c.in_ok-campaign.ensures.meaning is c.into_events.ensures
 
--- units of factions without a mailing are left as `UnmailedAreLeft` says
+-- each unit of a faction without a mailing has its name, its items and all men who didn't starve (`UnmailedAreLeft`)
 pub returns-clause-unmailed : goal.returns-clause-unmailed
 returns-clause-unmailed c =
     unmailed_left c.args.world.now c.args.campaign.value c.in_ok-campaign.campaign.value c.args.mailings.items c.args.words.now c.into_events.result.items (returns-clause-definition c) (returns-clause-keeps c)

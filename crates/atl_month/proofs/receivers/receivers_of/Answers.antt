@@ -10,7 +10,8 @@ use Rattle.atl_month.specs.Sweep.{receives}
 use Rattle.atl_month.proofs.ReceiverLaws.{all_noted, noted_goes_on, nothing_noted}
 use Rattle.atl_month.proofs.receivers.receivers_of.Goals as goal
 
--- the invariant of the loop over units holds before the first one
+-- Before the first unit is noted, the first unit that receives for a faction in a region is the campaign's receiver
+-- there.
 pub loop-number-init : goal.loop-number-init
 loop-number-init c =
     let what = c.args.campaign.now.value in
@@ -21,7 +22,8 @@ loop-number-init c =
       rw is (each-from_every (λ n u. 1 ≤ n) what.units c.requires),
     )
 
--- the invariant of the loop over units holds after one more unit was noted
+-- After one more unit was noted, the map, and else the first among the units still to come, still gives the campaign's
+-- receivers.
 pub loop-number-preserved : goal.loop-number-preserved
 loop-number-preserved c =
     let (_, _, rest, low) = c.loop-number.invariant in

@@ -16,7 +16,8 @@ use Rattle.atl_month.proofs.restock.restock_region.Goals as goal
 pub returns-in-None-clause-what : goal.returns-in-None-clause-what
 returns-in-None-clause-what c = sym (none_of c.args.world.now c.region.ensures.world c.args.region c.args.campaign.now.value (sym c.in-None.ensures.value))
 
--- the invariant of the loop over markets holds before the first one
+-- Before the first market all markets are still to come, the campaign is steady, and the books have room for all new
+-- goods.
 pub loop-item-init : goal.loop-item-init
 loop-item-init c =
     let w = c.args.world.now in
@@ -43,7 +44,8 @@ restock_market-requires-clause-room c =
     room_for_market (c.in-Some-2.item, c.in-Some-2.market.now) c.next.new.self c.loop-item.campaign.value
     (subst (λ (es : List (ℕ × Market)). HaveRoom (stocking es) c.loop-item.campaign.value) c.in-Some-2.ensures.steps c.loop-item.invariant.room)
 
--- the invariant of the loop over markets holds after one more got its new goods
+-- After one more market got its new goods, restocking those still to come still makes what restocking all makes, and
+-- the campaign is steady, its books have room, and all changes are marked.
 pub loop-item-preserved : goal.loop-item-preserved
 loop-item-preserved c =
     let w = c.args.world.now in

@@ -11,7 +11,8 @@ use Rattle.atl_month.specs.Season.{season_moves, season_at}
 use Rattle.atl_month.proofs.SeasonLaws.{season_little, room_goes_on, room_now, season_at_leaves_well, season_goes_on}
 use Rattle.atl_month.proofs.season.turn_regions.Goals as goal
 
--- the invariant of the loop over regions holds before the first one
+-- Before the first region all regions are still to come, the campaign is steady, and the books have room for their
+-- season.
 pub loop-number-init : goal.loop-number-init
 loop-number-init c =
     let listed : c.into_iter-number-iterator.result ≡ entries c.args.world.now.regions = search rules in
@@ -24,7 +25,8 @@ loop-number-init c =
       marks-refl c.args.campaign.now,
     )
 
--- the invariant of the loop over regions holds after the season of one more
+-- After the season of one more region, that of those still to come still makes what that of all makes, and the campaign
+-- is steady, its books have room, and all changes are marked.
 pub loop-number-preserved : goal.loop-number-preserved
 loop-number-preserved c =
     let w = c.args.world.now in

@@ -2,13 +2,17 @@ use Rattle.std.proofs.Common.{◌≡◌, ◌++◌, filter, map, drop}
 use Rattle.atl_month.specs.Upkeep.{starved_event, starves}
 use Rattle.atl_month.proofs.upkeep.report_starved.Given as goal
 
--- before each result: the events so far, with those of the results still to come, are all that are due; the rest of the
--- month stays
+-- Before each result: the events so far, with those of the results still to come, are those before the loop with those
+-- of all results; the month's readings, aliases and words stay.
 abbrev pub invariant-loop-settled : goal.invariant-loop-settled
 invariant-loop-settled l = record {
+  -- the month's readings are as before the loop
   readings : l.month.readings ≡ l.initial.month.readings;
+  -- the month's aliases are as before the loop
   aliases : l.month.aliases ≡ l.initial.month.aliases;
+  -- the month's words of the dice are as before the loop
   words : l.month.words ≡ l.initial.month.words;
+  -- the events so far, with those of the results still to come, are those before the loop with those of all results
   rest :
       l.month.events ++ map starved_event (filter starves (drop l.settled-index l.list))
       ≡ l.initial.month.events ++ map starved_event (filter starves l.list);

@@ -7,7 +7,8 @@ use Rattle.atl_month.specs.UpkeepSharing.{peers_of, upkeep_result_among}
 use Rattle.atl_month.proofs.UpkeepSharingLaws.{lower_first, settled_is, settled_more}
 use Rattle.atl_month.proofs.upkeep_sharing.upkeep_payments.Goals as goal
 
--- the invariant of the loop over units holds after one more had its turn
+-- After one more unit had its turn, the accounts are those after the turns so far, and the list has what upkeep takes
+-- from these units.
 pub loop-input-preserved : goal.loop-input-preserved
 loop-input-preserved c =
     let m = c.args.maintenance in

@@ -1,7 +1,7 @@
 use Rattle.atl_month.proofs.SeasonLaws.{season_keeps_units, season_leaves_well}
 use Rattle.atl_month.proofs.season.SeasonPhasePhase.run.Goals as goal
 
--- the season keeps the campaign steady and its books balanced, within the phase's bound
+-- the season keeps the campaign steady and its books balanced, and moves each amount by less than 10^14
 pub returns-clause-leaves : goal.returns-clause-leaves
 returns-clause-leaves c = rw (c.in_ok-turn_regions.ensures.what, c.words.ensures) (season_leaves_well c.args.world.now c.turn_regions.ensures.world c.args.campaign.value c.args.month.words c.requires.needs)
 
