@@ -340,7 +340,7 @@ fn write_market(
     match world.item(seen.item) {
         Some(item) => write_trade(out, seen, market, item),
         None => Ok(()),
-    /// Writes the lines of a list of markets of one region, in their order.
+        /// Writes the lines of a list of markets of one region, in their order.
     }
 }
 
