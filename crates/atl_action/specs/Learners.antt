@@ -27,7 +27,7 @@ abbrev pub skill_of : OperandsValue → Option ℕ
 skill_of (operands.Skill s) = Some s
 skill_of order = None
 
--- whether a unit has men, and money for the fee of all of them
+-- whether a unit can learn a skill: it has men, and money for the skill's fee for each of them
 abbrev pub can_learn : WorldValue → (skill : ℕ) → HoldingValue → Bool
 can_learn w s h = nat_lt 0 h.men && nat_le (fee_of w s * h.men) h.money
 

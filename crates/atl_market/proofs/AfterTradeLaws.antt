@@ -243,7 +243,7 @@ module _ (trade : Trade) (w : WorldValue) (c : CampaignValue) (os : List Task) w
   abbrev named : FinMap nat_cmp ℕ
   named = items_by (trade_pots trade) w c os
 
-  -- the shares of all units
+  -- how many pieces each unit gets to trade, by unit
   abbrev given : FinMap nat_cmp ℕ
   given = given_by (trade_pots trade) w c os
 

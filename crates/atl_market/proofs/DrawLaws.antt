@@ -20,7 +20,7 @@ use Rattle.atl_market.specs.Pots.{amount_given, pot_shares, takers_in, wants_in}
 use Rattle.atl_market.proofs.PotLaws.{IsRisen, gives_each_pot, only_takers_get, taker_listed, takers_risen}
 use Rattle.atl_campaign.proofs.NumberListLaws.{IsListed}
 
--- each number of a list is above `n`, if `n` is less than each of them
+-- if each element of a list is above `n` (`AllByRecursion`), each number on the list (`IsListed`) is above `n`
 risen_above : (n : ℕ) (ns : List ℕ) → AllByRecursion (λ k. n < k) ns → (k : ℕ) → IsListed k ns → n < k
 risen_above n [] h k is = absurd is
 risen_above n (m ∷ ns) h k (inl same) = subst (λ j. n < j) (sym same) h.0
@@ -34,7 +34,7 @@ another k n ns above is = elim is [ inl same ↦ absurd (omega (arith, above, sa
 not_this : (k n : ℕ) (ns : List ℕ) → k ≢ n → IsListed k (n ∷ ns) → IsListed k ns
 not_this k n ns apart is = elim is [ inl same ↦ absurd (apart same) | inr rest ↦ rest ]
 
--- what holds of each number and its share holds of them as pairs
+-- if `P` holds of each number and its share (`EachOf`), it holds of each of these pairs (`AllByRecursion`)
 pub all_pairs : (P : ℕ × ℕ → Type 0) (es : List (ℕ × ℕ)) → EachOf (λ n share. P (n, share)) es → AllByRecursion P es
 all_pairs P [] h = tt
 all_pairs P (e ∷ es) h = (h.0, all_pairs P es h.1)
@@ -70,7 +70,7 @@ module _ (draws : Drawers) where
     none_first : (rest : ℕ) → rest ≡ 0 → 0 + rest ≡ 0
     none_first rest h = omega (arith, h)
 
-    -- if no unit is listed, nothing is drawn
+    -- if only units of the empty list may draw from the pot (`Listed []`), nothing is drawn
     nothing_drawn : (es : List (ℕ × ℕ)) → AllByRecursion (Listed []) es → drawn es ≡ 0
     nothing_drawn [] all = refl
     nothing_drawn (e ∷ es) all =

@@ -35,15 +35,15 @@ pub record KeepsTogether (u : Unit) (q : Region) (f : Region → Region) (more :
 
 module _ (w : WorldValue) (c : CampaignValue) (n : ℕ) (u : Unit) (q : Region) (f : Region → Region) (more : HoldingValue) (entry : Entry) (z : ℤ)
     (is : get c.units n ≡ Some u) (around : get c.regions u.region ≡ Some q) where
-  -- the campaign in which unit `n` has the new holding
+  -- the campaign in which unit `n` holds what the exchange leaves it (`more`); its region isn't changed yet
   abbrev supplied : CampaignValue
   supplied = record c { units = insert c.units n (record u { holding = more }) }
 
-  -- the campaign in which unit `n` has the new holding and its region is changed; nothing is booked yet
+  -- the campaign in which unit `n` holds `more` and its region is changed by `f`; nothing is booked yet
   abbrev left : CampaignValue
   left = region_changed f supplied u.region
 
-  -- the campaign in which unit `n` has the new holding, its region is changed, and the money is booked
+  -- the campaign in which unit `n` holds `more`, its region is changed by `f`, and the money `z` is booked
   abbrev exchanged : CampaignValue
   exchanged = with_amount left entry Money z
 

@@ -23,12 +23,12 @@ module _ (f : ℕ × ℕ → ℕ) where
   abbrev instead : List (ℕ × ℕ) → List (ℕ × ℕ)
   instead es = map (λ e. (e.0, f e)) es
 
-  -- other amounts under the same numbers leave the numbers above `k`
+  -- if the numbers of entries are above `k`, they are so with other amounts under them (`instead`)
   above_instead : (k : ℕ) (es : List (ℕ × ℕ)) → AllByRecursion (λ e. k < e.0) es → AllByRecursion (λ e. k < e.0) (instead es)
   above_instead k [] above = tt
   above_instead k (e ∷ es) above = (above.0, above_instead k es above.1)
 
-  -- other amounts under the same numbers leave the numbers rising
+  -- if the numbers of entries rise, they rise also with other amounts under them (`instead`)
   rise_instead : (es : List (ℕ × ℕ)) → Rise es → Rise (instead es)
   rise_instead [] rise = tt
   rise_instead (e ∷ es) rise = (above_instead e.0 es rise.0, rise_instead es rise.1)

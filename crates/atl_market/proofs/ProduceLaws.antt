@@ -209,7 +209,7 @@ produce_keeps_others w c os = others_no_worse produce_pots w (λ items. produced
 
 -- ---- what a unit makes it can make
 
--- an order that names no item of the world has a fault
+-- an order that names no item has a fault
 needs_item : (w : WorldValue) (h : HoldingValue) → make_fault h (item_of w None) ≡ None → ⊥
 needs_item w h fine = by_men (h.men == 0) fine
   where

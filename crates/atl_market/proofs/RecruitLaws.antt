@@ -216,7 +216,7 @@ module _ (w : WorldValue) (c : CampaignValue) where
         let (u, o, there, own, low) = given_is_wanted recruit_pots w c (λ items. pots_give (recruits_at w c) c) os n share is in
         (u, there, wanted_fits _ _ u.holding.men share (early.steady.numbers.units n u there).1.men low, wanted_payable _ u.holding.money w.rules.recruit_price _ share low)
 
-    -- a part of the peasants, by division, is at most all of them
+    -- a region's peasants divided by a number, rounded down, are at most all its peasants
     part : (all one : ℕ) → all / one ≤ all
     part all one = div-le_self all one
 

@@ -64,7 +64,7 @@ module _ (w : WorldValue) (c : CampaignValue) (n : ℕ) (u : Unit) (q : Region) 
   tax_is = ap (λ d. with_region_money d u.region (q.money - share)) (richer_is c n u share is)
 
   module _ (enough : share ≤ q.money) where
-    -- the total of each thing is the same as before
+    -- the total of each thing is the same after the unit took its share as before, given what each of the steps changes
     same_total : (t : Thing) → total after t + region_amount t q ≡ total (richer c n u share) t + region_amount t (drain q share q)
         → total (richer c n u share) t + unit_amount t u.holding ≡ total c t + unit_amount t (paid c n u share) → total after t ≡ total c t
     same_total Money a b = omega (arith, a, b, enough)

@@ -53,7 +53,7 @@ pub every-with_each : (P : ℕ → ℕ → Type 0) (m : FinMap nat_cmp ℕ) (es 
 every-with_each P m [] each old = old
 every-with_each P m (e ∷ es) each old = every-with_each P (insert m e.0 e.1) es each.1 (every-insert P m e.0 e.1 each.0 old)
 
--- wants of at most 999,999,999 each (`AreWants`) stay so when a further one of at most 999,999,999 is put in
+-- if each want in a map is at most 999,999,999 (`AreWants`), this holds also after a want of at most that is put in
 pub one_want : (m : FinMap nat_cmp ℕ) (n want : ℕ) → want ≤ most_amount → AreWants m → AreWants (insert m n want)
 one_want m n want low old = every-insert (λ number want. want ≤ most_amount) m n want low old
 
@@ -87,7 +87,7 @@ module _ (p : PotMeaning) (w : WorldValue) (c : CampaignValue) where
     -- the phase finds no fault in the order
     pub fine : p.fault w u t ≡ None
 
-  -- the unit of an order unless the phase finds a fault, or NotYours without a unit
+  -- the unit that carries an order out, or else its fault: the one that the phase finds, or NotYours without a unit
   abbrev unless_fault : Task → Option Unit → Result Unit EventFault
   unless_fault t o = option_map_or (λ v. option_map_or Err (p.fault w v t) (Ok v)) o (Err NotYours)
 

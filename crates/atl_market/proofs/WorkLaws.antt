@@ -65,7 +65,7 @@ module _ (w : WorldValue) (c : CampaignValue) (n : ℕ) (u : Unit) (money : ℕ)
   wages_are : with_amount (with_money c n (u.holding.money + money)) Wages Money (pos money) ≡ wages_paid
   wages_are = ap (λ d. with_amount d Wages Money (pos money)) (richer_is c n u money is)
 
-  -- the total of each thing grows by what is booked
+  -- once the unit got its wages, the total of each thing has grown by what is booked of it
   total_paid : (t : Thing) → pos (total wages_paid t) ≡ pos (total c t) +ℤ share_of t Money (pos money)
   total_paid t = total_of t (total-amount given Wages Money t (pos money)) (total-unit_amount w c n u more is t)
     where

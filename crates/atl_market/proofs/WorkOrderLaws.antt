@@ -34,7 +34,7 @@ use Rattle.atl_market.specs.Work.{idle_task, idle_work, is_idle, is_work, sorted
 use Rattle.atl_market.proofs.PotLaws.{some_new, still_some}
 use Rattle.atl_market.proofs.WantLaws.{appended_entries}
 
--- a test that holds is true
+-- a test `b` that holds (`T b`) is equal to `true`
 is_so : (b : Bool) → T b → b ≡ true
 is_so true h = refl
 is_so false h = absurd h
@@ -62,7 +62,7 @@ module _ {K X : Type 0} (R : K → K → Ordering) (exact : IsAntisymmetric R) (
   keyed-listed o (x ∷ xs) =
       subst AreKeyed (sym (entries-insert o (from_entries (map (λ x. (key x, x)) xs)) (key x) x)) (keyed-put x (entries (from_entries (map (λ x. (key x, x)) xs))) (keyed-listed o xs))
 
-  -- what is Less is not Equal
+  -- an ordering that is Less isn't Equal
   apart_of : (o : Ordering) → is_lt o ≡ true → is_eq o ≡ false
   apart_of Less h = refl
   apart_of Equal h = absurd (false≢true h)
@@ -95,7 +95,7 @@ work_key = key_of ByUnit
 abbrev same_work : Task → Task → Bool
 same_work a b = eq_by_cmp (slice_cmp nat_cmp) (work_key a) (work_key b)
 
--- orders with the same key by `same_work` have the same key
+-- if `same_work` says that two orders have the same key, their keys are equal
 keys_tie : (a b : Task) → same_work a b ≡ true → work_key a ≡ work_key b
 keys_tie a b h = slice_cmp-IsAntisymmetric nat_cmp-IsAntisymmetric (work_key a) (work_key b) ((Equal-is (slice_cmp nat_cmp (work_key a) (work_key b))).0 h)
 

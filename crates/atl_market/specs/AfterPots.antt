@@ -36,8 +36,8 @@ abbrev pub stock_after : Trade → (stock traded : ℕ) → ℕ
 stock_after Sell stock traded = stock + traded
 stock_after Buy stock traded = stock - traded
 
--- The law of SELL and BUY: in a world's campaign all units trade at once: each has its share less or more and the money
--- for it more or less; a region has of each item all that its units sold of it more, or bought of it less.
+-- The law of SELL and BUY: all units trade at once. By SELL each has its share of the item less and the money for it
+-- more, and a region has of each item all that its units sold more; by BUY the reverse.
 abbrev pub TradesAtOnce : Type 0
 TradesAtOnce =
     (trade : Trade) (w : WorldValue) (c : CampaignValue) (os : List Task) → IsWorld w

@@ -11,7 +11,7 @@ use Rattle.atl_phase.specs.Bounds.{HaveRoom}
 use Rattle.atl_market.specs.Recruit.{recruit_moves}
 use Rattle.atl_market.specs.Work.{wages_for, work_moves}
 
--- unit `n` is there, and so is its region (`around`)
+-- unit `n` is in the campaign, and so is the region that it is in (`around`)
 pub record IsSomewhere (c : CampaignValue) (n : ℕ) : Type 0 where
   -- the unit under the number `n`
   pub unit : Unit

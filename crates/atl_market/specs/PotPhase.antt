@@ -45,7 +45,7 @@ pub record PotMeaning : Type 0 where
   pub fault : WorldValue → Unit → Task → Option EventFault
   -- how much a unit wants by an order: of the pot of its region, or of its item's pot there
   pub want : WorldValue → Unit → Task → ℕ
-  -- how much each unit gets, by unit, from the items that the orders name and from the wants, which are also by unit
+  -- how much each unit gets, by unit, worked out from the item that its order names and its want, both also by unit
   pub grants : (items : FinMap nat_cmp ℕ) → WorldValue → CampaignValue → (wants : FinMap nat_cmp ℕ) → FinMap nat_cmp ℕ
   -- the number in the event of a unit's order, by the unit's share of the pot
   pub event_number : WorldValue → Unit → ℕ → ℕ

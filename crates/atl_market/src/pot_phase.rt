@@ -44,8 +44,8 @@ pub(crate) trait PotPhase {
             (task_of order.entry) }
         ensures bound { result ≤ most_amount };
 
-    /// How much each unit gets, by unit, from the items that the orders name and from the wants,
-    /// which are also by unit. AllocError without memory.
+    /// How much each unit gets, by unit, worked out from `items`, the item that each unit's order
+    /// names, and `wants`, how much each unit wants, both by unit. AllocError without memory.
     fn grants(
         &self,
         alloc: Global,
