@@ -60,7 +60,7 @@ use Rattle.atl_action.proofs.TravelLaws.{AreTravelled, IsPut, IsSameStructure, s
 abbrev structure_in : Option Unit → ℕ
 structure_in o = option_map_or (λ (x : Unit). x.structure) o 0
 
--- a number that a unit's holding gives; 0 where the unit isn't there
+-- what `f` gives of a unit's holding; 0 where the unit isn't there
 abbrev of_unit : (HoldingValue → ℕ) → Option Unit → ℕ
 of_unit f o = option_map_or (λ (x : Unit). f x.holding) o 0
 
@@ -91,7 +91,7 @@ module _ (ship to : ℕ) where
   all_people m [] = people_same m
   all_people m (n ∷ ns) = people_twice m (elsewhere ship to m n) (fold (elsewhere ship to) (elsewhere ship to m n) ns) (elsewhere_people ship to m n) (all_people (elsewhere ship to m n) ns)
 
-  -- to go along by one test and then by another is to go along if either test passes
+  -- a unit that goes along if `a` is true, and then if `b` is, goes along if either is true
   mapped_both : (a b : Bool) (o : Option Unit) → option_map (gone_if ship to b) (option_map (gone_if ship to a) o) ≡ option_map (gone_if ship to (a || b)) o
   mapped_both a b o = grind rules
 
@@ -234,7 +234,7 @@ module _ (w : WorldValue) (c : CampaignValue) (ship to : ℕ) (steady : IsSteady
   at_other : (q : ℕ) → q ≢ ship → get structures q ≡ get c.structures q
   at_other q apart = changed_else shifted c.structures ship q apart (get c.structures ship)
 
-  -- each structure has its right owner after the ship sailed
+  -- each structure has its right owner (`IsOwned`) after the ship sailed
   ship_owned : (q : ℕ) (y : Structure) → get c.structures q ≡ Some y → IsOwned behind q (g q y)
   ship_owned q y there = cond_both (q == ship) (shifted y) y (IsOwned behind q) (λ _. record { owned = owned; ownerless = ownerless }) (λ _. record { owned = owned; ownerless = ownerless })
     where
@@ -420,7 +420,7 @@ sail_orderly = record {
   bounded = λ w c steady e t. omega arith;
 }
 
--- each unit at most went along (`IsAtMostMoved`), if each that no order concerns did, as no order of SAIL concerns one
+-- each unit at most went along (`IsAtMostMoved`) if each that no order of SAIL concerns did, since none concerns a unit
 pub all_carried : (w : WorldValue) (m : MonthValue) (c d : CampaignValue) → spares_others concerns_nobody IsAtMostMoved is_sailing w m c d → AreAtMostMoved c d
 all_carried w m c d keeps n u there = keeps n u there (λ k d l nobody. nobody)
 
@@ -447,15 +447,15 @@ module _ (w : WorldValue) (begun : CampaignValue) (number faction : ℕ) where
     pub steady : IsSteady w c
     -- each unit is inside the structure that it was inside as the phase began
     pub places : (k : ℕ) → inside c k ≡ inside begun k
-    -- the structure of unit `number` is as it was
+    -- the structure of unit `number` is as it was when the phase began
     pub structure : get c.structures s ≡ get begun.structures s
-    -- each unit that was inside this structure is as it was
+    -- each unit that was inside this structure when the phase began is as it was then
     pub units : (k : ℕ) → inside begun k ≡ s → get c.units k ≡ get begun.units k
-    -- the list of the units inside this structure is as it was
+    -- the list of the units inside this structure is as it was when the phase began
     pub list : numbers_inside s c.units ≡ numbers_inside s begun.units
 
   module _ (c : CampaignValue) (same : IsAsBegun c) where
-    -- what all units inside the structure of unit `number` have together is as it was when the phase began
+    -- the sum of `f` over all units inside the structure of unit `number` is as it was when the phase began
     sum_inside_same : (f : HoldingValue → ℕ) → sum_inside f c s ≡ sum_inside f begun s
     sum_inside_same f =
         ap (sum_by (λ n. of_unit f (get c.units n))) same.list

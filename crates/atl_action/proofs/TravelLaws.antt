@@ -74,7 +74,7 @@ module _ (w : WorldValue) (c : CampaignValue) (units : FinMap nat_cmp Unit) (str
     pub put : Every (λ k u. IsPut (f k u)) c.units
     -- each structure is in a region that is there
     pub built : Every (λ k y. IsThere c.regions (g k y).region) c.structures
-    -- each structure has its right owner
+    -- each structure is owned by a unit inside it, or by none where none is inside (`IsOwned`)
     pub owned : Every (λ k y. IsOwned travelled k (g k y)) c.structures
     -- each unit on water is inside a ship
     pub aboard : Every (λ k u. is_land_at w (f k u).region ≡ false → IsAboard w travelled (f k u)) c.units

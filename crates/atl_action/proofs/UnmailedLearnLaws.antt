@@ -28,7 +28,7 @@ pub record AddsNoStarved (before after : MonthValue) : Type 0 where
   pub readings : after.readings ≡ before.readings
   -- the aliases are the same
   pub aliases : after.aliases ≡ before.aliases
-  -- the events report for each unit as many starved men as before
+  -- the events of `after` report as many starved men of each unit as those of `before`
   pub starved : (n : ℕ) → starved_in after.events n ≡ starved_in before.events n
 
 -- an order of TEACH keeps readings and aliases, and adds no men who starved to the events

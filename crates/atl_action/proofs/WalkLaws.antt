@@ -106,7 +106,7 @@ module _ (w : WorldValue) (c : CampaignValue) (n : ℕ) (u : Unit) (to : ℕ) (i
     abbrev behind : CampaignValue
     behind = travelled w c units structures f (λ q y. y)
 
-    -- a structure that unit n doesn't own keeps its right owner after the walk
+    -- a structure that unit n doesn't own has its right owner (`IsOwned`) after the walk too
     still_owned : (q : ℕ) (y : Structure) → get c.structures q ≡ Some y → y.owner ≢ n → IsOwned behind q y
     still_owned q y there other = owner_stays c behind n away q y (steady.owners q y there) other (λ none v at inside. not_first q y there (sym inside ∙ outside v at))
 
@@ -163,7 +163,7 @@ module _ (w : WorldValue) (c : CampaignValue) (n : ℕ) (u : Unit) (to : ℕ) (i
 
   -- ---- a unit that was inside no structure
 
-  -- each structure has its right owner after the walk, if the unit was inside none
+  -- each structure has its right owner (`IsOwned`) after the walk, if the unit was inside none
   unowned : old_place ≡ 0 → (q : ℕ) (y : Structure) → get c.structures q ≡ Some y → IsOwned (behind c.structures) q y
   unowned outside q y there = still_owned c.structures q y there (owns_no_other w c n u is steady q y there (λ same. not_first q y there (same ∙ outside)))
 

@@ -77,8 +77,8 @@ fn crew_and_load(world: &World, campaign: &Campaign, structure: u32) -> (u128, u
     (crew, weight)
 }
 
-/// Whether ships sail from a region to its neighbour:
-/// the world has that region, and the two aren't both land.
+/// Whether ships sail from region `from` to its neighbour `to`: the world has `to`, and the two
+/// aren't both land.
 fn is_way(world: &World, from: u32, to: Option<u32>) -> bool
     ensures { result ≡ is_way world.now from to }
 {

@@ -100,7 +100,7 @@ module _ (trade : Trade) (items : FinMap nat_cmp ℕ) (w : WorldValue) (units : 
   abbrev IsTraded : ℕ → Region → Type 0
   IsTraded r q = HasNewStocks q (stock_after trade) (drawn_here r) (get (after_trade trade items w d e).regions r)
 
-  -- of a share of 0 nothing is drawn
+  -- what a unit with a share of 0 draws from a pot is 0, whether it may draw from it (`b`) or not
   none_drawn : (b : Bool) (share : ℕ) → share ≡ 0 → cond b share 0 ≡ 0
   none_drawn true share none = none
   none_drawn false share none = refl
@@ -118,21 +118,21 @@ module _ (trade : Trade) (items : FinMap nat_cmp ℕ) (w : WorldValue) (units : 
     abbrev deal : TradeResult
     deal = trade_result_of trade u.holding (stock_of d u.region m.item) e.1 m
 
-    -- a region with the stock that the trade leaves
+    -- a region with the stock of the market's item that the trade leaves
     abbrev restock : Region → Region
     restock q = restocked q m.item deal.stock
 
-    -- the trade changes the stock of the unit's region, and no other region
+    -- the trade changes the region that the unit is in, by its new stock (`restock`), and no other region
     regions_are : (r : ℕ) → get (after_trade trade items w d e).regions r ≡ get (changed restock d.regions u.region) r
     regions_are r =
         ap (λ (s : CampaignValue). get s.regions r) (traded_is trade items w d e u is (Some m) at)
         ∙ ap (λ k. get k r) (dealt_regions d e.0 u m.item (trade_entry trade) deal is)
 
-    -- the unit draws from the pot of its own region and item alone
+    -- the unit draws from the pot of its own region and of the market's item, and from no other
     draws : (r i : ℕ) → draws_item units items (r, i) e.0 ≡ (u.region == r && m.item == i)
     draws r i = ap (λ o. is_in_region r o && is_for i (get items e.0)) there ∙ ap (λ o. u.region == r && is_for i o) told
 
-    -- a pot from which the unit doesn't draw stays as it is
+    -- the trade leaves the stock behind a pot from which the unit doesn't draw as it is
     undrawn : (r i stock : ℕ) → draws_item units items (r, i) e.0 ≡ false → stock ≡ stock_after trade stock (drawn_here r i)
     undrawn r i stock other = sym (ap (λ b. stock_after trade stock (cond b e.1 0)) other ∙ none_traded trade stock)
 
@@ -216,7 +216,7 @@ module _ (trade : Trade) (items : FinMap nat_cmp ℕ) (w : WorldValue) where
   ]
 
   module _ (c : CampaignValue) where
-    -- the unit of a share is there, and its share is 0 where there is no market for it
+    -- the unit of a pair (unit, share) is in campaign `c`, and the share is 0 where the unit has no market for its item
     abbrev Trades : ℕ × ℕ → Type 0
     Trades e = (u : Unit) × (get c.units e.0 ≡ Some u) × (market_for w u (get items e.0) ≡ None → e.1 ≡ 0)
 

@@ -121,7 +121,8 @@ pub record CanGoOn (u : Unit) (s : Structure) (k : Kind) : Type 0 where
   -- the unit holds at least one piece of the kind's material
   pub material : 1 ≤ amount_of u.holding.items k.material
 
--- a unit without a fault of `BUILD` in a structure can continue it: it has men, level and material, and size is missing
+-- a unit without a fault of `BUILD` in a structure can continue it: it has men, level and material, and the
+-- structure isn't complete
 pub can_go_on : (u : Unit) (s : Structure) (k : Kind) → inside_fault u s k ≡ None → CanGoOn u s k
 can_go_on u s k is =
     let material = (amount_of u.holding.items k.material == 0, NoMaterial) ∷ [] in
@@ -184,7 +185,7 @@ module _ (w : WorldValue) (c : CampaignValue) (n kind : ℕ) (u : Unit) (k : Kin
   abbrev one : CampaignValue
   one = used w c n k.material size u is
 
-  -- a campaign with, in addition, the structure begun and the unit moved into it
+  -- campaign `d` with the new structure begun in it, and unit `n` moved into that structure
   abbrev from_used : CampaignValue → CampaignValue
   from_used d = with_place (with_new_structure d kind k u.region size) n u.region c.next_structure
 
@@ -254,7 +255,7 @@ module _ (w : WorldValue) (c : CampaignValue) (n : ℕ) (u : Unit) (s : Structur
   abbrev paid : CampaignValue
   paid = used w c n k.material added u is
 
-  -- a campaign with, in addition, as much more of the structure done as the unit adds
+  -- campaign `d` with as much more of the unit's structure done as the unit adds
   abbrev further : CampaignValue → CampaignValue
   further d = with_done d u.structure (s.done + added)
 

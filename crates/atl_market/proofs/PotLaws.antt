@@ -368,11 +368,11 @@ module _ (pot_of : ℕ → ℕ) (wants : FinMap nat_cmp ℕ) (units : FinMap nat
       let share : Some s ≡ Some t = sym is ∙ ap (λ k. find nat_cmp n (given_in k)) region ∙ also in
       cc
 
--- what holds of each region of a campaign, by its number, holds of all keys of the regions
+-- if `P` holds of the number of each region of a campaign, it holds of all keys of the map of regions
 pub each_region : (P : ℕ → Type 0) (c : CampaignValue) → ((r : ℕ) → IsThere c.regions r → P r) → AllByRecursion P (keys c.regions)
 each_region P c h = by_entries (entries c.regions) (each-from_every (λ r q. get c.regions r ≡ Some q) c.regions (λ r q is. is))
   where
-    -- what holds of each region holds of all numbers of some entries that are regions of the campaign
+    -- if `P` holds of each region's number, it holds of the numbers of listed entries that are regions of the campaign
     by_entries : (es : List (ℕ × Region)) → EachOf (λ r q. get c.regions r ≡ Some q) es → AllByRecursion P (map (λ e. e.0) es)
     by_entries [] all = tt
     by_entries (e ∷ es) all = (h e.0 (e.1, all.0), by_entries es all.1)
@@ -457,7 +457,7 @@ shares_each_pot pot_of wants c r region =
     let long : length given ≡ length takers = length-shares (pot_of r) (wants_in wants c.units r) ∙ length-map takers (want_of wants) in
     zip_all (share_of pot_of wants c) takers given long (given_apart pot_of wants c.units r) (λ n s is. given_is pot_of wants c r n s region is)
 
--- if a function has for the numbers `ns` the shares `ss`, each at most the number's want, it has such a share for each
+-- if `g` maps the numbers `ns` to the shares `ss`, each at most the number's want, it has such a share for each number
 shared_by : (g : ℕ → Option ℕ) (want : ℕ → ℕ) (ns ss : List ℕ) → map g ns ≡ map Some ss → ((i : ℕ) → get_or ss i 0 ≤ get_or (map want ns) i 0) → (n : ℕ) → IsListed n ns → (share : ℕ) × (g n ≡ Some share) × (share ≤ want n)
 shared_by g want [] ss same low n is = absurd is
 shared_by g want (k ∷ ns) [] same low n is = cc
@@ -486,7 +486,7 @@ only_takers_get pot_of wants c n s is =
 pub pots_give : (pot_of : ℕ → ℕ) (c : CampaignValue) (wants : FinMap nat_cmp ℕ) (n share : ℕ) → get (pot_shares pot_of wants c) n ≡ Some share → (want : ℕ) × (get wants n ≡ Some want) × (share ≤ want)
 pots_give pot_of c wants n share is = let (want, u, wanted, low, at, region) = only_takers_get pot_of wants c n share is in (want, wanted, low)
 
--- options that are all Some of some amounts have these amounts
+-- if `g` maps the numbers `ns` to Some of the amounts `ss`, then with 0 in the place of None it maps them to `ss`
 amounts : (g : ℕ → Option ℕ) (ns ss : List ℕ) → map g ns ≡ map Some ss → map (λ n. unwrap_or (g n) 0) ns ≡ ss
 amounts g ns ss h = mapped ns ∙ ap (map (λ o. unwrap_or o 0)) h ∙ back ss
   where

@@ -61,11 +61,11 @@ abbrev pub recruited_to : CampaignValue → ℕ → Unit → Region → (recruit
 recruited_to c n u q recruits cost = with_amount (region_changed (with_fewer_peasants q recruits) (joined c n u recruits cost) u.region) Recruiting Money (neg_ℤ (pos cost))
 
 module _ (w : WorldValue) (c : CampaignValue) (n : ℕ) (u : Unit) (q : Region) (recruits cost : ℕ) (is : get c.units n ≡ Some u) (around : get c.regions u.region ≡ Some q) where
-  -- the campaign after recruiting
+  -- the campaign after `recruits` peasants of the unit's region joined unit `n` for `cost`
   abbrev after : CampaignValue
   after = recruited_to c n u q recruits cost
 
-  -- what the unit holds after recruiting
+  -- what unit `n` holds after the recruits joined it and their cost was paid
   abbrev more : HoldingValue
   more = with_paid_recruits u.holding recruits cost
 
@@ -162,7 +162,7 @@ module _ (w : WorldValue) (c : CampaignValue) where
   abbrev pots : DrawnPots ℕ
   pots = region_pots c.units peasants_of
 
-  -- the unit of a share is there, has room for its recruits, and can pay for them
+  -- the unit of a pair (unit, share) is in the campaign, has room for its recruits, and can pay for them
   abbrev CanHave : ℕ × ℕ → Type 0
   CanHave e = (u : Unit) × (get c.units e.0 ≡ Some u) × (u.holding.men + e.1 ≤ men_limit) × (e.1 * w.rules.recruit_price ≤ u.holding.money)
 

@@ -145,7 +145,7 @@ module _ (w : WorldValue) (c : CampaignValue) where
   abbrev pots : DrawnPots ℕ
   pots = region_pots c.units money_of
 
-  -- the unit of a share is there, and has room for its share of money
+  -- the unit of a pair (unit, share) is in the campaign, and has room for its share of money
   abbrev HasRoomFor : ℕ × ℕ → Type 0
   HasRoomFor e = (u : Unit) × (get c.units e.0 ≡ Some u) × (u.holding.money + e.1 ≤ holding_limit)
 
@@ -187,7 +187,7 @@ module _ (w : WorldValue) (c : CampaignValue) where
         let (u, o, there, own, low) = given_is_wanted tax_pots w c (λ items. pots_give (money_at c) c) os n share is in
         (u, there, wanted_fits u.holding.money _ share (early.steady.numbers.units n u there).1.money low)
 
-    -- each region has money enough for all shares
+    -- each region has money enough for the shares of all its units
     all_enough : HaveEnough pots c shares
     all_enough r q around = subst (λ pot. drawn (draws_region c.units r) shares ≤ pot) (ap (λ o. option_map_or money_of o 0) around) (pot_is_enough _ _ c r (q, around))
 

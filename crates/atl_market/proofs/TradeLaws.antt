@@ -91,11 +91,11 @@ abbrev pub dealt_to : CampaignValue → ℕ → Unit → ℕ → Entry → Trade
 dealt_to c n u i entry d = with_amount (region_changed (λ r. restocked r i d.stock) (supplied c n u i d) u.region) entry Money d.booked
 
 module _ (w : WorldValue) (c : CampaignValue) (n : ℕ) (u : Unit) (q : Region) (i : ℕ) (entry : Entry) (d : TradeResult) (is : get c.units n ≡ Some u) (around : get c.regions u.region ≡ Some q) where
-  -- the campaign after the trade
+  -- the campaign after unit `n` traded with the result `d`
   abbrev after : CampaignValue
   after = dealt_to c n u i entry d
 
-  -- what the unit holds after the trade
+  -- what unit `n` holds after the trade
   abbrev more : HoldingValue
   more = with_trade_result u.holding i d
 
@@ -595,6 +595,6 @@ module _ (c d e : MarkedCampaign) (n region item stock : ℕ) (f : HoldingValue 
   pub settled_marks : MarksStock d region item stock e.marks → MarksChanges c e
   settled_marks how = marks-trans c d e set.marks (marks_by d e _ put refl (marks-stock d region item stock e.marks how))
 
-  -- after a unit's goods and a region's stock were set, the campaign is the old one with both
+  -- after a unit's goods and then a region's stock were set, the campaign is `c` with both set
   pub settled_what : (u : Unit) → get c.value.units n ≡ Some u → e.value ≡ with_stock (with_holding c.value n (f u.holding)) region item stock
   settled_what u is = put ∙ ap (λ s. with_stock s region item stock) (changed_held f c.value d.value n set.value u is ∙ sym (ap (with_held c.value n (f u.holding)) is))

@@ -144,7 +144,7 @@ work_keeps_units w c os = each_no_worse w c (entries (given_by work_pots w c os)
 
 -- ---- all shares can be paid in turn
 
--- the unit of a share is there, and has room for the wages of its share of work places
+-- the unit of a pair (unit, share) is in the campaign, and has room for the wages of its share of work places
 abbrev pub HasRoomFor : WorldValue → CampaignValue → ℕ × ℕ → Type 0
 HasRoomFor w c e = (u : Unit) × (get c.units e.0 ≡ Some u) × (u.holding.money + wages_for w u.region e.1 ≤ holding_limit)
 

@@ -41,7 +41,7 @@ count_in other = 0
 
 -- what is particular to one phase with pots: its faults, wants and shares, and what a share changes
 pub record PotMeaning : Type 0 where
-  -- the fault of an order of the unit's own faction, if there is one
+  -- the fault that the phase finds in an order of the unit's own faction, if there is one
   pub fault : WorldValue → Unit → Task → Option EventFault
   -- how much a unit wants by an order: of the pot of its region, or of its item's pot there
   pub want : WorldValue → Unit → Task → ℕ

@@ -45,7 +45,7 @@ pub record IsPriced (m : Market) : Type 0 where
 -- The unit of a pair (unit, share) can trade its share of its order's item: it can afford it, and the market's pot and
 -- the books allow it.
 pub record CanTrade (trade : Trade) (items : FinMap nat_cmp ℕ) (w : WorldValue) (c : CampaignValue) (e : ℕ × ℕ) : Type 0 where
-  -- the unit and its region are there
+  -- the unit of the pair and its region are in the campaign
   pub at : IsSomewhere c e.0
   -- the unit can trade its share with the market of its order's item; without a market the share is 0
   pub deal : CanAfford trade at.unit.holding e.1 (market_for w at.unit (get items e.0))

@@ -50,8 +50,8 @@ impl PotPhase for ProducePhase {
         most_makeable(world, &unit.holding, named_item(order))
     }
 
-    /// How much each unit makes: its share of its region's output of the item, or, with a raw item,
-    /// all that it wants.
+    /// How much each unit makes: its share of its region's output of the item, or, where the item
+    /// is made of a raw item, all that it wants.
     fn grants(
         &self,
         alloc: Global,
