@@ -39,7 +39,7 @@ learns w s f unit = option_map_or (λ u. u.faction == f && can_learn w s u.holdi
 abbrev pub Learning : Type 0
 Learning = FinMap nat_cmp ℕ
 
--- the map with the unit of an order of STUDY and the skill that it names, if the unit learns by the order
+-- the map with the unit of an order of STUDY and the skill that it names, if the unit learns by it; else as it was
 abbrev pub with_learner : WorldValue → CampaignValue → Learning → Task → Learning
 with_learner w c learning t =
     option_map_or (λ s. if learns w s t.faction (get c.units t.unit) then insert learning t.unit s else learning) (skill_of t.order_value.operands) learning

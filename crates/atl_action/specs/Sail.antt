@@ -58,7 +58,7 @@ capacity = of_kind (λ k. k.capacity)
 abbrev pub crew_of : WorldValue → HoldingValue → ℕ
 crew_of w h = h.men * level_in_any h w.rules.sailing
 
--- the sum, over all units inside a structure, of a number that each unit's holding gives
+-- the sum, over all units inside a structure, of what `f` gives of each unit's holding
 abbrev pub sum_inside : (HoldingValue → ℕ) → CampaignValue → (structure : ℕ) → ℕ
 sum_inside f c s = sum_by (λ n. option_map_or (λ u. f u.holding) (get c.units n) 0) (numbers_inside s c.units)
 

@@ -77,8 +77,7 @@ module _ (w : WorldValue) (c : CampaignValue) (n : ℕ) (u : Unit) (i amount : �
     after = with_amount with_set e (Item i) z
 
     module _ (change : pos amount ≡ pos (amount_of u.holding.items i) +ℤ z) where
-      -- The new total `x` of item `j` is its old total `t`, plus `z` if `j` is the item of which the unit's amount is
-      -- set.
+      -- the new total `x` of item `j` is the old one, `t`, plus `z` if `j` is `i`, the item set for the unit
       by_test : (j : ℕ) (q : Bool) → eq_by_cmp nat_cmp j i ≡ q → (x y t : ℕ) → x ≡ y → y + amount_of u.holding.items j ≡ t + cond q amount (amount_of u.holding.items j) → pos x ≡ pos t +ℤ cond (2 + j == 2 + i) z (pos 0)
       by_test j true q x y t a b =
           let j_is : j ≡ i = alike i j q in

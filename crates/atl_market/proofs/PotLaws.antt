@@ -169,8 +169,7 @@ last_put : {V : Type 0} (m : FinMap nat_cmp V) (es : List (ℕ × V)) (n : ℕ) 
 last_put m [] n = refl
 last_put {V} m (e ∷ es) n = last_put (insert m e.0 e.1) es n ∙ by_find (find nat_cmp n (reverse es)) refl ∙ sym (ap (λ fs. or_else (find nat_cmp n fs) (get m n)) (reverse-append (e ∷ []) es))
   where
-    -- What entries after `e` have for `n` (`o`), or else the map with `e`, is what `e` and they have, or else the map
-    -- alone.
+    -- what entries after `e` have for `n` (`o`), or else the map with `e` has, is what all have, or else the map
     by_find : (o : Option V) → find nat_cmp n (reverse es) ≡ o → or_else o (get (insert m e.0 e.1) n) ≡ or_else (find nat_cmp n (reverse es ++ e ∷ [])) (get m n)
     by_find (Some s) is = ap (λ o. or_else o (get m n)) (sym (found_first n (reverse es) (e ∷ []) s is))
     by_find None is =
