@@ -72,8 +72,7 @@ module _ (c : CampaignValue) (taught after : TaughtMen) (n given : ℕ) (here : 
         ap (sum_by (untaught_men c taught)) (before_cons (λ j. k == j) n ns ∙ ap (λ b. if b then [] else n ∷ before) (other_number k n apart)) ∙ sum_by-cons (untaught_men c taught) n before in
         grind (arith, away k apart, same_sum before others_before, more, other_number k n apart, is)
 
-    -- unit n's part and then a lesson to the other units, for the men still left to teach,
-    -- make the same as the whole lesson
+    -- unit n's part and then a lesson to the others, for the places left, teach the same men as the whole lesson
     pub rest_taught : (k : ℕ) → after k + taught_in_lesson c after (places - given) ns k ≡ taught k + taught_in_lesson c taught places (n ∷ ns) k
     rest_taught k = elim (cases_eq k n) [
       | inl same ↦ subst (λ j. after j + taught_in_lesson c after (places - given) ns j ≡ taught j + taught_in_lesson c taught places (n ∷ ns) j) (sym same) at_first

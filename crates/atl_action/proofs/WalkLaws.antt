@@ -136,8 +136,7 @@ module _ (w : WorldValue) (c : CampaignValue) (n : ℕ) (u : Unit) (to : ℕ) (i
           let (s, was, ship) = steady.water.units k x there wet in
           (g x.structure s, forth x.structure s was, rw (same x.structure s was).0.kind ship)
 
-      -- the units and structures of the campaign after the walk meet the conditions under which it is steady
-      -- (`AreTravelled`)
+      -- the units and structures after the walk are such that the campaign is steady (`AreTravelled`)
       are : AreTravelled w c units structures f g
       are = record {
         units_at = units_at;

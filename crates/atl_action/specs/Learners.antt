@@ -77,7 +77,6 @@ pub record LearnByOrders (w : WorldValue) (c : CampaignValue) (m : MonthValue) :
   -- a unit that learns by an order is in `learners`
   pub each : (n skill : ℕ) → IsLearning w c m n skill → IsThere (learners w c m) n
 
--- A law: in each world, campaign and month exactly those units are in
--- `learners` that learn by an order of STUDY that counts.
+-- A law: in each month a unit is in `learners` exactly if it learns by an order of STUDY that counts (`LearnByOrders`).
 abbrev pub UnitsLearnByOrders : Type 0
 UnitsLearnByOrders = (w : WorldValue) (c : CampaignValue) (m : MonthValue) → LearnByOrders w c m

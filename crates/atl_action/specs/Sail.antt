@@ -97,9 +97,8 @@ sail_step w aliases t = by_direction (sail w t.unit) t.order_value.operands
 
 -- ---- the phase
 
--- Unit `after` is unit `before`, which at most went along with its structure: it keeps faction, structure and name, has
--- no less of anything, and doesn't begin to guard. If it is inside no structure, it keeps its region and its guard flag
--- too.
+-- Unit `after` is unit `before`, which at most went along with its structure: it keeps faction, structure and name,
+-- has no less of anything, and doesn't begin to guard. Inside no structure it keeps its region and its guard flag.
 pub record IsAtMostMoved (before after : Unit) : Type 0 where
   -- the unit keeps its faction
   pub faction : after.faction ≡ before.faction

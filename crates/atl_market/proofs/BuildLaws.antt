@@ -437,8 +437,7 @@ built_is_both w c structure s k there kind_is = ap (option_and_then (with_kind w
 abbrev begun_outcome : CampaignValue → (n kind : ℕ) → Kind → (region size : ℕ) → CampaignValue × Outcome
 begun_outcome c n kind k region size = (after_start c n kind k region size, Done size)
 
--- The campaign after unit `n` used `size` for a structure of which `done` is done then, and the outcome Done with
--- `size`.
+-- the campaign after unit `n` used `size` for a structure with `done` done then, and the outcome Done with `size`
 abbrev on_outcome : CampaignValue → (n material size structure done : ℕ) → CampaignValue × Outcome
 on_outcome c n material size structure done = (after_building_on c n material size structure done, Done size)
 

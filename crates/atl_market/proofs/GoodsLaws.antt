@@ -139,8 +139,7 @@ module _ (w : WorldValue) (c : CampaignValue) (n i k : ℕ) where
   held_within : (u : Unit) → get c.units n ≡ Some u → IsSteady w c → amount_of u.holding.items i ≤ holding_limit
   held_within u is steady = amount_within u.holding i (steady.numbers.units n u is).1
 
-  -- Using at most `limit` of an item that a unit holds keeps the campaign steady and its books balanced, and books that
-  -- alone.
+  -- using at most `limit` of an item that a unit holds keeps the campaign steady and its books balanced, within `limit`
   pub used_up_to : (limit : ℕ) → k ≤ limit → (u : Unit) → get c.units n ≡ Some u → i < length w.items → k ≤ amount_of u.holding.items i → IsSteady w c → LeavesWell IsSteady (moves_only limit entries.Used (Item i)) w c (with_used c n i k)
   used_up_to limit most u there known enough steady =
       let a = amount_of u.holding.items i in

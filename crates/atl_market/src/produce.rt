@@ -120,9 +120,9 @@ impl Phase for ProducePhase {
     }
 }
 
-/// The law that all units produce at once: each has what it made more than as the phase began, and
-/// the raw items that went into it less, and no region changes. Does nothing. See docs/RULES.md,
-/// "Producing".
+/// The law that all units produce at once: what a unit made is added to what it had as the phase
+/// began, and the raw items that went into it are taken off; no region changes. Does nothing. See
+/// docs/RULES.md, "Producing".
 pub fn units_produce_all_at_once()
     ensures { ProducesAtOnce }
 {}
