@@ -389,7 +389,7 @@ sail_cases P w c n u direction same gone_off =
         let parts = and_parts (is_ship w x) (x.done == size_of w x.kind) (not-false (is_complete_ship w (Some x)) whole) in
         gone_off (unwrap_or to 0) x at parts.0 (is_equal x.done (size_of w x.kind) parts.1) (way_there w u.region to way)
 
-    -- P holds of the result of the order, whether it has a fault or not
+    -- P holds of the result of an order of SAIL, whether it has a fault or not
     by_fault : (to : Option ℕ) (o : Option EventFault) → sail_fault w c n u (get c.structures u.structure) to ≡ o → P (unless c o (after_sailing c u.structure (unwrap_or to 0), Done 0))
     by_fault to (Some fault) e = same (Fault (event_fault_number fault))
     by_fault to None e =
@@ -418,7 +418,7 @@ sail_orderly = record {
   bounded = λ w c steady e t. omega arith;
 }
 
--- each unit at most went along (`IsAtMostMoved`) if each that no order of SAIL concerns did, since none concerns a unit
+-- if every unit that no order of SAIL concerns at most went along, every unit did: no order of SAIL concerns a unit
 pub all_carried : (w : WorldValue) (m : MonthValue) (c d : CampaignValue) → spares_others concerns_nobody IsAtMostMoved is_sailing w m c d → AreAtMostMoved c d
 all_carried w m c d keeps n u there = keeps n u there (λ k d l nobody. nobody)
 
@@ -479,12 +479,12 @@ module _ (w : WorldValue) (begun : CampaignValue) (number faction : ℕ) where
     same_faction_outcome : (f n : ℕ) (direction : Direction) → inside begun n ≡ s → (faction_effect (sail w n direction) c f n).1 ≡ (faction_effect (sail w n direction) begun f n).1
     same_faction_outcome f n direction here = ap (λ o. (effect_on (sail w n direction) c (of_faction f o)).1) (same.units n here) ∙ by_unit (get begun.units n) here
       where
-        -- the order has the outcome that it would have had as the phase began, whether unit u is of faction f or not
+        -- an order of SAIL has the same outcome as when the phase began, whether unit u is of faction f or not
         by_faction : (u : Unit) → u.structure ≡ s → (b : Bool) → (effect_on (sail w n direction) c (if b then Some u else None)).1 ≡ (effect_on (sail w n direction) begun (if b then Some u else None)).1
         by_faction u here true = same_outcome n u direction here
         by_faction u here false = refl
 
-        -- the order has the outcome that it would have had as the phase began, whether its unit is there or not
+        -- an order of SAIL has the same outcome as when the phase began, whether its unit is there or not
         by_unit : (o : Option Unit) → structure_in o ≡ s → (effect_on (sail w n direction) c (of_faction f o)).1 ≡ (effect_on (sail w n direction) begun (of_faction f o)).1
         by_unit None here = refl
         by_unit (Some u) here = by_faction u here (u.faction == f)

@@ -34,7 +34,7 @@ use Rattle.atl_market.proofs.WorkLaws.{wages_leave_others, worked_is}
 less_none : (a : ℕ) → a - 0 ≡ a
 less_none a = omega arith
 
--- taking one amount and then another is taking both together
+-- taking `s` and then `t` from an amount is taking both together
 less_both : (a s t : ℕ) → a - s - t ≡ a - (s + t)
 less_both a s t = omega arith
 

@@ -75,11 +75,11 @@ module _ (trade : Trade) (items : FinMap nat_cmp ℕ) (w : WorldValue) where
   abbrev trader : ℕ → UnitChange
   trader n u share = trader_of trade u share (market_for w u (get items n))
 
-  -- the trade of a unit that is there changes the unit by its share alone
+  -- the trade of a unit that is there makes of the unit what `trader` makes of it for its share
   unit_traded : (d : CampaignValue) (e : ℕ × ℕ) (u : Unit) → get d.units e.0 ≡ Some u → get (after_trade trade items w d e).units e.0 ≡ Some (trader e.0 u e.1)
   unit_traded d e u is = by_market (market_for w u (get items e.0)) refl
     where
-      -- the trade changes the unit by its share, whether there is a market `o` or not
+      -- the trade makes of the unit what `trader_of` makes of it for its share, whether there is a market `o` or not
       by_market : (o : Option Market) → market_for w u (get items e.0) ≡ o → get (after_trade trade items w d e).units e.0 ≡ Some (trader_of trade u e.1 o)
       by_market None at = ap (λ (s : CampaignValue). get s.units e.0) (traded_is trade items w d e u is None at) ∙ is
       by_market (Some m) at =
@@ -114,7 +114,7 @@ module _ (trade : Trade) (items : FinMap nat_cmp ℕ) (w : WorldValue) (units : 
   }
 
   module _ (m : Market) (at : market_for w u (get items e.0) ≡ Some m) (told : get items e.0 ≡ Some m.item) where
-    -- the result of the unit's trade
+    -- the result of the unit's trade with market `m`
     abbrev deal : TradeResult
     deal = trade_result_of trade u.holding (stock_of d u.region m.item) e.1 m
 

@@ -181,7 +181,7 @@ module _ (w : WorldValue) (c : CampaignValue) (n kind : ℕ) (u : Unit) (k : Kin
   abbrev size : ℕ
   size = size_added k u.holding 0
 
-  -- the campaign after the unit used its material
+  -- the campaign after unit `n` used the material for the new structure
   abbrev one : CampaignValue
   one = used w c n k.material size u is
 
@@ -251,7 +251,7 @@ module _ (w : WorldValue) (c : CampaignValue) (n : ℕ) (u : Unit) (s : Structur
   abbrev added : ℕ
   added = size_added k u.holding s.done
 
-  -- the campaign after the unit used its material
+  -- the campaign after unit `n` used the material for what it adds to the structure
   abbrev paid : CampaignValue
   paid = used w c n k.material added u is
 

@@ -94,7 +94,7 @@ only_used item amount e t = by_number (amount_number e t == amount_number Used (
         at (entry_index e == entry_index Used) (eq_by_cmp nat_cmp j item) (let f : (entry_index e == entry_index Used) ≡ true = grind (arith, nat_tests) in f)
         (sym (unsigned_ties j item) ∙ (let g : (j == item) ≡ true = grind (arith, nat_tests) in g))
 
-    -- the bound is at most `used_of`, whether the amount's number is that of Used of the item or not
+    -- the bound on using the item is at most `used_of`, whether the amount's number is that of Used of the item or not
     by_number : (b : Bool) → (amount_number e t == amount_number Used (Item item)) ≡ b → (if b then amount else 0) ≤ used_of item amount e t
     by_number true is = by_thing t (let same : entry_count * thing_index t + entry_index e ≡ entry_count * thing_index (Item item) + entry_index Used = grind (arith, nat_tests) in same)
     by_number false is = omega arith

@@ -243,7 +243,7 @@ module _ (pot_of : ℕ → ℕ) (wants : FinMap nat_cmp ℕ) (c : CampaignValue)
   least : (drawing pot all : ℕ) → drawing ≤ min pot all → drawing ≤ pot
   least drawing pot all h = omega (arith, h)
 
-  -- the pot of region `r`, if it is there, is enough for all that draw from it, if their shares are shares of that pot
+  -- the pot of region `r` of the campaign is enough for all that draw from it, if their shares are shares of that pot
   pub shares_are_enough : DrawShares → IsThere c.regions r → drawn draws (entries given) ≤ pot_of r
   shares_are_enough shared there =
       let drawing = drawn draws (entries given) in

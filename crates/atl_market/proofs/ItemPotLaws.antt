@@ -281,7 +281,7 @@ module _ (item_of : ℕ → Option ℕ) (pot_of : (item region : ℕ) → ℕ) (
           let (want, wanted, low) = items_give n s is in
           ap (λ o. cond (is_some o) (Some s) None) (sym (get-entries wants n) ∙ wanted)
 
-  -- a map that has under each unit its share is the map of all shares
+  -- a map that has under each unit its share by the definition (`gets`) is the map `item_shares`
   pub shares_are : (given : FinMap nat_cmp ℕ) → ((n : ℕ) → get given n ≡ gets n) → given ≡ item_shares item_of pot_of wants c
   shares_are given at = same_map nat_cmp_total nat_cmp-IsAntisymmetric given (item_shares item_of pot_of wants c) (λ n. at n ∙ sym (shares_at n))
 

@@ -127,12 +127,12 @@ module _ (g : ℕ → Option ℕ) where
   pub agreeing_put : (es : Entries) → AgreeWith es → ((n s : ℕ) → g n ≡ Some s → is_some (find nat_cmp n es) ≡ true) → (n : ℕ) → get (with_each empty es) n ≡ g n
   agreeing_put es tells whole n = by_find (find nat_cmp n es) refl
     where
-      -- the function has no value for a number that isn't among the entries
+      -- `g` has no value for a number that isn't among the entries
       nothing : find nat_cmp n es ≡ None → (o : Option ℕ) → g n ≡ o → o ≡ None
       nothing none None is = refl
       nothing none (Some s) is = absurd (false≢true (ap is_some (sym none) ∙ whole n s is))
 
-      -- the map has the function's value for `n`, whether `n` is among the entries or not
+      -- the map of the entries has for `n` what `g` has, whether `n` is among the entries or not
       by_find : (o : Option ℕ) → find nat_cmp n es ≡ o → get (with_each empty es) n ≡ g n
       by_find None is = left empty es n is ∙ get-empty nat_cmp n ∙ sym (nothing is (g n) refl)
       by_find (Some s) is =

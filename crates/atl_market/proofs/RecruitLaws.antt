@@ -77,7 +77,7 @@ module _ (w : WorldValue) (c : CampaignValue) (n : ℕ) (u : Unit) (q : Region) 
   abbrev left : CampaignValue
   left = region_changed (with_fewer_peasants q recruits) peopled u.region
 
-  -- setting the unit, the peasants and the books, as recruiting does, gives the campaign `after`
+  -- setting the unit, the peasants and the books, as the code does, makes the campaign after recruiting (`after`)
   recruits_are : with_amount (with_peasants (with_holding c n more) u.region (q.peasants - recruits)) Recruiting Money (neg_ℤ (pos cost)) ≡ after
   recruits_are = ap (λ o. with_amount (with_peasants (with_held c n more o) u.region (q.peasants - recruits)) Recruiting Money (neg_ℤ (pos cost))) is
 

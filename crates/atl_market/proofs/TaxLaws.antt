@@ -59,7 +59,7 @@ module _ (w : WorldValue) (c : CampaignValue) (n : ℕ) (u : Unit) (q : Region) 
   abbrev after : CampaignValue
   after = drained c n u q share
 
-  -- setting the unit's money and that of its region gives the campaign `after`
+  -- setting the money of the unit and of its region makes the campaign after the unit took its share (`after`)
   pub tax_is : with_region_money (with_money c n (u.holding.money + share)) u.region (q.money - share) ≡ after
   tax_is = ap (λ d. with_region_money d u.region (q.money - share)) (richer_is c n u share is)
 
@@ -153,7 +153,7 @@ module _ (w : WorldValue) (c : CampaignValue) where
   abbrev AreTaken : CampaignValue → List (ℕ × ℕ) → Type 0
   AreTaken = AreReady pots HasRoomFor w c
 
-  -- the first of the shares still to come can be paid
+  -- the unit of the first share still to come can take it in campaign `d` (`CanTax`)
   first_can : (d : CampaignValue) (e : ℕ × ℕ) (es : List (ℕ × ℕ)) → AreTaken d (e ∷ es) → CanTax w d e
   first_can d e es ready =
       let (u, there, fits) = ready.fits.0 in
@@ -162,7 +162,7 @@ module _ (w : WorldValue) (c : CampaignValue) where
       let draws = one_draws c.units money_of d e u q there around es ready.enough in
       record { at = record { unit = u; there = now; region = q; around = around }; fits = fits; enough = draws; early = ready.early }
 
-  -- the shares still to come can be paid in turn
+  -- the shares still to come can be paid in turn, from campaign `d` on
   all_can : (d : CampaignValue) (es : List (ℕ × ℕ)) → AreTaken d es → CanInTurn (CanTax w) after_tax d es
   all_can d [] ready = tt
   all_can d (e ∷ es) ready =

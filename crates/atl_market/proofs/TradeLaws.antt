@@ -287,13 +287,13 @@ module _ (trade : Trade) (items : FinMap nat_cmp ℕ) (w : WorldValue) (c : Camp
         let low = subst (λ k. amount_of can.at.region.stocks m.item ≤ k) limit (stock_low w c u.region can.at.region m.item can.early can.at.around) in
         deal_fits w u m (amount_of can.at.region.stocks m.item) e.1 market.there (can.early.steady.numbers.units e.0 u can.at.there).1 low trade (subst (CanAfford trade u.holding e.1) at can.deal) (can.pot m at)
 
-    -- the trade of a unit with this market keeps the campaign early and its books balanced, within one trade's bound
+    -- the unit's trade with market `m` keeps the campaign early and its books balanced, within one trade's bound
     made_well : LeavesWell IsEarly (trade_moves trade holding_limit) w c (after_trade trade items w c e)
     made_well =
         subst (λ d. LeavesWell IsEarly (trade_moves trade holding_limit) w c d) (sym made_is)
         (deal_well w c e.0 can.at.unit can.at.region m.item (trade_entry trade) deal can.at.there can.at.around fits market.bounds.item (subst IsSome (sym market.there) refl) can.early)
 
-    -- the trade of a unit with this market takes the share out of the pot of its region and item, and out of no other
+    -- the unit's trade with market `m` takes the share out of the pot of its region and item, and out of no other
     made_drains : (units : FinMap nat_cmp Unit) → get units e.0 ≡ Some can.at.unit → Drains (item_pots trade w units items) c e (after_trade trade items w c e)
     made_drains units there =
         region_drains (item_pots trade w units items) c e (after_trade trade items w c e) can.at.unit.region can.at.region can.at.around (λ r. restocked r m.item deal.stock) (ap (λ (d : CampaignValue). d.regions) made_is)
@@ -377,7 +377,7 @@ module _ (h : HoldingValue) (m : Market) (told share : ℕ) (holds : IsHolding h
   times : (money price : ℕ) → share ≤ money / price → share * price ≤ money
   times money price few = omega (arith, mul-le-mul_right price few, mul-div-le money price, mul_comm (money / price) price)
 
-  -- what is at most the room left under a limit can be added within the limit
+  -- if `k` is at most the room that `a` leaves under a limit, `a` and `k` together are within the limit
   room_for : (a k limit : ℕ) → a ≤ limit → k ≤ limit - a → a + k ≤ limit
   room_for a k limit fits few = omega (arith, fits, few)
 
@@ -397,7 +397,7 @@ module _ (trade : Trade) (items : FinMap nat_cmp ℕ) (w : WorldValue) (world : 
   abbrev step_moves : BookBound
   step_moves = trade_moves trade holding_limit
 
-  -- the pots of the phase, by region and item
+  -- the pots of SELL or BUY, by region and item
   abbrev pots : DrawnPots (ℕ × ℕ)
   pots = item_pots trade w c.units items
 
@@ -474,7 +474,7 @@ module _ (trade : Trade) (w : WorldValue) (world : IsWorld w) (c : CampaignValue
   abbrev moves : BookBound
   moves = trade_moves trade holding_limit
 
-  -- the pots of the phase, by region and item
+  -- the pots of SELL or BUY, by region and item
   abbrev drawn_pots : DrawnPots (ℕ × ℕ)
   drawn_pots = item_pots trade w c.units named
 

@@ -101,7 +101,7 @@ module _ (p : PotMeaning) (w : WorldValue) (c : CampaignValue) where
   outcome_of given t (Err fault) = Fault (event_fault_number fault)
   outcome_of given t (Ok u) = Done (p.event_number w u (unwrap_or (get given t.unit) 0))
 
-  -- the event of an order, by the amounts in `given`
+  -- the event of an order, where `given` has how much each unit gets
   abbrev pub event_of : FinMap nat_cmp ℕ → Task → Event
   event_of given t = event_for t (outcome_of given t (unit_for t))
 
