@@ -35,7 +35,7 @@ pub record IsSameUnit (before after : Unit) : Type 0 where
 pub record IsSameStructure (before after : Structure) : Type 0 where
   -- the structure keeps its kind
   pub kind : after.kind ≡ before.kind
-  -- of the structure as much is built as before
+  -- of structure `after` as much is done as of structure `before`
   pub done : after.done ≡ before.done
   -- the structure keeps its name
   pub name : after.name ≡ before.name

@@ -196,7 +196,7 @@ module _ (w : WorldValue) (c : CampaignValue) (n : ℕ) (u : Unit) (to : ℕ) (i
   given_same true false b y high = rw high (record { kind = refl; done = refl; name = refl }, refl)
   given_same false e b y high = rw high (record { kind = refl; done = refl; name = refl }, refl)
 
-  -- each structure, whose number isn't 0, has its right owner after both handovers, if the unit was inside a structure
+  -- each structure but 0 has its right owner (`IsOwned`) after both handovers, if the unit was inside a structure
   given_owned : old_place ≢ 0 → (q : ℕ) (y : Structure) → get c.structures q ≡ Some y → (a e b : Bool) → (q == old_place) ≡ a → (y.owner == n) ≡ e → b ≡ false → IsOwned (behind gone_off.structures) q (given a e b y)
   given_owned some q y there true true b p r high = rw high (subst (λ k. IsOwned (behind gone_off.structures) k (owned_by next y)) (sym (is_equal q old_place p)) (left_owned gone_off.structures some y))
   given_owned some q y there true false b p r high = rw high (still_owned gone_off.structures q y there (is_unequal y.owner n r))

@@ -132,7 +132,7 @@ module _ (trade : Trade) (items : FinMap nat_cmp ℕ) (w : WorldValue) (units : 
     draws : (r i : ℕ) → draws_item units items (r, i) e.0 ≡ (u.region == r && m.item == i)
     draws r i = ap (λ o. is_in_region r o && is_for i (get items e.0)) there ∙ ap (λ o. u.region == r && is_for i o) told
 
-    -- the trade leaves the stock behind a pot from which the unit doesn't draw as it is
+    -- where the unit doesn't draw from the pot of region `r` and item `i`, the trade leaves the stock there as it is
     undrawn : (r i stock : ℕ) → draws_item units items (r, i) e.0 ≡ false → stock ≡ stock_after trade stock (drawn_here r i)
     undrawn r i stock other = sym (ap (λ b. stock_after trade stock (cond b e.1 0)) other ∙ none_traded trade stock)
 

@@ -146,7 +146,7 @@ module _ (item_of : ℕ → Option ℕ) (wants : FinMap nat_cmp ℕ) where
     | Some want ↦ ap (λ ks. n ∷ ks) (pair_keys i ns)
   ]
 
--- if two functions have equal values for each number that passes a test, they map those of a list that pass alike
+-- if `f` and `g` are equal for each number that passes a test, they map the listed numbers that pass alike
 filtered_map : (p : ℕ → Bool) (f g : ℕ → ℕ) → ((n : ℕ) → p n ≡ true → f n ≡ g n) → (ns : List ℕ) → map f (filter p ns) ≡ map g (filter p ns)
 filtered_map p f g same [] = refl
 filtered_map p f g same (n ∷ ns) = by_test (p n) refl (filtered_map p f g same ns)

@@ -102,11 +102,11 @@ module _ (g : ℕ → Option ℕ) where
   abbrev pub AgreeWith : Entries → Type 0
   AgreeWith es = AllByRecursion (λ e. g e.0 ≡ Some e.1) es
 
-  -- an entry that agrees with the function `g`, put into a map, gives its number the value that `g` has for it
+  -- an entry that has the value that `g` has for its number, put into a map, gives its number that value
   put_here : (m : FinMap nat_cmp ℕ) (e : ℕ × ℕ) (n s : ℕ) → n ≡ e.0 → g e.0 ≡ Some e.1 → g n ≡ Some s → get (insert m e.0 e.1) n ≡ Some s
   put_here m e n s same tells is = ap (get (insert m e.0 e.1)) same ∙ get-insert_same m e.0 e.1 ∙ sym tells ∙ ap g (sym same) ∙ is
 
-  -- a value that the function `g` has, once in the map, stays when entries that agree with `g` are put in
+  -- a value that `g` has, once in a map, is still in it after entries that agree with `g` (`AgreeWith`) are put in
   agreeing_stays : (m : FinMap nat_cmp ℕ) (es : Entries) (n s : ℕ) → AgreeWith es → g n ≡ Some s → get m n ≡ Some s → get (with_each m es) n ≡ Some s
   agreeing_stays m [] n s tells is at = at
   agreeing_stays m (e ∷ es) n s tells is at =
@@ -115,7 +115,7 @@ module _ (g : ℕ → Option ℕ) where
         | inr apart ↦ get-insert_other m e.0 n e.1 apart ∙ at
       ])
 
-  -- entries that agree with the function `g`, put into a map, give each of their numbers the value that `g` has for it
+  -- entries that agree with `g` (`AgreeWith`), put into a map, give each of their numbers the value that `g` has for it
   agreeing_comes : (m : FinMap nat_cmp ℕ) (es : Entries) (n s : ℕ) → AgreeWith es → g n ≡ Some s → is_some (find nat_cmp n es) ≡ true → get (with_each m es) n ≡ Some s
   agreeing_comes m [] n s tells is some = absurd (false≢true some)
   agreeing_comes m (e ∷ es) n s tells is some = elim (cases_eq n e.0) [

@@ -161,12 +161,12 @@ module _ (c : CampaignValue) where
     of_unit : (e : ℕ × Unit) → AllByRecursion (λ o. o.unit ≡ e.0) (idle_by writers e)
     of_unit (n, u) = elim (nat_lt 0 u.holding.men && not (is_some (get writers n))) as (λ b. AllByRecursion (λ (o : Task). o.unit ≡ n) (cond b (idle_task n u.faction ∷ []) [])) [ true ↦ (refl, tt) | false ↦ tt ]
 
-    -- at most one order is added for a unit
+    -- the code adds at most one order of WORK for a unit
     just_one : (e : ℕ × Unit) → IsDistinct same_work (idle_by writers e)
     unfolding IsDistinct
     just_one (n, u) = elim (nat_lt 0 u.holding.men && not (is_some (get writers n))) as (λ b. IsDistinct same_work (cond b (idle_task n u.faction ∷ []) [])) [ true ↦ (tt, tt) | false ↦ tt ]
 
-    -- no two of the orders for units without an order have the same key
+    -- no two of the orders that the code adds for units without an order have the same key
     idle_apart : IsDistinct same_work (all_idle c os)
     idle_apart =
         flat_apart same_work (idle_by writers) (λ (e f : ℕ × Unit). e.0 < f.0) (λ e o. o.unit ≡ e.0)
