@@ -100,8 +100,7 @@ module _ (structure to : ℕ) where
   pub elsewhere_people : (m : FinMap nat_cmp Unit) (n : ℕ) → AreSamePeople m (elsewhere m n)
   elsewhere_people m n = people_changed gone (gone_same true) m n
 
-  -- each structure has the same units inside after unit n went elsewhere,
-  -- if unit n was inside structure `structure` already
+  -- each structure has the same units inside after unit n went elsewhere, if n was inside `structure` before
   pub elsewhere_inside : (m : FinMap nat_cmp Unit) (n q : ℕ) (v : Unit) → get m n ≡ Some v → v.structure ≡ structure → numbers_inside q (elsewhere m n) ≡ numbers_inside q m
   elsewhere_inside m n q v is here =
       ap (λ o. numbers_inside q (changed_at gone m n o)) is

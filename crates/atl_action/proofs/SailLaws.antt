@@ -60,7 +60,7 @@ use Rattle.atl_action.proofs.TravelLaws.{AreTravelled, IsPut, IsSameStructure, s
 abbrev structure_in : Option Unit → ℕ
 structure_in o = option_map_or (λ (x : Unit). x.structure) o 0
 
--- a number that a unit's holding gives; 0 where the unit isn't there
+-- what `f` gives of a unit's holding; 0 where the unit isn't there
 abbrev of_unit : (HoldingValue → ℕ) → Option Unit → ℕ
 of_unit f o = option_map_or (λ (x : Unit). f x.holding) o 0
 
@@ -91,12 +91,11 @@ module _ (ship to : ℕ) where
   all_people m [] = people_same m
   all_people m (n ∷ ns) = people_twice m (elsewhere ship to m n) (fold (elsewhere ship to) (elsewhere ship to m n) ns) (elsewhere_people ship to m n) (all_people (elsewhere ship to m n) ns)
 
-  -- to go along by one test and then by another is to go along if either test passes
+  -- a unit that goes along if `a` is true, and then if `b` is, goes along if either is true
   mapped_both : (a b : Bool) (o : Option Unit) → option_map (gone_if ship to b) (option_map (gone_if ship to a) o) ≡ option_map (gone_if ship to (a || b)) o
   mapped_both a b o = grind rules
 
-  -- after the units of a list went along with the ship, a look-up finds a unit gone with it if it is listed, and else
-  -- unchanged
+  -- a look-up of a unit, after those of a list went along with the ship, finds it gone too if listed, else unchanged
   all_at : (m : FinMap nat_cmp Unit) (ns : List ℕ) (k : ℕ) → get (fold (elsewhere ship to) m ns) k ≡ option_map (gone_if ship to (list_any (λ n. k == n) ns)) (get m k)
   all_at m [] k = sym (option_map_id (get m k))
   all_at m (n ∷ ns) k =
@@ -234,7 +233,7 @@ module _ (w : WorldValue) (c : CampaignValue) (ship to : ℕ) (steady : IsSteady
   at_other : (q : ℕ) → q ≢ ship → get structures q ≡ get c.structures q
   at_other q apart = changed_else shifted c.structures ship q apart (get c.structures ship)
 
-  -- each structure has its right owner after the ship sailed
+  -- each structure has its right owner (`IsOwned`) after the ship sailed
   ship_owned : (q : ℕ) (y : Structure) → get c.structures q ≡ Some y → IsOwned behind q (g q y)
   ship_owned q y there = cond_both (q == ship) (shifted y) y (IsOwned behind q) (λ _. record { owned = owned; ownerless = ownerless }) (λ _. record { owned = owned; ownerless = ownerless })
     where
@@ -272,8 +271,7 @@ module _ (w : WorldValue) (c : CampaignValue) (ship to : ℕ) (steady : IsSteady
         (λ t wet. subst (λ z. (is_ship w z ≡ true) × (z.done ≡ size_of w z.kind)) (same_Some x y (sym is ∙ ap (get c.structures) (sym (is_equal q ship t)) ∙ there)) (floats, whole))
         (λ _. steady.water.structures q y there)
 
-    -- the units and structures of the campaign after the ship sailed meet the conditions under which it is steady
-    -- (`AreTravelled`)
+    -- the units and structures after the ship sailed are such that the campaign is steady (`AreTravelled`)
     are : AreTravelled w c units structures f g
     are = record {
       units_at = units_at;
@@ -391,7 +389,7 @@ sail_cases P w c n u direction same gone_off =
         let parts = and_parts (is_ship w x) (x.done == size_of w x.kind) (not-false (is_complete_ship w (Some x)) whole) in
         gone_off (unwrap_or to 0) x at parts.0 (is_equal x.done (size_of w x.kind) parts.1) (way_there w u.region to way)
 
-    -- P holds of the result of the order, whether it has a fault or not
+    -- P holds of the result of an order of SAIL, whether it has a fault or not
     by_fault : (to : Option ℕ) (o : Option EventFault) → sail_fault w c n u (get c.structures u.structure) to ≡ o → P (unless c o (after_sailing c u.structure (unwrap_or to 0), Done 0))
     by_fault to (Some fault) e = same (Fault (event_fault_number fault))
     by_fault to None e =
@@ -420,7 +418,7 @@ sail_orderly = record {
   bounded = λ w c steady e t. omega arith;
 }
 
--- each unit at most went along (`IsAtMostMoved`), if each that no order concerns did, as no order of SAIL concerns one
+-- if every unit that no order of SAIL concerns at most went along, every unit did: no order of SAIL concerns a unit
 pub all_carried : (w : WorldValue) (m : MonthValue) (c d : CampaignValue) → spares_others concerns_nobody IsAtMostMoved is_sailing w m c d → AreAtMostMoved c d
 all_carried w m c d keeps n u there = keeps n u there (λ k d l nobody. nobody)
 
@@ -447,15 +445,15 @@ module _ (w : WorldValue) (begun : CampaignValue) (number faction : ℕ) where
     pub steady : IsSteady w c
     -- each unit is inside the structure that it was inside as the phase began
     pub places : (k : ℕ) → inside c k ≡ inside begun k
-    -- the structure of unit `number` is as it was
+    -- the structure of unit `number` is as it was when the phase began
     pub structure : get c.structures s ≡ get begun.structures s
-    -- each unit that was inside this structure is as it was
+    -- each unit that was inside this structure when the phase began is as it was then
     pub units : (k : ℕ) → inside begun k ≡ s → get c.units k ≡ get begun.units k
-    -- the list of the units inside this structure is as it was
+    -- the list of the units inside this structure is as it was when the phase began
     pub list : numbers_inside s c.units ≡ numbers_inside s begun.units
 
   module _ (c : CampaignValue) (same : IsAsBegun c) where
-    -- what all units inside the structure of unit `number` have together is as it was when the phase began
+    -- the sum of `f` over all units inside the structure of unit `number` is as it was when the phase began
     sum_inside_same : (f : HoldingValue → ℕ) → sum_inside f c s ≡ sum_inside f begun s
     sum_inside_same f =
         ap (sum_by (λ n. of_unit f (get c.units n))) same.list
@@ -465,13 +463,11 @@ module _ (w : WorldValue) (begun : CampaignValue) (number faction : ℕ) where
         is_in : (k : ℕ) → IsListed k (numbers_inside s begun.units) → inside begun k ≡ s
         is_in k listed = let (v, there, here) = listed_is_inside s begun.units k listed in ap structure_in there ∙ here
 
-    -- an order of SAIL for a unit inside the structure of unit `number` has the
-    -- fault that it would have had as the phase began
+    -- an order of SAIL for a unit inside the structure of unit `number` has the same fault as when the phase began
     fault_same : (n : ℕ) (u : Unit) (to : Option ℕ) → u.structure ≡ s → sail_fault w c n u (get c.structures u.structure) to ≡ sail_fault w begun n u (get begun.structures u.structure) to
     fault_same n u to here = rw (here, same.structure, sum_inside_same (crew_of w), sum_inside_same (load_of w)) refl
 
-    -- an order for a unit inside the structure of unit `number` has the
-    -- outcome that it would have had as the phase began
+    -- an order of SAIL for a unit inside the structure of unit `number` has the same outcome as when the phase began
     same_outcome : (n : ℕ) (u : Unit) (direction : Direction) → u.structure ≡ s → (sail w n direction c u).1 ≡ (sail w n direction begun u).1
     unfolding sail
     same_outcome n u direction here =
@@ -479,23 +475,21 @@ module _ (w : WorldValue) (begun : CampaignValue) (number faction : ℕ) where
         ap (λ o. (unless c o (after_sailing c u.structure (unwrap_or to 0), Done 0)).1) (fault_same n u to here)
         ∙ same_outcome_unless c begun (after_sailing c u.structure (unwrap_or to 0)) (after_sailing begun u.structure (unwrap_or to 0)) (sail_fault w begun n u (get begun.structures u.structure) to)
 
-    -- a faction's order for a unit inside the structure of unit `number` has the
-    -- outcome that it would have had as the phase began
+    -- a faction's order for a unit inside the structure of unit `number` has the same outcome as when the phase began
     same_faction_outcome : (f n : ℕ) (direction : Direction) → inside begun n ≡ s → (faction_effect (sail w n direction) c f n).1 ≡ (faction_effect (sail w n direction) begun f n).1
     same_faction_outcome f n direction here = ap (λ o. (effect_on (sail w n direction) c (of_faction f o)).1) (same.units n here) ∙ by_unit (get begun.units n) here
       where
-        -- the order has the outcome that it would have had as the phase began, whether unit u is of faction f or not
+        -- an order of SAIL has the same outcome as when the phase began, whether unit u is of faction f or not
         by_faction : (u : Unit) → u.structure ≡ s → (b : Bool) → (effect_on (sail w n direction) c (if b then Some u else None)).1 ≡ (effect_on (sail w n direction) begun (if b then Some u else None)).1
         by_faction u here true = same_outcome n u direction here
         by_faction u here false = refl
 
-        -- the order has the outcome that it would have had as the phase began, whether its unit is there or not
+        -- an order of SAIL has the same outcome as when the phase began, whether its unit is there or not
         by_unit : (o : Option Unit) → structure_in o ≡ s → (effect_on (sail w n direction) c (of_faction f o)).1 ≡ (effect_on (sail w n direction) begun (of_faction f o)).1
         by_unit None here = refl
         by_unit (Some u) here = by_faction u here (u.faction == f)
 
-    -- if another ship than the structure of unit `number` sails, this structure and all inside are still as the phase
-    -- began (`IsAsBegun`)
+    -- the structure of unit `number` and all inside stay as the phase began if another ship sails (`IsAsBegun`)
     sailed_else : (ship to : ℕ) (x : Structure) → get c.structures ship ≡ Some x → is_ship w x ≡ true → x.done ≡ size_of w x.kind → IsThere w.regions to → s ≢ ship → IsAsBegun (after_sailing c ship to)
     sailed_else ship to x at floats whole there apart = record {
       steady = (sailed_well w c ship to same.steady x at floats whole ((same.steady.known.regions to).1 there)).holds_still;
@@ -505,8 +499,7 @@ module _ (w : WorldValue) (begun : CampaignValue) (number faction : ℕ) where
       list = sailed_list w c ship to same.steady x at s ∙ same.list;
     }
 
-    -- after a faction's order for unit n with these operands, by which the structure of unit `number` doesn't sail,
-    -- this structure and all inside are still as the phase began (`IsAsBegun`)
+    -- the structure of unit `number` and all inside stay as the phase began, if by the operands `o` it doesn't sail
     order_stays : (f n : ℕ) (o : OperandsValue) → (inside begun n ≡ s → (order_result (by_direction (sail w n) o) begun f n).1 ≡ Some (Done 0) → ⊥) → IsAsBegun (order_result (by_direction (sail w n) o) c f n).0
     order_stays f n (operands.Direction direction) apart =
         carried_cases (λ p. (inside begun n ≡ s → p.1 ≡ Done 0 → ⊥) → IsAsBegun p.0) (sail w n direction) c f n (λ apart. same)
@@ -515,13 +508,11 @@ module _ (w : WorldValue) (begun : CampaignValue) (number faction : ℕ) where
         (λ in_it done. apart in_it (ap (λ outcome. Some outcome) (sym (same_faction_outcome f n direction in_it) ∙ done)))
     order_stays f n other apart = same
 
-    -- after an order of the phase by which the structure of unit `number` doesn't sail, this structure and all inside
-    -- are still as the phase began (`IsAsBegun`)
+    -- the structure of unit `number` and all inside stay as the phase began after an order by which it doesn't sail
     task_stays : (m : MonthValue) (t : Task) → (SailsWith w begun t number faction → ⊥) → IsAsBegun (one_order sail_step w (c, m) t).0
     task_stays m t apart = order_stays t.faction t.unit t.order_value.operands (λ in_it done. apart (record { together = in_it; done = done }))
 
-  -- after orders of SAIL by none of which the structure of unit `number` sails, this structure and all inside are still
-  -- as the phase began (`IsAsBegun`)
+  -- the structure of unit `number` and all inside stay as the phase began after orders by none of which it sails
   tasks_stay : (c : CampaignValue) (m : MonthValue) (ts : List Task) → IsAsBegun c → AllByRecursion (λ t. SailsWith w begun t number faction → ⊥) ts → IsAsBegun (fold (one_order sail_step w) (c, m) ts).0
   tasks_stay c m [] same others = same
   tasks_stay c m (t ∷ ts) same others =

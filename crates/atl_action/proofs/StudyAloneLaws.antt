@@ -43,7 +43,7 @@ module _ (w : WorldValue) (taught n s : ℕ) (c d : CampaignValue) (u : Unit) (i
   abbrev cost : ℕ
   cost = fee_of w s * u.holding.men
 
-  -- the days of the skill that the unit has after a month of study, with the structures of a campaign
+  -- the days of the skill that unit n has after a month of study, if the structures are those of a given campaign
   abbrev days_in : CampaignValue → ℕ
   days_in b = days_after u.holding.men (amount_of u.holding.days s) taught (is_helpful w s (get b.structures u.structure))
 
@@ -51,7 +51,7 @@ module _ (w : WorldValue) (taught n s : ℕ) (c d : CampaignValue) (u : Unit) (i
   same_days : days_in d ≡ days_in c
   same_days = ap (λ (o : Option Structure). days_after u.holding.men (amount_of u.holding.days s) taught (is_helpful w s o)) (ap (λ m. get m u.structure) structures)
 
-  -- the unit with these days of the skill, after it paid the fee
+  -- unit u after it paid the fee, with the given days of the skill
   abbrev put : ℕ → Unit
   put days = record u { holding = with_study u.holding s cost days }
 

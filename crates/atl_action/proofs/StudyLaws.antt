@@ -153,7 +153,7 @@ study_cases P w taught c n s u same learned =
     let helped = is_helpful w s (get c.structures u.structure) in
     by_fault (days_after u.holding.men old taught helped) (days_after u.holding.men old taught helped - old) (days_most u.holding.men old taught helped) (study_fault u.holding (fee_of w s * u.holding.men)) refl
   where
-    -- P holds of the campaign after the order, whether the order has a fault or not
+    -- P holds of the campaign after an order of STUDY, whether the order has a fault or not
     by_fault : (days done : ℕ) → days ≤ most_days * u.holding.men → (o : Option EventFault) → study_fault u.holding (fee_of w s * u.holding.men) ≡ o
         → P (unless c o (after_study c n u s (fee_of w s * u.holding.men) days, Done done)).0
     by_fault days done most (Some fault) e = same

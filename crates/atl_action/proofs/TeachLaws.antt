@@ -13,7 +13,7 @@ use Rattle.atl_action.specs.Teach.{TaughtMen, first_mentions, taught_in_lesson, 
 
 -- ---- lists of units
 
--- number y passes the test of being another number than n
+-- number y isn't n, by the test `nat_eq`
 abbrev IsOther : ℕ → ℕ → Type 0
 IsOther n y = nat_eq n y ≡ false
 
@@ -40,8 +40,8 @@ unfolding IsDistinct
 mentions_distinct [] = tt
 mentions_distinct (n ∷ ns) = (without n (first_mentions ns), filtered_distinct (λ k. not (k == n)) (first_mentions ns) (mentions_distinct ns))
 
--- before the first number that passes a test, a list of n and others has none if n passes, and else n and what the
--- others have before it
+-- What stands ahead of the first number that passes a test, in a list that begins with n: nothing if n passes,
+-- and else n and what stands ahead of it in the rest of the list.
 before_cons : (p : ℕ → Bool) (n : ℕ) (ns : List ℕ) → before_first p (n ∷ ns) ≡ if p n then [] else n ∷ before_first p ns
 before_cons p n ns = grind rules
 
@@ -72,15 +72,15 @@ module _ (c : CampaignValue) (taught after : TaughtMen) (n given : ℕ) (here : 
         ap (sum_by (untaught_men c taught)) (before_cons (λ j. k == j) n ns ∙ ap (λ b. if b then [] else n ∷ before) (other_number k n apart)) ∙ sum_by-cons (untaught_men c taught) n before in
         grind (arith, away k apart, same_sum before others_before, more, other_number k n apart, is)
 
-    -- unit n's part and then a lesson to the other units, for the men still left to teach,
-    -- make the same as the whole lesson
+    -- unit n's part and then a lesson to the others, for the places left, teach the same men as the whole lesson
     pub rest_taught : (k : ℕ) → after k + taught_in_lesson c after (places - given) ns k ≡ taught k + taught_in_lesson c taught places (n ∷ ns) k
     rest_taught k = elim (cases_eq k n) [
       | inl same ↦ subst (λ j. after j + taught_in_lesson c after (places - given) ns j ≡ taught j + taught_in_lesson c taught places (n ∷ ns) j) (sym same) at_first
       | inr apart ↦ at_other k apart
     ]
 
--- after the first unit's part, those taught so far and the rest together are as many as in the whole lesson
+-- with `left` places left, the men taught so far and those whom these places allow to be taught make `total`;
+-- they still do after the first unit, in which `want` men aren't taught yet, got `given` of the places
 pub men_so_far : (places left given want rest total : ℕ) → left ≤ places → given ≡ min left want → (places - left) + min (want + rest) left ≡ total
     → (places - (left - given)) + min rest (left - given) ≡ total
 men_so_far places left given want rest total few is all = grind (arith, few, is, all)

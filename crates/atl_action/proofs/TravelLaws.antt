@@ -16,7 +16,7 @@ use Rattle.atl_records.specs.Holdings.{IsHolding}
 use Rattle.atl_campaign.specs.Campaign.{CampaignValue, numbers_of}
 use Rattle.atl_phase.proofs.RefitLaws.{in_range_replaced, named_replaced, numbered_replaced, under}
 
--- The unit after is the unit before, but for its region, structure and guard flag.
+-- Unit `after` is unit `before`, but for its region, structure and guard flag.
 pub record IsSameUnit (before after : Unit) : Type 0 where
   -- the unit keeps its faction
   pub faction : after.faction ≡ before.faction
@@ -31,21 +31,21 @@ pub record IsSameUnit (before after : Unit) : Type 0 where
   -- the unit keeps its days of each skill
   pub days : after.holding.days ≡ before.holding.days
 
--- The structure after is the structure before, but for its region and its owner.
+-- Structure `after` is structure `before`, but for its region and its owner.
 pub record IsSameStructure (before after : Structure) : Type 0 where
   -- the structure keeps its kind
   pub kind : after.kind ≡ before.kind
-  -- of the structure as much is built as before
+  -- of structure `after` as much is done as of structure `before`
   pub done : after.done ≡ before.done
   -- the structure keeps its name
   pub name : after.name ≡ before.name
 
 module _ (w : WorldValue) (c : CampaignValue) (units : FinMap nat_cmp Unit) (structures : FinMap nat_cmp Structure) (f : ℕ → Unit → Unit) (g : ℕ → Structure → Structure) where
-  -- the campaign with other units and structures
+  -- campaign c with `units` and `structures` in the place of its own
   abbrev pub travelled : CampaignValue
   travelled = record c { units = units; structures = structures }
 
-  -- the unit's region is there, and the structure that the unit is inside is in that region
+  -- unit u is in a region that is there, and the structure that it is inside, if any, is in that region
   pub record IsPut (u : Unit) : Type 0 where
     -- the unit's region is there
     pub region : IsThere c.regions u.region
@@ -74,7 +74,7 @@ module _ (w : WorldValue) (c : CampaignValue) (units : FinMap nat_cmp Unit) (str
     pub put : Every (λ k u. IsPut (f k u)) c.units
     -- each structure is in a region that is there
     pub built : Every (λ k y. IsThere c.regions (g k y).region) c.structures
-    -- each structure has its right owner
+    -- each structure is owned by a unit inside it, or by none where none is inside (`IsOwned`)
     pub owned : Every (λ k y. IsOwned travelled k (g k y)) c.structures
     -- each unit on water is inside a ship
     pub aboard : Every (λ k u. is_land_at w (f k u).region ≡ false → IsAboard w travelled (f k u)) c.units
@@ -147,7 +147,7 @@ module _ (w : WorldValue) (c : CampaignValue) (units : FinMap nat_cmp Unit) (str
           (rw s.kind a.0, rw (s.done, s.kind) a.1));
     }
 
-    -- two units that both guard one region are of one faction
+    -- if two units both guard, and are in one region, they are of one faction
     abbrev Agree : Unit → Unit → Type 0
     Agree x y = guards x ≡ true → guards y ≡ true → x.region ≡ y.region → x.faction ≡ y.faction
 

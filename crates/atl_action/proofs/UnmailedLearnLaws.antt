@@ -22,13 +22,13 @@ use Rattle.atl_action.specs.Teach.{TaughtMen, after_lessons, is_teaching, teach,
 
 -- ---- TEACH adds its events and changes nothing else of the month
 
--- The month has the same readings and aliases, and its events report the same number of starved men for each unit.
+-- Month `after` has the readings and aliases of month `before`, and its events report as many starved men of each unit.
 pub record AddsNoStarved (before after : MonthValue) : Type 0 where
   -- the readings of the mailings are the same
   pub readings : after.readings ≡ before.readings
   -- the aliases are the same
   pub aliases : after.aliases ≡ before.aliases
-  -- the events report for each unit as many starved men as before
+  -- the events of `after` report as many starved men of each unit as those of `before`
   pub starved : (n : ℕ) → starved_in after.events n ≡ starved_in before.events n
 
 -- an order of TEACH keeps readings and aliases, and adds no men who starved to the events

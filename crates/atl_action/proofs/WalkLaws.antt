@@ -106,7 +106,7 @@ module _ (w : WorldValue) (c : CampaignValue) (n : ℕ) (u : Unit) (to : ℕ) (i
     abbrev behind : CampaignValue
     behind = travelled w c units structures f (λ q y. y)
 
-    -- a structure that unit n doesn't own keeps its right owner after the walk
+    -- a structure that unit n doesn't own has its right owner (`IsOwned`) after the walk too
     still_owned : (q : ℕ) (y : Structure) → get c.structures q ≡ Some y → y.owner ≢ n → IsOwned behind q y
     still_owned q y there other = owner_stays c behind n away q y (steady.owners q y there) other (λ none v at inside. not_first q y there (sym inside ∙ outside v at))
 
@@ -136,8 +136,7 @@ module _ (w : WorldValue) (c : CampaignValue) (n : ℕ) (u : Unit) (to : ℕ) (i
           let (s, was, ship) = steady.water.units k x there wet in
           (g x.structure s, forth x.structure s was, rw (same x.structure s was).0.kind ship)
 
-      -- the units and structures of the campaign after the walk meet the conditions under which it is steady
-      -- (`AreTravelled`)
+      -- the units and structures after the walk are such that the campaign is steady (`AreTravelled`)
       are : AreTravelled w c units structures f g
       are = record {
         units_at = units_at;
@@ -163,7 +162,7 @@ module _ (w : WorldValue) (c : CampaignValue) (n : ℕ) (u : Unit) (to : ℕ) (i
 
   -- ---- a unit that was inside no structure
 
-  -- each structure has its right owner after the walk, if the unit was inside none
+  -- each structure has its right owner (`IsOwned`) after the walk, if the unit was inside none
   unowned : old_place ≡ 0 → (q : ℕ) (y : Structure) → get c.structures q ≡ Some y → IsOwned (behind c.structures) q y
   unowned outside q y there = still_owned c.structures q y there (owns_no_other w c n u is steady q y there (λ same. not_first q y there (same ∙ outside)))
 
@@ -197,7 +196,7 @@ module _ (w : WorldValue) (c : CampaignValue) (n : ℕ) (u : Unit) (to : ℕ) (i
   given_same true false b y high = rw high (record { kind = refl; done = refl; name = refl }, refl)
   given_same false e b y high = rw high (record { kind = refl; done = refl; name = refl }, refl)
 
-  -- each structure, whose number isn't 0, has its right owner after both handovers, if the unit was inside a structure
+  -- each structure but 0 has its right owner (`IsOwned`) after both handovers, if the unit was inside a structure
   given_owned : old_place ≢ 0 → (q : ℕ) (y : Structure) → get c.structures q ≡ Some y → (a e b : Bool) → (q == old_place) ≡ a → (y.owner == n) ≡ e → b ≡ false → IsOwned (behind gone_off.structures) q (given a e b y)
   given_owned some q y there true true b p r high = rw high (subst (λ k. IsOwned (behind gone_off.structures) k (owned_by next y)) (sym (is_equal q old_place p)) (left_owned gone_off.structures some y))
   given_owned some q y there true false b p r high = rw high (still_owned gone_off.structures q y there (is_unequal y.owner n r))
@@ -259,7 +258,7 @@ walk_cases : (P : CampaignValue → Type 0) (w : WorldValue) (c : CampaignValue)
 unfolding walk
 walk_cases P w c n u direction same gone = by_fault (neighbour w u.region direction) (walk_fault w u (neighbour w u.region direction)) refl
   where
-    -- P holds of the campaign after the order, whether the order has a fault or not
+    -- P holds of the campaign after an order of MOVE, whether the order has a fault or not
     by_fault : (to : Option ℕ) (o : Option EventFault) → walk_fault w u to ≡ o → P (unless c o (with_unit_moved 0 (unwrap_or to 0) c n, Done 0)).0
     by_fault to (Some fault) e = same
     by_fault to None e =

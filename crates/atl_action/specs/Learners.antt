@@ -27,7 +27,7 @@ abbrev pub skill_of : OperandsValue → Option ℕ
 skill_of (operands.Skill s) = Some s
 skill_of order = None
 
--- whether a unit has men, and money for the fee of all of them
+-- whether a unit can learn a skill: it has men, and money for the skill's fee for each of them
 abbrev pub can_learn : WorldValue → (skill : ℕ) → HoldingValue → Bool
 can_learn w s h = nat_lt 0 h.men && nat_le (fee_of w s * h.men) h.money
 
@@ -39,7 +39,7 @@ learns w s f unit = option_map_or (λ u. u.faction == f && can_learn w s u.holdi
 abbrev pub Learning : Type 0
 Learning = FinMap nat_cmp ℕ
 
--- the map with the unit of an order of STUDY and the skill that it names, if the unit learns by the order
+-- the map with the unit of an order of STUDY and the skill that it names, if the unit learns by it; else as it was
 abbrev pub with_learner : WorldValue → CampaignValue → Learning → Task → Learning
 with_learner w c learning t =
     option_map_or (λ s. if learns w s t.faction (get c.units t.unit) then insert learning t.unit s else learning) (skill_of t.order_value.operands) learning
@@ -77,7 +77,6 @@ pub record LearnByOrders (w : WorldValue) (c : CampaignValue) (m : MonthValue) :
   -- a unit that learns by an order is in `learners`
   pub each : (n skill : ℕ) → IsLearning w c m n skill → IsThere (learners w c m) n
 
--- A law: in each world, campaign and month exactly those units are in
--- `learners` that learn by an order of STUDY that counts.
+-- A law: in each month a unit is in `learners` exactly if it learns by an order of STUDY that counts (`LearnByOrders`).
 abbrev pub UnitsLearnByOrders : Type 0
 UnitsLearnByOrders = (w : WorldValue) (c : CampaignValue) (m : MonthValue) → LearnByOrders w c m

@@ -42,7 +42,7 @@ is_sailing verb = false
 abbrev pub is_complete_ship : WorldValue → Option Structure → Bool
 is_complete_ship w structure = option_map_or (λ s. is_ship w s && s.done == size_of w s.kind) structure false
 
--- a number that the world gives the kind of a structure; 0 where the structure or its kind isn't there
+-- what `number` gives of the kind of a structure, such as its crew; 0 where the structure or its kind isn't there
 abbrev pub of_kind : (Kind → ℕ) → WorldValue → Option Structure → ℕ
 of_kind number w structure = option_map_or (λ s. option_map_or number (slice_get w.kinds s.kind) 0) structure 0
 
@@ -58,7 +58,7 @@ capacity = of_kind (λ k. k.capacity)
 abbrev pub crew_of : WorldValue → HoldingValue → ℕ
 crew_of w h = h.men * level_in_any h w.rules.sailing
 
--- the sum, over all units inside a structure, of a number that each unit's holding gives
+-- the sum, over all units inside a structure, of what `f` gives of each unit's holding
 abbrev pub sum_inside : (HoldingValue → ℕ) → CampaignValue → (structure : ℕ) → ℕ
 sum_inside f c s = sum_by (λ n. option_map_or (λ u. f u.holding) (get c.units n) 0) (numbers_inside s c.units)
 
@@ -97,8 +97,8 @@ sail_step w aliases t = by_direction (sail w t.unit) t.order_value.operands
 
 -- ---- the phase
 
--- The unit keeps its faction, structure and name, has no less of anything, and doesn't begin to guard.
--- If it is inside no structure, it keeps its region and its guard flag too.
+-- Unit `after` is unit `before`, which at most went along with its structure: it keeps faction, structure and name,
+-- has no less of anything, and doesn't begin to guard. Inside no structure it keeps its region and its guard flag.
 pub record IsAtMostMoved (before after : Unit) : Type 0 where
   -- the unit keeps its faction
   pub faction : after.faction ≡ before.faction

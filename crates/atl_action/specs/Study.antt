@@ -57,8 +57,7 @@ with_study h s cost days = record h { money = h.money - cost; days = with_amount
 abbrev pub after_study : CampaignValue → (n : ℕ) → Unit → (skill cost days : ℕ) → CampaignValue
 after_study c n u s cost days = with_amount (with_held c n (with_study u.holding s cost days) (Some u)) Study Money (neg_ℤ (pos cost))
 
--- the effect of STUDY on a unit of which `taught` men were taught:
--- it pays the fee and gains days, unless the order has a fault
+-- the effect of STUDY: a unit with `taught` men taught pays the fee and gains days; with a fault nothing changes
 unfoldable pub study : WorldValue → (taught n skill : ℕ) → OrderEffect
 study w taught n s c u =
     let cost = fee_of w s * u.holding.men in
@@ -83,15 +82,13 @@ learn_meaning w c m =
     let lessons = after_lessons c (learners w c m) m in
     meaning_by_orders (study_step lessons.0) is_studying w c lessons.1
 
--- what the phase of TEACH and STUDY keeps:
--- a unit for which no order of STUDY of its own faction counts is unchanged
+-- what TEACH and STUDY keep: a unit for which no order of STUDY of its own faction counts is unchanged
 abbrev pub learn_keeps : Frame
 learn_keeps = spares_others IsOwnOrder IsUnchanged is_studying
 
 -- ---- by how much the phase moves the books
 
--- how far the phase of TEACH and STUDY may move the books:
--- the money under the entry study by less than 10^14, and nothing else
+-- how far TEACH and STUDY may move the books: money under the entry study by less than 10^14, and nothing else
 abbrev pub study_moves : BookBound
 study_moves = moves_only most_moved Study Money
 

@@ -77,7 +77,8 @@ abbrev pub taught_in_lesson : CampaignValue → TaughtMen → (places : ℕ) →
 taught_in_lesson c taught places ns n =
     if list_any (λ k. n == k) ns then amount_in_turn places (sum_by (untaught_men c taught) (before_first (λ k. n == k) ns)) (untaught_men c taught n) else 0
 
--- how many men of each unit were taught so far once a lesson for `places` men is over, and its outcome: how many in it
+-- How many men of each unit were taught so far once a lesson for `places` men is over; and the lesson's outcome, Done
+-- with how many men it taught.
 abbrev pub lesson : CampaignValue → TaughtMen → (places : ℕ) → List ℕ → TaughtMen × Outcome
 lesson c taught places ns = ((λ n. taught n + taught_in_lesson c taught places ns n), Done (min (sum_by (untaught_men c taught) ns) places))
 
@@ -92,7 +93,8 @@ teach_fault c t pupils below = first_fault (
     ∷ (length below == 0, CannotTeach)
     ∷ [])
 
--- how many men of each unit were taught so far after an order of TEACH, which teaches none with a fault; its outcome
+-- How many men of each unit were taught so far after an order of TEACH, and the order's outcome; with a fault it
+-- teaches nobody.
 unfoldable pub teach : CampaignValue → Aliases → Learning → TaughtMen → Task → TaughtMen × Outcome
 teach c aliases learning taught t =
     let pupils = pupils_of c aliases learning t in

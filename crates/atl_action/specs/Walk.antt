@@ -63,7 +63,7 @@ walk_step w aliases t = by_direction (walk w t.unit) t.order_value.operands
 
 -- ---- the phase
 
--- the specification of the phase of MOVE, which books nothing;
--- a unit for which no MOVE of its own faction counts is no worse off
+-- The specification of the phase of MOVE, which books nothing; a unit for which no MOVE of its own faction counts is no
+-- worse off.
 abbrev pub walk_spec : PhaseSpec
 walk_spec = goes_by_orders walk_step is_walking IsOwnOrder IsNoWorse

@@ -25,6 +25,8 @@ impl Phase for LearnPhase {
 
     ghost keeps = { learn_keeps };
 
+    /// Plays TEACH and then STUDY, and returns the campaign and the month after them.
+    /// AllocError without memory.
     fn run(
         &self,
         alloc: Global,
@@ -40,8 +42,8 @@ impl Phase for LearnPhase {
     }
 }
 
-/// The law that after the phase a unit that studies is as its own order of STUDY alone makes it, of
-/// the campaign as the phase began. Does nothing. See docs/RULES.md, "Learning".
+/// The law that a unit that studies is, after the phase, what its own order of STUDY alone makes of
+/// it in the campaign as the phase began. Does nothing. See docs/RULES.md, "Learning".
 pub fn units_study_as_begun()
     ensures { UnitsStudyAsBegun }
 {}

@@ -19,6 +19,7 @@ pub(crate) struct StudyVerbs;
 impl PhaseVerbs for StudyVerbs {
     ghost is_of = { is_studying };
 
+    /// Whether the verb is STUDY.
     fn has(&self, verb: Verb) -> bool {
         matches!(verb, Verb::Study)
     }
@@ -41,7 +42,7 @@ pub(crate) fn cost_of(world: &World, skill: u16, men: u32) -> u64
     u64::from(world.fee_of(skill)) * u64::from(men)
 }
 
-/// Whether a unit has men, and money for the fee of all of them.
+/// Whether a unit can learn a skill: it has men, and money for the skill's fee for each of them.
 fn can_learn(world: &World, skill: u16, holding: &Holding) -> bool
     ensures { result ≡ can_learn world.now skill holding.now }
 {

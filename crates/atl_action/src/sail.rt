@@ -77,8 +77,8 @@ fn crew_and_load(world: &World, campaign: &Campaign, structure: u32) -> (u128, u
     (crew, weight)
 }
 
-/// Whether ships sail from a region to its neighbour:
-/// the world has that region, and the two aren't both land.
+/// Whether ships sail from region `from` to its neighbour `to`: the world has `to`, and the two
+/// aren't both land.
 fn is_way(world: &World, from: u32, to: Option<u32>) -> bool
     ensures { result ≡ is_way world.now from to }
 {
@@ -167,6 +167,7 @@ fn sail(
 impl PhaseVerbs for SailPhase {
     ghost is_of = { is_sailing };
 
+    /// Whether the verb is SAIL.
     fn has(&self, verb: Verb) -> bool {
         matches!(verb, Verb::Sail)
     }
@@ -183,6 +184,7 @@ impl OrderPhase for SailPhase {
 
     ghost spares = { IsAtMostMoved };
 
+    /// Carries out SAIL in a direction; None for an order with other operands.
     fn carry_out(
         &self,
         alloc: Global,
@@ -199,6 +201,8 @@ impl OrderPhase for SailPhase {
         }
     }
 
+    /// The law that an order of SAIL keeps the campaign steady, books nothing, and at most takes
+    /// units along with their structure (`IsOrderly`). Does nothing.
     fn is_orderly(&self) {}
 }
 
@@ -209,6 +213,8 @@ impl Phase for SailPhase {
 
     ghost keeps = { sail_keeps };
 
+    /// Plays SAIL, and returns the campaign and the month after it.
+    /// AllocError without memory.
     fn run(
         &self,
         alloc: Global,

@@ -154,6 +154,7 @@ fn study(
 impl PhaseVerbs for StudyPhase {
     ghost is_of = { is_studying };
 
+    /// Whether the verb is STUDY.
     fn has(&self, verb: Verb) -> bool {
         matches!(verb, Verb::Study)
     }
@@ -172,6 +173,7 @@ impl OrderPhase for StudyPhase {
 
     ghost spares = { IsUnchanged };
 
+    /// Carries out STUDY of a skill; None for an order with other operands.
     fn carry_out(
         &self,
         _: Global,
@@ -189,5 +191,7 @@ impl OrderPhase for StudyPhase {
         }
     }
 
+    /// The law that an order of STUDY keeps the campaign steady, books the fee alone, and leaves
+    /// each unit but its own unchanged (`IsOrderly`). Does nothing.
     fn is_orderly(&self) {}
 }

@@ -24,6 +24,7 @@ struct TeachVerbs;
 impl PhaseVerbs for TeachVerbs {
     ghost is_of = { is_teaching };
 
+    /// Whether the verb is TEACH.
     fn has(&self, verb: Verb) -> bool {
         matches!(verb, Verb::Teach)
     }

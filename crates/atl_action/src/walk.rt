@@ -87,6 +87,7 @@ fn walk(
 impl PhaseVerbs for MovePhase {
     ghost is_of = { is_walking };
 
+    /// Whether the verb is MOVE.
     fn has(&self, verb: Verb) -> bool {
         matches!(verb, Verb::Move)
     }
@@ -98,6 +99,7 @@ impl OrderPhase for MovePhase {
 
     ghost holds = { IsSteady };
 
+    /// Carries out MOVE in a direction; None for an order with other operands.
     fn carry_out(
         &self,
         _: Global,
@@ -112,6 +114,8 @@ impl OrderPhase for MovePhase {
         }
     }
 
+    /// The law that an order of MOVE keeps the campaign steady, books nothing, and leaves each unit
+    /// but its own no worse off (`IsOrderly`). Does nothing.
     fn is_orderly(&self) {}
 }
 
@@ -119,5 +123,6 @@ impl OrderPhase for MovePhase {
 impl PlainPhase for MovePhase {
     ghost makes = { walk_step };
 
+    /// The law that each order of the phase has the effect that `walk_step` says. Does nothing.
     fn is_plain(&self) {}
 }

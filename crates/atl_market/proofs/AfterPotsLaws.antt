@@ -34,7 +34,7 @@ use Rattle.atl_market.proofs.WorkLaws.{wages_leave_others, worked_is}
 less_none : (a : ℕ) → a - 0 ≡ a
 less_none a = omega arith
 
--- taking one amount and then another is taking both together
+-- taking `s` and then `t` from an amount is taking both together
 less_both : (a s t : ℕ) → a - s - t ≡ a - (s + t)
 less_both a s t = omega arith
 
@@ -138,22 +138,22 @@ module _ (asked : FinMap nat_cmp ℕ) (w : WorldValue) where
   unfolding after_production
   produced_unit d e u is = by_item (get asked e.0)
     where
-      -- the unit has the pieces that it made more, and the raw item `o`, if one goes into them, less
+      -- after its production the unit has what it made more, and the raw items `o`, if any go into it, less
       by_raw : (i amount : ℕ) (o : Option ℕ) → get (with_made (with_raw_used d e.0 amount o) e.0 i e.1).units e.0 ≡ Some (record u { holding = with_more (with_less u.holding o amount) i e.1 })
       by_raw i amount None = made_unit w d e.0 i e.1 u is
       by_raw i amount (Some r) = made_unit w (with_used d e.0 r amount) e.0 i e.1 (record u { holding = with_less u.holding (Some r) amount }) (used_unit w d e.0 r amount u is)
 
-      -- the unit has changed by making item `o` of the world (`maker_of`), or is as it was without such an item
+      -- after its production the unit is as `maker_of` makes it for the world's item `o`, or as it was without one
       by_world : (i : ℕ) (o : Option Item) → get (option_map_or (with_item_made d e.0 e.1 i) o d).units e.0 ≡ Some (option_map_or (maker_of u e.1 i) o u)
       by_world i None = is
       by_world i (Some x) = by_raw i (e.1 * x.raw_count) x.raw
 
-      -- the unit has changed by making the item `o` that its order names (`maker_by`), if it names one
+      -- after its production the unit is as `maker_by` makes it for the item `o` that its order names, if it names one
       by_item : (o : Option ℕ) → get (option_map_or (λ i. option_map_or (with_item_made d e.0 e.1 i) (slice_get w.items i) d) o d).units e.0 ≡ Some (maker_by w u e.1 o)
       by_item None = is
       by_item (Some i) = by_world i (slice_get w.items i)
 
-  -- one unit's making changes that unit alone, by what it made and the raw items
+  -- the production of a unit changes that unit alone, by what it made and the raw items for it
   produce_pays : Pays false (after_production asked w) (λ n u made. maker_by w u made (get asked n)) unchanged_region
   produce_pays = record {
     mine = λ d e u is here. produced_unit d e u is;

@@ -75,11 +75,11 @@ module _ (trade : Trade) (items : FinMap nat_cmp ℕ) (w : WorldValue) where
   abbrev trader : ℕ → UnitChange
   trader n u share = trader_of trade u share (market_for w u (get items n))
 
-  -- the trade of a unit that is there changes the unit by its share alone
+  -- the trade of a unit that is there makes of the unit what `trader` makes of it for its share
   unit_traded : (d : CampaignValue) (e : ℕ × ℕ) (u : Unit) → get d.units e.0 ≡ Some u → get (after_trade trade items w d e).units e.0 ≡ Some (trader e.0 u e.1)
   unit_traded d e u is = by_market (market_for w u (get items e.0)) refl
     where
-      -- the trade changes the unit by its share, whether there is a market `o` or not
+      -- the trade makes of the unit what `trader_of` makes of it for its share, whether there is a market `o` or not
       by_market : (o : Option Market) → market_for w u (get items e.0) ≡ o → get (after_trade trade items w d e).units e.0 ≡ Some (trader_of trade u e.1 o)
       by_market None at = ap (λ (s : CampaignValue). get s.units e.0) (traded_is trade items w d e u is None at) ∙ is
       by_market (Some m) at =
@@ -100,7 +100,7 @@ module _ (trade : Trade) (items : FinMap nat_cmp ℕ) (w : WorldValue) (units : 
   abbrev IsTraded : ℕ → Region → Type 0
   IsTraded r q = HasNewStocks q (stock_after trade) (drawn_here r) (get (after_trade trade items w d e).regions r)
 
-  -- of a share of 0 nothing is drawn
+  -- what a unit with a share of 0 draws from a pot is 0, whether it may draw from it (`b`) or not
   none_drawn : (b : Bool) (share : ℕ) → share ≡ 0 → cond b share 0 ≡ 0
   none_drawn true share none = none
   none_drawn false share none = refl
@@ -114,25 +114,25 @@ module _ (trade : Trade) (items : FinMap nat_cmp ℕ) (w : WorldValue) (units : 
   }
 
   module _ (m : Market) (at : market_for w u (get items e.0) ≡ Some m) (told : get items e.0 ≡ Some m.item) where
-    -- the result of the unit's trade
+    -- the result of the unit's trade with market `m`
     abbrev deal : TradeResult
     deal = trade_result_of trade u.holding (stock_of d u.region m.item) e.1 m
 
-    -- a region with the stock that the trade leaves
+    -- a region with the stock of the market's item that the trade leaves
     abbrev restock : Region → Region
     restock q = restocked q m.item deal.stock
 
-    -- the trade changes the stock of the unit's region, and no other region
+    -- the trade changes the region that the unit is in, by its new stock (`restock`), and no other region
     regions_are : (r : ℕ) → get (after_trade trade items w d e).regions r ≡ get (changed restock d.regions u.region) r
     regions_are r =
         ap (λ (s : CampaignValue). get s.regions r) (traded_is trade items w d e u is (Some m) at)
         ∙ ap (λ k. get k r) (dealt_regions d e.0 u m.item (trade_entry trade) deal is)
 
-    -- the unit draws from the pot of its own region and item alone
+    -- the unit draws from the pot of its own region and of the market's item, and from no other
     draws : (r i : ℕ) → draws_item units items (r, i) e.0 ≡ (u.region == r && m.item == i)
     draws r i = ap (λ o. is_in_region r o && is_for i (get items e.0)) there ∙ ap (λ o. u.region == r && is_for i o) told
 
-    -- a pot from which the unit doesn't draw stays as it is
+    -- where the unit doesn't draw from the pot of region `r` and item `i`, the trade leaves the stock there as it is
     undrawn : (r i stock : ℕ) → draws_item units items (r, i) e.0 ≡ false → stock ≡ stock_after trade stock (drawn_here r i)
     undrawn r i stock other = sym (ap (λ b. stock_after trade stock (cond b e.1 0)) other ∙ none_traded trade stock)
 
@@ -216,7 +216,7 @@ module _ (trade : Trade) (items : FinMap nat_cmp ℕ) (w : WorldValue) where
   ]
 
   module _ (c : CampaignValue) where
-    -- the unit of a share is there, and its share is 0 where there is no market for it
+    -- the unit of a pair (unit, share) is in campaign `c`, and the share is 0 where the unit has no market for its item
     abbrev Trades : ℕ × ℕ → Type 0
     Trades e = (u : Unit) × (get c.units e.0 ≡ Some u) × (market_for w u (get items e.0) ≡ None → e.1 ≡ 0)
 
@@ -243,7 +243,7 @@ module _ (trade : Trade) (w : WorldValue) (c : CampaignValue) (os : List Task) w
   abbrev named : FinMap nat_cmp ℕ
   named = items_by (trade_pots trade) w c os
 
-  -- the shares of all units
+  -- how many pieces each unit gets to trade, by unit
   abbrev given : FinMap nat_cmp ℕ
   given = given_by (trade_pots trade) w c os
 

@@ -33,11 +33,11 @@ Around false d u = ⊤
 pub record Pays (needs : Bool) (step : CampaignValue → ℕ × ℕ → CampaignValue) (gets : ℕ → UnitChange) (gives : RegionChange) : Type 0 where
   -- a payment makes of its unit what `gets` makes of the unit and its share
   pub mine : (d : CampaignValue) (e : ℕ × ℕ) (u : Unit) → get d.units e.0 ≡ Some u → Around needs d u → get (step d e).units e.0 ≡ Some (gets e.0 u e.1)
-  -- a payment changes no other unit
+  -- a payment changes no unit but its own
   pub others : (d : CampaignValue) (e : ℕ × ℕ) (u : Unit) → get d.units e.0 ≡ Some u → Around needs d u → (k : ℕ) → k ≢ e.0 → get (step d e).units k ≡ get d.units k
   -- a payment makes of the region of its unit what `gives` makes of the region and the share
   pub region : (d : CampaignValue) (e : ℕ × ℕ) (u : Unit) (q : Region) → get d.units e.0 ≡ Some u → get d.regions u.region ≡ Some q → get (step d e).regions u.region ≡ Some (gives q e.1)
-  -- a payment changes no other region
+  -- a payment changes no region but the one that its unit is in
   pub regions : (d : CampaignValue) (e : ℕ × ℕ) (u : Unit) → get d.units e.0 ≡ Some u → Around needs d u → (k : ℕ) → k ≢ u.region → get (step d e).regions k ≡ get d.regions k
   -- a region that gives 0 stays as it is
   pub nothing : (q : Region) → gives q 0 ≡ q
@@ -139,7 +139,7 @@ drawn_is draws (e ∷ es) = by_test (draws e.0) (drawn_is draws es)
     by_test true rest = ap (λ k. e.1 + k) rest ∙ sym (sum_by-cons (λ x. x) e.1 (map (λ f. f.1) (filter (λ f. draws f.0) es)))
     by_test false rest = no_more (drawn draws es) ∙ rest
 
--- each unit that gets something is there, and its region where that is needed
+-- each unit that gets something in the phase is in the campaign, and so is its region where that is needed (`Around`)
 abbrev pub GivesWhoIsThere : Bool → PotMeaning → WorldValue → CampaignValue → List Task → Type 0
 GivesWhoIsThere needs p w c os = (n share : ℕ) → get (given_by p w c os) n ≡ Some share → (u : Unit) × (get c.units n ≡ Some u) × Around needs c u
 

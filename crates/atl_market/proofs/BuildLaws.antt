@@ -58,7 +58,7 @@ use Rattle.atl_market.proofs.GoodsLaws.{used_is}
 some : (n : ℕ) → (n == 0) ≡ false → 1 ≤ n
 some n is = grind (arith, nat_tests)
 
--- if a number isn't at most another, the other is less
+-- if `a` isn't at most `b`, `b` is less than `a`
 more_than : (a b : ℕ) → nat_le a b ≡ false → b < a
 more_than a b is = grind (arith, nat_tests)
 
@@ -121,7 +121,8 @@ pub record CanGoOn (u : Unit) (s : Structure) (k : Kind) : Type 0 where
   -- the unit holds at least one piece of the kind's material
   pub material : 1 ≤ amount_of u.holding.items k.material
 
--- a unit without a fault of `BUILD` in a structure can continue it: it has men, level and material, and size is missing
+-- a unit without a fault of `BUILD` in a structure can continue it: it has men, level and material, and the
+-- structure isn't complete
 pub can_go_on : (u : Unit) (s : Structure) (k : Kind) → inside_fault u s k ≡ None → CanGoOn u s k
 can_go_on u s k is =
     let material = (amount_of u.holding.items k.material == 0, NoMaterial) ∷ [] in
@@ -180,11 +181,11 @@ module _ (w : WorldValue) (c : CampaignValue) (n kind : ℕ) (u : Unit) (k : Kin
   abbrev size : ℕ
   size = size_added k u.holding 0
 
-  -- the campaign after the unit used its material
+  -- the campaign after unit `n` used the material for the new structure
   abbrev one : CampaignValue
   one = used w c n k.material size u is
 
-  -- a campaign with, in addition, the structure begun and the unit moved into it
+  -- campaign `d` with the new structure begun in it, and unit `n` moved into that structure
   abbrev from_used : CampaignValue → CampaignValue
   from_used d = with_place (with_new_structure d kind k u.region size) n u.region c.next_structure
 
@@ -215,7 +216,7 @@ module _ (w : WorldValue) (c : CampaignValue) (n kind : ℕ) (u : Unit) (k : Kin
     abbrev new : Structure
     new = new_structure c.next_structure kind k u.region size
 
-    -- the new structure may be added to the campaign
+    -- the new structure may be added to the campaign in which the material is used (`IsFresh`)
     fresh : IsFresh w one new
     fresh = record {
       kind = slice_get_within w.kinds kind k kind_is;
@@ -250,11 +251,11 @@ module _ (w : WorldValue) (c : CampaignValue) (n : ℕ) (u : Unit) (s : Structur
   abbrev added : ℕ
   added = size_added k u.holding s.done
 
-  -- the campaign after the unit used its material
+  -- the campaign after unit `n` used the material for what it adds to the structure
   abbrev paid : CampaignValue
   paid = used w c n k.material added u is
 
-  -- a campaign with, in addition, as much more of the structure done as the unit adds
+  -- campaign `d` with as much more of the unit's structure done as the unit adds
   abbrev further : CampaignValue → CampaignValue
   further d = with_done d u.structure (s.done + added)
 
@@ -288,7 +289,7 @@ module _ (w : WorldValue) (c : CampaignValue) (n : ℕ) (u : Unit) (s : Structur
 
 -- ---- an order
 
--- what holds of a campaign, and of it after a unit that can begin a structure began it, holds after `BUILD kind`
+-- if `P` holds of a campaign, and also once a unit that can begin a structure began it, `P` holds after `BUILD kind`
 begin_cases : (P : CampaignValue → Type 0) (w : WorldValue) (c : CampaignValue) (n kind : ℕ) (k : Kind) (u : Unit) → P c
     → (CanBegin w c u k → P (after_start c n kind k u.region (size_added k u.holding 0))) → P (begin w n kind k c u).0
 unfolding begin
@@ -299,7 +300,7 @@ begin_cases P w c n kind k u same go = by_fault (begin_fault w c u k) refl
     by_fault (Some fault) e = same
     by_fault None e = go (can_begin w c u k e)
 
--- what holds of a campaign, and of it after a unit that can continue its structure did so, holds after `BUILD`
+-- if `P` holds of a campaign, and also once a unit that can continue its structure did so, `P` holds after `BUILD`
 go_on_cases : (P : CampaignValue → Type 0) (w : WorldValue) (c : CampaignValue) (n : ℕ) (u : Unit) → P c
     → ((s : Structure) (k : Kind) → get c.structures u.structure ≡ Some s → slice_get w.kinds s.kind ≡ Some k → CanGoOn u s k
     → P (after_building_on c n k.material (size_added k u.holding s.done) u.structure (s.done + size_added k u.holding s.done))) → P (go_on w n c u).0
@@ -432,15 +433,15 @@ can_use w c n item amount u is enough known can room = record {
 built_is_both : (w : WorldValue) (c : CampaignValue) (structure : ℕ) (s : Structure) (k : Kind) → get c.structures structure ≡ Some s → slice_get w.kinds s.kind ≡ Some k → structure_and_kind_at w c structure ≡ Some (s, k)
 built_is_both w c structure s k there kind_is = ap (option_and_then (with_kind w)) there ∙ ap (option_map {U = Structure × Kind} (λ x. (s, x))) kind_is
 
--- a campaign and outcome after a structure was begun
+-- the campaign after unit `n` began a structure with `size` of it done, and the outcome Done with that size
 abbrev begun_outcome : CampaignValue → (n kind : ℕ) → Kind → (region size : ℕ) → CampaignValue × Outcome
 begun_outcome c n kind k region size = (after_start c n kind k region size, Done size)
 
--- a campaign and outcome after more was done of a structure
+-- the campaign after unit `n` used `size` for a structure with `done` done then, and the outcome Done with `size`
 abbrev on_outcome : CampaignValue → (n material size structure done : ℕ) → CampaignValue × Outcome
 on_outcome c n material size structure done = (after_building_on c n material size structure done, Done size)
 
--- without a fault, what the code does and returns for `BUILD kind` is what is defined
+-- where `BUILD kind` has no fault, the campaign and outcome that the code makes are those of its definition (`begin`)
 pub begin_done : (w : WorldValue) (c d : CampaignValue) (f n kind : ℕ) (u : Unit) (k : Kind) (size told : ℕ) → of_faction f (get c.units n) ≡ Some u → begin_fault w c u k ≡ None
     → d ≡ after_start c n kind k u.region size → told ≡ size → size ≡ size_added k u.holding 0 → (d, Done told) ≡ faction_effect (begin w n kind k) c f n
 unfolding begin
@@ -449,7 +450,7 @@ begin_done w c d f n kind u k size told is none first told_is size_is =
     let chain : faction_effect (begin w n kind k) c f n ≡ whole = ap (effect_on (begin w n kind k) c) is ∙ ap (λ o. unless c o whole) none in
     rw (first, told_is, size_is) (sym chain)
 
--- without a fault, what the code does and returns for `BUILD` is what is defined
+-- where `BUILD` has no fault, the campaign and outcome that the code makes are those of its definition (`go_on`)
 pub go_on_done : (w : WorldValue) (c d : CampaignValue) (f n : ℕ) (u : Unit) (s : Structure) (k : Kind) (size told : ℕ) → of_faction f (get c.units n) ≡ Some u → get c.structures u.structure ≡ Some s → slice_get w.kinds s.kind ≡ Some k
     → inside_fault u s k ≡ None → d ≡ after_building_on c n k.material size u.structure (s.done + size) → told ≡ size → size ≡ size_added k u.holding s.done → (d, Done told) ≡ faction_effect (go_on w n) c f n
 unfolding go_on

@@ -58,7 +58,7 @@ abbrev used_of : (item amount : ℕ) → Entry → Thing → ℕ
 used_of item amount e (Item j) = if entry_index e == entry_index Used then cond (eq_by_cmp nat_cmp j item) amount 0 else 0
 used_of item amount e t = 0
 
--- using an amount of an item lowers what BUILD may still book for the holding (`usable`) by that amount, under Used
+-- using `amount` of an item lowers what BUILD may still book for the holding (`still_bookable`) by it, under Used
 usable_less : (h : HoldingValue) (item amount : ℕ) → amount ≤ amount_of h.items item → (e : Entry) (t : Thing) → still_bookable e t h ≡ still_bookable e t (with_less h item amount) + used_of item amount e t
 usable_less h item amount enough e Money = refl
 usable_less h item amount enough e People = refl
@@ -94,7 +94,7 @@ only_used item amount e t = by_number (amount_number e t == amount_number Used (
         at (entry_index e == entry_index Used) (eq_by_cmp nat_cmp j item) (let f : (entry_index e == entry_index Used) ≡ true = grind (arith, nat_tests) in f)
         (sym (unsigned_ties j item) ∙ (let g : (j == item) ≡ true = grind (arith, nat_tests) in g))
 
-    -- the bound is at most `used_of`, whether the amount's number is that of Used of the item or not
+    -- the bound on using the item is at most `used_of`, whether the amount's number is that of Used of the item or not
     by_number : (b : Bool) → (amount_number e t == amount_number Used (Item item)) ≡ b → (if b then amount else 0) ≤ used_of item amount e t
     by_number true is = by_thing t (let same : entry_count * thing_index t + entry_index e ≡ entry_count * thing_index (Item item) + entry_index Used = grind (arith, nat_tests) in same)
     by_number false is = omega arith

@@ -20,7 +20,7 @@ use Rattle.atl_market.specs.Pots.{amount_given, pot_shares, takers_in, wants_in}
 use Rattle.atl_market.proofs.PotLaws.{IsRisen, gives_each_pot, only_takers_get, taker_listed, takers_risen}
 use Rattle.atl_campaign.proofs.NumberListLaws.{IsListed}
 
--- each number of a list is above `n`, if `n` is less than each of them
+-- if each element of a list is above `n` (`AllByRecursion`), each number on the list (`IsListed`) is above `n`
 risen_above : (n : ℕ) (ns : List ℕ) → AllByRecursion (λ k. n < k) ns → (k : ℕ) → IsListed k ns → n < k
 risen_above n [] h k is = absurd is
 risen_above n (m ∷ ns) h k (inl same) = subst (λ j. n < j) (sym same) h.0
@@ -34,7 +34,7 @@ another k n ns above is = elim is [ inl same ↦ absurd (omega (arith, above, sa
 not_this : (k n : ℕ) (ns : List ℕ) → k ≢ n → IsListed k (n ∷ ns) → IsListed k ns
 not_this k n ns apart is = elim is [ inl same ↦ absurd (apart same) | inr rest ↦ rest ]
 
--- what holds of each number and its share holds of them as pairs
+-- if `P` holds of each number and its share (`EachOf`), it holds of each of these pairs (`AllByRecursion`)
 pub all_pairs : (P : ℕ × ℕ → Type 0) (es : List (ℕ × ℕ)) → EachOf (λ n share. P (n, share)) es → AllByRecursion P es
 all_pairs P [] h = tt
 all_pairs P (e ∷ es) h = (h.0, all_pairs P es h.1)
@@ -70,7 +70,7 @@ module _ (draws : Drawers) where
     none_first : (rest : ℕ) → rest ≡ 0 → 0 + rest ≡ 0
     none_first rest h = omega (arith, h)
 
-    -- if no unit is listed, nothing is drawn
+    -- if only units of the empty list may draw from the pot (`Listed []`), nothing is drawn
     nothing_drawn : (es : List (ℕ × ℕ)) → AllByRecursion (Listed []) es → drawn es ≡ 0
     nothing_drawn [] all = refl
     nothing_drawn (e ∷ es) all =
@@ -79,15 +79,15 @@ module _ (draws : Drawers) where
           | false ↦ λ _. none_first (drawn es) (nothing_drawn es all.1)
         ] refl
 
-    -- one unit's amount and what others draw are at most the sum of all amounts, if the others draw at most theirs
+    -- if others draw `rest`, at most `others`, then with `mine` they draw at most `all`: `mine` and `others` together
     both : (mine rest others all : ℕ) → rest ≤ others → all ≡ mine + others → mine + rest ≤ all
     both mine rest others all h e = omega (arith, h, e)
 
-    -- 0 plus what others draw is at most the sum of all amounts, if what they draw is
+    -- if what others draw (`rest`) is at most `all`, so is 0 plus it
     none_of : (rest all : ℕ) → rest ≤ all → 0 + rest ≤ all
     none_of rest all h = omega (arith, h)
 
-    -- what others draw is at most the sum of all amounts, if it is at most the sum of theirs
+    -- if what others draw (`drawing`) is at most `others`, it is at most `all`, which is `first` and `others`
     skipped : (drawing others first all : ℕ) → drawing ≤ others → all ≡ first + others → drawing ≤ all
     skipped drawing others first all h e = omega (arith, h, e)
 
@@ -129,15 +129,15 @@ pub record DrawnPots (K : Type 0) : Type 0 where
   pub pot_region : K → ℕ
   -- which units draw from a pot, by their numbers
   pub draws : K → Drawers
-  -- how much is left of a pot, where its region is as given
+  -- how much there is in a pot while its region is the given one
   pub left : K → Region → ℕ
 
 module _ {K : Type 0} (pots : DrawnPots K) where
-  -- each pot has enough for those of some shares whose units draw from it
+  -- in a campaign each pot holds at least the sum of those of the shares whose units draw from it
   abbrev pub HaveEnough : CampaignValue → List (ℕ × ℕ) → Type 0
   HaveEnough d es = (k : K) (q : Region) → get d.regions (pots.pot_region k) ≡ Some q → drawn (pots.draws k) es ≤ pots.left k q
 
-  -- in a unit's turn, the pots from which it draws lose its share, and all others keep what they have
+  -- from one campaign to the next the pots from which a unit draws lose its share, and all others keep what they have
   abbrev pub Drains : CampaignValue → ℕ × ℕ → CampaignValue → Type 0
   Drains d e after =
       (k : K) (x : Region) → get after.regions (pots.pot_region k) ≡ Some x
@@ -158,7 +158,7 @@ module _ {K : Type 0} (pots : DrawnPots K) where
         let (q, around, less) = drains k x is in
         left_over (cond (pots.draws k e.0) e.1 0) (drawn (pots.draws k) es) (pots.left k x) (pots.left k q) (enough k q around) less
       where
-        -- what later units draw is at most what is left of the pot after the first share
+        -- if `share` and `rest` make at most `all`, what later units draw (`rest`) is at most `all` less `share`
         left_over : (share rest less all : ℕ) → share + rest ≤ all → less + share ≡ all → rest ≤ less
         left_over share rest less all h k = omega (arith, h, k)
 
@@ -167,8 +167,8 @@ module _ {K : Type 0} (pots : DrawnPots K) where
     no_less : (a : ℕ) → a + 0 ≡ a
     no_less a = omega arith
 
-    -- the pots lose what they should (`Drains`) if one region changes, its pots lose the share of a unit that draws
-    -- from them, and the unit draws from no pot of another region
+    -- The pots change by a unit's turn as `Drains` says if one region changes, its pots lose the share of a unit that
+    -- draws from them, and the unit draws from no pot of another region.
     pub region_drains : (r : ℕ) (q : Region) → get d.regions r ≡ Some q → (f : Region → Region) → after.regions ≡ (region_changed f d r).regions
         → ((k : K) → pots.pot_region k ≡ r → pots.left k (f q) + cond (pots.draws k e.0) e.1 0 ≡ pots.left k q)
         → ((k : K) → pots.pot_region k ≢ r → pots.draws k e.0 ≡ false) → Drains d e after
@@ -185,7 +185,7 @@ module _ {K : Type 0} (pots : DrawnPots K) where
         put : get (insert d.regions r (f q)) (pots.pot_region k) ≡ Some x
         put = sym (ap (λ m. get m (pots.pot_region k)) (changed ∙ changed-known f d.regions r q around)) ∙ found
 
-    -- the pots lose what they should (`Drains`), namely nothing, if the share is 0 and no region changes
+    -- the pots change by a unit's turn as `Drains` says, that is not at all, if its share is 0 and no region changes
     pub nothing_drains : after.regions ≡ d.regions → e.1 ≡ 0 → Drains d e after
     nothing_drains same none k x found = (x, sym (ap (λ m. get m (pots.pot_region k)) same) ∙ found, ap (λ s. pots.left k x + cond (pots.draws k e.0) s 0) none ∙ neither (pots.draws k e.0) (pots.left k x))
       where
@@ -206,7 +206,7 @@ module _ (units : FinMap nat_cmp Unit) (left : Region → ℕ) where
   region_pots = record { pot_region = λ r. r; draws = draws_region units; left = λ r q. left q }
 
   module _ (d : CampaignValue) (e : ℕ × ℕ) (u : Unit) (q : Region) (there : get units e.0 ≡ Some u) (around : get d.regions u.region ≡ Some q) where
-    -- the pots of regions lose what they should (`Drains`) if the unit's own region changes, and has its share less
+    -- the pots of regions change as `Drains` says if the unit's own region changes alone, and has the unit's share less
     pub one_drains : (after : CampaignValue) (f : Region → Region) → after.regions ≡ (region_changed f d u.region).regions → left (f q) + e.1 ≡ left q → Drains region_pots d e after
     one_drains after f changed less =
         region_drains region_pots d e after u.region q around f changed
@@ -243,7 +243,7 @@ module _ (pot_of : ℕ → ℕ) (wants : FinMap nat_cmp ℕ) (c : CampaignValue)
   least : (drawing pot all : ℕ) → drawing ≤ min pot all → drawing ≤ pot
   least drawing pot all h = omega (arith, h)
 
-  -- the pot of region `r`, if it is there, is enough for all that draw from it, if their shares are shares of that pot
+  -- the pot of region `r` of the campaign is enough for all that draw from it, if their shares are shares of that pot
   pub shares_are_enough : DrawShares → IsThere c.regions r → drawn draws (entries given) ≤ pot_of r
   shares_are_enough shared there =
       let drawing = drawn draws (entries given) in
@@ -262,12 +262,12 @@ module _ (c : CampaignValue) where
   abbrev pub AreUntouched : CampaignValue → List (ℕ × ℕ) → Type 0
   AreUntouched d es = AllByRecursion (λ e. get d.units e.0 ≡ get c.units e.0) es
 
-  -- units that have not been paid yet stay untouched while a unit with a lower number changes
+  -- units still to be paid are as in `c` (`AreUntouched`) also after a unit with a lower number changed
   pub still : (d after : CampaignValue) (n : ℕ) (es : List (ℕ × ℕ)) → ((k : ℕ) → k ≢ n → get after.units k ≡ get d.units k) → AllByRecursion (λ f. n < f.0) es → AreUntouched d es → AreUntouched after es
   still d after n [] same above all = tt
   still d after n (f ∷ es) same above all = (same f.0 (λ e. absurd (omega (arith, e, above.0))) ∙ all.0, still d after n es same above.1 all.1)
 
-  -- in the campaign itself all units are untouched
+  -- in campaign `c` itself the units of all shares are as in `c` (`AreUntouched`)
   pub untouched : (es : List (ℕ × ℕ)) → AreUntouched c es
   untouched [] = tt
   untouched (e ∷ es) = (refl, untouched es)

@@ -26,24 +26,24 @@ use Rattle.atl_phase.proofs.MeaningLaws.{same_month_by}
 
 -- unit and region have together the people and items that they had, and the money that they had plus what is booked
 pub record KeepsTogether (u : Unit) (q : Region) (f : Region → Region) (more : HoldingValue) (z : ℤ) : Type 0 where
-  -- the money of unit and region together is what it was, plus what is booked
+  -- the money of unit and region together after the exchange is what it was before, plus what is booked
   pub money : pos (more.money + (f q).money) ≡ pos (u.holding.money + q.money) +ℤ z
-  -- unit and region together have as many men and peasants as before
+  -- unit and region together have as many men and peasants after the exchange as before it
   pub people : more.men + (f q).peasants ≡ u.holding.men + q.peasants
-  -- unit and region together have as much of each item as before
+  -- unit and region together have as much of each item after the exchange as before it
   pub items : (i : ℕ) → amount_of more.items i + amount_of (f q).stocks i ≡ amount_of u.holding.items i + amount_of q.stocks i
 
 module _ (w : WorldValue) (c : CampaignValue) (n : ℕ) (u : Unit) (q : Region) (f : Region → Region) (more : HoldingValue) (entry : Entry) (z : ℤ)
     (is : get c.units n ≡ Some u) (around : get c.regions u.region ≡ Some q) where
-  -- the campaign in which unit `n` has the new holding
+  -- the campaign in which unit `n` holds what the exchange leaves it (`more`); its region isn't changed yet
   abbrev supplied : CampaignValue
   supplied = record c { units = insert c.units n (record u { holding = more }) }
 
-  -- the campaign in which unit `n` has the new holding and its region is changed; nothing is booked yet
+  -- the campaign in which unit `n` holds `more` and its region is changed by `f`; nothing is booked yet
   abbrev left : CampaignValue
   left = region_changed f supplied u.region
 
-  -- the campaign in which unit `n` has the new holding, its region is changed, and the money is booked
+  -- the campaign in which unit `n` holds `more`, its region is changed by `f`, and the money `z` is booked
   abbrev exchanged : CampaignValue
   exchanged = with_amount left entry Money z
 

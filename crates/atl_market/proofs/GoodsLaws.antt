@@ -34,11 +34,11 @@ use Rattle.atl_market.specs.Goods.{with_made, with_used}
 use Rattle.atl_market.specs.Making.{CanMake, CanUse}
 use Rattle.atl_market.proofs.ThereLaws.{by_unit, unit_there}
 
--- if one amount takes the place of another in a total, and they differ by `z`, the total changes by `z`
+-- if `a` takes the place of `l` in a total `t`, and `a` is `l` plus `z`, the new total `x` is `t` plus `z`
 moved : (x y t k a l : ℕ) (z : ℤ) → x ≡ y → y + k ≡ t + a → k ≡ l → pos a ≡ pos l +ℤ z → pos x ≡ pos t +ℤ z
 moved x y t k a l z e f g h = omega (arith, ints, e, f, g, h)
 
--- if an amount takes the place of an equal one in a total, the total stays the same
+-- if an amount takes the place of an equal one in a total `t`, the new total `x` is `t`
 unmoved : (x y t k : ℕ) → x ≡ y → y + k ≡ t + k → pos x ≡ pos t +ℤ pos 0
 unmoved x y t k e f = omega (arith, ints, e, f)
 
@@ -53,15 +53,15 @@ item_is c n u i amount is = changed_held (λ h. record h { items = with_amount_o
 -- ---- a unit holds another amount of an item, which is booked
 
 module _ (w : WorldValue) (c : CampaignValue) (n : ℕ) (u : Unit) (i amount : ℕ) (is : get c.units n ≡ Some u) where
-  -- the unit's holding with the new amount
+  -- the holding of unit `u` with `amount` of item `i`
   abbrev more : HoldingValue
   more = record u.holding { items = with_amount_of u.holding.items i amount }
 
-  -- the campaign in which the unit holds the new amount
+  -- the campaign in which unit `n` holds `amount` of item `i`
   abbrev with_set : CampaignValue
   with_set = item_held c n u i amount
 
-  -- the holding with the new amount keeps all rules of holdings, if the item is one of the world and within the limit
+  -- a holding that keeps the rules of holdings keeps them with `amount` of a world's item, if that is within the limit
   may : i < length w.items → amount ≤ holding_limit → MayHave w u.holding → MayHave w more
   may known most old = record {
     limits = record { men = old.limits.men; money = old.limits.money; items = every_amount (λ j a. (1 ≤ a) × (a ≤ holding_limit)) u.holding.items i amount (λ some. (some, most)) old.limits.items };
@@ -72,12 +72,12 @@ module _ (w : WorldValue) (c : CampaignValue) (n : ℕ) (u : Unit) (i amount : �
   }
 
   module _ (e : Entry) (z : ℤ) where
-    -- the campaign in which the unit holds the new amount, and the change is booked
+    -- the campaign in which the unit holds `amount` of the item, and `z` of the item is booked under entry `e`
     abbrev after : CampaignValue
     after = with_amount with_set e (Item i) z
 
     module _ (change : pos amount ≡ pos (amount_of u.holding.items i) +ℤ z) where
-      -- the total of an item changes by `z` if it is the item that is set, and otherwise stays
+      -- the new total `x` of item `j` is the old one, `t`, plus `z` if `j` is `i`, the item set for the unit
       by_test : (j : ℕ) (q : Bool) → eq_by_cmp nat_cmp j i ≡ q → (x y t : ℕ) → x ≡ y → y + amount_of u.holding.items j ≡ t + cond q amount (amount_of u.holding.items j) → pos x ≡ pos t +ℤ cond (2 + j == 2 + i) z (pos 0)
       by_test j true q x y t a b =
           let j_is : j ≡ i = alike i j q in
@@ -127,11 +127,11 @@ put_to : (a k : ℕ) → pos (a + k) ≡ pos a +ℤ pos k
 put_to a k = omega (arith, ints)
 
 module _ (w : WorldValue) (c : CampaignValue) (n i k : ℕ) where
-  -- using an item, by a unit that is there, takes it from the unit and books it
+  -- using `k` of an item (`with_used`), for a unit that is there, takes it from the unit and books it as used
   pub used_is : (u : Unit) → get c.units n ≡ Some u → with_used c n i k ≡ with_amount (item_held c n u i (amount_of u.holding.items i - k)) entries.Used (Item i) (neg_ℤ (pos k))
   used_is u is = unit_there c n _ u is ∙ ap (λ d. with_amount d entries.Used (Item i) (neg_ℤ (pos k))) (item_is c n u i (amount_of u.holding.items i - k) is)
 
-  -- making an item, by a unit that is there, gives it to the unit and books it
+  -- making `k` of an item (`with_made`), for a unit that is there, gives it to the unit and books it as made
   pub made_is : (u : Unit) → get c.units n ≡ Some u → with_made c n i k ≡ with_amount (item_held c n u i (amount_of u.holding.items i + k)) entries.Made (Item i) (pos k)
   made_is u is = unit_there c n _ u is ∙ ap (λ d. with_amount d entries.Made (Item i) (pos k)) (item_is c n u i (amount_of u.holding.items i + k) is)
 
@@ -147,13 +147,13 @@ module _ (w : WorldValue) (c : CampaignValue) (n i k : ℕ) where
       subst (λ d. LeavesWell IsSteady (moves_only limit entries.Used (Item i)) w c d) (sym (used_is u there))
       (set_well w c n u i (a - k) there entries.Used (neg_ℤ (pos k)) (taken_off a k enough) limit known (omega (arith, within)) (within-neg k limit most) steady)
 
-  -- using an item that a unit can use keeps the campaign steady and its books balanced, and books only that
+  -- using an item that a unit can use keeps the campaign steady and its books balanced, and books that use alone
   pub used_well : CanUse w c n i k → LeavesWell IsSteady (moves_only holding_limit entries.Used (Item i)) w c (with_used c n i k)
   used_well can =
       let within = held_within can.unit can.there can.steady in
       used_up_to holding_limit (omega (arith, within, can.enough)) can.unit can.there can.known can.enough can.steady
 
-  -- making an item that a unit can make keeps the campaign steady and its books balanced, and books only that
+  -- making an item that a unit can make keeps the campaign steady and its books balanced, and books what is made alone
   pub made_well : CanMake w c n i k → LeavesWell IsSteady (moves_only holding_limit entries.Made (Item i)) w c (with_made c n i k)
   made_well can =
       let u = can.unit in
@@ -181,11 +181,11 @@ module _ (w : WorldValue) (c : CampaignValue) (n i k : ℕ) where
   pub made_others : (m : ℕ) → m ≢ n → get (with_made c n i k).units m ≡ get c.units m
   made_others m apart = by_unit c n (λ (d : CampaignValue). get d.units m ≡ get c.units m) _ refl (λ u is. item_others (amount_of u.holding.items i + k) m apart)
 
--- with less of one item a unit has no more of another
+-- taking `k` of item `r` from a holding leaves it no more of item `i` than it had
 pub no_more : (h : HoldingValue) (r i k : ℕ) → amount_of (with_amount_of h.items r (amount_of h.items r - k)) i ≤ amount_of h.items i
 no_more h r i k = subst (λ a. a ≤ amount_of h.items i) (sym (set_amount h.items r (amount_of h.items r - k) i)) (by_test (eq_by_cmp nat_cmp i r) refl)
   where
-    -- an amount less `k` is at most the amount
+    -- `a` less `k` is at most `b`, which is `a`
     less : (a b k : ℕ) → b ≡ a → a - k ≤ b
     less a b k e = omega (arith, e)
 

@@ -30,7 +30,7 @@ either false o = refl
 
 -- ---- entries whose numbers rise, put into a map in turn
 
--- a number below those of all entries isn't found
+-- a number below those of all entries isn't found among them
 none_above : (k : ℕ) (es : Entries) → AllByRecursion (λ n. k < n) (map (λ e. e.0) es) → find nat_cmp k es ≡ None
 none_above k [] h = refl
 none_above k (e ∷ es) h = found_other e es k (λ same. absurd (omega (arith, same, h.0))) ∙ none_above k es h.1
@@ -91,7 +91,7 @@ module _ (item_of : ℕ → Option ℕ) (wants : FinMap nat_cmp ℕ) where
           by_test true same h = at ∙ ap Some (eqb-true j i same)
           by_test false same h = none_some want h
 
-  -- a unit that has a want for an item has that want
+  -- what a unit wants among the wants for item `i` is what it wants among all wants
   is_wanted : (i n want : ℕ) → get (mine i) n ≡ Some want → get wants n ≡ Some want
   is_wanted i n want is = by_test (is_for i (item_of n)) (sym (mine_at i n) ∙ is)
     where
@@ -146,12 +146,12 @@ module _ (item_of : ℕ → Option ℕ) (wants : FinMap nat_cmp ℕ) where
     | Some want ↦ ap (λ ks. n ∷ ks) (pair_keys i ns)
   ]
 
--- two functions that agree on all that passes a test map a list alike, once it is filtered by the test
+-- if `f` and `g` are equal for each number that passes a test, they map the listed numbers that pass alike
 filtered_map : (p : ℕ → Bool) (f g : ℕ → ℕ) → ((n : ℕ) → p n ≡ true → f n ≡ g n) → (ns : List ℕ) → map f (filter p ns) ≡ map g (filter p ns)
 filtered_map p f g same [] = refl
 filtered_map p f g same (n ∷ ns) = by_test (p n) refl (filtered_map p f g same ns)
   where
-    -- the two lists stay alike with number `n` in front, whether `n` passes the test or not
+    -- the two mapped lists are still equal with number `n` in front, whether `n` passes the test or not
     by_test : (b : Bool) → p n ≡ b → map f (filter p ns) ≡ map g (filter p ns) → map f (cond b (n ∷ filter p ns) (filter p ns)) ≡ map g (cond b (n ∷ filter p ns) (filter p ns))
     by_test true is rest = λ i. same n is i ∷ rest i
     by_test false is rest = rest
@@ -281,7 +281,7 @@ module _ (item_of : ℕ → Option ℕ) (pot_of : (item region : ℕ) → ℕ) (
           let (want, wanted, low) = items_give n s is in
           ap (λ o. cond (is_some o) (Some s) None) (sym (get-entries wants n) ∙ wanted)
 
-  -- a map that has under each unit its share is the map of all shares
+  -- a map that has under each unit its share by the definition (`gets`) is the map `item_shares`
   pub shares_are : (given : FinMap nat_cmp ℕ) → ((n : ℕ) → get given n ≡ gets n) → given ≡ item_shares item_of pot_of wants c
   shares_are given at = same_map nat_cmp_total nat_cmp-IsAntisymmetric given (item_shares item_of pot_of wants c) (λ n. at n ∙ sym (shares_at n))
 
@@ -330,7 +330,7 @@ module _ (item_of : ℕ → Option ℕ) (pot_of : (item region : ℕ) → ℕ) (
       unwanted groups [] h = refl
       unwanted groups (n ∷ ns) h = by_test (unwanted groups ns) (is_some (get wants n)) refl h
         where
-          -- the groups stay the same with unit `n` in front, which has no want either
+          -- units of which none has a want still change no group with unit `n`, which has none either, in front of them
           by_test : (filter (λ k. is_some (get wants k)) ns ≡ [] → fold (with_want item_of wants) groups ns ≡ groups) → (b : Bool) → is_some (get wants n) ≡ b → cond b (n ∷ filter (λ k. is_some (get wants k)) ns) (filter (λ k. is_some (get wants k)) ns) ≡ [] → fold (with_want item_of wants) groups (n ∷ ns) ≡ groups
           by_test rest true is h = cc
           by_test rest false is h = ap (λ (gs : Groups). fold (with_want item_of wants) gs ns) (skipped groups n (item_of n) (get wants n) is) ∙ rest h

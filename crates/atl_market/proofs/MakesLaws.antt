@@ -23,17 +23,17 @@ module _ (f : ℕ × ℕ → ℕ) where
   abbrev instead : List (ℕ × ℕ) → List (ℕ × ℕ)
   instead es = map (λ e. (e.0, f e)) es
 
-  -- other amounts under the same numbers leave the numbers above `k`
+  -- if the numbers of entries are above `k`, they are so with other amounts under them (`instead`)
   above_instead : (k : ℕ) (es : List (ℕ × ℕ)) → AllByRecursion (λ e. k < e.0) es → AllByRecursion (λ e. k < e.0) (instead es)
   above_instead k [] above = tt
   above_instead k (e ∷ es) above = (above.0, above_instead k es above.1)
 
-  -- other amounts under the same numbers leave the numbers rising
+  -- if the numbers of entries rise, they rise also with other amounts under them (`instead`)
   rise_instead : (es : List (ℕ × ℕ)) → Rise es → Rise (instead es)
   rise_instead [] rise = tt
   rise_instead (e ∷ es) rise = (above_instead e.0 es rise.0, rise_instead es rise.1)
 
-  -- a number found among the new entries is found among the old, and its amount is the new one
+  -- a number found among the entries of `instead` is found among the entries themselves, and its amount is given by `f`
   found_instead : (es : List (ℕ × ℕ)) (n a : ℕ) → find nat_cmp n (instead es) ≡ Some a → (b : ℕ) × (find nat_cmp n es ≡ Some b) × (a ≡ f (n, b))
   found_instead [] n a is = none_some a is
   found_instead (e ∷ es) n a is = elim (cases_eq n e.0) [
@@ -49,7 +49,7 @@ module _ (f : ℕ × ℕ → ℕ) where
 -- ---- what is made
 
 module _ (asked : FinMap nat_cmp ℕ) (w : WorldValue) (c : CampaignValue) (wants : FinMap nat_cmp ℕ) where
-  -- putting in the amounts made, unit by unit, gives the map of the definition
+  -- putting the amounts made into the empty map, unit by unit, gives the map of the definition (`made_amounts`)
   pub makes_are : with_each empty (map (λ e. (e.0, made_by w asked c wants e)) (entries wants)) ≡ made_amounts asked w c wants
   makes_are = risen_put (instead (made_by w asked c wants) (entries wants)) (rise_instead (made_by w asked c wants) (entries wants) (entries_rise wants))
 

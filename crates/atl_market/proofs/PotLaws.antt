@@ -40,7 +40,7 @@ is_there (Some x) h = (x, refl)
 
 -- ---- what is found under a number
 
--- a number found in the first of two lists is found in both together, with that value
+-- a value found under a number in the first of two lists of entries is also found in both together
 pub found_first : {V : Type 0} (n : ℕ) (es fs : List (ℕ × V)) (s : V) → find nat_cmp n es ≡ Some s → find nat_cmp n (es ++ fs) ≡ Some s
 found_first n [] fs s h = none_some s h
 found_first n (e ∷ es) fs s h =
@@ -49,7 +49,7 @@ found_first n (e ∷ es) fs s h =
       | false ↦ found_first n es fs s
     ] h
 
--- a number that isn't in the first of two lists is found in both together as in the second
+-- under a number that the first of two lists of entries doesn't have, both together have what the second has
 pub found_later : {V : Type 0} (n : ℕ) (es fs : List (ℕ × V)) → find nat_cmp n es ≡ None → find nat_cmp n (es ++ fs) ≡ find nat_cmp n fs
 found_later n [] fs h = refl
 found_later n (e ∷ es) fs h =
@@ -58,7 +58,7 @@ found_later n (e ∷ es) fs h =
       | false ↦ found_later n es fs
     ] h
 
--- a number other than the first entry's is found among all entries as among the later ones
+-- under a number other than the first entry's, all entries have what the later ones have
 pub found_other : {V : Type 0} (e : ℕ × V) (es : List (ℕ × V)) (n : ℕ) → n ≢ e.0 → find nat_cmp n (e ∷ es) ≡ find nat_cmp n es
 found_other e es n apart = ap (λ b. cond b (Some e.1) (find nat_cmp n es)) (sym (unsigned_ties n e.0) ∙ other_number n e.0 apart)
 
@@ -67,7 +67,7 @@ abbrev pub IsApart : Entries → Type 0
 IsApart [] = ⊤
 IsApart (e ∷ es) = (find nat_cmp e.0 es ≡ None) × IsApart es
 
--- a number found among the later entries, which all differ, is found among all
+-- the amount found under a number among the later entries is found among all, if no two have the same number
 found_tail : (e : ℕ × ℕ) (es : Entries) (n s : ℕ) → IsApart (e ∷ es) → find nat_cmp n es ≡ Some s → find nat_cmp n (e ∷ es) ≡ Some s
 found_tail e es n s apart is = elim (cases_eq n e.0) [
   | inl same ↦ none_some s (sym apart.0 ∙ ap (λ k. find nat_cmp k es) (sym same) ∙ is)
@@ -90,7 +90,7 @@ left m (e ∷ es) n h =
       | false ↦ λ g none. left (insert m e.0 e.1) es n none ∙ g
     ] (get-insert nat_cmp_total m e.0 e.1 n) h
 
--- what holds of each entry holds of its number and value
+-- if `P` holds of the number and the value of each entry (`AllByRecursion`), it holds of each also as `EachOf` says it
 as_pairs : (P : ℕ → ℕ → Type 0) (es : Entries) → AllByRecursion (λ e. P e.0 e.1) es → EachOf P es
 as_pairs P [] h = tt
 as_pairs P (e ∷ es) h = (h.0, as_pairs P es h.1)
@@ -102,11 +102,11 @@ module _ (g : ℕ → Option ℕ) where
   abbrev pub AgreeWith : Entries → Type 0
   AgreeWith es = AllByRecursion (λ e. g e.0 ≡ Some e.1) es
 
-  -- an entry that agrees with the function `g`, put into a map, gives its number the value that `g` has for it
+  -- an entry that has the value that `g` has for its number, put into a map, gives its number that value
   put_here : (m : FinMap nat_cmp ℕ) (e : ℕ × ℕ) (n s : ℕ) → n ≡ e.0 → g e.0 ≡ Some e.1 → g n ≡ Some s → get (insert m e.0 e.1) n ≡ Some s
   put_here m e n s same tells is = ap (get (insert m e.0 e.1)) same ∙ get-insert_same m e.0 e.1 ∙ sym tells ∙ ap g (sym same) ∙ is
 
-  -- a value that the function `g` has, once in the map, stays when entries that agree with `g` are put in
+  -- a value that `g` has, once in a map, is still in it after entries that agree with `g` (`AgreeWith`) are put in
   agreeing_stays : (m : FinMap nat_cmp ℕ) (es : Entries) (n s : ℕ) → AgreeWith es → g n ≡ Some s → get m n ≡ Some s → get (with_each m es) n ≡ Some s
   agreeing_stays m [] n s tells is at = at
   agreeing_stays m (e ∷ es) n s tells is at =
@@ -115,7 +115,7 @@ module _ (g : ℕ → Option ℕ) where
         | inr apart ↦ get-insert_other m e.0 n e.1 apart ∙ at
       ])
 
-  -- entries that agree with the function `g`, put into a map, give each of their numbers the value that `g` has for it
+  -- entries that agree with `g` (`AgreeWith`), put into a map, give each of their numbers the value that `g` has for it
   agreeing_comes : (m : FinMap nat_cmp ℕ) (es : Entries) (n s : ℕ) → AgreeWith es → g n ≡ Some s → is_some (find nat_cmp n es) ≡ true → get (with_each m es) n ≡ Some s
   agreeing_comes m [] n s tells is some = absurd (false≢true some)
   agreeing_comes m (e ∷ es) n s tells is some = elim (cases_eq n e.0) [
@@ -123,16 +123,16 @@ module _ (g : ℕ → Option ℕ) where
     | inr apart ↦ agreeing_comes (insert m e.0 e.1) es n s tells.1 is (ap is_some (sym (found_other e es n apart)) ∙ some)
   ]
 
-  -- entries that agree with the function `g` and have all its numbers, put into the empty map, make a map of `g`
+  -- entries that agree with `g` and have all its numbers, put into the empty map, give each number what `g` has for it
   pub agreeing_put : (es : Entries) → AgreeWith es → ((n s : ℕ) → g n ≡ Some s → is_some (find nat_cmp n es) ≡ true) → (n : ℕ) → get (with_each empty es) n ≡ g n
   agreeing_put es tells whole n = by_find (find nat_cmp n es) refl
     where
-      -- the function has no value for a number that isn't among the entries
+      -- `g` has no value for a number that isn't among the entries
       nothing : find nat_cmp n es ≡ None → (o : Option ℕ) → g n ≡ o → o ≡ None
       nothing none None is = refl
       nothing none (Some s) is = absurd (false≢true (ap is_some (sym none) ∙ whole n s is))
 
-      -- the map has the function's value for `n`, whether `n` is among the entries or not
+      -- the map of the entries has for `n` what `g` has, whether `n` is among the entries or not
       by_find : (o : Option ℕ) → find nat_cmp n es ≡ o → get (with_each empty es) n ≡ g n
       by_find None is = left empty es n is ∙ get-empty nat_cmp n ∙ sym (nothing is (g n) refl)
       by_find (Some s) is =
@@ -145,7 +145,7 @@ module _ (g : ℕ → Option ℕ) where
 pub found_put : (es : Entries) → IsApart es → (n : ℕ) → get (with_each empty es) n ≡ find nat_cmp n es
 found_put es apart = agreeing_put (λ n. find nat_cmp n es) es (each_found (λ e. find nat_cmp e.0 es ≡ Some e.1) es apart (λ n s is. is)) (λ n s is. ap is_some is)
 
--- a number below those of all entries isn't found
+-- a number below those of all entries isn't found among them
 none_under : (k : ℕ) (es : Entries) → AllByRecursion (λ e. k < e.0) es → find nat_cmp k es ≡ None
 none_under k [] above = refl
 none_under k (e ∷ es) above = found_other e es k (λ same. absurd (omega (arith, same, above.0))) ∙ none_under k es above.1
@@ -169,7 +169,7 @@ last_put : {V : Type 0} (m : FinMap nat_cmp V) (es : List (ℕ × V)) (n : ℕ) 
 last_put m [] n = refl
 last_put {V} m (e ∷ es) n = last_put (insert m e.0 e.1) es n ∙ by_find (find nat_cmp n (reverse es)) refl ∙ sym (ap (λ fs. or_else (find nat_cmp n fs) (get m n)) (reverse-append (e ∷ []) es))
   where
-    -- what later entries have for `n` (`o`), or else the map with `e`, is what all entries have, or else the map
+    -- what entries after `e` have for `n` (`o`), or else the map with `e` has, is what all have, or else the map
     by_find : (o : Option V) → find nat_cmp n (reverse es) ≡ o → or_else o (get (insert m e.0 e.1) n) ≡ or_else (find nat_cmp n (reverse es ++ e ∷ [])) (get m n)
     by_find (Some s) is = ap (λ o. or_else o (get m n)) (sym (found_first n (reverse es) (e ∷ []) s is))
     by_find None is =
@@ -192,7 +192,7 @@ put_in_turn {V} es = same_map nat_cmp_total nat_cmp-IsAntisymmetric _ _ (λ n.
 
 -- ---- entries that regions give, where a number gets one share at most
 
--- a number found among the entries of one element of a list is found among those of all
+-- a number found among the entries that `f` gives for an element of a list is found among those of all its elements
 pub found_among : (f : ℕ → Entries) (n : ℕ) (xs : List ℕ) (x : ℕ) → list_any (eq_by_cmp nat_cmp x) xs ≡ true → is_some (find nat_cmp n (f x)) ≡ true → is_some (find nat_cmp n (flat_map f xs)) ≡ true
 found_among f n [] x among some = absurd (false≢true among)
 found_among f n (y ∷ xs) x among some = by_first (λ h. found_among f n xs x h some) (find nat_cmp n (f y)) refl (eq_by_cmp nat_cmp x y) refl among
@@ -233,7 +233,7 @@ module _ (f : ℕ → Entries) where
 
 -- ---- pairs of numbers and amounts
 
--- a number found among pairs of numbers and amounts is one of the numbers
+-- if `P` holds of each of the numbers that are paired with amounts, it holds of a number found among the pairs
 zip_found : (P : ℕ → Type 0) (ns ss : List ℕ) (n s : ℕ) → AllByRecursion P ns → find nat_cmp n (zip ns ss) ≡ Some s → P n
 zip_found P [] ss n s h is = none_some s is
 zip_found P (k ∷ ns) [] n s h is = none_some s is
@@ -254,7 +254,7 @@ zip_apart [] ss h = tt
 zip_apart (n ∷ ns) [] h = tt
 zip_apart (n ∷ ns) (s ∷ ss) h = (refuted _ (λ t is. let low = zip_found (λ k. n < k) ns ss n t h.0 is in absurd (omega (arith, low))), zip_apart ns ss h.1)
 
--- a function that agrees with pairs of numbers and amounts maps the numbers to the amounts
+-- if `g` has under each number of `ns` the amount of `ss` paired with it, `g` maps the numbers to these amounts
 zip_all : (g : ℕ → Option ℕ) (ns ss : List ℕ) → length ss ≡ length ns → IsApart (zip ns ss) → ((n s : ℕ) → find nat_cmp n (zip ns ss) ≡ Some s → g n ≡ Some s) → map g ns ≡ map Some ss
 zip_all g [] [] l apart h = refl
 zip_all g [] (s ∷ ss) l apart h = absurd (omega arith)
@@ -282,12 +282,12 @@ keys_risen [] h = tt
 keys_risen (e ∷ es) h = (each_mapped (λ f. f.0) (λ k. e.0 < k) es h.0, keys_risen es h.1)
 
 module _ {X : Type 0} (p : X → Bool) where
-  -- the elements of a list that pass a test stay in their order (`InOrder`)
+  -- if the elements of a list are in order by `R` (`InOrder`), so are those that pass a test
   kept_in_order : (R : X → X → Type 0) (xs : List X) → InOrder R xs → InOrder R (filter p xs)
   kept_in_order R [] h = tt
   kept_in_order R (x ∷ xs) h = either (kept_in_order R xs h.1) (p x)
     where
-      -- what passes the test is in order with `x` in front, whether `x` passes or not
+      -- the elements that pass are in order, with `x` in front if it passes, and without it if not
       either : InOrder R (filter p xs) → (b : Bool) → InOrder R (cond b (x ∷ filter p xs) (filter p xs))
       either rest true = (filter_each p (R x) xs h.0, rest)
       either rest false = rest
@@ -298,7 +298,7 @@ module _ (p : ℕ → Bool) (n : ℕ) where
   kept_listed [] h is = is
   kept_listed (k ∷ ns) h is = by_test (kept_listed ns h) (p k) refl is
     where
-      -- the number stays listed with `k` in front, whether `k` passes the test or not
+      -- `n` is among those that pass, when `k` stands in front of the list, whether `k` passes or not
       by_test : (IsListed n ns → IsListed n (filter p ns)) → (b : Bool) → p k ≡ b → IsListed n (k ∷ ns) → IsListed n (cond b (k ∷ filter p ns) (filter p ns))
       by_test rest true e (inl same) = inl same
       by_test rest true e (inr later) = inr (rest later)
@@ -357,7 +357,7 @@ module _ (pot_of : ℕ → ℕ) (wants : FinMap nat_cmp ℕ) (units : FinMap nat
   pub given_apart : (r : ℕ) → IsApart (given_in r)
   given_apart r = zip_apart (takers_in wants units r) (shares (pot_of r) (wants_in wants units r)) (takers_risen wants units r)
 
-  -- no unit has shares in two regions
+  -- if a unit has a share in region `q` and one in region `r`, the shares are equal, since a unit is in one region
   gives_one : (n q r s t : ℕ) → find nat_cmp n (given_in q) ≡ Some s → find nat_cmp n (given_in r) ≡ Some t → s ≡ t
   gives_one n q r s t is also =
       let ((u, at, here), _) = given_takes q n s is in
@@ -367,11 +367,11 @@ module _ (pot_of : ℕ → ℕ) (wants : FinMap nat_cmp ℕ) (units : FinMap nat
       let share : Some s ≡ Some t = sym is ∙ ap (λ k. find nat_cmp n (given_in k)) region ∙ also in
       cc
 
--- what holds of each region of a campaign, by its number, holds of all keys of the regions
+-- if `P` holds of the number of each region of a campaign, it holds of all keys of the map of regions
 pub each_region : (P : ℕ → Type 0) (c : CampaignValue) → ((r : ℕ) → IsThere c.regions r → P r) → AllByRecursion P (keys c.regions)
 each_region P c h = by_entries (entries c.regions) (each-from_every (λ r q. get c.regions r ≡ Some q) c.regions (λ r q is. is))
   where
-    -- what holds of each region holds of all numbers of some entries that are regions of the campaign
+    -- if `P` holds of each region's number, it holds of the numbers of listed entries that are regions of the campaign
     by_entries : (es : List (ℕ × Region)) → EachOf (λ r q. get c.regions r ≡ Some q) es → AllByRecursion P (map (λ e. e.0) es)
     by_entries [] all = tt
     by_entries (e ∷ es) all = (h e.0 (e.1, all.0), by_entries es all.1)
@@ -416,7 +416,7 @@ still_some m [] n h = h
 still_some m (e ∷ es) n h = still_some (insert m e.0 e.1) es n (some_more m e.0 e.1 n h)
 
 module _ (wants : FinMap nat_cmp ℕ) (c : CampaignValue) where
-  -- the region of an entry's unit, with the unit's number
+  -- the region of an entry's unit, with the unit's number; nothing where the unit isn't there
   abbrev asked_at : ℕ × ℕ → Entries
   asked_at e = region_at e.0 (get c.units e.0)
 
@@ -456,7 +456,7 @@ shares_each_pot pot_of wants c r region =
     let long : length given ≡ length takers = length-shares (pot_of r) (wants_in wants c.units r) ∙ length-map takers (want_of wants) in
     zip_all (share_of pot_of wants c) takers given long (given_apart pot_of wants c.units r) (λ n s is. given_is pot_of wants c r n s region is)
 
--- if a function has for the numbers `ns` the shares `ss`, each at most the number's want, it has such a share for each
+-- if `g` maps the numbers `ns` to the shares `ss`, each at most the number's want, it has such a share for each number
 shared_by : (g : ℕ → Option ℕ) (want : ℕ → ℕ) (ns ss : List ℕ) → map g ns ≡ map Some ss → ((i : ℕ) → get_or ss i 0 ≤ get_or (map want ns) i 0) → (n : ℕ) → IsListed n ns → (share : ℕ) × (g n ≡ Some share) × (share ≤ want n)
 shared_by g want [] ss same low n is = absurd is
 shared_by g want (k ∷ ns) [] same low n is = cc
@@ -485,7 +485,7 @@ only_takers_get pot_of wants c n s is =
 pub pots_give : (pot_of : ℕ → ℕ) (c : CampaignValue) (wants : FinMap nat_cmp ℕ) (n share : ℕ) → get (pot_shares pot_of wants c) n ≡ Some share → (want : ℕ) × (get wants n ≡ Some want) × (share ≤ want)
 pots_give pot_of c wants n share is = let (want, u, wanted, low, at, region) = only_takers_get pot_of wants c n share is in (want, wanted, low)
 
--- options that are all Some of some amounts have these amounts
+-- if `g` maps the numbers `ns` to Some of the amounts `ss`, then with 0 in the place of None it maps them to `ss`
 amounts : (g : ℕ → Option ℕ) (ns ss : List ℕ) → map g ns ≡ map Some ss → map (λ n. unwrap_or (g n) 0) ns ≡ ss
 amounts g ns ss h = mapped ns ∙ ap (map (λ o. unwrap_or o 0)) h ∙ back ss
   where

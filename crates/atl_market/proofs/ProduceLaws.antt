@@ -209,7 +209,7 @@ produce_keeps_others w c os = others_no_worse produce_pots w (λ items. produced
 
 -- ---- what a unit makes it can make
 
--- an order that names no item of the world has a fault
+-- an order that names no item has a fault
 needs_item : (w : WorldValue) (h : HoldingValue) → make_fault h (item_of w None) ≡ None → ⊥
 needs_item w h fine = by_men (h.men == 0) fine
   where
@@ -223,7 +223,7 @@ module _ (w : WorldValue) (c : CampaignValue) (os : List Task) where
   abbrev items : FinMap nat_cmp ℕ
   items = items_by produce_pots w c os
 
-  -- the unit of a share is there, and can make at least its share
+  -- the unit of a pair (unit, share) is in the campaign, and can make at least the share
   abbrev Makes : ℕ × ℕ → Type 0
   Makes e = (u : Unit) × (get c.units e.0 ≡ Some u) × (e.1 ≤ most_makeable w u.holding (get items e.0))
 
@@ -247,7 +247,7 @@ up_to_most h count (Some r) most = omega arith
 up_to_held : (h : HoldingValue) (count : ℕ) (raw : Option ℕ) (most r : ℕ) → raw ≡ Some r → up_to_raw h count raw most ≤ amount_of h.items r / count
 up_to_held h count raw most r is = subst (λ o. up_to_raw h count o most ≤ amount_of h.items r / count) (sym is) (omega arith)
 
--- what is at most the room left in a holding can be added within its limit
+-- if `made` is at most what `limit` leaves beside `held`, then `held` and `made` together are within the limit
 has_room : (made skilled limit held most : ℕ) → held ≤ limit → made ≤ most → most ≤ min skilled (limit - held) → held + made ≤ limit
 has_room made skilled limit held most fits low least = omega (arith, fits, low, least)
 
@@ -276,7 +276,7 @@ module _ (asked : FinMap nat_cmp ℕ) (w : WorldValue) (c : CampaignValue) (worl
 
 -- ---- all shares can be made in turn
 
--- the unit of a share is there, and has room and raw items for its share of its item
+-- the unit of a pair (unit, share) is in the campaign, and has room and raw items for the share of its item
 abbrev HasRoomFor : (FinMap nat_cmp ℕ) → WorldValue → CampaignValue → ℕ × ℕ → Type 0
 HasRoomFor asked w c e = (u : Unit) × (get c.units e.0 ≡ Some u) × ((i : ℕ) (x : Item) → get asked e.0 ≡ Some i → slice_get w.items i ≡ Some x → HasRoomAndRaw w u e.1 i x)
 

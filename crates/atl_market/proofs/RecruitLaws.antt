@@ -61,11 +61,11 @@ abbrev pub recruited_to : CampaignValue → ℕ → Unit → Region → (recruit
 recruited_to c n u q recruits cost = with_amount (region_changed (with_fewer_peasants q recruits) (joined c n u recruits cost) u.region) Recruiting Money (neg_ℤ (pos cost))
 
 module _ (w : WorldValue) (c : CampaignValue) (n : ℕ) (u : Unit) (q : Region) (recruits cost : ℕ) (is : get c.units n ≡ Some u) (around : get c.regions u.region ≡ Some q) where
-  -- the campaign after recruiting
+  -- the campaign after `recruits` peasants of the unit's region joined unit `n` for `cost`
   abbrev after : CampaignValue
   after = recruited_to c n u q recruits cost
 
-  -- what the unit holds after recruiting
+  -- what unit `n` holds after the recruits joined it and their cost was paid
   abbrev more : HoldingValue
   more = with_paid_recruits u.holding recruits cost
 
@@ -77,7 +77,7 @@ module _ (w : WorldValue) (c : CampaignValue) (n : ℕ) (u : Unit) (q : Region) 
   abbrev left : CampaignValue
   left = region_changed (with_fewer_peasants q recruits) peopled u.region
 
-  -- setting the unit, the peasants and the books, as recruiting does, gives the campaign `after`
+  -- setting the unit, the peasants and the books, as the code does, makes the campaign after recruiting (`after`)
   recruits_are : with_amount (with_peasants (with_holding c n more) u.region (q.peasants - recruits)) Recruiting Money (neg_ℤ (pos cost)) ≡ after
   recruits_are = ap (λ o. with_amount (with_peasants (with_held c n more o) u.region (q.peasants - recruits)) Recruiting Money (neg_ℤ (pos cost))) is
 
@@ -162,7 +162,7 @@ module _ (w : WorldValue) (c : CampaignValue) where
   abbrev pots : DrawnPots ℕ
   pots = region_pots c.units peasants_of
 
-  -- the unit of a share is there, has room for its recruits, and can pay for them
+  -- the unit of a pair (unit, share) is in the campaign, has room for its recruits, and can pay for them
   abbrev CanHave : ℕ × ℕ → Type 0
   CanHave e = (u : Unit) × (get c.units e.0 ≡ Some u) × (u.holding.men + e.1 ≤ men_limit) × (e.1 * w.rules.recruit_price ≤ u.holding.money)
 
@@ -216,7 +216,7 @@ module _ (w : WorldValue) (c : CampaignValue) where
         let (u, o, there, own, low) = given_is_wanted recruit_pots w c (λ items. pots_give (recruits_at w c) c) os n share is in
         (u, there, wanted_fits _ _ u.holding.men share (early.steady.numbers.units n u there).1.men low, wanted_payable _ u.holding.money w.rules.recruit_price _ share low)
 
-    -- a part of the peasants, by division, is at most all of them
+    -- a region's peasants divided by a number, rounded down, are at most all its peasants
     part : (all one : ℕ) → all / one ≤ all
     part all one = div-le_self all one
 

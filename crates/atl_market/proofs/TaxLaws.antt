@@ -59,12 +59,12 @@ module _ (w : WorldValue) (c : CampaignValue) (n : ℕ) (u : Unit) (q : Region) 
   abbrev after : CampaignValue
   after = drained c n u q share
 
-  -- setting the unit's money and that of its region gives the campaign `after`
+  -- setting the money of the unit and of its region makes the campaign after the unit took its share (`after`)
   pub tax_is : with_region_money (with_money c n (u.holding.money + share)) u.region (q.money - share) ≡ after
   tax_is = ap (λ d. with_region_money d u.region (q.money - share)) (richer_is c n u share is)
 
   module _ (enough : share ≤ q.money) where
-    -- the total of each thing is the same as before
+    -- the total of each thing is the same after the unit took its share as before, given what each of the steps changes
     same_total : (t : Thing) → total after t + region_amount t q ≡ total (richer c n u share) t + region_amount t (drain q share q)
         → total (richer c n u share) t + unit_amount t u.holding ≡ total c t + unit_amount t (paid c n u share) → total after t ≡ total c t
     same_total Money a b = omega (arith, a, b, enough)
@@ -145,7 +145,7 @@ module _ (w : WorldValue) (c : CampaignValue) where
   abbrev pots : DrawnPots ℕ
   pots = region_pots c.units money_of
 
-  -- the unit of a share is there, and has room for its share of money
+  -- the unit of a pair (unit, share) is in the campaign, and has room for its share of money
   abbrev HasRoomFor : ℕ × ℕ → Type 0
   HasRoomFor e = (u : Unit) × (get c.units e.0 ≡ Some u) × (u.holding.money + e.1 ≤ holding_limit)
 
@@ -153,7 +153,7 @@ module _ (w : WorldValue) (c : CampaignValue) where
   abbrev AreTaken : CampaignValue → List (ℕ × ℕ) → Type 0
   AreTaken = AreReady pots HasRoomFor w c
 
-  -- the first of the shares still to come can be paid
+  -- the unit of the first share still to come can take it in campaign `d` (`CanTax`)
   first_can : (d : CampaignValue) (e : ℕ × ℕ) (es : List (ℕ × ℕ)) → AreTaken d (e ∷ es) → CanTax w d e
   first_can d e es ready =
       let (u, there, fits) = ready.fits.0 in
@@ -162,7 +162,7 @@ module _ (w : WorldValue) (c : CampaignValue) where
       let draws = one_draws c.units money_of d e u q there around es ready.enough in
       record { at = record { unit = u; there = now; region = q; around = around }; fits = fits; enough = draws; early = ready.early }
 
-  -- the shares still to come can be paid in turn
+  -- the shares still to come can be paid in turn, from campaign `d` on
   all_can : (d : CampaignValue) (es : List (ℕ × ℕ)) → AreTaken d es → CanInTurn (CanTax w) after_tax d es
   all_can d [] ready = tt
   all_can d (e ∷ es) ready =
@@ -187,7 +187,7 @@ module _ (w : WorldValue) (c : CampaignValue) where
         let (u, o, there, own, low) = given_is_wanted tax_pots w c (λ items. pots_give (money_at c) c) os n share is in
         (u, there, wanted_fits u.holding.money _ share (early.steady.numbers.units n u there).1.money low)
 
-    -- each region has money enough for all shares
+    -- each region has money enough for the shares of all its units
     all_enough : HaveEnough pots c shares
     all_enough r q around = subst (λ pot. drawn (draws_region c.units r) shares ≤ pot) (ap (λ o. option_map_or money_of o 0) around) (pot_is_enough _ _ c r (q, around))
 

@@ -17,7 +17,7 @@ by_option {A} P f o otherwise without with = by_case o refl
     by_case (Some x) is = with x is
 
 module _ (c : CampaignValue) (n : ℕ) where
-  -- if unit `n` is there, `at_unit` gives the campaign with the unit's change
+  -- if unit `n` is in the campaign, `at_unit` gives what `change` makes of the unit
   pub unit_there : (change : Unit → CampaignValue) (u : Unit) → get c.units n ≡ Some u → at_unit c n change ≡ change u
   unit_there change u is = ap (λ o. option_map_or change o c) is
 
@@ -25,7 +25,7 @@ module _ (c : CampaignValue) (n : ℕ) where
   pub by_unit : (P : CampaignValue → Type 0) (change : Unit → CampaignValue) → P c → ((u : Unit) → get c.units n ≡ Some u → P (change u)) → P (at_unit c n change)
   by_unit P change without with = by_option P change (get c.units n) c without with
 
-  -- if region `n` is there, `at_region` gives the campaign with the region's change
+  -- if region `n` is in the campaign, `at_region` gives what `change` makes of the region
   pub region_there : (change : Region → CampaignValue) (q : Region) → get c.regions n ≡ Some q → at_region c n change ≡ change q
   region_there change q is = ap (λ o. option_map_or change o c) is
 

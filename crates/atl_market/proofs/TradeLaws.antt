@@ -91,11 +91,11 @@ abbrev pub dealt_to : CampaignValue → ℕ → Unit → ℕ → Entry → Trade
 dealt_to c n u i entry d = with_amount (region_changed (λ r. restocked r i d.stock) (supplied c n u i d) u.region) entry Money d.booked
 
 module _ (w : WorldValue) (c : CampaignValue) (n : ℕ) (u : Unit) (q : Region) (i : ℕ) (entry : Entry) (d : TradeResult) (is : get c.units n ≡ Some u) (around : get c.regions u.region ≡ Some q) where
-  -- the campaign after the trade
+  -- the campaign after unit `n` traded with the result `d`
   abbrev after : CampaignValue
   after = dealt_to c n u i entry d
 
-  -- what the unit holds after the trade
+  -- what unit `n` holds after the trade
   abbrev more : HoldingValue
   more = with_trade_result u.holding i d
 
@@ -112,7 +112,7 @@ module _ (w : WorldValue) (c : CampaignValue) (n : ℕ) (u : Unit) (q : Region) 
   deal_is = ap (λ o. with_amount (with_stock (with_held c n more o) u.region i d.stock) entry Money d.booked) is
 
   module _ (fits : ResultFits w u i (amount_of q.stocks i) d) (known : i < length w.items) (market : IsSome (market_of w u.region i)) (early : IsEarly w c) where
-    -- the new holding of the unit keeps all rules of holdings
+    -- what the unit holds after the trade keeps all rules of holdings
     may : MayHave w more
     may =
         let old = may_have w c n u is early.steady in
@@ -134,7 +134,7 @@ module _ (w : WorldValue) (c : CampaignValue) (n : ℕ) (u : Unit) (q : Region) 
         by_test j true is_i = fits.goods ∙ ap (λ k. amount_of u.holding.items k + amount_of q.stocks k) (sym (alike i j is_i))
         by_test j false is_other = refl
 
-        -- unit and region together have as much of each item as before
+        -- unit and region together have as much of each item after the trade as before it
         items : (j : ℕ) → amount_of more.items j + amount_of (restocked q i d.stock).stocks j ≡ amount_of u.holding.items j + amount_of q.stocks j
         items j =
             ap (λ k. k + amount_of (restocked q i d.stock).stocks j) (set_amount u.holding.items i d.amount j)
@@ -177,15 +177,15 @@ module _ (w : WorldValue) (u : Unit) (m : Market) (stock share : ℕ) (there : m
   limit_is : stock_limit w u.region m.item ≡ m.limit
   limit_is = ap (λ o. option_map_or (λ (x : Market). x.limit) o most_amount) there
 
-  -- less than an amount within a limit is within the limit
+  -- an amount within a limit is still within it after `k` is taken off
   less : (a k limit : ℕ) → a ≤ limit → a - k ≤ limit
   less a k limit most = omega (arith, most)
 
-  -- what leaves the unit comes to the stock: their sum stays the same
+  -- if `k` goes from what the unit has (`a`) to the stock (`s`), their sum stays the same
   gone : (a s k : ℕ) → k ≤ a → a - k + (s + k) ≡ a + s
   gone a s k enough = omega (arith, enough)
 
-  -- what leaves the stock comes to the unit: their sum stays the same
+  -- if `k` goes from the stock (`s`) to what the unit has (`a`), their sum stays the same
   come : (a s k : ℕ) → k ≤ s → a + k + (s - k) ≡ a + s
   come a s k enough = omega (arith, enough)
 
@@ -197,7 +197,7 @@ module _ (w : WorldValue) (u : Unit) (m : Market) (stock share : ℕ) (there : m
   taken_off : (a k : ℕ) → k ≤ a → pos (a - k) ≡ pos a +ℤ neg_ℤ (pos k)
   taken_off a k enough = omega (arith, ints, enough)
 
-  -- a part of an amount within a limit is within the limit
+  -- if a sum is within a limit, so is its part `k`
   part : (a k limit : ℕ) → a + k ≤ limit → k ≤ limit
   part a k limit fits = omega (arith, fits)
 
@@ -226,11 +226,11 @@ module _ (w : WorldValue) (u : Unit) (m : Market) (stock share : ℕ) (there : m
 
 -- ---- one step
 
--- the stock of an item in a region that is there is the one that the region has
+-- where region `r` is in the campaign as `q`, its stock of an item (`stock_of`) is the one that `q` has
 pub stock_is : (c : CampaignValue) (r : ℕ) (q : Region) (i : ℕ) → get c.regions r ≡ Some q → stock_of c r i ≡ amount_of q.stocks i
 stock_is c r q i around = ap (λ o. option_map_or (λ (x : Region). amount_of x.stocks i) o 0) around
 
--- a region's stock of an item is at most the limit of its market
+-- in an early campaign a region's stock of an item is at most the limit for it there (`stock_limit`)
 stock_low : (w : WorldValue) (c : CampaignValue) (r : ℕ) (q : Region) (i : ℕ) → IsEarly w c → get c.regions r ≡ Some q → amount_of q.stocks i ≤ stock_limit w r i
 stock_low w c r q i early around = by_amount (get q.stocks i) refl
   where
@@ -287,13 +287,13 @@ module _ (trade : Trade) (items : FinMap nat_cmp ℕ) (w : WorldValue) (c : Camp
         let low = subst (λ k. amount_of can.at.region.stocks m.item ≤ k) limit (stock_low w c u.region can.at.region m.item can.early can.at.around) in
         deal_fits w u m (amount_of can.at.region.stocks m.item) e.1 market.there (can.early.steady.numbers.units e.0 u can.at.there).1 low trade (subst (CanAfford trade u.holding e.1) at can.deal) (can.pot m at)
 
-    -- the trade of a unit with this market keeps the campaign early and its books balanced, within one trade's bound
+    -- the unit's trade with market `m` keeps the campaign early and its books balanced, within one trade's bound
     made_well : LeavesWell IsEarly (trade_moves trade holding_limit) w c (after_trade trade items w c e)
     made_well =
         subst (λ d. LeavesWell IsEarly (trade_moves trade holding_limit) w c d) (sym made_is)
         (deal_well w c e.0 can.at.unit can.at.region m.item (trade_entry trade) deal can.at.there can.at.around fits market.bounds.item (subst IsSome (sym market.there) refl) can.early)
 
-    -- the trade of a unit with this market takes the share out of the pot of its region and item, and out of no other
+    -- the unit's trade with market `m` takes the share out of the pot of its region and item, and out of no other
     made_drains : (units : FinMap nat_cmp Unit) → get units e.0 ≡ Some can.at.unit → Drains (item_pots trade w units items) c e (after_trade trade items w c e)
     made_drains units there =
         region_drains (item_pots trade w units items) c e (after_trade trade items w c e) can.at.unit.region can.at.region can.at.around (λ r. restocked r m.item deal.stock) (ap (λ (d : CampaignValue). d.regions) made_is)
@@ -377,7 +377,7 @@ module _ (h : HoldingValue) (m : Market) (told share : ℕ) (holds : IsHolding h
   times : (money price : ℕ) → share ≤ money / price → share * price ≤ money
   times money price few = omega (arith, mul-le-mul_right price few, mul-div-le money price, mul_comm (money / price) price)
 
-  -- what is at most the room left under a limit can be added within the limit
+  -- if `k` is at most the room that `a` leaves under a limit, `a` and `k` together are within the limit
   room_for : (a k limit : ℕ) → a ≤ limit → k ≤ limit - a → a + k ≤ limit
   room_for a k limit fits few = omega (arith, fits, few)
 
@@ -397,11 +397,11 @@ module _ (trade : Trade) (items : FinMap nat_cmp ℕ) (w : WorldValue) (world : 
   abbrev step_moves : BookBound
   step_moves = trade_moves trade holding_limit
 
-  -- the pots of the phase, by region and item
+  -- the pots of SELL or BUY, by region and item
   abbrev pots : DrawnPots (ℕ × ℕ)
   pots = item_pots trade w c.units items
 
-  -- the unit of a share is there, and can afford its share
+  -- the unit of a pair (unit, share) is in campaign `c`, and can afford the share
   abbrev CanHave : ℕ × ℕ → Type 0
   CanHave e = (u : Unit) × (get c.units e.0 ≡ Some u) × CanAfford trade u.holding e.1 (market_for w u (get items e.0))
 
@@ -474,11 +474,11 @@ module _ (trade : Trade) (w : WorldValue) (world : IsWorld w) (c : CampaignValue
   abbrev moves : BookBound
   moves = trade_moves trade holding_limit
 
-  -- the pots of the phase, by region and item
+  -- the pots of SELL or BUY, by region and item
   abbrev drawn_pots : DrawnPots (ℕ × ℕ)
   drawn_pots = item_pots trade w c.units named
 
-  -- a unit, by its number, is there and can afford its share
+  -- the unit of a pair (unit, share) is in the campaign, and can afford the share
   abbrev MayTrade : ℕ × ℕ → Type 0
   MayTrade = CanHave trade named w world c
 
@@ -498,7 +498,7 @@ module _ (trade : Trade) (w : WorldValue) (world : IsWorld w) (c : CampaignValue
       by_item u there asked None low fine told = none_some NoMarket (sym fine)
       by_item u there asked (Some i) low fine told = subst (λ o. CanAfford trade u.holding share (market_for w u o)) (sym (told i refl)) (by_market asked u there (market_for w u (Some i)) low)
 
-  -- each market's pot is enough for all shares
+  -- the pot of each region and item is at least as much as all shares that are taken out of it
   all_enough : HaveEnough drawn_pots c shares
   all_enough k q around =
       let wants = wants_by (trade_pots trade) w c os in
@@ -563,7 +563,7 @@ can_book_result trade items w c n share can u m stock entry d there at stock_at 
       room = subst (λ f. HasRoom holding_limit (amount_in c.books f Money)) (sym entry_at) (only_room (trade_entry trade) Money (amount_in c.books (trade_entry trade) Money) (can.room (trade_entry trade) Money));
     }
 
--- each stock is at most 999,999,999
+-- in an early campaign each stock is at most 999,999,999
 pub stock_most : (w : WorldValue) (c : CampaignValue) (r i : ℕ) → IsWorld w → IsEarly w c → stock_of c r i ≤ most_amount
 stock_most w c r i world early = by_region (get c.regions r) refl
   where
@@ -595,6 +595,6 @@ module _ (c d e : MarkedCampaign) (n region item stock : ℕ) (f : HoldingValue 
   pub settled_marks : MarksStock d region item stock e.marks → MarksChanges c e
   settled_marks how = marks-trans c d e set.marks (marks_by d e _ put refl (marks-stock d region item stock e.marks how))
 
-  -- after a unit's goods and a region's stock were set, the campaign is the old one with both
+  -- after a unit's goods and then a region's stock were set, the campaign is `c` with both set
   pub settled_what : (u : Unit) → get c.value.units n ≡ Some u → e.value ≡ with_stock (with_holding c.value n (f u.holding)) region item stock
   settled_what u is = put ∙ ap (λ s. with_stock s region item stock) (changed_held f c.value d.value n set.value u is ∙ sym (ap (with_held c.value n (f u.holding)) is))

@@ -69,7 +69,7 @@ module _ (p : PotMeaning) (w : WorldValue) (c : CampaignValue) (n : ℕ) (u : Un
 -- ---- units without an order stay as they are
 
 module _ (step : CampaignValue → ℕ × ℕ → CampaignValue) (others : (c : CampaignValue) (e : ℕ × ℕ) (k : ℕ) → k ≢ e.0 → get (step c e).units k ≡ get c.units k) where
-  -- a unit that gets nothing stays as it is
+  -- payments of which none is for unit `n` leave the unit as it is
   pub passed_over : (c : CampaignValue) (es : List (ℕ × ℕ)) (n : ℕ) → AllByRecursion (λ e. n ≢ e.0) es → get (fold step c es).units n ≡ get c.units n
   passed_over c [] n apart = refl
   passed_over c (e ∷ es) n apart = passed_over (step c e) es n apart.1 ∙ others c e n apart.0

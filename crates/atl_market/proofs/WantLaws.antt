@@ -53,7 +53,7 @@ pub every-with_each : (P : ℕ → ℕ → Type 0) (m : FinMap nat_cmp ℕ) (es 
 every-with_each P m [] each old = old
 every-with_each P m (e ∷ es) each old = every-with_each P (insert m e.0 e.1) es each.1 (every-insert P m e.0 e.1 each.0 old)
 
--- wants of at most 999,999,999 each (`AreWants`) stay so when a further one of at most 999,999,999 is put in
+-- if each want in a map is at most 999,999,999 (`AreWants`), this holds also after a want of at most that is put in
 pub one_want : (m : FinMap nat_cmp ℕ) (n want : ℕ) → want ≤ most_amount → AreWants m → AreWants (insert m n want)
 one_want m n want low old = every-insert (λ number want. want ≤ most_amount) m n want low old
 
@@ -87,7 +87,7 @@ module _ (p : PotMeaning) (w : WorldValue) (c : CampaignValue) where
     -- the phase finds no fault in the order
     pub fine : p.fault w u t ≡ None
 
-  -- the unit of an order unless the phase finds a fault, or NotYours without a unit
+  -- the unit that carries an order out, or else its fault: the one that the phase finds, or NotYours without a unit
   abbrev unless_fault : Task → Option Unit → Result Unit EventFault
   unless_fault t o = option_map_or (λ v. option_map_or Err (p.fault w v t) (Ok v)) o (Err NotYours)
 
@@ -120,16 +120,16 @@ module _ (p : PotMeaning) (w : WorldValue) (c : CampaignValue) where
     abbrev named : Option ℕ → Option (ℕ × ℕ)
     named s = option_map (λ i. (t.unit, i)) s
 
-    -- after an order's item is put in, its unit has the item that the order names
+    -- with the item of an order put into `items`, its unit has there the item that the order names
     item_put : (s : Option ℕ) (i : ℕ) → s ≡ Some i → get (with_any items (named s)) t.unit ≡ Some i
     item_put s i is = ap (λ o. get (with_any items (named o)) t.unit) is ∙ get-insert_same items t.unit i
 
-    -- putting in an order's item changes nothing under the numbers of other units
+    -- putting the item of an order into `items` changes nothing under the numbers of other units
     item_elsewhere : (s : Option ℕ) (n : ℕ) → n ≢ t.unit → get (with_any items (named s)) n ≡ get items n
     item_elsewhere None n apart = refl
     item_elsewhere (Some i) n apart = get-insert_other items t.unit n i apart
 
-    -- after one order is put in, each want in the map is that of some order without a fault, if that was so before
+    -- with an order's want and item put into the maps, each want is of some order without a fault, if it was before
     wanted_by : (r : Result Unit EventFault) → unit_for p w c t ≡ r → Every (IsWanted items) m → Every (IsWanted (with_any items (cond (is_ok r) (named (item_in t.order_value.operands)) None))) (with_any m (wanting r))
     wanted_by (Err f) is old = old
     wanted_by (Ok u) is old = λ n want there. elim (cases_eq n t.unit) [
@@ -149,7 +149,7 @@ module _ (p : PotMeaning) (w : WorldValue) (c : CampaignValue) where
           (v, o, here, own, wanted, fine, λ i is_i. item_elsewhere (item_in t.order_value.operands) n apart ∙ names i is_i)
     ]
 
-  -- after several orders are put in, each want in the map is that of some order without a fault, if that was so before
+  -- with orders' wants and items put into the maps, each want is of some order without a fault, if it was before
   all_wanted : (m items : FinMap nat_cmp ℕ) (ts : List Task) → Every (IsWanted items) m → Every (IsWanted (with_each items (filter_map (item_by p w c) ts))) (with_each m (filter_map (want_by p w c) ts))
   all_wanted m items [] old = old
   all_wanted m items (t ∷ ts) old =

@@ -65,7 +65,7 @@ module _ (w : WorldValue) (c : CampaignValue) (n : ℕ) (u : Unit) (money : ℕ)
   wages_are : with_amount (with_money c n (u.holding.money + money)) Wages Money (pos money) ≡ wages_paid
   wages_are = ap (λ d. with_amount d Wages Money (pos money)) (richer_is c n u money is)
 
-  -- the total of each thing grows by what is booked
+  -- once the unit got its wages, the total of each thing has grown by what is booked of it
   total_paid : (t : Thing) → pos (total wages_paid t) ≡ pos (total c t) +ℤ share_of t Money (pos money)
   total_paid t = total_of t (total-amount given Wages Money t (pos money)) (total-unit_amount w c n u more is t)
     where
@@ -144,7 +144,7 @@ work_keeps_units w c os = each_no_worse w c (entries (given_by work_pots w c os)
 
 -- ---- all shares can be paid in turn
 
--- the unit of a share is there, and has room for the wages of its share of work places
+-- the unit of a pair (unit, share) is in the campaign, and has room for the wages of its share of work places
 abbrev pub HasRoomFor : WorldValue → CampaignValue → ℕ × ℕ → Type 0
 HasRoomFor w c e = (u : Unit) × (get c.units e.0 ≡ Some u) × (u.holding.money + wages_for w u.region e.1 ≤ holding_limit)
 

@@ -34,7 +34,7 @@ use Rattle.atl_market.specs.Work.{idle_task, idle_work, is_idle, is_work, sorted
 use Rattle.atl_market.proofs.PotLaws.{some_new, still_some}
 use Rattle.atl_market.proofs.WantLaws.{appended_entries}
 
--- a test that holds is true
+-- a test `b` that holds (`T b`) is equal to `true`
 is_so : (b : Bool) → T b → b ≡ true
 is_so true h = refl
 is_so false h = absurd h
@@ -62,7 +62,7 @@ module _ {K X : Type 0} (R : K → K → Ordering) (exact : IsAntisymmetric R) (
   keyed-listed o (x ∷ xs) =
       subst AreKeyed (sym (entries-insert o (from_entries (map (λ x. (key x, x)) xs)) (key x) x)) (keyed-put x (entries (from_entries (map (λ x. (key x, x)) xs))) (keyed-listed o xs))
 
-  -- what is Less is not Equal
+  -- an ordering that is Less isn't Equal
   apart_of : (o : Ordering) → is_lt o ≡ true → is_eq o ≡ false
   apart_of Less h = refl
   apart_of Equal h = absurd (false≢true h)
@@ -95,7 +95,7 @@ work_key = key_of ByUnit
 abbrev same_work : Task → Task → Bool
 same_work a b = eq_by_cmp (slice_cmp nat_cmp) (work_key a) (work_key b)
 
--- orders with the same key by `same_work` have the same key
+-- if `same_work` says that two orders have the same key, their keys are equal
 keys_tie : (a b : Task) → same_work a b ≡ true → work_key a ≡ work_key b
 keys_tie a b h = slice_cmp-IsAntisymmetric nat_cmp-IsAntisymmetric (work_key a) (work_key b) ((Equal-is (slice_cmp nat_cmp (work_key a) (work_key b))).0 h)
 
@@ -161,12 +161,12 @@ module _ (c : CampaignValue) where
     of_unit : (e : ℕ × Unit) → AllByRecursion (λ o. o.unit ≡ e.0) (idle_by writers e)
     of_unit (n, u) = elim (nat_lt 0 u.holding.men && not (is_some (get writers n))) as (λ b. AllByRecursion (λ (o : Task). o.unit ≡ n) (cond b (idle_task n u.faction ∷ []) [])) [ true ↦ (refl, tt) | false ↦ tt ]
 
-    -- at most one order is added for a unit
+    -- the code adds at most one order of WORK for a unit
     just_one : (e : ℕ × Unit) → IsDistinct same_work (idle_by writers e)
     unfolding IsDistinct
     just_one (n, u) = elim (nat_lt 0 u.holding.men && not (is_some (get writers n))) as (λ b. IsDistinct same_work (cond b (idle_task n u.faction ∷ []) [])) [ true ↦ (tt, tt) | false ↦ tt ]
 
-    -- no two of the orders for units without an order have the same key
+    -- no two of the orders that the code adds for units without an order have the same key
     idle_apart : IsDistinct same_work (all_idle c os)
     idle_apart =
         flat_apart same_work (idle_by writers) (λ (e f : ℕ × Unit). e.0 < f.0) (λ e o. o.unit ≡ e.0)
@@ -215,17 +215,17 @@ writes_own c (o ∷ os) n u is m =
     here : o.unit ≡ n → is_of_faction o.faction (get c.units o.unit) ≡ (u.faction == o.faction)
     here same = ap (λ k. is_of_faction o.faction (get c.units k)) same ∙ ap (is_of_faction o.faction) is
 
-    -- unit `n` is in the map after an order for it exactly if its own faction wrote the order (`b`), or it was before
+    -- unit `n` is among the writers after an order for it exactly if its own faction wrote that (`b`), or it was before
     put_for : (b : Bool) → o.unit ≡ n → is_some (get (with_each m (cond b ((o.unit, o.faction) ∷ []) [])) n) ≡ (b || is_some (get m n))
     put_for true same = ap (λ k. is_some (get (insert m o.unit o.faction) k)) (sym same) ∙ some_new m o.unit o.faction
     put_for false same = refl
 
-    -- an order for another unit changes nothing in the map under `n`
+    -- an order for another unit changes nothing in the map of writers under `n`
     put_elsewhere : (b : Bool) → n ≢ o.unit → get (with_each m (cond b ((o.unit, o.faction) ∷ []) [])) n ≡ get m n
     put_elsewhere true apart = get-insert_other m o.unit n o.faction apart
     put_elsewhere false apart = refl
 
-    -- unit `n` is in the map after one order exactly if its own faction wrote the order for it, or it was before
+    -- after an order unit `n` is among the writers exactly if its own faction wrote the order for it, or it was before
     one : is_some (get (with_each m (own_unit c o)) n) ≡ ((o.unit == n && o.faction == u.faction) || is_some (get m n))
     one = elim (cases_eq n o.unit) [
       | inl same ↦
@@ -250,11 +250,11 @@ module _ (c : CampaignValue) (ts : List Task) where
   abbrev of_idle : List (ℕ × Unit) → List Task
   of_idle es = map (λ e. idle_task e.0 e.1.faction) (filter (is_idle ts) es)
 
-  -- the work that the code adds for a unit is the one that is defined
+  -- the order of WORK that the code adds for a unit, if it adds one, is the one that `is_idle` and `idle_task` define
   one_idle : (n : ℕ) (u : Unit) → get c.units n ≡ Some u → idle_by (own_writers c ts) (n, u) ≡ cond (is_idle ts (n, u)) (idle_task n u.faction ∷ []) []
   one_idle n u is = ap (λ b. cond (nat_lt 0 u.holding.men && not b) (idle_task n u.faction ∷ []) []) (is_writer c ts n u is)
 
-  -- the work that the code adds for some units is the one that is defined
+  -- the orders of WORK that the code adds for some units are those that are defined for them (`of_idle`)
   idle_are : (es : List (ℕ × Unit)) → EachOf (λ n u. get c.units n ≡ Some u) es → flat_map (idle_by (own_writers c ts)) es ≡ of_idle es
   idle_are [] h = refl
   idle_are ((n, u) ∷ es) h =
@@ -266,11 +266,11 @@ module _ (c : CampaignValue) (ts : List Task) where
       by_test true = refl
       by_test false = refl
 
-  -- the code's list of all work has the orders that are defined
+  -- the code's list of all orders of WORK is the written ones and those that `idle_work` defines
   all_are : all_work c ts ≡ written_work ts ++ idle_work c ts
   all_are = ap (λ os. written_work ts ++ os) (idle_are (entries c.units) (each-from_every (λ n u. get c.units n ≡ Some u) c.units (λ n u is. is)))
 
--- the code's list of all work, sorted by its keys, is the list of orders that is defined
+-- the code's list of all orders of WORK, sorted by its keys, is the list of the definition (`work_orders`)
 pub work_sorted : (c : CampaignValue) (m : MonthValue) (os list : List PhaseOrder) → map task_of os ≡ all_work c (orders_by_unit is_month_long m) → IsPermutation os list → IsSortedByKey (λ o. key_of ByUnit (task_of o)) (slice_cmp nat_cmp) list → map task_of list ≡ work_orders c m
 unfolding work_orders
 work_sorted c m os list are moved up =

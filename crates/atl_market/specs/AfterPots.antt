@@ -36,8 +36,8 @@ abbrev pub stock_after : Trade → (stock traded : ℕ) → ℕ
 stock_after Sell stock traded = stock + traded
 stock_after Buy stock traded = stock - traded
 
--- The law of SELL and BUY: in a world's campaign all units trade at once: each has its share less or more and the money
--- for it more or less; a region has of each item all that its units sold of it more, or bought of it less.
+-- The law of SELL and BUY: in a world (`IsWorld`) all units trade at once. By SELL each gives its share of the item and
+-- gets the money for it, and a region's stock of an item grows by all that its units sold of it; by BUY the reverse.
 abbrev pub TradesAtOnce : Type 0
 TradesAtOnce =
     (trade : Trade) (w : WorldValue) (c : CampaignValue) (os : List Task) → IsWorld w
@@ -52,8 +52,8 @@ with_more_money u money = record u { holding = record u.holding { money = u.hold
 abbrev pub with_less_money : RegionChange
 with_less_money q taken = record q { money = q.money - taken }
 
--- The law of TAX: all units take their money at once: each has its share more, and a region all that its units took
--- less.
+-- The law of TAX: all units take money at once: each has its share added to its money, and each region has all that its
+-- units took taken from its money.
 abbrev pub TaxesAtOnce : Type 0
 TaxesAtOnce = (w : WorldValue) (c : CampaignValue) (os : List Task) → PaysAtOnce tax_pots w (λ n. with_more_money) with_less_money c os
 
@@ -65,8 +65,8 @@ with_recruits w u recruits = record u { holding = with_paid_recruits u.holding r
 abbrev pub with_less_peasants : RegionChange
 with_less_peasants q joined = record q { peasants = q.peasants - joined }
 
--- The law of RECRUIT: all recruits join at once: a unit has its recruits more and their price less; a region has all
--- recruits of its units less.
+-- The law of RECRUIT: all recruits join at once: each unit has them added to its men and their price taken from its
+-- money; each region has the recruits of all its units taken from its peasants.
 abbrev pub RecruitsAtOnce : Type 0
 RecruitsAtOnce =
     (w : WorldValue) (c : CampaignValue) (os : List Task)
@@ -90,14 +90,14 @@ maker_of u made item x =
 abbrev pub maker_by : WorldValue → Unit → (made : ℕ) → Option ℕ → Unit
 maker_by w u made asked = option_map_or (λ i. option_map_or (maker_of u made i) (slice_get w.items i) u) asked u
 
--- The law of PRODUCE: all units make at once: each has what it made more and the raw items for it less; no region
--- changes.
+-- The law of PRODUCE: all units make items at once: each has what it made added, and the raw items for it taken from
+-- it; no region changes.
 abbrev pub ProducesAtOnce : Type 0
 ProducesAtOnce =
     (w : WorldValue) (c : CampaignValue) (os : List Task)
     → PaysAtOnce produce_pots w (λ n u made. maker_by w u made (get (items_by produce_pots w c os) n)) unchanged_region c os
 
--- The law of WORK: all units are paid at once: each has the wages of its work places more; no region changes.
+-- The law of WORK: all units are paid at once: each has the wages of its places added to its money; no region changes.
 abbrev pub WorksAtOnce : Type 0
 WorksAtOnce =
     (w : WorldValue) (c : CampaignValue) (os : List Task)

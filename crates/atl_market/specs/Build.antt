@@ -130,7 +130,7 @@ build_effect w n (operands.Kind (Some kind)) = option_map (begin w n kind) (slic
 build_effect w n (operands.Kind None) = Some (go_on w n)
 build_effect w n other = None
 
--- the effect of each order of BUILD, by its unit and operands; it needs no alias
+-- the effect of each order of BUILD, by its unit and operands; BUILD names no unit by an alias
 abbrev pub build_step : OrderMeaning
 build_step w aliases t = build_effect w t.unit t.order_value.operands
 

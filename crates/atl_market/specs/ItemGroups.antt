@@ -8,7 +8,7 @@ use Rattle.atl_campaign.specs.Campaign.{CampaignValue, numbers_in}
 use Rattle.atl_market.specs.Pots.{want_of}
 use Rattle.atl_shares.specs.Share.{shares}
 
--- the wants of units by item, and of each item by unit
+-- the wants of units: for each item a map from each unit that asks for it to its want
 abbrev pub Groups : Type 0
 Groups = FinMap nat_cmp (FinMap nat_cmp ℕ)
 
@@ -26,7 +26,7 @@ abbrev pub item_shares_in : (pot_of : ℕ → ℕ → ℕ) → FinMap nat_cmp �
 item_shares_in pot_of wants region group =
     zip (keys group.1) (shares (pot_of group.0 region) (map (want_of wants) (keys group.1)))
 
--- the units of a region with their shares of all items, item by item
+-- the units of a region, item by item, each with its share of the item that it asks for
 abbrev pub region_shares : (ℕ → Option ℕ) → (pot_of : ℕ → ℕ → ℕ) → FinMap nat_cmp ℕ → CampaignValue → (region : ℕ) → List (ℕ × ℕ)
 region_shares item_of pot_of wants c region =
     flat_map (item_shares_in pot_of wants region) (entries (fold (with_want item_of wants) empty (numbers_in region c.units)))

@@ -13,7 +13,7 @@ abbrev pub is_for : ℕ → Option ℕ → Bool
 is_for item asked = option_map_or (λ other. other == item) asked false
 
 module _ (item_of : ℕ → Option ℕ) where
-  -- the wants, by unit, of those units that ask for an item
+  -- the wants, by unit, of those units that ask for the item with the given number
   abbrev pub wants_for : FinMap nat_cmp ℕ → (item : ℕ) → FinMap nat_cmp ℕ
   wants_for wants item = retain_keys wants (λ number. is_for item (item_of number))
 

@@ -11,7 +11,7 @@ use Rattle.atl_phase.specs.Bounds.{HaveRoom}
 use Rattle.atl_market.specs.Recruit.{recruit_moves}
 use Rattle.atl_market.specs.Work.{wages_for, work_moves}
 
--- unit `n` is there, and so is its region (`around`)
+-- unit `n` is in the campaign, and so is the region that it is in (`around`)
 pub record IsSomewhere (c : CampaignValue) (n : ℕ) : Type 0 where
   -- the unit under the number `n`
   pub unit : Unit
@@ -24,7 +24,7 @@ pub record IsSomewhere (c : CampaignValue) (n : ℕ) : Type 0 where
 
 -- the unit of a pair (unit, share) can take its share of tax: it has room for the money, and its region has it
 pub record CanTax (w : WorldValue) (c : CampaignValue) (e : ℕ × ℕ) : Type 0 where
-  -- the unit and its region are there
+  -- the unit of the pair and its region are in the campaign
   pub at : IsSomewhere c e.0
   -- the unit has at most 999,999,999 money with its share added
   pub fits : at.unit.holding.money + e.1 ≤ holding_limit
@@ -36,7 +36,7 @@ pub record CanTax (w : WorldValue) (c : CampaignValue) (e : ℕ × ℕ) : Type 0
 -- The unit of a pair (unit, share) can get its share of recruits: it has the money and room for the men, its region
 -- has the peasants, and the books have room.
 pub record CanRecruit (w : WorldValue) (c : CampaignValue) (e : ℕ × ℕ) : Type 0 where
-  -- the unit and its region are there
+  -- the unit of the pair and its region are in the campaign
   pub at : IsSomewhere c e.0
   -- the unit has at most 999,999 men with its recruits added
   pub fits : at.unit.holding.men + e.1 ≤ men_limit

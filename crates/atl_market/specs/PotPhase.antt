@@ -41,11 +41,11 @@ count_in other = 0
 
 -- what is particular to one phase with pots: its faults, wants and shares, and what a share changes
 pub record PotMeaning : Type 0 where
-  -- the fault of an order of the unit's own faction, if there is one
+  -- the fault that the phase finds in an order of the unit's own faction, if there is one
   pub fault : WorldValue → Unit → Task → Option EventFault
   -- how much a unit wants by an order: of the pot of its region, or of its item's pot there
   pub want : WorldValue → Unit → Task → ℕ
-  -- how much each unit gets, by unit, from the items that the orders name and from the wants, which are also by unit
+  -- how much each unit gets, by unit, worked out from the item that its order names and its want, both also by unit
   pub grants : (items : FinMap nat_cmp ℕ) → WorldValue → CampaignValue → (wants : FinMap nat_cmp ℕ) → FinMap nat_cmp ℕ
   -- the number in the event of a unit's order, by the unit's share of the pot
   pub event_number : WorldValue → Unit → ℕ → ℕ
@@ -101,7 +101,7 @@ module _ (p : PotMeaning) (w : WorldValue) (c : CampaignValue) where
   outcome_of given t (Err fault) = Fault (event_fault_number fault)
   outcome_of given t (Ok u) = Done (p.event_number w u (unwrap_or (get given t.unit) 0))
 
-  -- the event of an order, by the amounts in `given`
+  -- the event of an order, where `given` has how much each unit gets
   abbrev pub event_of : FinMap nat_cmp ℕ → Task → Event
   event_of given t = event_for t (outcome_of given t (unit_for t))
 

@@ -9,7 +9,7 @@ use Rattle.atl_campaign.specs.Campaign.{CampaignValue, numbers_in}
 use Rattle.atl_records.specs.declared.records.Unit.{Unit}
 use Rattle.atl_shares.specs.Share.{shares}
 
--- each want is at most 999,999,999 (`most_amount`)
+-- each want in a map of wants by unit is at most 999,999,999 (`most_amount`)
 abbrev pub AreWants : FinMap nat_cmp ℕ → Type 0
 AreWants wants = Every (λ number want. want ≤ most_amount) wants
 
@@ -17,7 +17,7 @@ AreWants wants = Every (λ number want. want ≤ most_amount) wants
 abbrev pub want_of : FinMap nat_cmp ℕ → ℕ → ℕ
 want_of wants number = unwrap_or (get wants number) 0
 
--- the numbers of those of some units that have a want
+-- those of the listed units, by their numbers, that have a want
 abbrev pub takers_among : FinMap nat_cmp ℕ → List ℕ → List ℕ
 takers_among wants numbers = filter (λ number. is_some (get wants number)) numbers
 
@@ -82,8 +82,8 @@ GivesEachPot =
     → IsThere c.regions region
     → sum (map (amount_given pot_of wants c) (takers_in wants c.units region)) ≡ min (pot_of region) (sum (wants_in wants c.units region))
 
--- The shares in a region follow from its pot, its units with a want and their wants alone: with these alike they are
--- alike.
+-- The shares in a region follow from its pot, its units with a want and their wants alone: two campaigns in which these
+-- are equal give equal shares there.
 abbrev pub OtherRegionsDoNotCount : Type 0
 OtherRegionsDoNotCount =
     (pot_of other_pots : ℕ → ℕ) (wants other_wants : FinMap nat_cmp ℕ) (c other : CampaignValue) (region : ℕ)

@@ -9,6 +9,6 @@ use Rattle.std.specs.FinMap.{FinMap, insert}
 abbrev pub with_each : {V : Type 0} → FinMap nat_cmp V → List (ℕ × V) → FinMap nat_cmp V
 with_each m entries = fold (λ so_far entry. insert so_far entry.0 entry.1) m entries
 
--- a map into which one entry was put, if there is one
+-- a map into which an entry was put; the map as it is where no entry is given
 abbrev pub with_any : {V : Type 0} → FinMap nat_cmp V → Option (ℕ × V) → FinMap nat_cmp V
 with_any m entry = option_map_or (λ e. insert m e.0 e.1) entry m

@@ -30,7 +30,7 @@ use Rattle.atl_market.specs.ItemPots.{item_shares}
 use Rattle.atl_market.specs.PotPhase.{PotMeaning, count_in, item_in, pots_by_orders}
 use Rattle.atl_market.specs.Unordered.{spares_unordered}
 
--- whether a phase sells or buys, as a `Trade`
+-- the trade of a phase: `Sell` if it sells, else `Buy`
 abbrev pub trade_of : (sells : Bool) → Trade
 trade_of true = Sell
 trade_of false = Buy
@@ -47,7 +47,7 @@ market_for w u item = option_and_then (market_of w u.region) item
 
 -- ---- who trades
 
--- whether a unit has none of the item to sell, or less money than one costs
+-- whether a unit has too little for any trade: for SELL none of the item, for BUY less money than one piece costs
 abbrev pub has_too_little : Trade → HoldingValue → Market → Bool
 has_too_little Sell h m = amount_of h.items m.item == 0
 has_too_little Buy h m = nat_lt h.money m.price

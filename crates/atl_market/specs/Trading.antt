@@ -20,13 +20,14 @@ use Rattle.atl_market.specs.declared.trade.Trade.TheVariants.{Sell, Buy}
 use Rattle.atl_market.specs.Payable.{IsSomewhere}
 use Rattle.atl_market.specs.Trade.{market_for, trade_moves}
 
--- a unit can trade `share` pieces: it has them and room for their money, or can pay for them and has room for them
+-- A unit can sell `share` pieces (it has them, and room for the money) or buy them (it has the money, and room for
+-- them); without a market `share` is 0.
 abbrev pub CanAfford : Trade → HoldingValue → (share : ℕ) → Option Market → Type 0
 CanAfford trade h share None = share ≡ 0
 CanAfford Sell h share (Some m) = (share ≤ amount_of h.items m.item) × (h.money + share * m.pays ≤ holding_limit)
 CanAfford Buy h share (Some m) = (share * m.price ≤ h.money) × (amount_of h.items m.item + share ≤ holding_limit)
 
--- the market has room for `share` pieces (SELL), or has them in stock (BUY)
+-- the market has room for `share` pieces (SELL), or has them in stock (BUY); always so without a market
 abbrev pub HasPot : Trade → (stock share : ℕ) → Option Market → Type 0
 HasPot trade stock share None = ⊤
 HasPot Sell stock share (Some m) = stock + share ≤ m.limit
@@ -44,7 +45,7 @@ pub record IsPriced (m : Market) : Type 0 where
 -- The unit of a pair (unit, share) can trade its share of its order's item: it can afford it, and the market's pot and
 -- the books allow it.
 pub record CanTrade (trade : Trade) (items : FinMap nat_cmp ℕ) (w : WorldValue) (c : CampaignValue) (e : ℕ × ℕ) : Type 0 where
-  -- the unit and its region are there
+  -- the unit of the pair and its region are in the campaign
   pub at : IsSomewhere c e.0
   -- the unit can trade its share with the market of its order's item; without a market the share is 0
   pub deal : CanAfford trade at.unit.holding e.1 (market_for w at.unit (get items e.0))

@@ -74,7 +74,7 @@ wage_at w region = option_map_or (λ t. t.wage) (terrain_of w region) 0
 abbrev pub places_at : WorldValue → ℕ → ℕ
 places_at w region = option_map_or (λ t. t.places) (terrain_of w region) 0
 
--- how many work places a unit wants: one for each man, as far as it has room for the wages
+-- how many work places a unit wants: one for each man, as far as it has room for the wages; 0 where no terrain is given
 abbrev pub work_want : Unit → Option Terrain → ℕ
 work_want u terrain =
     option_map_or (λ t. min u.holding.men ((holding_limit - u.holding.money) / t.wage)) terrain 0

@@ -121,8 +121,8 @@ fn name_of(alloc: Global, kind: &Kind, number: u32) -> Result<Text, AllocError>
     Ok(Text::from_string(letters))
 }
 
-/// A unit uses `size` of its material for a new structure, leaves its old one and enters the new
-/// one.
+/// A unit begins a structure: it uses `size` of the kind's material, leaves its old structure and
+/// enters the new one.
 fn start(
     alloc: Global,
     world: &World,

@@ -39,7 +39,7 @@ pub(crate) trait ItemPots {
         ensures bound { result ≤ most_amount };
 }
 
-/// The wants of units by item, and of each item by unit.
+/// The wants of units: for each item a map from each unit that asks for it to its want.
 type Groups = Numbered<Numbered<u32>>;
 
 /// Puts a unit's want into the group of the item that it asks for, if it has a want and asks for
@@ -87,8 +87,8 @@ fn takers_of(alloc: Global, wants: &Numbered<u32>) -> Result<Vec<u32>, AllocErro
     Ok(takers)
 }
 
-/// Shares what one region has, item by item, among the groups of its units, and puts the shares
-/// into a map by unit.
+/// Shares what one region has of each item among the units that ask for it (a group of `groups`),
+/// and puts the shares into a map by unit.
 fn share_items<P: ItemPots>(
     alloc: Global,
     pots: &P,

@@ -33,7 +33,7 @@ pub(crate) trait PotPhase {
     // each unit's order names.
     ghost can_pay: { Self → FinMap nat_cmp ℕ → WorldValue → CampaignValue → ℕ × ℕ → Type 0 };
 
-    /// The fault of an order of the unit's own faction, if there is one.
+    /// The fault that the phase finds in an order of the unit's own faction, if there is one.
     fn fault(&self, world: &World, unit: &Unit, order: PhaseOrder<'_>) -> Option<EventFault>
         ensures { result ≡ PotMeaning.fault (meaning self.now) world.now unit.now
             (task_of order.entry) };
@@ -44,8 +44,8 @@ pub(crate) trait PotPhase {
             (task_of order.entry) }
         ensures bound { result ≤ most_amount };
 
-    /// How much each unit gets, by unit, from the items that the orders name and from the wants,
-    /// which are also by unit. AllocError without memory.
+    /// How much each unit gets, by unit, worked out from `items`, the item that each unit's order
+    /// names, and `wants`, how much each unit wants, both by unit. AllocError without memory.
     fn grants(
         &self,
         alloc: Global,

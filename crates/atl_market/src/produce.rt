@@ -50,8 +50,8 @@ impl PotPhase for ProducePhase {
         most_makeable(world, &unit.holding, named_item(order))
     }
 
-    /// How much each unit makes: its share of its region's output of the item, or, with a raw item,
-    /// all that it wants.
+    /// How much each unit makes: its share of its region's output of the item, or, where the item
+    /// is made of a raw item, all that it wants.
     fn grants(
         &self,
         alloc: Global,
@@ -120,9 +120,9 @@ impl Phase for ProducePhase {
     }
 }
 
-/// The law that all units produce at once: each has what it made more than as the phase began, and
-/// the raw items that went into it less, and no region changes. Does nothing. See docs/RULES.md,
-/// "Producing".
+/// The law that all units produce at once: what a unit made is added to what it had as the phase
+/// began, and the raw items that went into it are taken off; no region changes. Does nothing. See
+/// docs/RULES.md, "Producing".
 pub fn units_produce_all_at_once()
     ensures { ProducesAtOnce }
 {}

@@ -149,9 +149,9 @@ impl Phase for RecruitPhase {
     }
 }
 
-/// The law that all recruits join at once: each unit has its own more and their price less than as
-/// the phase began, and each region those that joined its units less. Does nothing. See
-/// docs/RULES.md, "Recruiting".
+/// The law that all recruits join at once: they are added to the men that their unit had as the
+/// phase began, their price is taken off its money, and they are taken off the peasants of its
+/// region. Does nothing. See docs/RULES.md, "Recruiting".
 pub fn recruits_join_all_at_once()
     ensures { RecruitsAtOnce }
 {}

@@ -141,8 +141,9 @@ impl Phase for TaxPhase {
     }
 }
 
-/// The law that all units take their tax at once: each has its share more than as the phase began,
-/// and each region what its units took less. Does nothing. See docs/RULES.md, "Tax".
+/// The law that all units take their tax at once: each has its share added to the money that it had
+/// as the phase began, and what its units took is taken off each region's money. Does nothing. See
+/// docs/RULES.md, "Tax".
 pub fn tax_pays_all_at_once()
     ensures { TaxesAtOnce }
 {}

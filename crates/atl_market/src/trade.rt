@@ -72,7 +72,8 @@ fn market_for<'a>(world: &'a World, unit: &Unit, item: Option<u16>) -> Option<&'
     world.market(unit.region, item?)
 }
 
-/// Whether a unit has none of an item to sell, or too little money to buy one.
+/// Whether a unit has too little for any trade: none of the item (SELL), or less money than one
+/// piece costs (BUY).
 fn has_too_little(trade: Trade, holding: &Holding, market: &Market) -> bool
     ensures { result ≡ has_too_little trade holding.now market.now }
 {
@@ -297,7 +298,7 @@ impl PotPhase for Trade {
     }
 }
 
-/// Whether a phase sells or buys, as a `Trade`.
+/// `Trade::Sell` for a phase that sells, `Trade::Buy` for one that buys.
 fn trade_of(sells: bool) -> Trade
     ensures { result ≡ trade_of sells }
 {
@@ -348,9 +349,9 @@ impl<const SELLS: bool> Phase for TradePhase<SELLS> {
     }
 }
 
-/// The law that all units sell at once, and all buy at once: each has its share less or more than
-/// as the phase began, and the money for it more or less, and each region has of each item all that
-/// its units sold of it more, or all that they bought of it less. Does nothing. See docs/RULES.md,
+/// The law that all units sell at once, and all buy at once. By SELL a unit gives its share of the
+/// item that it had as the phase began and gets the money for it, and a region's stock of an item
+/// grows by all that its units sold of it; by BUY the reverse. Does nothing. See docs/RULES.md,
 /// "Selling" and "Buying".
 pub fn units_trade_all_at_once()
     ensures { TradesAtOnce }

@@ -12,7 +12,7 @@ use Rattle.atl_phase.proofs.FoldLaws.{fold_behind, fold_ended, fold_mapped}
 use Rattle.atl_action.specs.Teach.{TaughtMen, after_lessons, is_teaching, teach_order}
 use Rattle.atl_action.proofs.teach.teach_all.Goals as goal
 
--- before the first lesson nobody is taught
+-- by the empty map no men of any unit were taught
 nobody_yet : amount_of empty ≡ (λ n. 0)
 nobody_yet = fun_ext (λ n. ap (λ (o : Option ℕ). unwrap_or o 0) (get-empty nat_cmp n))
 

@@ -15,13 +15,13 @@ use Rattle.atl_market.specs.Recruit.{with_paid_recruits}
 use Rattle.atl_market.proofs.RecruitLaws.{recruited_is, recruited_to}
 use Rattle.atl_market.proofs.recruit.RecruitPhasePotPhase.pay.Goals as goal
 
--- money is one of the things that the books have
+-- pay may call book_taken: money is one of the things that the books have
 pub book_taken-requires-clause-there : goal.book_taken-requires-clause-there
 book_taken-requires-clause-there c =
     let books = ap (λ (d : CampaignValue). d.books) c.set_peasants.ensures.what ∙ ap (λ (d : CampaignValue). d.books) c.set_money.ensures.what ∙ ap (λ (d : CampaignValue). d.books) c.set_men.ensures.what in
     rw books (omega (arith, c.requires.can.early.steady.numbers.books.count))
 
--- the books have room for the price of the recruits
+-- pay may call book_taken: the books have room for the price of the recruits
 pub book_taken-requires-clause-room : goal.book_taken-requires-clause-room
 book_taken-requires-clause-room c =
     let can = c.requires.can in

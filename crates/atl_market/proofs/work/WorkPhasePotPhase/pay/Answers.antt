@@ -12,7 +12,7 @@ use Rattle.atl_phase.proofs.MarkLaws.{booked_marks}
 use Rattle.atl_market.specs.Work.{wages_for}
 use Rattle.atl_market.proofs.work.WorkPhasePotPhase.pay.Goals as goal
 
--- the wages fit into the books, added to what was booked before
+-- pay may call book: the wages fit into the books, added to what was booked before
 pub book-requires-clause-fits : goal.book-requires-clause-fits
 book-requires-clause-fits c =
     let can = c.requires.can in
