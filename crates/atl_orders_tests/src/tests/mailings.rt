@@ -28,7 +28,7 @@ fn tell_faults(alloc: Global, mailing: &Mailing, told: &mut String) -> Result<()
     Ok(())
 }
 
-/// A mailing that was read as text: its orders, followed by its faulty lines.
+/// What a mailing was read as, told as text: its orders, followed by its faulty lines.
 fn told_of(alloc: Global, mailing: &Mailing) -> Result<String, Fail> {
     let mut told = String::new(alloc);
     tell_orders(alloc, mailing, &mut told)?;
@@ -239,7 +239,7 @@ fn forms_tell(rt: &impl Abort, alloc: Global, world: &World) -> Result<(), Fail>
     lines_tell(rt, alloc, world, "", &BAD_WORK)
 }
 
-/// Whole texts, and what each is read as.
+/// Texts of whole mailings, with blocks, line ends and headers, and what each is read as.
 static TEXTS: [(&str, &str); 10] = [
     // One faulty line.
     (
@@ -276,8 +276,8 @@ static TEXTS: [(&str, &str); 10] = [
 /// A mailing with a byte that is not UTF-8.
 const NO_TEXT: &[u8] = b"#ATLANTIS 1\nUNIT 1\n\xc8\nTAX ";
 
-/// Long texts, some of 65,536 bytes or just more: a front, a piece and how often it comes, an end,
-/// and what each is read as.
+/// Long texts of mailings, some of 65,536 bytes or just more: a front, a piece and how often it
+/// comes, an end, and what each is read as.
 static LONG: [(&str, &str, usize, &str, &str); 8] = [
     ("#ATLANTIS 1\n", "\n", 65_524, "", ""),
     ("#ATLANTIS 1\n", "\n", 65_525, "", "refused 1"),

@@ -70,7 +70,7 @@ pub(crate) fn man_comes(alloc: Global, campaign: &mut Campaign, faction: u32) ->
     })?)
 }
 
-/// Adds a structure of a kind to region Far, of which 2 are done and which has no owner, and
+/// Adds a structure of a kind to region Far, without an owner and with 2 of its size done, and
 /// returns its number.
 pub(crate) fn structure_begins(
     alloc: Global,
