@@ -104,8 +104,8 @@ fn over_a_socket(rt: HostRuntime) -> Result<(), Fail> {
     }
 }
 
-/// Asserts Net if a listener that doesn't wait has no connection. No command is run: the faction
-/// that joins next is the first.
+/// Asserts that serving ends in the fault Net if the listener doesn't wait and has no connection,
+/// and that no command was run: the faction that joins next is the first.
 fn nobody_is_served<R: Clock + Abort>(
     rt: &R,
     alloc: Global,
@@ -119,7 +119,7 @@ fn nobody_is_served<R: Clock + Abort>(
     Ok(())
 }
 
-/// A listener without a connection gives Net, and no command is run.
+/// Serving with a listener that has no connection ends in the fault Net, and no command is run.
 #[test]
 fn no_connection_is_taken(rt: HostRuntime) -> Result<(), Fail> {
     let Ok(listener) = TcpListener::bind(&rt, (Ipv4Addr::LOCALHOST, 0)) else {

@@ -9,10 +9,11 @@ use std::io::{Read, Write};
 use std::net::TcpListener;
 use std::rt::Clock;
 
-/// The dice of all these tests: seed 1.
+/// The dice of the services in these tests: their seed is 1.
 const DICE: Dice = Dice { seed: 1 };
 
-/// A service that serves requests.
+/// What these tests call of a service: serving requests, the number of its next faction, and its
+/// books.
 pub(crate) trait Served {
     /// Serves one request.
     fn serve<R: Read, W: Write>(
