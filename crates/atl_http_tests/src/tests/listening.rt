@@ -54,7 +54,7 @@ fn peers<R: Net<Stream = TcpStream>>(
     Ok(streams)
 }
 
-/// Asserts all bytes that a peer receives.
+/// Asserts that `wanted` is all that a peer receives until its connection ends.
 fn assert_received(
     rt: &impl Abort,
     alloc: Global,
@@ -68,7 +68,7 @@ fn assert_received(
     Ok(())
 }
 
-/// Asserts what each peer receives.
+/// Asserts that each peer of `PEERS` receives its reply and no more.
 fn assert_all_received(rt: &impl Abort, alloc: Global, streams: &[TcpStream]) -> io::Result<()> {
     for (stream, (_, _, wanted)) in streams.iter().zip(PEERS.iter()) {
         assert_received(rt, alloc, stream, wanted)?;
@@ -76,7 +76,7 @@ fn assert_all_received(rt: &impl Abort, alloc: Global, streams: &[TcpStream]) ->
     Ok(())
 }
 
-/// Serves four connections, and asserts what each peer receives.
+/// Serves the four connections of `PEERS`, and asserts what each peer receives.
 fn four_are_served<R: Net<Stream = TcpStream> + Clock + Abort>(
     rt: &R,
     alloc: Global,

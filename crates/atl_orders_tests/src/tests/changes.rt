@@ -480,9 +480,8 @@ pub(crate) static MARKET_CHANGES: [Change; 12] = [
     ),
 ];
 
-/// Edits of the world with two equal markets: the item is the same also in another case, is unknown
-/// in the first market, and a name comes twice in `output`, a fault that comes before that of the
-/// markets.
+/// Edits of the world with two equal markets, whose item comes twice: once it is written in another
+/// case, once it is replaced by an unknown one, and once an earlier fault is added in `output`.
 pub(crate) static TWIN_CHANGES: [Change; 3] = [
     (
         "item = \"wood\"",

@@ -134,7 +134,7 @@ fn faulty_markets(rt: HostRuntime) -> Result<(), Fail> {
     later_faults_are(&rt, rt.alloc())
 }
 
-/// The text of a region, of which a test appends many.
+/// The text of a region, which a test appends many times to the small world.
 const REGION: &str = "[[region]]
 number = 1
 name = \"Vale\"
@@ -143,7 +143,7 @@ peasants = 1000
 money = 500
 ";
 
-/// The text of a terrain, of which a test appends many.
+/// The text of a terrain, which a test appends many times to the small world.
 const TERRAIN: &str = "[[terrain]]
 name = \"Plain\"
 land = true
@@ -153,13 +153,13 @@ money_limit = 0
 peasant_limit = 0
 ";
 
-/// The text of an item, of which a test appends many.
+/// The text of an item, which a test appends many times to the small world.
 const ITEM: &str = "[[item]]\nname = \"wood\"\nweight = 5\ncarry = 0\n";
 
-/// The text of a skill, of which a test appends many.
+/// The text of a skill, which a test appends many times to the small world.
 const SKILL: &str = "[[skill]]\nname = \"carpentry\"\nfee = 10\n";
 
-/// The text of a kind, of which a test appends many.
+/// The text of a kind, which a test appends many times to the small world.
 const KIND: &str = "[[kind]]
 name = \"lodge\"
 ship = false
@@ -235,7 +235,7 @@ static MANY: [(Long, usize, &str); 11] = [
     (MANY_KINDS, 101, "4 OutOfRange kind"),
 ];
 
-/// The text of tables inside tables, n deep.
+/// A `Long` that appends tables inside tables, n deep.
 const TABLES: Long = Long {
     front: "a = ",
     open: "{ a = ",
@@ -244,7 +244,7 @@ const TABLES: Long = Long {
     end: "",
 };
 
-/// The text of arrays inside arrays, n deep.
+/// A `Long` that appends arrays inside arrays, n deep.
 const ARRAYS: Long = Long {
     front: "a = ",
     open: "[",
@@ -252,7 +252,7 @@ const ARRAYS: Long = Long {
     ..EMPTY
 };
 
-/// The text of a table's header whose key has n + 1 parts.
+/// A `Long` that appends a table's header whose key has n + 1 parts.
 const HEADER: Long = Long {
     front: "[a",
     open: ".a",
@@ -260,7 +260,7 @@ const HEADER: Long = Long {
     ..EMPTY
 };
 
-/// The text of the header of an array of tables, whose key has n + 1 parts.
+/// A `Long` that appends the header of an array of tables, whose key has n + 1 parts.
 const ARRAY_HEADER: Long = Long {
     front: "[[a",
     open: ".a",
@@ -268,7 +268,7 @@ const ARRAY_HEADER: Long = Long {
     ..EMPTY
 };
 
-/// The text of a dotted key with n + 1 parts.
+/// A `Long` that appends a dotted key with n + 1 parts.
 const DOTTED: Long = Long {
     front: "b",
     open: ".b",
@@ -276,7 +276,7 @@ const DOTTED: Long = Long {
     ..EMPTY
 };
 
-/// The text of a dotted key of n + 1 parts below a table's header of n + 1 parts.
+/// A `Long` that appends a dotted key of n + 1 parts below a table's header of n + 1 parts.
 const DOTTED_BELOW: Long = Long {
     front: "[a",
     open: ".a",

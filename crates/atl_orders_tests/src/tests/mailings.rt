@@ -230,7 +230,7 @@ fn lines_tell(
     Ok(())
 }
 
-/// Asserts how each good order and each faulty line is read.
+/// Asserts how each line of the tables from `GOOD` to `BAD_WORK` is read.
 fn forms_tell(rt: &impl Abort, alloc: Global, world: &World) -> Result<(), Fail> {
     lines_tell(rt, alloc, world, "Number(7) ", &GOOD)?;
     lines_tell(rt, alloc, world, "Number(7) ", &NAMING)?;
@@ -409,7 +409,7 @@ fn span_names(
     Ok(())
 }
 
-/// Asserts the bytes at each span of `SPANS`.
+/// Asserts the bytes that a mailing has at each span of `SPANS`, read as a name.
 fn spans_name(rt: &impl Abort, alloc: Global, world: &World) -> Result<(), Fail> {
     let mailing = read_mailing(alloc, world, b"#ATLANTIS 1\n_\xFF")?;
     for row in SPANS.iter() {

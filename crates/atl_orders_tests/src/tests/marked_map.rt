@@ -209,8 +209,8 @@ fn count_up(rt: &impl Abort, map: &MarkedMap<u32>, thirds: bool, count: usize) {
     }
 }
 
-/// Marks all numbers in one of the two orders, takes out thirds, inserts them again, and clears all
-/// marks, and asserts the marked numbers after each of these.
+/// Marks all numbers as `marks_each` does, takes out each third one, inserts these again, clears
+/// all marks, and asserts the marked numbers after each of these.
 fn mixes(rt: &impl Abort, map: &mut MarkedMap<u32>, falling: bool) -> Result<(), Fail> {
     map.unmark();
     marks_each(map, falling);

@@ -109,7 +109,7 @@ fn all_differ(rt: &impl Abort, alloc: Global, text: &str) -> Result<(), Fail> {
     Ok(())
 }
 
-/// Two worlds differ in their markets alone only if nothing else differs.
+/// `is_same_but_for_markets` tells for each edit of `CHANGES` whether it changes markets at most.
 #[test]
 fn worlds_with_other_markets(rt: HostRuntime) -> Result<(), Fail> {
     let text = with_markets(rt.alloc(), 1)?;

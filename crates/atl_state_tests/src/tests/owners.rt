@@ -144,14 +144,14 @@ fn owner(campaign: &Campaign, structure: u32) -> u64 {
     }
 }
 
-/// Asserts the owners of both structures, and how many parts are marked.
+/// Asserts the owners of both structures, and how many parts are marked, as a case wants them.
 fn has_owners(rt: &impl Abort, row: usize, campaign: &Campaign, case: &Case) {
     assert_row(rt, row, owner(campaign, 1), u64::from(case.owners.0));
     assert_row(rt, row, owner(campaign, 2), u64::from(case.owners.1));
     assert_row(rt, row, campaign.marks() as u64, case.marks as u64);
 }
 
-/// Asserts the units inside each structure, in region 3 and of faction 1.
+/// Asserts the units inside each structure, in region 3 and of faction 1, as a case wants them.
 fn has_lists(rt: &impl Abort, row: usize, campaign: &Campaign, case: &Case) {
     assert_numbers(rt, row, campaign.inside(1), case.inside.0);
     assert_numbers(rt, row, campaign.inside(2), case.inside.1);

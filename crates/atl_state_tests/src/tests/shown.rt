@@ -189,7 +189,7 @@ fn text_of(alloc: Global, campaign: &Campaign, ask: Ask) -> Result<String, Fail>
     }
 }
 
-/// The names of the lists of marked numbers, in the order of the index of `marked`.
+/// The names of the lists of marked numbers, in the order of the index that `marked` takes.
 static LISTS: [&str; 9] = [
     "factions",
     "regions",
@@ -326,7 +326,8 @@ fn marks_text(alloc: Global, campaign: &Campaign) -> Result<String, Fail> {
 /// A step, a question after it, the answer, and what is marked then (`marks_text`).
 pub(crate) type Row = (Step, Ask, &'static str, &'static str);
 
-/// Makes the step of a row, and asserts its answer and its marks; `place` is the index of the row.
+/// Makes the step of a row, and asserts the answer and the marks that the row wants; `place` is the
+/// row's index.
 fn is_so_after(
     rt: &impl Abort,
     alloc: Global,
