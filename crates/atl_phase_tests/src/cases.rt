@@ -136,7 +136,7 @@ impl Player {
         }
     }
 
-    /// Plays the last case, and starts an empty campaign for the cases after it.
+    /// Plays the last case, and starts a campaign without units for the cases after it.
     fn begin_campaign(&mut self, alloc: Global) -> Result<(), Failed> {
         self.finish(alloc)?;
         self.setting = Setting::new(alloc);
