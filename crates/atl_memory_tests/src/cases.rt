@@ -126,8 +126,8 @@ fn commands_of(alloc: Global, call: Call) -> Result<Vec<Command>, AllocError> {
     }
 }
 
-/// The wanted answer to the command with an index from 0 in a call; None if any answer is right, as
-/// for the month's report.
+/// The wanted answer to the command at index `at`, from 0, of a call's commands; None if any answer
+/// is right, as for the month's report.
 fn wanted(call: Call, at: usize) -> Option<&'static str> {
     match (call, at) {
         (Call::Join | Call::Books | Call::RunAll, 0) => Some(JOINED),
@@ -163,7 +163,7 @@ fn is_month_right(campaign: Option<&Campaign>) -> bool {
     }
 }
 
-/// Makes a case, plays it with ample memory and with too little, and judges what came of it.
+/// Makes a case: runs its commands with ample memory, and records and judges what comes of them.
 impl Case {
     /// A case whose commands haven't been run yet.
     fn new(alloc: Global, call: Call) -> Result<Case, AllocError> {
@@ -201,8 +201,8 @@ impl Case {
         are_told && (self.call != Call::Close || is_month_right(campaign))
     }
 
-    /// The case of a call, recorded in a database with ample memory; None if an outcome isn't the
-    /// wanted one.
+    /// The case of a call, recorded with ample memory in the database of `conn`; None if an outcome
+    /// isn't the wanted one.
     fn played<S: Alter + Drop>(alloc: Global, call: Call, conn: Connection<S>) -> Option<Case> {
         let mut case = Case::new(alloc, call).ok()?;
         let mut service = match call {

@@ -32,8 +32,8 @@ fn deepen(alloc: Global, times: u32) -> bool {
     held.is_ok() && is_deep
 }
 
-/// Tries a call with 0, 1, 2, .. free blocks until it succeeds, and prints the result; less must
-/// give Memory.
+/// Tries a call with 0, 1, 2, .. free blocks until it succeeds, and prints the result; with fewer
+/// blocks it must answer Memory.
 fn with_blocks(rt: &HostRuntime, case: &Case, shortage: &mut Shortage) -> io::Result<()> {
     let call = case.call;
     for blocks in 0..2_000u32 {
@@ -49,8 +49,8 @@ fn with_blocks(rt: &HostRuntime, case: &Case, shortage: &mut Shortage) -> io::Re
     println!(rt; "{call:?}: never done")
 }
 
-/// Tries a call with each growth refused in turn, in steps of `step`, until none is refused, and
-/// prints the result.
+/// Tries a call with one growth (a request for memory) refused each time, a later one in steps of
+/// `step`, until none is refused, and prints the result.
 fn with_refusals(
     rt: &HostRuntime,
     case: &Case,

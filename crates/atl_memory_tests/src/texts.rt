@@ -4,19 +4,20 @@ use atl_service::{Answer, Service, open};
 use sqlite::{Alter, Connection};
 use std::alloc::Global;
 
-/// All rows as one text, as `Debug` prints them; None if memory is short.
+/// All rows of a campaign's tables as one text, as `Debug` prints them; None if memory is short.
 pub fn text_of(alloc: Global, parts: &Parts) -> Option<String> {
     format!(in alloc; "{parts:?}").ok()
 }
 
-/// All rows of a campaign as one text, as `Debug` prints them; None without a campaign.
+/// All rows of a campaign as one text, as `Debug` prints them; None without a campaign, or if
+/// memory is short.
 pub fn rows(alloc: Global, campaign: Option<&Campaign>) -> Option<String> {
     let parts = campaign?.parts().ok()?;
     text_of(alloc, &parts)
 }
 
 /// All rows of the campaign in a database as one text, as `Debug` prints them; None if it can't be
-/// opened.
+/// opened, or memory is short.
 pub fn rows_of<S: Alter + Drop>(alloc: Global, conn: Connection<S>) -> Option<String> {
     match open(alloc, conn) {
         Ok(service) => rows(alloc, service.campaign()),
@@ -24,12 +25,13 @@ pub fn rows_of<S: Alter + Drop>(alloc: Global, conn: Connection<S>) -> Option<St
     }
 }
 
-/// The text of a service's books; None without a campaign.
+/// The text of a service's books; None without a campaign, or if memory is short.
 pub fn books<S: Alter>(service: &Service<S>) -> Option<String> {
     service.books()?.ok()
 }
 
-/// An answer as text, for comparison; the text of a report is taken as it is.
+/// An answer as text, for comparison; the text of a report is taken as it is. None if memory is
+/// short.
 pub fn told(alloc: Global, answer: &Answer) -> Option<String> {
     match answer {
         Answer::Joined { faction, unit } => format!(in alloc; "joined {faction} {unit}").ok(),

@@ -12,8 +12,8 @@ use atl_world::World;
 use sqlite::{Alter, Connection};
 use std::alloc::Global;
 
-/// What a call did with memory short: Memory with all as before, the outcome of ample memory, or
-/// something wrong.
+/// What a call did with memory short: it answered Memory and left the rows as they were, it had the
+/// outcome of ample memory, or something else.
 #[derive(Clone, Copy, PartialEq, Eq, Debug)]
 enum Came {
     /// The answer is Memory, and all is as before.
@@ -51,7 +51,8 @@ fn judged(was_refused: Option<bool>, came: Came) -> Outcome {
     }
 }
 
-/// What a call that answered Memory did: `Memory` if all is as before, else `Wrong`.
+/// What a call that answered Memory did: `Memory` if it left what it had to leave (`is_as_before`),
+/// else `Wrong`.
 fn held(is_as_before: bool) -> Came {
     if is_as_before {
         Came::Memory
@@ -127,7 +128,8 @@ fn end_of(alloc: Global, answers: &[Answer], wanted: &[String]) -> End {
     }
 }
 
-/// What a call did, from the answers to a case's commands and the state of the service after them.
+/// What a call did (`Came`), judged by the answers to a case's commands and the state of the
+/// service after them.
 fn ended<S: Alter + Drop>(
     alloc: Global,
     service: Service<S>,
@@ -141,8 +143,8 @@ fn ended<S: Alter + Drop>(
     }
 }
 
-/// Whether a service has its rows as before, and the case's commands now have the outcome of ample
-/// memory.
+/// Whether a service has the rows from before the call, and the case's commands, run now, have the
+/// outcome of ample memory.
 fn goes_on<S: Alter + Drop>(alloc: Global, mut service: Service<S>, case: &Case) -> bool {
     let is_as_before = is_text(rows(alloc, service.campaign()), case.rows_after(0));
     match service.run_all(&case.commands) {
@@ -151,8 +153,8 @@ fn goes_on<S: Alter + Drop>(alloc: Global, mut service: Service<S>, case: &Case)
     }
 }
 
-/// Founds a campaign with memory short, and judges the result; after Memory there must be no
-/// tables.
+/// Founds a campaign with memory short, and judges the result; after Memory the database must have
+/// no tables.
 fn founds<S: Alter + Drop>(
     alloc: Global,
     conn: Connection<S>,
@@ -174,8 +176,8 @@ fn founds<S: Alter + Drop>(
     }
 }
 
-/// Opens a service's database with memory short, and judges the result; after Memory its rows must
-/// be as before.
+/// Opens a service's database with memory short, and judges the result; after Memory the database
+/// must have the rows that it had.
 fn opens<S: Alter + Drop>(
     alloc: Global,
     service: Service<S>,
@@ -215,7 +217,7 @@ fn is_still_old<S: Alter + Drop>(alloc: Global, conn: Connection<S>, case: &Case
 }
 
 /// Upgrades a file of the first format with memory short, and judges the result; after Memory it
-/// must still be old.
+/// must still be of the first format.
 fn upgrades<S: Alter + Drop>(
     alloc: Global,
     service: Service<S>,
@@ -307,7 +309,8 @@ fn gives_rows(alloc: Global, campaign: &Campaign, case: &Case, shortage: &mut Sh
     }
 }
 
-/// Checks a campaign's rows by `check` with memory short, and judges the result.
+/// Checks a campaign's rows by `check` with memory short, and judges the result: the same campaign,
+/// or Memory.
 fn checks(
     alloc: Global,
     world: &World,

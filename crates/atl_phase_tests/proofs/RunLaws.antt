@@ -25,7 +25,8 @@ use Rattle.atl_phase_tests.specs.Roomy.{IsRoomy, much}
 pub roomy_when_good : (w : WorldValue) (c d : CampaignValue) → IsGood w c → d.books ≡ c.books → IsRoomy d
 roomy_when_good w c d good books e t = subst (λ b. HasRoom much (amount_in b e t)) (sym books) (room_when_sound w c (λ f u. much) (λ f u. omega arith) good.sound e t)
 
--- Roomy books (`IsRoomy`) have room for whatever moves each amount by at most `much`.
+-- Roomy books (`IsRoomy`) have room for whatever `moving` allows (`HaveRoom`), if it moves each amount by at most
+-- `much`.
 pub room_for : (c : CampaignValue) (moving : BookBound) → ((e : Entry) (t : Thing) → moving e t ≤ much) → IsRoomy c → HaveRoom moving c
 room_for c moving little room = room_less moving (λ e t. much) c little room
 
@@ -33,16 +34,17 @@ room_for c moving little room = room_less moving (λ e t. much) c little room
 pub room_for_orders : (c : CampaignValue) → IsRoomy c → HaveRoom orders_moving c
 room_for_orders c = room_for c orders_moving (λ e t. omega (arith, phases_little e t))
 
--- What is at most `most_moved` or 0, whichever `b` chooses, is at most `most_moved`.
+-- A number `moved` is at most `most_moved` if, as `b` chooses, it is at most `most_moved` or at most 0.
 cut : (b : Bool) (moved : ℕ) → moved ≤ (if b then most_moved else 0) → moved ≤ most_moved
 cut true moved l = l
 cut false moved l = omega (arith, l)
 
--- A phase that moves only its own entries moves at most `most_moved` of each thing.
+-- A phase that moves only its own entries (`MovesItsOwn`) moves each amount, that of thing `t` under entry `e`, by at
+-- most `most_moved`.
 moves_little : (phase : PhaseSpec) → MovesItsOwn phase → (e : Entry) (t : Thing) → phase.moving e t ≤ most_moved
 moves_little phase own e t = cut (may_move phase.moved e t) (phase.moving e t) (own e t)
 
--- Roomy books (`IsRoomy`) have room for a phase that moves only its own entries, each by at most `most_moved`.
+-- Roomy books (`IsRoomy`) have room for all that a phase may book which moves only its own entries (`MovesItsOwn`).
 room_of : (phase : PhaseSpec) → MovesItsOwn phase → (c : CampaignValue) → IsRoomy c → HaveRoom phase.moving c
 room_of phase own c = room_for c phase.moving (λ e t. omega (arith, moves_little phase own e t))
 

@@ -7,6 +7,6 @@ use Rattle.atl_phase.specs.Bounds.{HaveRoom}
 abbrev pub much : ℕ
 much = 5000000000000000000
 
--- Every amount of the books of `c` has room for `much` more.
+-- Each amount of the campaign's books may rise or fall by `much` and stay within its limit (`HaveRoom`).
 abbrev pub IsRoomy : CampaignValue → Type 0
 IsRoomy c = HaveRoom (λ e t. much) c

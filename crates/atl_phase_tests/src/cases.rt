@@ -69,6 +69,7 @@ struct Player {
     told: String,
 }
 
+/// Drops the world, the setting, the current case and the report.
 impl Drop for Player {
     fn drop(self) {
         let_go!(self: Player { world, setting, run, case, played, told });
@@ -77,7 +78,8 @@ impl Drop for Player {
 
 /// Reads a file of cases line by line, and plays each case once it is read.
 impl Player {
-    /// A player with an empty campaign, before the first line is read.
+    /// The state in which a file of cases begins: a campaign of two factions without units, the run
+    /// `orders`, and no case yet.
     fn new(alloc: Global, world: World) -> Player {
         Player {
             world,
@@ -134,7 +136,7 @@ impl Player {
         }
     }
 
-    /// Plays the last case, and starts an empty campaign for the cases after it.
+    /// Plays the last case, and starts a campaign without units for the cases after it.
     fn begin_campaign(&mut self, alloc: Global) -> Result<(), Failed> {
         self.finish(alloc)?;
         self.setting = Setting::new(alloc);

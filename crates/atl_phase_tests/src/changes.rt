@@ -50,7 +50,7 @@ fn days_of(unit: Option<&Unit>, skill: u32) -> i64 {
     }
 }
 
-/// Appends a line for each item of which a unit has more or less.
+/// Appends a line for each item of which a unit has more or less than before.
 fn tell_goods(
     alloc: Global,
     world: &World,
@@ -68,7 +68,7 @@ fn tell_goods(
     Ok(())
 }
 
-/// Appends a line for each skill of which a unit has more or fewer days.
+/// Appends a line for each skill of which a unit has more or fewer days than before.
 fn tell_skills(
     alloc: Global,
     world: &World,
@@ -104,7 +104,8 @@ fn tell_unit(
     tell_skills(alloc, world, of, before, after, told)
 }
 
-/// Appends the changes of the units that were there before.
+/// Appends the changes of the units that were there before; of one that isn't there now, only that
+/// it is gone.
 fn tell_units(
     alloc: Global,
     world: &World,
@@ -125,7 +126,7 @@ fn tell_units(
     Ok(())
 }
 
-/// Appends the lines of the units that weren't there before.
+/// Appends the name, numbers, items and skills of each unit that wasn't there before.
 fn tell_new_units(
     alloc: Global,
     world: &World,
@@ -213,7 +214,7 @@ fn tell_structures(
 
 // ---- regions and factions
 
-/// Appends a line for each item of which a region has more or less in stock.
+/// Appends a line for each item of which a region has more or less in stock than before.
 fn tell_stocks(
     alloc: Global,
     world: &World,

@@ -11,7 +11,7 @@ use atl_state::are_distinct;
 use atl_world::World;
 use std::alloc::{AllocError, Global};
 
-/// The mailings of some texts, in the same order; a text that is refused is a failure.
+/// The mailings that `texts` are read as, in the same order; a text that is refused is a failure.
 fn mailings_of(alloc: Global, world: &World, texts: &[String]) -> Result<Vec<Mailing>, Failed>
     ensures { IfOk result (λ mailings. All (IsReadWith world.now) mailings.items) }
 {
@@ -36,7 +36,8 @@ fn factions_of(alloc: Global, mailings: &[Mailing]) -> Result<Vec<u32>, AllocErr
     Ok(factions)
 }
 
-/// The mailings of some texts; two of one faction are a failure.
+/// The mailings that `texts` are read as, in the same order; a refused text, and two mailings of
+/// one faction, are a failure.
 pub(crate) fn read_all(
     alloc: Global,
     world: &World,
@@ -53,7 +54,7 @@ pub(crate) fn read_all(
     Ok(mailings)
 }
 
-/// The month of some mailings and words of the dice, before any phase.
+/// The month that has these mailings and words of the dice, before any phase.
 pub(crate) fn month_of(
     alloc: Global,
     world: &World,

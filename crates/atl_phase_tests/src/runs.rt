@@ -45,7 +45,7 @@ static RUNS: [(&str, Run); 7] = [
 
 /// Looks phases up by the name that files of cases give them.
 impl Run {
-    /// The phases that files of cases name so; None if the name is not in `RUNS`.
+    /// The phases that files of cases call `name`; None if `RUNS` doesn't have the name.
     pub fn of_name(name: &str) -> Option<Run> {
         for (listed, run) in RUNS.iter() {
             if name == *listed {
@@ -112,7 +112,7 @@ fn grow(
     SeasonPhase.run(alloc, world, campaign, month)
 }
 
-/// Plays the season twice, with the same words.
+/// Plays the season twice, with the same words of the dice.
 fn grow_twice(
     alloc: Global,
     world: &World,

@@ -12,6 +12,7 @@ pub(crate) struct Case {
     pub wanted: String,
 }
 
+/// Drops the texts and the words of a case.
 impl Drop for Case {
     fn drop(self) {
         let_go!(self: Case { title, mailings, words, wanted });
@@ -46,7 +47,7 @@ impl Case {
     }
 }
 
-/// The N whole numbers of a text, separated by blanks; none if it isn't exactly that.
+/// The N whole numbers of a text, separated by blanks; None if the text is anything else.
 fn numbers<const N: usize>(text: &str) -> Option<[i64; N]> {
     let mut all = [0; N];
     let mut words = text.split_whitespace();
@@ -142,7 +143,8 @@ fn add_menless(setting: &mut Setting, text: &str) -> Option<()> {
     setting.menless.push(text.parse::<u32>().ok()?).ok()
 }
 
-/// Adds what a line says to a setting; None if the line can't be read, or memory is short.
+/// Adds what a line says (its first word is `word`, `rest` follows) to a setting; None if the line
+/// can't be read, or memory is short.
 pub(crate) fn take_setting(
     world: &World,
     setting: &mut Setting,
@@ -167,7 +169,8 @@ pub(crate) fn take_setting(
     }
 }
 
-/// Adds what a line says to a case; None if the line can't be read, or memory is short.
+/// Adds what a line says (its first word is `word`, `rest` follows) to a case; None if the line
+/// can't be read, or memory is short.
 pub(crate) fn take_case(alloc: Global, case: &mut Case, word: &str, rest: &str) -> Option<()> {
     if word == "mail" {
         case.mailings.push(String::new(alloc)).ok()

@@ -62,13 +62,14 @@ pub(crate) struct Setting {
     pub next_unit: i64,
 }
 
+/// Drops the lists of a setting.
 impl Drop for Setting {
     fn drop(self) {
         let_go!(self: Setting { units, has, stocks, structures, menless, next_unit });
     }
 }
 
-/// Makes a setting, and counts what its campaign has.
+/// Makes a setting without units, and says which number its next unit gets.
 impl Setting {
     /// A setting of two factions without units.
     pub fn new(alloc: Global) -> Setting {
@@ -170,7 +171,7 @@ fn reports(alloc: Global) -> Result<Sequence<StoredReport>, AllocError> {
     Ok(all)
 }
 
-/// The row of a unit.
+/// The row of the unit `number`, as `stood` sets it.
 fn unit(alloc: Global, number: i64, stood: &UnitSetting) -> Result<StoredUnit, AllocError> {
     Ok(StoredUnit {
         number,
@@ -195,7 +196,7 @@ fn units_of(alloc: Global, units: &[UnitSetting]) -> Result<Sequence<StoredUnit>
     Ok(all)
 }
 
-/// The rows of what the units have.
+/// The rows of the items and skills that the units have.
 fn has_of(alloc: Global, has: &[GoodSetting]) -> Result<Sequence<StoredHas>, AllocError> {
     let mut all = Sequence::new(alloc);
     for had in has {
@@ -225,7 +226,7 @@ fn markets_of(
     Ok(all)
 }
 
-/// The row of a structure.
+/// The row of the structure `number`, as `built` sets it.
 fn structure(
     alloc: Global,
     number: i64,
@@ -267,7 +268,7 @@ fn book(books: &mut Sequence<StoredBooks>, thing: i64, amount: i64) -> Result<()
     Ok(())
 }
 
-/// The sum of an item over all units.
+/// How much of an item all units of a setting have together.
 fn all_of(has: &[GoodSetting], item: i64) -> i64 {
     let mut sum: i64 = 0;
     for had in has {
@@ -278,7 +279,7 @@ fn all_of(has: &[GoodSetting], item: i64) -> i64 {
     sum
 }
 
-/// The sum of an item over all stocks.
+/// How much of an item all regions of a setting have in stock together.
 fn all_in_stock(stocks: &[StockSetting], item: i64) -> i64 {
     let mut sum: i64 = 0;
     for stock in stocks {
@@ -289,7 +290,7 @@ fn all_in_stock(stocks: &[StockSetting], item: i64) -> i64 {
     sum
 }
 
-/// The sums of money and of men over all units.
+/// The money and the men that all units of a setting have together.
 fn money_and_men(units: &[UnitSetting]) -> (i64, i64) {
     let mut money: i64 = 0;
     let mut men: i64 = 0;
@@ -373,7 +374,7 @@ fn loses_men(alloc: Global, world: &World, campaign: &mut Campaign, number: u32)
     }
 }
 
-/// Takes all men and all days of study from each of some units.
+/// Takes all men and all days of study from each unit in `units`.
 fn lose_men(alloc: Global, world: &World, campaign: &mut Campaign, units: &[u32])
     requires early { IsEarly world.now campaign.old.value }
     ensures early { IsEarly world.now campaign.new.value }
@@ -384,7 +385,7 @@ fn lose_men(alloc: Global, world: &World, campaign: &mut Campaign, units: &[u32]
     }
 }
 
-/// The campaign of a setting after the units lost their men.
+/// The campaign of a setting after the units in its list `menless` lost their men.
 pub(crate) fn campaign_of(
     alloc: Global,
     world: &World,

@@ -4,8 +4,8 @@
 
 pub mod month;
 
-/// Makes the text of a world with one region, of a beginner's money, the region's jobs and
-/// peasants, and text to append.
+/// Makes the text of a world with one region from these literals: the money of a faction that
+/// joins, the region's jobs and peasants, and text to append.
 macro_rules! vale {
     ($start_money:literal, $places:literal, $peasants:literal, $more:literal) => {
         concat!(
@@ -106,7 +106,7 @@ carry = 0
 "#
 );
 
-/// Makes the text of a world that is an island of three land regions and one of sea, of texts to
+/// Makes the text of a world that is an island of three land regions and one of sea, from texts to
 /// insert after its first and its third region.
 macro_rules! isle {
     ($of_first:literal, $of_third:literal) => {

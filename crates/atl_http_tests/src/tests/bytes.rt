@@ -6,7 +6,7 @@ use std::alloc::Global;
 use std::process::Abort;
 use std::test::Fail;
 
-/// The reply to orders without a header.
+/// The reply to a mailing without a header, the line that begins with `#ATLANTIS`.
 const NO_HEADER: &str =
     "HTTP/1.1 400 Bad Request\r\nContent-Type: application/json\r\nContent-Length: 31\r\nConnection: close\r\n\r\n{\"error\":\"NoHeader\",\"number\":9}";
 
@@ -30,7 +30,7 @@ static CASES: [(&[u8], &str); 6] = [
     ),
 ];
 
-/// Joins, and asserts the reply to each request of `CASES`.
+/// Lets Avalon join, and asserts the reply to each request of `CASES`.
 fn no_texts(rt: &impl Abort, alloc: Global, service: &mut impl Served) {
     assert_reply(rt, alloc, service, &mut JOIN.as_bytes(), JOINED);
     for (request, wanted) in CASES.iter() {

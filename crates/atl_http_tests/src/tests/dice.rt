@@ -4,7 +4,7 @@ use atl_http::Dice;
 use std::alloc::{AllocError, Global};
 use std::process::Abort;
 
-/// The first words of seed 42 and stream 54, which the generator's own demo prints.
+/// The first words of seed 42 and stream 54, which the demo that is published with PCG prints.
 static DEMO: [u32; 6] = [
     0xa15c_02b7,
     0x7b47_f409,

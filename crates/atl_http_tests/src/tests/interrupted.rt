@@ -27,7 +27,8 @@ static TOO_MANY_READS: [(usize, usize); 4] = [
     (1, usize::MAX),
 ];
 
-/// Serves a join from a reader, and asserts the reply or the fault, and how many reads there were.
+/// Serves a join from a reader, and asserts the reply or the fault (`words`), and how many reads
+/// there were.
 fn joins_by(
     rt: &impl Abort,
     alloc: Global,
@@ -40,7 +41,7 @@ fn joins_by(
     assert_count(rt, reader.reads, reads);
 }
 
-/// Asserts the reply and the number of reads for each row of `READS`.
+/// Asserts for each row of `READS` that a join is served after this number of reads.
 fn are_read(rt: &impl Abort, alloc: Global) -> Result<(), Fail> {
     for (piece, interruptions, reads) in READS.iter() {
         let mut service = begun(alloc)?;
@@ -92,14 +93,14 @@ static TOO_MANY_WRITES: [(usize, usize, usize, usize); 4] = [
     (1, usize::MAX, 0, 1_000_000),
 ];
 
-/// Serves a join to a writer, and asserts the reply.
+/// Serves a join to a writer, and asserts that it gets the whole reply.
 fn joins_over(rt: &impl Abort, alloc: Global, service: &mut impl Served, writer: &mut Narrow) {
     let mut reader = JOIN.as_bytes();
     let served = service.serve(alloc, &mut reader, writer);
     assert_text(rt, told(served, &writer.taken), JOINED);
 }
 
-/// Asserts the reply for each row of `WRITES`.
+/// Asserts for each row of `WRITES` that the whole reply to a join is written.
 fn are_written(rt: &impl Abort, alloc: Global) -> Result<(), Fail> {
     for (piece, interruptions) in WRITES.iter() {
         let mut service = begun(alloc)?;

@@ -21,7 +21,7 @@ static AT_LIMITS: [Case; 2] = [
     ),
 ];
 
-/// A new campaign, changed by SQL statements.
+/// The service of a new campaign whose tables the statements `sql` changed.
 fn changed(alloc: Global, sql: &str) -> Result<Service<MemStore>, Fail> {
     let mut conn = begun(alloc)?.end();
     conn.execute_batch(sql)?;

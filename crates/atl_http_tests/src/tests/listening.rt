@@ -54,7 +54,7 @@ fn peers<R: Net<Stream = TcpStream>>(
     Ok(streams)
 }
 
-/// Asserts all bytes that a peer receives.
+/// Asserts that `wanted` is all that a peer receives until its connection ends.
 fn assert_received(
     rt: &impl Abort,
     alloc: Global,
@@ -68,7 +68,7 @@ fn assert_received(
     Ok(())
 }
 
-/// Asserts what each peer receives.
+/// Asserts that each peer of `PEERS` receives its reply and no more.
 fn assert_all_received(rt: &impl Abort, alloc: Global, streams: &[TcpStream]) -> io::Result<()> {
     for (stream, (_, _, wanted)) in streams.iter().zip(PEERS.iter()) {
         assert_received(rt, alloc, stream, wanted)?;
@@ -76,7 +76,7 @@ fn assert_all_received(rt: &impl Abort, alloc: Global, streams: &[TcpStream]) ->
     Ok(())
 }
 
-/// Serves four connections, and asserts what each peer receives.
+/// Serves the four connections of `PEERS`, and asserts what each peer receives.
 fn four_are_served<R: Net<Stream = TcpStream> + Clock + Abort>(
     rt: &R,
     alloc: Global,
@@ -104,8 +104,8 @@ fn over_a_socket(rt: HostRuntime) -> Result<(), Fail> {
     }
 }
 
-/// Asserts Net if a listener that doesn't wait has no connection. No command is run: the faction
-/// that joins next is the first.
+/// Asserts that serving ends in the fault Net if the listener doesn't wait and has no connection,
+/// and that no command was run: the faction that joins next is the first.
 fn nobody_is_served<R: Clock + Abort>(
     rt: &R,
     alloc: Global,
@@ -119,7 +119,7 @@ fn nobody_is_served<R: Clock + Abort>(
     Ok(())
 }
 
-/// A listener without a connection gives Net, and no command is run.
+/// Serving with a listener that has no connection ends in the fault Net, and no command is run.
 #[test]
 fn no_connection_is_taken(rt: HostRuntime) -> Result<(), Fail> {
     let Ok(listener) = TcpListener::bind(&rt, (Ipv4Addr::LOCALHOST, 0)) else {

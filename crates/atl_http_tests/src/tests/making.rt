@@ -29,7 +29,8 @@ fn status_in(reply: &str) -> Option<u16> {
     status.parse::<u16>().ok()
 }
 
-/// The text of a reply, if its first line has the returned status; else words that no case wants.
+/// The text of a reply, if its first line has the status `status`, which serving returned; else
+/// words that no case wants.
 fn reply_of(status: u16, written: &[u8]) -> &str {
     match str::from_utf8(written) {
         Ok(reply) if status_in(reply) == Some(status) => reply,
@@ -51,7 +52,7 @@ pub(crate) fn told(served: Result<u16, HttpFault>, written: &[u8]) -> &str {
     }
 }
 
-/// Asserts the text of the books.
+/// Asserts that a service isn't closed, and that the text of its books is `wanted`.
 pub(crate) fn assert_books(
     rt: &impl Abort,
     service: &impl Served,

@@ -52,7 +52,8 @@ fn fails_at_each_read(rt: &impl Abort, alloc: Global, service: &mut impl Served)
     }
 }
 
-/// Asserts failed reads, a join byte by byte with interruptions, and a reply written in pieces.
+/// Asserts that failed reads run no command, that a join is served which comes byte by byte with
+/// interruptions, and that a reply can be written so.
 fn joins_in_pieces(rt: &impl Abort, alloc: Global, service: &mut impl Served) {
     fails_at_each_read(rt, alloc, service);
     let mut reader = Pieces::of(JOIN.as_bytes(), 1);
@@ -70,7 +71,8 @@ fn no_front_is_enough(rt: &impl Abort, alloc: Global, service: &mut impl Served)
     assert_reply(rt, alloc, service, &mut JOIN.as_bytes(), JOINED);
 }
 
-/// Asserts a report that is written byte by byte with interruptions.
+/// Asserts that Avalon's report is written whole to a writer that takes one byte at a time and is
+/// interrupted before each.
 fn writes_in_pieces(rt: &impl Abort, alloc: Global, service: &mut impl Served) {
     let mut writer = Narrow::of(alloc, REPORTED.len(), true);
     writer.interruptions = 1;
@@ -109,11 +111,11 @@ fn reads_no_further(rt: &impl Abort, alloc: Global, service: &mut impl Served) {
     }
 }
 
-/// The head of the longest mailing.
+/// The head of the request with the longest mailing that is accepted, of 65,536 bytes.
 const LONGEST_HEAD: &str =
     "POST /orders/1 HTTP/1.0\r\nAtlantis-Pass: pw\r\nContent-Length: 65536\r\n\r\n";
 
-/// The reply to the longest mailing.
+/// The reply to the longest mailing, which has neither orders nor faulty lines.
 const MAILED: &str =
     "HTTP/1.1 200 OK\r\nContent-Type: application/json\r\nContent-Length: 24\r\nConnection: close\r\n\r\n{\"faults\":[],\"orders\":0}";
 
@@ -180,7 +182,8 @@ fn long_heads(rt: &impl Abort, alloc: Global, service: &mut impl Served) -> Resu
     Ok(())
 }
 
-/// Reads that fail run no command, and a join may come byte by byte.
+/// Reads that fail run no command, a join may come byte by byte, and a reply may be written byte by
+/// byte.
 #[test]
 fn in_pieces(rt: HostRuntime) -> Result<(), Fail> {
     let mut service = begun(rt.alloc())?;

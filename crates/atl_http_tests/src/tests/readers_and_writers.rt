@@ -15,7 +15,7 @@ pub(crate) struct Pieces<'a> {
     interrupted: usize,
 }
 
-/// Makes such a reader.
+/// Makes a reader that gives bytes in pieces.
 impl<'a> Pieces<'a> {
     /// A reader that gives `bytes` in pieces of `piece` bytes, without interruption or failure.
     pub(crate) fn of(bytes: &'a [u8], piece: usize) -> Pieces<'a> {
@@ -65,7 +65,7 @@ pub(crate) struct Narrow {
     interrupted: usize,
 }
 
-/// Makes such a writer.
+/// Makes a writer that takes bytes in pieces.
 impl Narrow {
     /// A writer that takes one byte at a time without interruption, up to `most` bytes; then it
     /// fails or takes none.

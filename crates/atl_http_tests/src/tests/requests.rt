@@ -51,7 +51,7 @@ pub(crate) const TOO_LONG: &str =
 const NO_PASS: &str =
     "HTTP/1.1 400 Bad Request\r\nContent-Type: application/json\r\nContent-Length: 29\r\nConnection: close\r\n\r\n{\"error\":\"NoPass\",\"number\":0}";
 
-/// The reply to a join whose body isn't a JSON object with both texts, `name` and `pass`.
+/// The reply to a join whose body isn't a JSON object with the texts `name` and `pass`.
 pub(crate) const BAD_JSON: &str =
     "HTTP/1.1 400 Bad Request\r\nContent-Type: application/json\r\nContent-Length: 30\r\nConnection: close\r\n\r\n{\"error\":\"BadJson\",\"number\":0}";
 
@@ -284,8 +284,8 @@ fn lengths(rt: HostRuntime) -> Result<(), Fail> {
     plays(&rt, rt.alloc(), &LENGTHS)
 }
 
-/// Joins with their replies: bodies that are no object with both texts, and one that is. Of equal
-/// keys the last counts, and bytes after the body don't.
+/// Joins with their replies: bodies that are no JSON object with the texts `name` and `pass`, and
+/// one that is. Of equal keys the last counts, and bytes after the body don't.
 static BODIES: [Case; 9] = [
     ("POST /join HTTP/1.0\r\nContent-Length: 0\r\n\r\n", BAD_JSON),
     (
@@ -322,15 +322,15 @@ static BODIES: [Case; 9] = [
     ),
 ];
 
-/// A join whose body is no JSON object with both texts is refused with BadJson.
+/// A join whose body is no JSON object with the texts `name` and `pass` is refused with BadJson.
 #[test]
 fn bodies(rt: HostRuntime) -> Result<(), Fail> {
     plays(&rt, rt.alloc(), &BODIES)
 }
 
-/// Joins with their replies: bodies with both texts and a value that can't be read, as it is nested
-/// 128 deep, beyond all numbers, or half a character. One nested 127 deep is read, and empty lines
-/// may come before a head.
+/// Joins with their replies: bodies with `name`, `pass` and a value that can't be read, as it is
+/// nested 128 deep, beyond all numbers, or half a character. One nested 127 deep is read, and empty
+/// lines may come before a head.
 static VALUES: [Case; 4] = [
     (
         "POST /join HTTP/1.0\r\nContent-Length: 291\r\n\r\n{\"name\":\"Avalon\",\"pass\":\"pw\",\"more\":[[[[[[[[[[[[[[[[[[[[[[[[[[[[[[[[[[[[[[[[[[[[[[[[[[[[[[[[[[[[[[[[[[[[[[[[[[[[[[[[[[[[[[[[[[[[[[[[[[[[[[[[[[[[[[[[[[[[[[[[[[[[[[[]]]]]]]]]]]]]]]]]]]]]]]]]]]]]]]]]]]]]]]]]]]]]]]]]]]]]]]]]]]]]]]]]]]]]]]]]]]]]]]]]]]]]]]]]]]]]]]]]]]]]]]]]]]]]]]]]]]]]]]]]]]]]]]}",

@@ -9,12 +9,13 @@ use std::io::{Read, Write};
 use std::net::TcpListener;
 use std::rt::Clock;
 
-/// The dice of all these tests: seed 1.
+/// The dice of the services in these tests: their seed is 1.
 const DICE: Dice = Dice { seed: 1 };
 
-/// A service that serves requests.
+/// What these tests call of a service: serving requests, the number of its next faction, and its
+/// books.
 pub(crate) trait Served {
-    /// Serves one request.
+    /// Serves one request from a reader, and writes the reply; the result is the reply's status.
     fn serve<R: Read, W: Write>(
         &mut self,
         alloc: Global,
@@ -22,7 +23,7 @@ pub(crate) trait Served {
         writer: &mut W,
     ) -> Result<u16, HttpFault>;
 
-    /// Serves `count` connections.
+    /// Serves the next `count` connections of a listener, one after another.
     fn serve_each<C: Clock>(
         &mut self,
         alloc: Global,
@@ -34,7 +35,7 @@ pub(crate) trait Served {
     /// The number of the faction that joins next; 0 if the service is closed.
     fn next_faction(&self) -> u32;
 
-    /// The text of the books; None if the service is closed.
+    /// The text of the campaign's books; None if the service is closed.
     fn books(&self) -> Option<Result<String, AllocError>>;
 }
 

@@ -10,18 +10,18 @@ use std::alloc::Global;
 use std::process::Abort;
 use std::test::Fail;
 
-/// The reply with the fault Store.
+/// The reply to a request that ends in the fault Store.
 const STORE: &str =
     "HTTP/1.1 500 Internal Server Error\r\nContent-Type: application/json\r\nContent-Length: 28\r\nConnection: close\r\n\r\n{\"error\":\"Store\",\"number\":0}";
 
-/// The reply with the fault Closed.
+/// The reply to a request that ends in the fault Closed.
 const CLOSED: &str =
     "HTTP/1.1 500 Internal Server Error\r\nContent-Type: application/json\r\nContent-Length: 29\r\nConnection: close\r\n\r\n{\"error\":\"Closed\",\"number\":0}";
 
 /// A join at which the disk stops, and two requests after it.
 static STOPPED: [Case; 3] = [(JOIN, STORE), (JOIN, CLOSED), (REPORT, CLOSED)];
 
-/// A connection to files, or None if the disk stops.
+/// A database connection to files; None if the disk stops before it is open.
 fn open<D: Disk + Drop>(alloc: Global, files: Files<D>) -> Option<Connection<FileStore<D>>> {
     if !files.may_be_used() {
         return None;

@@ -5,8 +5,8 @@ use std::fmt::Debug;
 use std::process::Abort;
 use std::test::Fail;
 
-/// Asserts that a text is the wanted one; the message of a failure names the row of the test's
-/// table.
+/// Asserts that the text `told` equals `wanted`; the message of a failure names `row`, the case
+/// that is tested.
 pub(crate) fn assert_row(rt: &impl Abort, row: &str, told: &str, wanted: &str) {
     assert_eq!(rt; told, wanted, "at {row}");
 }
@@ -21,8 +21,8 @@ pub(crate) fn assert_numbers(rt: &impl Abort, told: &[u32], wanted: &[u32]) {
     assert_eq!(rt; told, wanted);
 }
 
-/// Asserts what `Debug` prints of a list of values; the message of a failure names the row of the
-/// test's table.
+/// Asserts that `Debug` prints the list `told` as `wanted`; the message of a failure names `row`,
+/// the case that is tested.
 pub(crate) fn assert_shown<T: Debug>(
     rt: &impl Abort,
     alloc: Global,

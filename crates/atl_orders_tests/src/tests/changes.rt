@@ -86,7 +86,8 @@ pub(crate) static RULES_CHANGES: [Change; 4] = [
     ),
 ];
 
-/// Edits of numbers, truth values and texts of a world with an item, a skill and a kind.
+/// Edits of keys of the world with an item, a skill and a kind: a number, a truth value or a text
+/// is missing, of another type or out of its range. The first row changes nothing.
 pub(crate) static KEY_CHANGES: [Change; 22] = [
     ("[rules]", "[rules]", "none"),
     ("wage = 12", "", "2 Missing terrain[0].wage"),
@@ -144,8 +145,8 @@ pub(crate) static KEY_CHANGES: [Change; 22] = [
     ("growth = 0", "growth = 99999999999999999999", "1 NotToml"),
 ];
 
-/// Edits of the world with an item, a skill and a kind: names twice, references to names that are
-/// missing, and a terrain's `output`.
+/// Edits of the world with an item, a skill and a kind: names that come twice, references to names
+/// that nothing has, and good and faulty values of a terrain's `output`.
 pub(crate) static NAME_CHANGES: [Change; 13] = [
     (
         "growth = 0",
@@ -426,7 +427,8 @@ pub(crate) static OUTPUT_CHANGES: [Change; 6] = [
     ),
 ];
 
-/// Edits of the market of a world with an item, a skill, a kind and one market.
+/// Edits of the world with an item, a skill, a kind and one market: of the market, in the last two
+/// rows also of its region, whose fault comes first.
 pub(crate) static MARKET_CHANGES: [Change; 12] = [
     ("item = \"wood\"", "", "2 Missing region[0].market[0].item"),
     (
@@ -478,8 +480,8 @@ pub(crate) static MARKET_CHANGES: [Change; 12] = [
     ),
 ];
 
-/// Edits of the world with two equal markets: names that come twice and names of nothing, and which
-/// of their faults counts first.
+/// Edits of the world with two equal markets, whose item comes twice: once it is written in another
+/// case, once it is replaced by an unknown one, and once an earlier fault is added in `output`.
 pub(crate) static TWIN_CHANGES: [Change; 3] = [
     (
         "item = \"wood\"",
@@ -498,8 +500,8 @@ pub(crate) static TWIN_CHANGES: [Change; 3] = [
     ),
 ];
 
-/// Edits that give a region without markets the key `market` with a value of another type, or with
-/// an inline array.
+/// Edits of the world without markets that give its region the key `market`: with a value that is
+/// no array, or with an inline array of good and faulty markets.
 pub(crate) static ARRAY_CHANGES: [Change; 13] = [
     (
         "money = 500",
@@ -583,8 +585,8 @@ pub(crate) static TOO_MANY_MARKETS: [Change; 1] = [(
 /// second format and in the first.
 pub(crate) type TwoFaults = (&'static str, &'static str, &'static str, &'static str);
 
-/// Edits of the world with one market that make a fault of the market, which the first format
-/// ignores, and a later one.
+/// Edits of the world with one market that make two faults: that of a market, which the second
+/// format reports and the first ignores, and a later one, which the first reports.
 pub(crate) static TWO_FAULTS: [TwoFaults; 4] = [
     (
         "restock = 20",

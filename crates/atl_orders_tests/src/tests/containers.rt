@@ -15,7 +15,7 @@ fn assert_text(rt: &impl Abort, alloc: Global, text: &Text, wanted: &str) -> Res
     Ok(())
 }
 
-/// Asserts that each way of making a `Text` keeps the bytes.
+/// Asserts that a `Text` made of `text` has its bytes, in whichever of the three ways it is made.
 fn made_in_each_way(rt: &impl Abort, alloc: Global, text: &str) -> Result<(), Fail> {
     assert_text(rt, alloc, &Text::from_str(alloc, text)?, text)?;
     let string = String::from_str(alloc, text)?;
@@ -26,7 +26,7 @@ fn made_in_each_way(rt: &impl Abort, alloc: Global, text: &str) -> Result<(), Fa
 /// The texts of which each `Text` is made: empty, one letter, with a space, and beyond ASCII.
 static TEXTS: [&str; 4] = ["", "a", "Big Bob", "\u{e9}\u{1f600}"];
 
-/// Each way of making a `Text` keeps its bytes, and so does a copy.
+/// A `Text` has the bytes that it is made of, in whichever way it is made, and so has a copy of it.
 #[test]
 fn texts(rt: HostRuntime) -> Result<(), Fail> {
     for text in TEXTS.iter() {
@@ -41,7 +41,7 @@ fn assert_list(rt: &impl Abort, list: &Sequence<u32>, wanted: &[u32]) {
     assert_numbers(rt, list.as_slice(), wanted);
 }
 
-/// A `Sequence` keeps the values that are pushed, in order.
+/// A `Sequence` has the values that it is made of and those that are pushed, in this order.
 #[test]
 fn sequences(rt: HostRuntime) -> Result<(), Fail> {
     let mut list = Sequence::new(rt.alloc());
@@ -81,8 +81,8 @@ pub(crate) fn filled(alloc: Global) -> Result<Numbered<u32>, Fail> {
     Ok(map)
 }
 
-/// Reads, changes and takes out entries of the map of `filled`, both those that it has and those
-/// that it hasn't, and asserts what is read.
+/// Reads, changes and removes entries of the map of `filled`, also under a number that it doesn't
+/// have, and asserts what is read.
 fn changes_entries(rt: &impl Abort, map: &mut Numbered<u32>) {
     assert!(rt; map.get(20) == Some(&2));
     assert!(rt; map.get(2).is_none());
@@ -117,7 +117,8 @@ static FAULTS: [(u8, &str, &str); 9] = [
     (8, "NoLand", "none"),
 ];
 
-/// The fault of a number in docs/FORMATS.md, "Faults of a world file", about a path.
+/// The world fault with a number of docs/FORMATS.md, "Faults of a world file", at `path` if it has
+/// a path; `Memory` for any other number.
 fn fault_of(number: u8, path: Text) -> WorldFault {
     match number {
         1 => WorldFault::NotToml,

@@ -31,7 +31,8 @@ fn old_fault(fault: &str) -> &str {
     }
 }
 
-/// Asserts the first fault of a text read in the second format, and that in the first.
+/// Asserts that the first fault of `text` is `second` if it is read in the second format, and
+/// `first` if it is read in the first; the message of a failure names `row`.
 fn faults_are(
     rt: &impl Abort,
     alloc: Global,
@@ -47,7 +48,8 @@ fn faults_are(
     Ok(())
 }
 
-/// Asserts the fault that one edit of a text makes.
+/// Asserts the first fault of `text` with `from` replaced by `to`: `wanted` in the second format,
+/// and in the first what `old_fault` says.
 pub(crate) fn assert_change(
     rt: &impl Abort,
     alloc: Global,
@@ -60,7 +62,7 @@ pub(crate) fn assert_change(
     faults_are(rt, alloc, to, text.as_str(), wanted, old_fault(wanted))
 }
 
-/// Asserts the fault that each edit of a text makes.
+/// Asserts the first faults that each edit makes, applied alone to `text` (`assert_change`).
 fn assert_changes(
     rt: &impl Abort,
     alloc: Global,
@@ -81,7 +83,8 @@ fn faulty_worlds(rt: HostRuntime) -> Result<(), Fail> {
     assert_changes(&rt, rt.alloc(), before("[[terrain]]"), &RULES_CHANGES)
 }
 
-/// Asserts the fault of each edit of the small world with an item, a skill and a kind.
+/// Asserts the first faults that each edit makes in `text`, the small world with an item, a skill
+/// and a kind.
 fn things_are(rt: &impl Abort, alloc: Global, text: &str) -> Result<(), Fail> {
     assert_changes(rt, alloc, text, &KEY_CHANGES)?;
     assert_changes(rt, alloc, text, &NAME_CHANGES)?;
@@ -99,7 +102,7 @@ fn faulty_things(rt: HostRuntime) -> Result<(), Fail> {
     things_are(&rt, rt.alloc(), text.as_str())
 }
 
-/// Asserts the fault of each edit of the world with `count` markets.
+/// Asserts the first faults that each edit makes in the world with `count` markets.
 fn markets_are(
     rt: &impl Abort,
     alloc: Global,
@@ -131,7 +134,7 @@ fn faulty_markets(rt: HostRuntime) -> Result<(), Fail> {
     later_faults_are(&rt, rt.alloc())
 }
 
-/// The text of a region, of which a test appends many.
+/// The text of a region, which a test appends many times to the small world.
 const REGION: &str = "[[region]]
 number = 1
 name = \"Vale\"
@@ -140,7 +143,7 @@ peasants = 1000
 money = 500
 ";
 
-/// The text of a terrain, of which a test appends many.
+/// The text of a terrain, which a test appends many times to the small world.
 const TERRAIN: &str = "[[terrain]]
 name = \"Plain\"
 land = true
@@ -150,13 +153,13 @@ money_limit = 0
 peasant_limit = 0
 ";
 
-/// The text of an item, of which a test appends many.
+/// The text of an item, which a test appends many times to the small world.
 const ITEM: &str = "[[item]]\nname = \"wood\"\nweight = 5\ncarry = 0\n";
 
-/// The text of a skill, of which a test appends many.
+/// The text of a skill, which a test appends many times to the small world.
 const SKILL: &str = "[[skill]]\nname = \"carpentry\"\nfee = 10\n";
 
-/// The text of a kind, of which a test appends many.
+/// The text of a kind, which a test appends many times to the small world.
 const KIND: &str = "[[kind]]
 name = \"lodge\"
 ship = false
@@ -166,7 +169,8 @@ skill = \"carpentry\"
 level = 1
 ";
 
-/// What is appended to the small world: `front`, `open` n times, `inside`, `close` n times, `end`.
+/// A text to append to the small world: `front`, `open` n times, `inside`, `close` n times, and
+/// `end`. Each row of a test's table has its n.
 #[derive(Clone, Copy)]
 struct Long {
     front: &'static str,
@@ -185,31 +189,31 @@ const EMPTY: Long = Long {
     end: "",
 };
 
-/// The text appended for n regions.
+/// A `Long` that appends n regions.
 const MANY_REGIONS: Long = Long {
     open: REGION,
     ..EMPTY
 };
 
-/// The text appended for n terrains.
+/// A `Long` that appends n terrains.
 const MANY_TERRAINS: Long = Long {
     open: TERRAIN,
     ..EMPTY
 };
 
-/// The text appended for n items.
+/// A `Long` that appends n items.
 const MANY_ITEMS: Long = Long {
     open: ITEM,
     ..EMPTY
 };
 
-/// The text appended for n skills.
+/// A `Long` that appends n skills.
 const MANY_SKILLS: Long = Long {
     open: SKILL,
     ..EMPTY
 };
 
-/// The text appended for n kinds.
+/// A `Long` that appends n kinds.
 const MANY_KINDS: Long = Long {
     open: KIND,
     ..EMPTY
@@ -231,7 +235,7 @@ static MANY: [(Long, usize, &str); 11] = [
     (MANY_KINDS, 101, "4 OutOfRange kind"),
 ];
 
-/// The text of tables inside tables, n deep.
+/// A `Long` that appends tables inside tables, n deep.
 const TABLES: Long = Long {
     front: "a = ",
     open: "{ a = ",
@@ -240,7 +244,7 @@ const TABLES: Long = Long {
     end: "",
 };
 
-/// The text of arrays inside arrays, n deep.
+/// A `Long` that appends arrays inside arrays, n deep.
 const ARRAYS: Long = Long {
     front: "a = ",
     open: "[",
@@ -248,7 +252,7 @@ const ARRAYS: Long = Long {
     ..EMPTY
 };
 
-/// The text of a table's header whose key has n + 1 parts.
+/// A `Long` that appends a table's header whose key has n + 1 parts.
 const HEADER: Long = Long {
     front: "[a",
     open: ".a",
@@ -256,7 +260,7 @@ const HEADER: Long = Long {
     ..EMPTY
 };
 
-/// The text of the header of an array of tables, whose key has n + 1 parts.
+/// A `Long` that appends the header of an array of tables, whose key has n + 1 parts.
 const ARRAY_HEADER: Long = Long {
     front: "[[a",
     open: ".a",
@@ -264,7 +268,7 @@ const ARRAY_HEADER: Long = Long {
     ..EMPTY
 };
 
-/// The text of a dotted key with n + 1 parts.
+/// A `Long` that appends a dotted key with n + 1 parts.
 const DOTTED: Long = Long {
     front: "b",
     open: ".b",
@@ -272,7 +276,7 @@ const DOTTED: Long = Long {
     ..EMPTY
 };
 
-/// The text of a dotted key of n + 1 parts below a table's header of n + 1 parts.
+/// A `Long` that appends a dotted key of n + 1 parts below a table's header of n + 1 parts.
 const DOTTED_BELOW: Long = Long {
     front: "[a",
     open: ".a",
@@ -302,7 +306,8 @@ static NESTED: [(Long, usize, &str); 16] = [
     (DOTTED_BELOW, 79, "none"),
 ];
 
-/// The text of the small world with `long` appended, its pieces repeated `times` times.
+/// The text of the small world with that of `long` appended, its `open` and its `close` repeated
+/// `times` times.
 fn long_text(alloc: Global, long: &Long, times: usize) -> Result<String, Fail> {
     let Long {
         front,
@@ -316,7 +321,7 @@ fn long_text(alloc: Global, long: &Long, times: usize) -> Result<String, Fail> {
     Ok(format!(in alloc; "{SMALL}{front}{open}{inside}{close}{end}")?)
 }
 
-/// Asserts the first fault of the text that each row appends to the small world.
+/// Asserts for each row the first fault of the small world with the row's text appended.
 fn long_texts_are(
     rt: &impl Abort,
     alloc: Global,

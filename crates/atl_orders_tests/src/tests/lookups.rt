@@ -51,7 +51,8 @@ skill = "sailing"
 level = 1
 "#;
 
-/// Words, whether each is quoted, and the item, the skill and the kind that it names.
+/// Words of mailings, whether each is quoted, and the numbers of the item, the skill and the kind
+/// that it names, as `Debug` prints them.
 static NAMES: [(&str, bool, &str); 26] = [
     ("wood", false, "[Some(0), None, None]"),
     ("WOOD", true, "[Some(0), None, None]"),

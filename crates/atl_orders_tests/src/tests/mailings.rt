@@ -28,7 +28,7 @@ fn tell_faults(alloc: Global, mailing: &Mailing, told: &mut String) -> Result<()
     Ok(())
 }
 
-/// A mailing that was read as text: its orders, followed by its faulty lines.
+/// What a mailing was read as, told as text: its orders, followed by its faulty lines.
 fn told_of(alloc: Global, mailing: &Mailing) -> Result<String, Fail> {
     let mut told = String::new(alloc);
     tell_orders(alloc, mailing, &mut told)?;
@@ -230,7 +230,7 @@ fn lines_tell(
     Ok(())
 }
 
-/// Asserts how each good order and each faulty line is read.
+/// Asserts how each line of the tables from `GOOD` to `BAD_WORK` is read.
 fn forms_tell(rt: &impl Abort, alloc: Global, world: &World) -> Result<(), Fail> {
     lines_tell(rt, alloc, world, "Number(7) ", &GOOD)?;
     lines_tell(rt, alloc, world, "Number(7) ", &NAMING)?;
@@ -239,7 +239,7 @@ fn forms_tell(rt: &impl Abort, alloc: Global, world: &World) -> Result<(), Fail>
     lines_tell(rt, alloc, world, "", &BAD_WORK)
 }
 
-/// Whole texts, and what each is read as.
+/// Texts of whole mailings, with blocks, line ends and headers, and what each is read as.
 static TEXTS: [(&str, &str); 10] = [
     // One faulty line.
     (
@@ -276,8 +276,8 @@ static TEXTS: [(&str, &str); 10] = [
 /// A mailing with a byte that is not UTF-8.
 const NO_TEXT: &[u8] = b"#ATLANTIS 1\nUNIT 1\n\xc8\nTAX ";
 
-/// Long texts, some of 65,536 bytes or just more: a front, a piece and how often it comes, an end,
-/// and what each is read as.
+/// Long texts of mailings, some of 65,536 bytes or just more: a front, a piece and how often it
+/// comes, an end, and what each is read as.
 static LONG: [(&str, &str, usize, &str, &str); 8] = [
     ("#ATLANTIS 1\n", "\n", 65_524, "", ""),
     ("#ATLANTIS 1\n", "\n", 65_525, "", "refused 1"),
@@ -409,7 +409,7 @@ fn span_names(
     Ok(())
 }
 
-/// Asserts the bytes at each span of `SPANS`.
+/// Asserts the bytes that a mailing has at each span of `SPANS`, read as a name.
 fn spans_name(rt: &impl Abort, alloc: Global, world: &World) -> Result<(), Fail> {
     let mailing = read_mailing(alloc, world, b"#ATLANTIS 1\n_\xFF")?;
     for row in SPANS.iter() {

@@ -31,8 +31,8 @@ enum Step {
 /// A call, how many values the map has after it, and which numbers are marked after it.
 type Row = (Step, usize, &'static [u32]);
 
-/// Calls on the map of 1, 20 and 30 by which numbers get marked, each with the count of values and
-/// the marked numbers after it.
+/// Calls, made in turn on the map of `filled` (numbers 1, 20 and 30), by which numbers get marked.
+/// Each has the count of values and the marked numbers after it.
 static CHANGES: [Row; 12] = [
     (Step::Remove(2), 3, &[]),
     (Step::Change(2, 5), 3, &[]),
@@ -48,8 +48,8 @@ static CHANGES: [Row; 12] = [
     (Step::TakeOut(8), 4, &[1, 4, 5, 20, 30]),
 ];
 
-/// Calls on the map of 1, 20 and 30 by which marks are set and cleared, also those of numbers
-/// without a value, each with the count of values and the marked numbers after it.
+/// Calls, made in turn on the map of `filled`, by which marks are set and cleared, also those of
+/// numbers without a value. Each has the count of values and the marked numbers after it.
 static MARKS: [Row; 13] = [
     (Step::Remove(20), 2, &[20]),
     (Step::Unmark, 2, &[]),
@@ -66,8 +66,8 @@ static MARKS: [Row; 13] = [
     (Step::Unmark, 0, &[]),
 ];
 
-/// Calls on the map of 1, 20 and 30 that end with the same values: a value is removed and inserted
-/// again, and a new one is inserted and removed.
+/// Calls, made in turn on the map of `filled`, after which its values are those from before: one is
+/// removed and inserted again, and a new one is inserted and removed.
 static ROUND: [Row; 5] = [
     (Step::Remove(20), 2, &[20]),
     (Step::Insert(20, 2), 3, &[20]),
@@ -171,7 +171,8 @@ fn marks_of_what_is_gone(rt: HostRuntime) -> Result<(), Fail> {
 /// How many numbers the map of the test `marks_in_any_order` has: one less than the prime 1009.
 const MANY: u32 = 1008;
 
-/// Marks each number from 1 to `MANY` once, in descending order or in a scattered one.
+/// Marks each number from 1 to `MANY` once: in descending order if `falling`, otherwise in a
+/// scattered order.
 fn marks_each(map: &mut MarkedMap<u32>, falling: bool) {
     for step in 1..MANY + 1 {
         if falling {
@@ -197,8 +198,8 @@ fn puts_thirds(map: &mut MarkedMap<u32>) -> Result<(), Fail> {
     Ok(())
 }
 
-/// Asserts that the marked numbers come in ascending order from 1, with or without each third, and
-/// how many there are.
+/// Asserts that `count` numbers are marked, and that they come in ascending order from 1: all
+/// numbers if `thirds`, otherwise those that 3 doesn't divide.
 fn count_up(rt: &impl Abort, map: &MarkedMap<u32>, thirds: bool, count: usize) {
     assert_number(rt, map.marked(), count);
     let mut wanted = 1;
@@ -208,8 +209,8 @@ fn count_up(rt: &impl Abort, map: &MarkedMap<u32>, thirds: bool, count: usize) {
     }
 }
 
-/// Marks all numbers in one of the two orders, takes out thirds, inserts them again, and clears all
-/// marks, and asserts the marked numbers after each of these.
+/// Marks all numbers as `marks_each` does, takes out each third one, inserts these again, clears
+/// all marks, and asserts the marked numbers after each of these.
 fn mixes(rt: &impl Abort, map: &mut MarkedMap<u32>, falling: bool) -> Result<(), Fail> {
     map.unmark();
     marks_each(map, falling);

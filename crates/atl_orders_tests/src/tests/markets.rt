@@ -39,8 +39,8 @@ fn markets_in_both_formats(rt: HostRuntime) -> Result<(), Fail> {
     )
 }
 
-/// Edits of the world with one market, and whether the two worlds are then equal but for their
-/// markets, which they are too if the edit changes nothing.
+/// Edits of the world with one market, and whether the edited world is then equal to it but for the
+/// markets, which it is also if the edit changes nothing.
 static CHANGES: [(&str, &str, bool); 24] = [
     ("price = 7", "price = 8", true),
     ("pays = 5", "pays = 6", true),
@@ -80,7 +80,8 @@ static CHANGES: [(&str, &str, bool); 24] = [
     ),
 ];
 
-/// Asserts, in both directions, whether a world differs from that of a text in markets alone.
+/// Asserts that `world` and the world of `text`, each asked about the other, are equal but for
+/// their markets exactly if `alone` says so.
 fn assert_difference(
     rt: &impl Abort,
     alloc: Global,
@@ -97,7 +98,8 @@ fn assert_difference(
     Ok(())
 }
 
-/// Asserts for each edit of `CHANGES` whether the two worlds differ in their markets alone.
+/// Asserts for each edit of `CHANGES` whether the world of `text` and the edited one are equal but
+/// for their markets.
 fn all_differ(rt: &impl Abort, alloc: Global, text: &str) -> Result<(), Fail> {
     let world = read_world(alloc, text)?;
     for (from, to, alone) in CHANGES.iter() {
@@ -107,7 +109,7 @@ fn all_differ(rt: &impl Abort, alloc: Global, text: &str) -> Result<(), Fail> {
     Ok(())
 }
 
-/// Two worlds differ in their markets alone only if nothing else differs.
+/// `is_same_but_for_markets` tells for each edit of `CHANGES` whether it changes markets at most.
 #[test]
 fn worlds_with_other_markets(rt: HostRuntime) -> Result<(), Fail> {
     let text = with_markets(rt.alloc(), 1)?;

@@ -50,7 +50,7 @@ fn texts_are(rt: &impl Abort, rows: &[(&str, bool, bool)]) {
     }
 }
 
-/// The rules of names and of pass texts accept and refuse the right texts.
+/// The rules of names and of pass texts accept and refuse each text of `TEXTS` as its row says.
 #[test]
 fn names_and_pass_texts(rt: HostRuntime) {
     texts_are(&rt, &TEXTS);

@@ -70,7 +70,8 @@ fn key_of(path: &str) -> &str {
     }
 }
 
-/// What replaces a row's line, up to the number: the key, below the line if the key is not needed.
+/// The text that replaces a row's line, up to the number, which is added later: the row's key, and
+/// above it the old line if the key isn't needed.
 fn front_of(alloc: Global, row: &Range, needed: bool) -> Result<String, Fail> {
     let (path, line, _, _) = *row;
     let key = key_of(path);
@@ -81,7 +82,7 @@ fn front_of(alloc: Global, row: &Range, needed: bool) -> Result<String, Fail> {
     }
 }
 
-/// Asserts that replacing a row's line by `to` makes a fault at the row's key.
+/// Asserts that replacing a row's line in `text` by `to` makes the fault `fault` at the row's key.
 fn fault_is(
     rt: &impl Abort,
     alloc: Global,
@@ -95,7 +96,8 @@ fn fault_is(
     assert_change(rt, alloc, text, line, to, wanted.as_str())
 }
 
-/// Asserts that a key takes `number` if it is in the row's range, and is OutOfRange otherwise.
+/// Asserts that the reader takes `number` at a row's key if it is in the row's range, and reports
+/// OutOfRange otherwise.
 fn number_is(
     rt: &impl Abort,
     alloc: Global,
@@ -113,7 +115,8 @@ fn number_is(
     }
 }
 
-/// Asserts that a key takes the ends of its range, and neither their neighbours outside nor 1.5.
+/// Asserts that the reader takes both ends of a row's range at its key, and neither 1.5 nor the
+/// numbers just beyond the ends.
 fn has_range(
     rt: &impl Abort,
     alloc: Global,
@@ -130,7 +133,8 @@ fn has_range(
     Ok(())
 }
 
-/// Asserts the range of each row's key, and of a needed key that it must not be missing.
+/// Asserts the range of each row's key and, if these keys are `needed`, that a missing one is a
+/// fault.
 fn have_ranges(
     rt: &impl Abort,
     alloc: Global,
@@ -148,8 +152,8 @@ fn have_ranges(
     Ok(())
 }
 
-/// Each number of a world file takes both ends of its range, and neither what is beyond nor 1.5; a
-/// needed one may not be missing.
+/// Each number of a world file may be either end of its range, and neither a number beyond nor 1.5;
+/// a needed one may not be missing.
 #[test]
 fn numbers_have_ranges(rt: HostRuntime) -> Result<(), Fail> {
     let text = with_markets(rt.alloc(), 1)?;

@@ -119,7 +119,8 @@ fn region_text(alloc: Global, world: &World, number: u32) -> Result<String, Fail
     }
 }
 
-/// Asserts the numbers of the regions with land, how many regions there are, and some of them.
+/// Asserts the numbers of a world's regions with land, how many regions it has, and what some of
+/// them hold.
 fn regions_are(rt: &impl Abort, alloc: Global, world: &World, wanted: &Shown) -> Result<(), Fail> {
     assert_numbers(rt, world.land(), wanted.land);
     assert_number(rt, world.regions().len(), wanted.region_count);

@@ -5,7 +5,7 @@ use atl_world::{Format, Text, World};
 use std::alloc::Global;
 use std::test::Fail;
 
-/// The text of one item, one skill and one kind.
+/// The text of one item, one skill and one kind, which tests append to the small world.
 pub(crate) const MORE: &str = r#"[[item]]
 name = "wood"
 weight = 5

@@ -18,7 +18,7 @@ fn books_some(books: &mut Books) -> Result<(), Fail> {
     Ok(())
 }
 
-/// Asserts the amount that `books_some` booked, and that others are 0.
+/// Asserts the amount that `books_some` booked, and that three other amounts are 0.
 fn has_some(rt: &impl Abort, books: &Books) -> Result<(), Fail> {
     if books.len() != THINGS {
         return Err(Fail::new("four things"));
@@ -70,8 +70,8 @@ fn books_all(campaign: &mut Campaign) -> Result<(), Fail> {
     Ok(())
 }
 
-/// Asserts three of the amounts that `books_all` booked and three that it left, and that five
-/// amounts are marked.
+/// Asserts three of the amounts that `books_all` booked and three that it doesn't book, and that
+/// five amounts are marked.
 fn has_all(rt: &impl Abort, campaign: &Campaign) -> Result<(), Fail> {
     if campaign.things() != THINGS {
         return Err(Fail::new("four things"));

@@ -64,7 +64,7 @@ fn no_rows(alloc: Global) -> Parts {
     }
 }
 
-/// Adds the campaign row.
+/// Adds the one row of the table `campaign`.
 fn add_head(
     alloc: Global,
     heads: &mut Sequence<StoredCampaignRow>,
@@ -213,7 +213,8 @@ fn add_markets(markets: &mut Sequence<StoredMarket>, rows: &Rows) -> Result<(), 
     Ok(())
 }
 
-/// Adds the rows of the books for the wood in stock and for the money paid to the market.
+/// Adds to `books` the row for the wood in stock, if the market's row is there, and the row for the
+/// money booked as bought, if there is any.
 fn add_trade(books: &mut Sequence<StoredBooks>, rows: &Rows) -> Result<(), Fail> {
     if rows.times != 0 {
         add_books(books, &[[rows.stocked, 2, 20]])?;
@@ -224,7 +225,7 @@ fn add_trade(books: &mut Sequence<StoredBooks>, rows: &Rows) -> Result<(), Fail>
     Ok(())
 }
 
-/// Adds the rows of the campaign, the factions, their units and their reports.
+/// Adds the rows of the campaign, of the factions, and of their units, days of skills and reports.
 fn add_people(alloc: Global, parts: &mut Parts, rows: &Rows) -> Result<(), Fail> {
     add_head(alloc, &mut parts.campaign, rows)?;
     add_factions(alloc, &mut parts.factions, rows)?;

@@ -137,7 +137,7 @@ fn rule_of(checked: Result<Campaign, CheckFault>) -> u64 {
     }
 }
 
-/// Asserts the broken rule that each case reports.
+/// Asserts for each case the number of the first rule that its rows break, or 0.
 fn assert_rules(
     rt: &impl Abort,
     alloc: Global,
@@ -170,11 +170,11 @@ fn assert_island(rt: &impl Abort, campaign: &Campaign) {
     assert_count(rt, campaign.marks(), 0);
 }
 
-/// The wanted row of the stock, as `Debug` prints it.
+/// The only row of the table `market` that the campaign of `GOOD` gives, as `Debug` prints it.
 const STOCK: &str = "[StoredMarket { region: 1, item: 0, stock: 20 }]";
 
-/// Asserts that a campaign's rows in the second format are accepted again, and that those of the
-/// first leave out the stock.
+/// Asserts that `check` accepts the rows of campaign `first` in the second format, and that those
+/// in the first format leave out its stock.
 fn comes_back(rt: &impl Abort, alloc: Global, world: &World, first: &Campaign) -> Result<(), Fail> {
     let old = first.parts_as(Format::First)?;
     assert_rows(rt, alloc, old.markets.as_slice(), "[]")?;
@@ -185,7 +185,8 @@ fn comes_back(rt: &impl Abort, alloc: Global, world: &World, first: &Campaign) -
     Ok(())
 }
 
-/// Asserts that the rows of `GOOD` give the campaign, whose own rows give it again.
+/// Asserts that `check` makes the campaign of `assert_island` of the rows of `GOOD`, and again of
+/// the rows which that campaign gives.
 fn is_checked(rt: &impl Abort, alloc: Global, world: &World) -> Result<(), Fail> {
     let campaign = checked(alloc, world, parts(alloc, &GOOD)?)?;
     assert_island(rt, &campaign);

@@ -40,7 +40,7 @@ pub(crate) fn assert_numbers(rt: &impl Abort, row: usize, told: &[u32], wanted: 
     assert_eq!(rt; told, wanted, "at {row}");
 }
 
-/// Asserts what `Debug` prints of a table's rows.
+/// Asserts that `Debug` prints the rows of a table as `wanted`.
 pub(crate) fn assert_rows<T: Debug>(
     rt: &impl Abort,
     alloc: Global,

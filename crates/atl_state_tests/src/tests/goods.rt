@@ -8,8 +8,8 @@ use std::test::Fail;
 /// The question how much unit 1 has of item 7, and its days of skill 3.
 const GOODS: Ask = Ask::Goods(1, 7, 3);
 
-/// Steps that set items and skills, with the count of parts marked. A unit counts once, however
-/// many of its items and skills are marked. An item or skill set to 0 is marked too.
+/// Steps that set single items and skills, and what is marked after each. A unit counts as one
+/// part, however many of its items and skills are marked. An item or skill set to 0 is marked too.
 static ONE_BY_ONE: [Row; 11] = [
     (Step::Unmark, GOODS, "0, 0 days", "0"),
     (
@@ -62,7 +62,8 @@ static ONE_BY_ONE: [Row; 11] = [
 /// The wanted marks of a unit that was lent or removed after an item and a skill of it were marked.
 const WHOLE: &str = "1, units [1], rows [1], goods [1], item 7 of unit 1, skill 3 of unit 1";
 
-/// Steps that lend or remove unit 1, which marks it as a whole besides what was marked of it.
+/// Steps that set an item and a skill of unit 1, and then lend its holding or remove it, which
+/// marks the unit as a whole besides.
 static AS_A_WHOLE: [Row; 8] = [
     (
         Step::Unit(1, OfUnit::Item(7, 4)),

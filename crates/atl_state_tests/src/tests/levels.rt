@@ -107,10 +107,10 @@ static LOADS: [Load; 6] = [
     },
 ];
 
-/// The number of the item wood.
+/// The number of the island's item wood.
 const WOOD: u32 = 0;
 
-/// The number of the item cart.
+/// The number of the island's item cart.
 const CART: u32 = 1;
 
 /// Sets the men, wood and carts of a holding to those of a row.

@@ -11,10 +11,10 @@ use std::test::Fail;
 /// The number of the island's region Far, a forest by the sea.
 pub(crate) const FAR: u32 = 3;
 
-/// The number of the kind `boat`.
+/// The number of the island's kind `boat`.
 pub(crate) const BOAT: u16 = 0;
 
-/// The number of the kind `lodge`.
+/// The number of the island's kind `lodge`.
 pub(crate) const LODGE: u16 = 1;
 
 /// The campaign of a world just after its founding.
@@ -70,7 +70,7 @@ pub(crate) fn man_comes(alloc: Global, campaign: &mut Campaign, faction: u32) ->
     })?)
 }
 
-/// Adds a structure of a kind to region Far, of which 2 are done and which has no owner, and
+/// Adds a structure of a kind to region Far, without an owner and with 2 of its size done, and
 /// returns its number.
 pub(crate) fn structure_begins(
     alloc: Global,

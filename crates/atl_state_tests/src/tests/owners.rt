@@ -144,14 +144,14 @@ fn owner(campaign: &Campaign, structure: u32) -> u64 {
     }
 }
 
-/// Asserts the owners of both structures, and how many parts are marked.
+/// Asserts the owners of both structures, and how many parts are marked, as a case wants them.
 fn has_owners(rt: &impl Abort, row: usize, campaign: &Campaign, case: &Case) {
     assert_row(rt, row, owner(campaign, 1), u64::from(case.owners.0));
     assert_row(rt, row, owner(campaign, 2), u64::from(case.owners.1));
     assert_row(rt, row, campaign.marks() as u64, case.marks as u64);
 }
 
-/// Asserts the units inside each structure, in region 3 and of faction 1.
+/// Asserts the units inside each structure, in region 3 and of faction 1, as a case wants them.
 fn has_lists(rt: &impl Abort, row: usize, campaign: &Campaign, case: &Case) {
     assert_numbers(rt, row, campaign.inside(1), case.inside.0);
     assert_numbers(rt, row, campaign.inside(2), case.inside.1);
@@ -159,7 +159,7 @@ fn has_lists(rt: &impl Abort, row: usize, campaign: &Campaign, case: &Case) {
     assert_numbers(rt, row, campaign.of_faction(1), case.faction);
 }
 
-/// Clears the marks, makes the step of a case, and asserts all of the case.
+/// Clears the marks, makes the step of a case, and asserts all that the case wants after it.
 fn case_holds(
     rt: &impl Abort,
     alloc: Global,
@@ -174,7 +174,7 @@ fn case_holds(
     Ok(())
 }
 
-/// Makes the step of each case in turn, and asserts the case after it.
+/// Makes the step of each case in turn, and asserts what the case wants after it.
 fn cases_hold(
     rt: &impl Abort,
     alloc: Global,
@@ -217,8 +217,8 @@ static ENTERING: [Step; 3] = [
     Step::Unit(3, OfUnit::Place(3, 1)),
 ];
 
-/// Cases of `owner_after`: a structure, a unit that leaves it, and who owns it then. Unit 2 owns
-/// the boat, and units 1 and 3 are inside.
+/// Cases of `owner_after`: a structure, a unit that leaves it, and who owns it then (0: nobody).
+/// Unit 2 owns the boat, and units 1 and 3 are inside.
 static AFTER: [(u32, u32, u32); 5] = [(1, 2, 1), (1, 1, 2), (1, 3, 2), (2, 1, 0), (9, 1, 0)];
 
 /// Asserts for each row of `AFTER` who would own the structure.

@@ -173,7 +173,8 @@ static NOBODY: [Row; 12] = [
     ),
 ];
 
-/// Begins a lodge, as structure 1, and asserts each row of `CALLS` and `NOBODY`.
+/// Begins a lodge, as structure 1, makes the calls of `CALLS` and `NOBODY` in turn, and asserts
+/// what each sets and marks.
 fn sets_all(rt: &impl Abort, alloc: Global, campaign: &mut Campaign) -> Result<(), Fail> {
     does(alloc, campaign, Step::Begins(LODGE, 1))?;
     assert_unmarked_steps(rt, alloc, campaign, &CALLS)?;

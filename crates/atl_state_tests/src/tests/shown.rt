@@ -39,7 +39,8 @@ fn none(alloc: Global) -> Result<String, Fail> {
     Ok(String::from_str(alloc, "none")?)
 }
 
-/// The answer to `Ask::Counts`.
+/// How many factions, regions, units and structures a campaign has, and the next numbers of a unit
+/// and a structure.
 fn counts_text(alloc: Global, campaign: &Campaign) -> Result<String, Fail> {
     let counts = [
         campaign.faction_count(),
@@ -155,7 +156,7 @@ fn structure_text(alloc: Global, campaign: &Campaign, number: u32) -> Result<Str
     Ok(format!(in alloc; "{name}: kind {kind}, region {region}, {done} done, owner {owner}")?)
 }
 
-/// The total of a thing; too many units or regions to sum are a failure.
+/// A campaign's total of a thing; it is a failure if there are too many units or regions to sum.
 fn total_text(alloc: Global, campaign: &Campaign, thing: Thing) -> Result<String, Fail> {
     if campaign.unit_count() > MOST_UNITS || campaign.region_count() > MOST_REGIONS {
         return Err(Fail::new("few units and regions"));
@@ -170,7 +171,7 @@ fn month_text(alloc: Global, campaign: &Campaign) -> Result<String, Fail> {
     Ok(format!(in alloc; "{month}")?)
 }
 
-/// The answer to a question.
+/// A campaign's answer to a question, as text.
 fn text_of(alloc: Global, campaign: &Campaign, ask: Ask) -> Result<String, Fail> {
     match ask {
         Ask::Month => month_text(alloc, campaign),
@@ -188,7 +189,7 @@ fn text_of(alloc: Global, campaign: &Campaign, ask: Ask) -> Result<String, Fail>
     }
 }
 
-/// The names of the lists of marked numbers, in the order of the index of `marked`.
+/// The names of the lists of marked numbers, in the order of the index that `marked` takes.
 static LISTS: [&str; 9] = [
     "factions",
     "regions",
@@ -201,7 +202,7 @@ static LISTS: [&str; 9] = [
     "reports",
 ];
 
-/// The list of marked numbers with an index in `LISTS`.
+/// The marked numbers of the list whose name is at index `place` in `LISTS`.
 fn marked(campaign: &Campaign, place: usize) -> MarkedNumbers<'_> {
     match place {
         0 => campaign.marked_factions(),
@@ -216,7 +217,7 @@ fn marked(campaign: &Campaign, place: usize) -> MarkedNumbers<'_> {
     }
 }
 
-/// Appends each list of marked numbers that isn't empty.
+/// Appends to `text` each list of marked numbers that isn't empty, with its name.
 fn add_lists(alloc: Global, text: &mut String, campaign: &Campaign) -> Result<(), Fail> {
     for (place, name) in LISTS.iter().enumerate() {
         let numbers: Vec<u32> = marked(campaign, place).collect(alloc)?;
@@ -261,7 +262,8 @@ fn marked_singles(campaign: &Campaign, index: usize) -> Entries<'_, Numbered<()>
     }
 }
 
-/// Appends the marked single amounts of an owner.
+/// Appends to `text` the amounts of one kind that are marked by themselves, of one unit or region
+/// `owner`; `numbers` are the numbers of their items or skills.
 fn add_singles(
     alloc: Global,
     text: &mut String,
@@ -277,7 +279,8 @@ fn add_singles(
     Ok(())
 }
 
-/// Appends all marked single amounts of one row of `SINGLES`.
+/// Appends to `text` the amounts of one kind that are marked by themselves, of all units or
+/// regions.
 fn add_all_singles(
     alloc: Global,
     text: &mut String,
@@ -290,7 +293,8 @@ fn add_all_singles(
     Ok(())
 }
 
-/// Appends whether the campaign row, and the money and people booked under Joining, are marked.
+/// Appends to `text` whether the campaign row, and the money and people booked under Joining, are
+/// marked.
 fn add_own(text: &mut String, campaign: &Campaign) -> Result<(), Fail> {
     if campaign.is_row_marked() {
         text.push_str(", the campaign")?;
@@ -322,7 +326,8 @@ fn marks_text(alloc: Global, campaign: &Campaign) -> Result<String, Fail> {
 /// A step, a question after it, the answer, and what is marked then (`marks_text`).
 pub(crate) type Row = (Step, Ask, &'static str, &'static str);
 
-/// Makes the step of a row, and asserts its answer and its marks; `place` is the index of the row.
+/// Makes the step of a row, and asserts the answer and the marks that the row wants; `place` is the
+/// row's index.
 fn is_so_after(
     rt: &impl Abort,
     alloc: Global,
@@ -337,7 +342,7 @@ fn is_so_after(
     Ok(())
 }
 
-/// Makes the steps of a table in turn, and asserts each row.
+/// Makes the steps of a table in turn, and asserts after each the answer and the marks of its row.
 pub(crate) fn assert_steps(
     rt: &impl Abort,
     alloc: Global,
@@ -350,7 +355,8 @@ pub(crate) fn assert_steps(
     Ok(())
 }
 
-/// Makes the steps of a table in turn, with all marks cleared before each, and asserts each row.
+/// Makes the steps of a table in turn, with all marks cleared before each, and asserts after each
+/// the answer and the marks of its row.
 pub(crate) fn assert_unmarked_steps(
     rt: &impl Abort,
     alloc: Global,

@@ -25,7 +25,7 @@ pub(crate) enum Step {
     Begins(u16, u32),
 }
 
-/// A change of a faction.
+/// A change of a faction: another name, that it is gone, its mail or its report.
 #[derive(Drop, Clone, Copy)]
 pub(crate) enum OfFaction {
     Name(&'static str),
@@ -34,7 +34,7 @@ pub(crate) enum OfFaction {
     Report(&'static str),
 }
 
-/// A change of a region.
+/// A change of a region: its peasants, its money or one of its stocks.
 #[derive(Drop, Clone, Copy)]
 pub(crate) enum OfRegion {
     Peasants(u32),
@@ -43,7 +43,7 @@ pub(crate) enum OfRegion {
     Stock(u32, u32),
 }
 
-/// A change of a unit.
+/// A change of a unit: a value of its holding, its place, or its removal.
 #[derive(Drop, Clone, Copy)]
 pub(crate) enum OfUnit {
     Name(&'static str),
@@ -63,7 +63,7 @@ pub(crate) enum OfUnit {
     Remove,
 }
 
-/// A change of a structure.
+/// A change of a structure: its name, its region, how much of it is done, or its owner.
 #[derive(Drop, Clone, Copy)]
 pub(crate) enum OfStructure {
     Name(&'static str),
@@ -72,7 +72,7 @@ pub(crate) enum OfStructure {
     Owner(u32),
 }
 
-/// Makes a change of a faction.
+/// Makes the call that changes a faction as `change` says.
 fn changes_faction(
     alloc: Global,
     campaign: &mut Campaign,
@@ -90,7 +90,7 @@ fn changes_faction(
     Ok(())
 }
 
-/// Makes a change of a region.
+/// Makes the call that changes a region as `change` says.
 fn changes_region(campaign: &mut Campaign, region: u32, change: OfRegion) -> Result<(), Fail> {
     match change {
         OfRegion::Peasants(peasants) => campaign.set_peasants(region, peasants),
@@ -100,7 +100,7 @@ fn changes_region(campaign: &mut Campaign, region: u32, change: OfRegion) -> Res
     Ok(())
 }
 
-/// Makes a change of a unit through its lent holding, if the unit is there.
+/// Changes the holding that a unit has lent as `change` says, if the unit is there.
 fn changes_lent(lent: Option<&mut Holding>, change: OfUnit) -> Result<(), Fail> {
     let Some(holding) = lent else {
         return Ok(());
@@ -115,7 +115,7 @@ fn changes_lent(lent: Option<&mut Holding>, change: OfUnit) -> Result<(), Fail> 
     Ok(())
 }
 
-/// Makes a change of a unit.
+/// Makes the call that changes a unit as `change` says, or changes its lent holding.
 fn changes_unit(
     alloc: Global,
     campaign: &mut Campaign,
@@ -138,7 +138,7 @@ fn changes_unit(
     Ok(())
 }
 
-/// Makes a change of a structure.
+/// Makes the call that changes a structure as `change` says.
 fn changes_structure(
     alloc: Global,
     campaign: &mut Campaign,

@@ -75,7 +75,8 @@ static MARKS: [Row; 6] = [
     (Step::Unmark, Ask::Units, "[1, 12, 14, 15]", "0"),
 ];
 
-/// The units of the campaign that `check` makes of a campaign's rows: the same, with no mark.
+/// What holds of the campaign that `check` makes of the rows of the campaign after `MARKS`: it has
+/// the same units, and no mark.
 static AGAIN: [Row; 1] = [(Step::Nothing, Ask::Units, "[1, 12, 14, 15]", "0")];
 
 /// Asserts `AGAIN` on the campaign made from the rows of `first`.

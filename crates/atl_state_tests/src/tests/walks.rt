@@ -44,7 +44,8 @@ static MAKING: [Step; 3] = [
     Step::Unmark,
 ];
 
-/// The only unit, and the totals of money, people and items over four regions and this unit.
+/// What is asked after `MAKING`: the only unit, and the totals of money, people and items over the
+/// four regions and this unit.
 static TOTALS: [Row; 6] = [
     (Step::Nothing, Ask::Units, "[1]", "0"),
     (

@@ -6,7 +6,7 @@ use Rattle.atl_phase.specs.Fit.{AreFit}
 use Rattle.atl_phase.proofs.FitLaws.{read_fit}
 use Rattle.atl_phase_tests.proofs.months.month_of.Goals as goal
 
--- the month has readings of mailings that were read with the world, so they fit it (`AreFit`)
+-- the month's readings are those of mailings that were read with the world, so each is in bounds (`AreFit`)
 pub returns : goal.returns
 returns c =
     let w = c.args.world.now in

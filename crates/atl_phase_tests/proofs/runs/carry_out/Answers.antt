@@ -5,6 +5,6 @@ use Rattle.atl_phase_tests.proofs.runs.carry_out.Goals as goal
 pub run-requires-clause-needs : goal.run-requires-clause-needs
 run-requires-clause-needs c = c.requires.early
 
--- roomy books have room for the phases from FORM to PRODUCE
+-- roomy books (`IsRoomy`) have room for all that the phases from FORM to PRODUCE may book
 pub run-requires-clause-room : goal.run-requires-clause-room
 run-requires-clause-room c = room_for_orders c.args.campaign.value c.requires.room

@@ -5,6 +5,6 @@ use Rattle.atl_phase_tests.proofs.runs.grow_twice.Goals as goal
 pub run-requires-clause-needs : goal.run-requires-clause-needs
 run-requires-clause-needs c = (c.requires.early.steady, λ w d steady. steady)
 
--- roomy books have room for two seasons
+-- roomy books (`IsRoomy`) have room for all that two seasons may book
 pub run-requires-clause-room : goal.run-requires-clause-room
 run-requires-clause-room c = room_for_seasons c.args.campaign.value c.requires.room

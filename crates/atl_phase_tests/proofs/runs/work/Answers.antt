@@ -5,6 +5,6 @@ use Rattle.atl_phase_tests.proofs.runs.work.Goals as goal
 pub run-requires-clause-needs : goal.run-requires-clause-needs
 run-requires-clause-needs c = c.requires.early.steady
 
--- roomy books have room for WORK
+-- roomy books (`IsRoomy`) have room for all that WORK may book
 pub run-requires-clause-room : goal.run-requires-clause-room
 run-requires-clause-room c = room_for_work c.args.campaign.value c.requires.room

@@ -12,7 +12,7 @@ use Rattle.atl_records.proofs.EveryLaws.{every-empty}
 use Rattle.atl_campaign.proofs.HoldingLaws.{MayHold, of_one_faction_kept, steady-unit_amount}
 use Rattle.atl_phase_tests.proofs.settings.loses_men.Goals as goal
 
--- the holding without its men, and so without days of study
+-- a unit's holding with neither men nor days of study, and otherwise as it is
 abbrev without_men : HoldingValue → HoldingValue
 without_men h = record h { men = 0; days = empty }
 
@@ -21,7 +21,7 @@ never : (b : Bool) {P : Type 0} → (b && false) ≡ true → P
 never true h = absurd (false≢true h)
 never false h = absurd (false≢true h)
 
--- in a steady campaign each unit may hold what it holds, without its men and days of study (`MayHold`)
+-- in a steady campaign each unit may get its own holding without the men and the days of study (`MayHold`)
 may_lose_men : (w : WorldValue) (c : CampaignValue) (n : ℕ) (u : Unit) → get c.units n ≡ Some u → IsSteady w c → MayHold w u (without_men u.holding)
 may_lose_men w c n u is steady =
     let place = steady.known.units n u is in
@@ -35,11 +35,11 @@ may_lose_men w c n u is steady =
       guard = never u.holding.guard;
     }
 
--- an early campaign stays early after a unit lost its men and days of study
+-- an early campaign stays early where unit n's holding `before` becomes `after`, without men and days of study
 men_lost : (w : WorldValue) (c : CampaignValue) (n : ℕ) (before after : HoldingValue) → Some before ≡ option_map (λ (u : Unit). u.holding) (get c.units n) → after ≡ without_men before → IsEarly w c → IsEarly w (with_holding c n after)
 men_lost w c n before after was is early = by_unit (get c.units n) refl was
   where
-    -- the campaign stays early, whether the unit is there or not
+    -- where unit n gets the holding `after`, the campaign stays early; `o` is that unit, or None if it isn't there
     by_unit : (o : Option Unit) → get c.units n ≡ o → Some before ≡ option_map (λ (u : Unit). u.holding) o → IsEarly w (with_held c n after o)
     by_unit None there e = early
     by_unit (Some u) there e =
