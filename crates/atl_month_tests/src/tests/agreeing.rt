@@ -20,7 +20,8 @@ use std::test::Fail;
 
 // ---- what is compared
 
-/// Asserts that two lists are equal; the message names the index of the first difference.
+/// Asserts that the list `told` is the list `wanted`; the message says of what they are (`what`),
+/// and names the index of the first difference.
 fn assert_equal_lists<T: PartialEq>(rt: &impl Abort, what: &str, told: &[T], wanted: &[T]) {
     assert!(rt; told.len() == wanted.len(), "so many {what}");
     for (place, (told, wanted)) in told.iter().zip(wanted.iter()).enumerate() {
@@ -28,7 +29,8 @@ fn assert_equal_lists<T: PartialEq>(rt: &impl Abort, what: &str, told: &[T], wan
     }
 }
 
-/// Asserts that goods, stocks and books of a campaign are those of the reference's campaign.
+/// Asserts that goods, stocks and books of a campaign (`told`) are those of the reference's
+/// (`wanted`), both sorted and without amounts of 0.
 fn assert_amounts(
     rt: &impl Abort,
     alloc: Global,
@@ -56,8 +58,8 @@ fn assert_amounts(
     Ok(())
 }
 
-/// Asserts that units, regions, goods, stocks, books and events after a phase are those of the
-/// reference.
+/// Asserts that a campaign's units, regions, goods, stocks and books after a phase, and the month's
+/// events, are those of the reference (`wanted`).
 fn assert_campaign(
     rt: &impl Abort,
     alloc: Global,
@@ -248,7 +250,8 @@ fn reckoned(
     Ok(plain)
 }
 
-/// Asserts that a phase on the campaign of `crowd` gives the results of the reference.
+/// Asserts that a phase makes of the campaign of `crowd` what the reference calculates, with the
+/// same events.
 fn agrees(rt: &impl Abort, alloc: Global, world: &World, played: Played) -> Result<(), Fail> {
     let campaign = crowd(alloc, world)?;
     let month = crowd_month(alloc, world)?;
@@ -258,7 +261,8 @@ fn agrees(rt: &impl Abort, alloc: Global, world: &World, played: Played) -> Resu
     Ok(())
 }
 
-/// Asserts that each phase of `PLAYED` gives the results of the reference.
+/// Asserts that each phase of `PLAYED` makes of the campaign of `crowd` what the reference
+/// calculates.
 fn all_agree(rt: &impl Abort, alloc: Global, world: &World) -> Result<(), Fail> {
     for played in PLAYED.iter() {
         agrees(rt, alloc, world, *played)?;
@@ -275,8 +279,8 @@ fn phases_agree(rt: HostRuntime) -> Result<(), Fail> {
 
 // ---- shares
 
-/// Lists of wants, each tried with every pot from 0 to `MOST_SHARED`, which is more than its wants
-/// together.
+/// Lists of wants. Each is tried with every pot from 0 to `MOST_SHARED`, which is more than all
+/// wants of any list together.
 static WANTS: [&[u64]; 6] = [
     &[50, 60, 70],
     &[1, 1, 1, 1, 1, 1, 1],
@@ -289,7 +293,7 @@ static WANTS: [&[u64]; 6] = [
 /// The largest pot that the lists of `WANTS` share.
 const MOST_SHARED: u64 = 300;
 
-/// Asserts that `share` splits one pot as the reference does.
+/// Asserts that `share` splits one pot among these wants as the reference does.
 fn pot_agrees(rt: &impl Abort, alloc: Global, pot: u64, wants: &[u64]) -> Result<(), Fail> {
     if pot > MOST_SHARED || !are_small(wants) {
         return Err(Fail::new("a pot and wants that are small enough"));
@@ -300,7 +304,8 @@ fn pot_agrees(rt: &impl Abort, alloc: Global, pot: u64, wants: &[u64]) -> Result
     Ok(())
 }
 
-/// Asserts that `share` splits each pot up to `MOST_SHARED` as the reference does.
+/// Asserts that `share` splits each pot up to `MOST_SHARED` among these wants as the reference
+/// does.
 fn pots_agree(rt: &impl Abort, alloc: Global, wants: &[u64]) -> Result<(), Fail> {
     for pot in 0..=MOST_SHARED {
         pot_agrees(rt, alloc, pot, wants)?;

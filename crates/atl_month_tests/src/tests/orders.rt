@@ -13,8 +13,8 @@ use std::alloc::Global;
 use std::process::Abort;
 use std::test::Fail;
 
-/// Appends the orders that a phase gets, each as unit, line, faction and keyword, and `|` after
-/// them.
+/// Appends the orders that a phase gets of a month to the text `told`, each as unit, line, faction
+/// and keyword, and then `|`.
 fn tell<P: PhaseVerbs>(
     alloc: Global,
     month: &Month,
@@ -144,7 +144,7 @@ fn formed(alloc: Global, world: &World) -> Result<Month, Fail> {
     Ok(month)
 }
 
-/// Asserts which month-long orders of some mailings count.
+/// Asserts which month-long orders of the mailings `texts` count, as `tell` prints them.
 fn month_long_are(
     rt: &impl Abort,
     alloc: Global,
@@ -182,7 +182,8 @@ fn month_long_orders(rt: HostRuntime) -> Result<(), Fail> {
     )
 }
 
-/// Asserts which unit each alias of `formed` stands for; an alias without a unit has none.
+/// Asserts which unit each of four aliases stands for in the month of `formed`: two aliases have no
+/// unit.
 fn aliases_are(rt: &impl Abort, month: &Month) {
     assert!(rt; month.alias(1, 1) == Some(7));
     assert!(rt; month.alias(1, 2).is_none());
@@ -212,7 +213,7 @@ fn aliases_of_factions(rt: HostRuntime) -> Result<(), Fail> {
     formed_tells(&rt, rt.alloc(), &month)
 }
 
-/// The event of a FORM that made unit 7.
+/// The event of a FORM that made unit 7, to add to a month.
 const EVENT: Event = Event {
     faction: 1,
     unit: 4,
@@ -221,7 +222,7 @@ const EVENT: Event = Event {
     outcome: Outcome::Done(7),
 };
 
-/// Asserts that an order has this verb, or that both are None.
+/// Asserts that the verb of an order is the wanted one; None means that there is no such order.
 fn assert_verb(rt: &impl Abort, told: Option<Verb>, wanted: Option<Verb>) {
     assert!(rt; told == wanted);
 }

@@ -22,7 +22,8 @@ static SHARED: [(u64, &[u64], &[u64]); 8] = [
     ),
 ];
 
-/// Asserts what each taker gets of a pot; the message names the pot.
+/// Asserts that what the takers of a pot got (`told`) is what each has to get (`wanted`); the
+/// message names the pot.
 pub(crate) fn assert_shares(rt: &impl Abort, pot: u64, told: &[u64], wanted: &[u64]) {
     assert_eq!(rt; told, wanted, "of {pot}");
 }
@@ -64,7 +65,8 @@ fn a_pot_is_shared(rt: HostRuntime) -> Result<(), Fail> {
     shares_all(&rt, rt.alloc())
 }
 
-/// How much all takers get together of a pot of 999,999,999.
+/// How much `share` gives of a pot of 999,999,999 to all takers together; `wants` has what each
+/// wants.
 fn given_to_crowd(alloc: Global, wants: &[u64]) -> Result<u64, Fail> {
     if !are_small(wants) {
         return Err(Fail::new("wants that are small enough"));

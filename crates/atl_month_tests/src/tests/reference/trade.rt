@@ -19,7 +19,7 @@ pub(crate) enum Trade {
     Buy,
 }
 
-/// How many of which item an order asks to sell or buy.
+/// How many of which item an order of SELL or BUY names in its text.
 fn asked(order: PhaseOrder<'_>) -> (u64, u16) {
     match &order.order.operands {
         Operands::Goods { amount, item } => (u64::from(*amount), *item),
@@ -27,7 +27,7 @@ fn asked(order: PhaseOrder<'_>) -> (u64, u16) {
     }
 }
 
-/// How many of a market's item a unit can sell: what it has, as far as it has room for the money.
+/// How many of a market's item a unit can sell: as many as it has, and has room for the money of.
 fn most_sold(plain: &Plain, person: Person, market: &Market) -> u64 {
     let held = plain.amount(person.number, false, u32::from(market.item));
     let room = MOST_MONEY.saturating_sub(person.money);
@@ -52,7 +52,8 @@ fn is_short(trade: Trade, plain: &Plain, person: Person, market: &Market) -> boo
     }
 }
 
-/// How many of which item an order of SELL or BUY asks for, or its fault.
+/// How many of which item an order of SELL or BUY asks for, as far as the unit can trade, or its
+/// fault.
 pub(crate) fn claim(trade: Trade, world: &World, plain: &Plain, order: PhaseOrder<'_>) -> Claim {
     let Some(person) = own(plain, order) else {
         return Claim::Fault(EventFault::NotYours);
@@ -71,7 +72,7 @@ pub(crate) fn claim(trade: Trade, world: &World, plain: &Plain, order: PhaseOrde
     Claim::Want(u32::from(item), amount.min(most))
 }
 
-/// The pot of a market: its room for more (SELL), or its stock (BUY).
+/// The pot of a market: how much more it has room for (SELL), or its stock (BUY).
 fn pot(trade: Trade, plain: &Plain, region: u32, market: &Market) -> Pot {
     let thing = u32::from(market.item);
     let stock = plain.stock(region, thing);

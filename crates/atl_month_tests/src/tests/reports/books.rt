@@ -165,7 +165,7 @@ item \"cart\" made 2
 item \"cart\" total 2
 ";
 
-/// The text of the books of the island without units: as at the founding.
+/// The text of the books of the island without units, where only the founding is booked.
 const OF_THE_ISLE: &str = "money founding 650
 money total 650
 people founding 1300
