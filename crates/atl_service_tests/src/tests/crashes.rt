@@ -16,7 +16,8 @@ use std::alloc::Global;
 use std::process::Abort;
 use std::test::Fail;
 
-/// A course, its commands, and all rows of the campaign after each write; no rows before the first.
+/// A course, its commands, and `stages`: an empty text for the time before the first write, and
+/// after each write all rows of the campaign.
 struct Plan {
     course: Course,
     commands: Vec<Command>,
@@ -30,8 +31,8 @@ impl Drop for Plan {
     }
 }
 
-/// The service of a campaign in memory before the commands of a course; the campaign's rows are
-/// appended to `stages` after each write.
+/// The service in which the commands of a course are to be run, in memory; the campaign's rows are
+/// appended to `stages` after the founding, and after the course's rows are added, if it has any.
 fn set_up(
     alloc: Global,
     course: &Course,
@@ -61,7 +62,8 @@ fn run_noted(
     Ok(())
 }
 
-/// Appends the rows after each write of a course to `stages`, if no disk stops.
+/// Plays a course in memory, where no disk stops; appends to `stages` an empty text, and then the
+/// campaign's rows after each write.
 fn note_stages(
     alloc: Global,
     course: &Course,
@@ -73,7 +75,7 @@ fn note_stages(
     run_noted(alloc, &mut service, commands, stages)
 }
 
-/// The plan of a course: its commands, and the rows after each write if no disk stops.
+/// The plan of a course: its commands, and the campaign's rows after each write if no disk stops.
 fn planned(alloc: Global, course: &Course) -> Result<Plan, Fail> {
     let commands = commands_of(alloc, course.steps)?;
     let mut stages = Vec::new(alloc);
@@ -90,7 +92,7 @@ fn is_done(answer: &Answer) -> bool {
     matches!(told(answer), "joined" | "mailed" | "month done")
 }
 
-/// Runs the commands, and returns how many were done. The one at which the disk stops must be
+/// Runs the commands, and returns how many were done. The command at which the disk stops must be
 /// answered Store, and all later ones Closed; then there is no campaign, and there are no books.
 fn run_each(rt: &impl Abort, service: &mut impl Served, commands: &[Command]) -> usize {
     let mut done = 0usize;
@@ -111,8 +113,8 @@ fn run_each(rt: &impl Abort, service: &mut impl Served, commands: &[Command]) ->
     done
 }
 
-/// The service that was founded or opened, or the connection if the disk stopped; asserts that the
-/// cause is then Store.
+/// The service that a founding or an opening (`tried`) gave, or the connection if the disk stopped;
+/// asserts that the cause is then Store.
 fn served<S: Alter>(
     rt: &impl Abort,
     tried: Result<Service<S>, Refused<S>>,
@@ -188,7 +190,7 @@ fn crashed<D: Crash>(files: Files<D>) -> Files<D> {
     Files { log, db }
 }
 
-/// Whether these rows are the plan's rows after `writings` writes.
+/// Whether `rows` are the campaign's rows that the plan has after `writings` writes.
 fn is_stage(plan: &Plan, writings: usize, rows: &str) -> bool {
     match plan.stages.get(writings) {
         Some(stage) => stage.as_str() == rows,

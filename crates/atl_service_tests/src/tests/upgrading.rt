@@ -51,7 +51,7 @@ fn rows_wanted(rt: &impl Abort, alloc: Global, story: &Story) -> Result<String, 
     rows_in(alloc, &filled(alloc, service.end(), story.by_hand)?)
 }
 
-/// Asserts why a database isn't opened; returns the connection.
+/// Asserts that a database isn't opened, and why; returns the connection.
 fn stays_shut(
     rt: &impl Abort,
     alloc: Global,
@@ -61,7 +61,7 @@ fn stays_shut(
     assert_refused(rt, open(alloc, conn), words)
 }
 
-/// Asserts why a file isn't upgraded; returns the connection.
+/// Asserts that a file isn't upgraded to a world text, and why; returns the connection.
 fn refuses(
     rt: &impl Abort,
     alloc: Global,
@@ -72,7 +72,8 @@ fn refuses(
     assert_refused(rt, upgrade(alloc, conn, world), words)
 }
 
-/// Upgrades a file after refused attempts, and asserts the campaign's rows.
+/// Asserts that a file isn't opened, nor upgraded to two wrong world texts; then upgrades it, and
+/// asserts the campaign's rows.
 fn upgraded(
     rt: &impl Abort,
     alloc: Global,
@@ -91,8 +92,8 @@ fn upgraded(
     }
 }
 
-/// Asserts that the upgraded file isn't upgraded again, opens it, and asserts the campaign's rows,
-/// the later steps, and the tables at the end.
+/// Asserts that the upgraded file isn't upgraded again; opens it, and asserts the campaign's rows,
+/// the answers to the later steps, and the tables at the end.
 fn goes_on(
     rt: &impl Abort,
     alloc: Global,
@@ -116,7 +117,7 @@ fn is_upgraded(rt: &impl Abort, alloc: Global, story: &Story) -> Result<(), Fail
     goes_on(rt, alloc, conn, story, rows.as_str())
 }
 
-/// Avalon joins in the island's third region.
+/// The one step by which Avalon joins in the island's third region.
 const FAR_JOINS: [Step; 1] = [Step::Joined(Asked::Join("Avalon", "pw", 1), 1, 1)];
 
 /// Avalon's report: its unit is in the third region, and the market in the first, so BUY has a
@@ -133,8 +134,8 @@ Exits: north 4, west 2.
 /// The command that closes month 1 of the island.
 const MONTH_ONE: Asked = Asked::Close(1, "gm", &[0, 0, 0, 0]);
 
-/// The report stored before the upgrade is still answered; then a unit tries to buy, and a month is
-/// closed.
+/// Steps after the upgrade: the report stored before is still answered; then a unit tries to buy,
+/// and a month is closed.
 const BUYS_NOTHING: [Step; 4] = [
     Step::Told(Asked::Report(1, "pw"), FAR_REPORT),
     Step::Mailed(
@@ -153,7 +154,7 @@ const AFTER_NOTHING: [(&str, Option<i64>); 3] = [
     (STOCK, Some(20)),
 ];
 
-/// A story in which nobody reaches the market.
+/// The story of a file whose one unit doesn't reach the market.
 static FAR_FROM_MARKET: Story = Story {
     before: &FAR_JOINS,
     by_hand: "",
@@ -164,7 +165,7 @@ static FAR_FROM_MARKET: Story = Story {
 /// The mailing by which unit 1 sells 3 wood.
 const SELLS: &str = "#ATLANTIS 1\nUNIT 1\nSELL 3 wood\n";
 
-/// Avalon joins, and sends a mailing with SELL before the upgrade.
+/// Steps before the upgrade: Avalon joins, and sends a mailing with SELL.
 const SENDS_EARLY: [Step; 2] = [
     Step::Joined(AVALON, 1, 1),
     Step::Mailed(Asked::Mail(1, "pw", SELLS), 1, &[]),
@@ -201,7 +202,7 @@ item \"wood\" total 24
 item \"cart\" total 0
 ";
 
-/// After the upgrade the mailing is still stored, and a closing carries it out.
+/// Steps after the upgrade: the mailing is still stored, and a closing carries it out.
 const SELLS_THREE: [Step; 4] = [
     Step::Keeps(Some(SELLS)),
     Step::Closed(MONTH_ONE, 1),
@@ -212,7 +213,7 @@ const SELLS_THREE: [Step; 4] = [
 /// SELECTs and what they return after the month in which 3 wood are sold.
 const AFTER_THREE: [(&str, Option<i64>); 2] = [(STOCKED, Some(1)), (STOCK, Some(23))];
 
-/// A story with mail from before the upgrade.
+/// The story of a file with mail that was sent before the upgrade.
 static WITH_EARLY_MAIL: Story = Story {
     before: &SENDS_EARLY,
     by_hand: HAS_WOOD,

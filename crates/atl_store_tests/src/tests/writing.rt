@@ -216,7 +216,7 @@ SELECT stock FROM market WHERE region = 1 AND item = 1 -> 2";
     play_new(&rt, rt.alloc(), script)
 }
 
-/// Stocks that were written are read and loaded again.
+/// Stocks that were written are there when their table is read, and when the campaign is loaded.
 #[test]
 fn stocks_come_back(rt: HostRuntime) -> Result<(), Fail> {
     let script = "create isle with markets
