@@ -94,7 +94,8 @@ static PLAYED: [Played; 7] = [
     Played::Upkeep,
 ];
 
-/// The campaign and the month after SELL, for a good campaign and mailings read with its world.
+/// Plays SELL as the program does; the result is the campaign and the month after it.
+/// The campaign must be good, and the month's mailings read with its world.
 fn run_sell(
     alloc: Global,
     world: &World,
@@ -107,7 +108,8 @@ fn run_sell(
     SellPhase {}.run(alloc, world, campaign, month)
 }
 
-/// The campaign and the month after BUY, for a good campaign and mailings read with its world.
+/// Plays BUY as the program does; the result is the campaign and the month after it.
+/// The campaign must be good, and the month's mailings read with its world.
 fn run_buy(
     alloc: Global,
     world: &World,
@@ -120,7 +122,8 @@ fn run_buy(
     BuyPhase {}.run(alloc, world, campaign, month)
 }
 
-/// The campaign and the month after TAX, for a good campaign and mailings read with its world.
+/// Plays TAX as the program does; the result is the campaign and the month after it.
+/// The campaign must be good, and the month's mailings read with its world.
 fn run_tax(
     alloc: Global,
     world: &World,
@@ -133,7 +136,8 @@ fn run_tax(
     TaxPhase.run(alloc, world, campaign, month)
 }
 
-/// The campaign and the month after RECRUIT, for a good campaign and mailings read with its world.
+/// Plays RECRUIT as the program does; the result is the campaign and the month after it.
+/// The campaign must be good, and the month's mailings read with its world.
 fn run_recruit(
     alloc: Global,
     world: &World,
@@ -146,7 +150,8 @@ fn run_recruit(
     RecruitPhase.run(alloc, world, campaign, month)
 }
 
-/// The campaign and the month after PRODUCE, for a good campaign and mailings read with its world.
+/// Plays PRODUCE as the program does; the result is the campaign and the month after it.
+/// The campaign must be good, and the month's mailings read with its world.
 fn run_produce(
     alloc: Global,
     world: &World,
@@ -159,7 +164,8 @@ fn run_produce(
     ProducePhase.run(alloc, world, campaign, month)
 }
 
-/// The campaign and the month after WORK, for a good campaign and mailings read with its world.
+/// Plays WORK as the program does; the result is the campaign and the month after it.
+/// The campaign must be good, and the month's mailings read with its world.
 fn run_work(
     alloc: Global,
     world: &World,
@@ -172,7 +178,8 @@ fn run_work(
     WorkPhase.run(alloc, world, campaign, month)
 }
 
-/// The campaign and the month after upkeep, for a good campaign and mailings read with its world.
+/// Plays upkeep as the program does; the result is the campaign and the month after it.
+/// The campaign must be good, and the month's mailings read with its world.
 fn run_upkeep(
     alloc: Global,
     world: &World,
@@ -185,7 +192,8 @@ fn run_upkeep(
     UpkeepPhase.run(alloc, world, campaign, month)
 }
 
-/// The campaign and the month after a phase that shares pots, run by the program.
+/// Plays a phase that shares pots as the program does; the result is the campaign and the month
+/// after it.
 fn run_sharing(
     alloc: Global,
     world: &World,
@@ -206,7 +214,8 @@ fn run_sharing(
     }
 }
 
-/// The campaign and the month after any of the compared phases, run by the program.
+/// Plays a phase of `PLAYED` as the program does; the result is the campaign and the month after
+/// it.
 fn run_on(
     alloc: Global,
     world: &World,
@@ -223,7 +232,7 @@ fn run_on(
     }
 }
 
-/// Plays a phase on the reference's campaign by the reference calculation.
+/// Plays a phase of `PLAYED` on the reference's campaign by the reference calculation.
 fn reckon(
     alloc: Global,
     world: &World,
@@ -237,7 +246,7 @@ fn reckon(
     }
 }
 
-/// The reference's campaign after a phase, calculated from a campaign and a month.
+/// The campaign that the reference calculates for a phase of `PLAYED`, from a campaign and a month.
 fn reckoned(
     alloc: Global,
     world: &World,
@@ -270,7 +279,8 @@ fn all_agree(rt: &impl Abort, alloc: Global, world: &World) -> Result<(), Fail> 
     Ok(())
 }
 
-/// Each phase that shares pots, and upkeep, gives the results of the reference for 300 units.
+/// Each phase that shares pots, and upkeep, makes of a campaign of 300 units what the reference
+/// calculates.
 #[test]
 fn phases_agree(rt: HostRuntime) -> Result<(), Fail> {
     let world = crowd_world(rt.alloc())?;
@@ -290,7 +300,7 @@ static WANTS: [&[u64]; 6] = [
     &[0, 0],
 ];
 
-/// The largest pot that the lists of `WANTS` share.
+/// The largest pot that is shared among the wants of `WANTS`.
 const MOST_SHARED: u64 = 300;
 
 /// Asserts that `share` splits one pot among these wants as the reference does.

@@ -103,7 +103,7 @@ static ROWS: [(&[&str], &str); 9] = [
     ),
 ];
 
-/// Asserts which orders the phases get of one row's mailings.
+/// Asserts which orders the five phases of `told_of` get of the mailings of one row of `ROWS`.
 fn row_tells(
     rt: &impl Abort,
     alloc: Global,
@@ -118,7 +118,7 @@ fn row_tells(
     Ok(())
 }
 
-/// Asserts which orders the phases get of each row of `ROWS`.
+/// Asserts, for each row of `ROWS`, which orders the five phases of `told_of` get of its mailings.
 fn rows_tell(rt: &impl Abort, alloc: Global, world: &World) -> Result<(), Fail> {
     for (row, (texts, wanted)) in ROWS.iter().enumerate() {
         row_tells(rt, alloc, world, row, texts, wanted)?;
@@ -165,7 +165,7 @@ fn month_long_are(
     Ok(())
 }
 
-/// Only the last month-long order in a mailing for a unit counts, and TAX and GIVE are none.
+/// Only the last month-long order for a unit in a mailing counts; TAX and GIVE aren't month-long.
 #[test]
 fn month_long_orders(rt: HostRuntime) -> Result<(), Fail> {
     let world = world(rt.alloc())?;
@@ -191,7 +191,8 @@ fn aliases_are(rt: &impl Abort, month: &Month) {
     assert!(rt; month.alias(3, 1).is_none());
 }
 
-/// Asserts the aliases of the month of `formed`, and which orders the phases get.
+/// Asserts the aliases of the month of `formed`, and which orders the five phases of `told_of` get
+/// of it.
 fn formed_tells(rt: &impl Abort, alloc: Global, month: &Month) -> Result<(), Fail> {
     aliases_are(rt, month);
     let told = told_of(alloc, month)?;
@@ -249,7 +250,8 @@ fn orders_are(rt: &impl Abort, month: &Month) {
     assert!(rt; month.mailing(3).is_none());
 }
 
-/// Asserts the events of a month before and after one is added, and the words of the dice.
+/// Asserts that a month has no event, and has `EVENT` once it is added, and that 7 and 9 are its
+/// words of the dice.
 fn events_are(rt: &impl Abort, mut month: Month) -> Result<(), Fail> {
     assert!(rt; month.events().is_empty());
     month.add_event(EVENT)?;

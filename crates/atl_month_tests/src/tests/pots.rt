@@ -40,8 +40,8 @@ impl Pots for Places {
 /// A unit's region, and how much it wants of that region's pot; None if it wants none.
 type Taker = (u32, Option<u16>);
 
-/// Cases: the units in their order, the pots of regions 1 and 2, and each unit's number with the
-/// share that it has to get.
+/// Cases: the takers in the order of their numbers from 1, the pots of regions 1 and 2, and each
+/// unit's number with the share that it has to get.
 static SHARED: [(&[Taker], (u16, u16), &str); 8] = [
     (&[], (100, 100), ""),
     (

@@ -36,7 +36,7 @@ static SETTLED: [(&[(u8, u8, u16, u16)], &str); 11] = [
     ),
 ];
 
-/// What upkeep reads of each unit of a case; the units are numbered from 1.
+/// What upkeep reads of each unit of a case, in the order of the units, which are numbered from 1.
 fn upkeep_inputs_of(
     alloc: Global,
     units: &[(u8, u8, u16, u16)],

@@ -6,7 +6,7 @@ use std::alloc::Global;
 use std::process::Abort;
 use std::test::Fail;
 
-/// A pot, what each of several takers wants of it, and what each gets.
+/// Cases: a pot, what each of several takers wants of it, and what each has to get.
 static SHARED: [(u64, &[u64], &[u64]); 8] = [
     (100, &[50, 60, 70], &[27, 34, 39]),
     (100, &[110, 70], &[61, 39]),
@@ -35,7 +35,7 @@ pub(crate) fn are_small(wants: &[u64]) -> bool
     wants.iter().all(|want| *want <= 999_999_999)
 }
 
-/// Asserts how `share` splits one row's pot among the wants of the row.
+/// Asserts that `share` splits a pot among some wants as is wanted: a row of `SHARED`.
 fn shares(
     rt: &impl Abort,
     alloc: Global,
@@ -51,7 +51,7 @@ fn shares(
     Ok(())
 }
 
-/// Asserts how `share` splits the pot of each row of `SHARED`.
+/// Asserts, for each row of `SHARED`, that `share` splits its pot as the row says.
 fn shares_all(rt: &impl Abort, alloc: Global) -> Result<(), Fail> {
     for (pot, wants, wanted) in SHARED.iter() {
         shares(rt, alloc, *pot, wants, wanted)?;
@@ -78,7 +78,7 @@ fn given_to_crowd(alloc: Global, wants: &[u64]) -> Result<u64, Fail> {
     Ok(sum)
 }
 
-/// 100,000 takers that each want the largest pot get all of it together.
+/// 100,000 takers that each want all of the largest pot get all of it together.
 #[test]
 fn a_crowd_gets_the_whole_pot(rt: HostRuntime) -> Result<(), Fail> {
     let wants = [999_999_999u64].repeat(rt.alloc(), 100_000)?;

@@ -52,7 +52,7 @@ pub(crate) const AFTER_MONTH_ONE: [(&str, Option<i64>); 12] = [
     (MAIL_BYTES, None),
 ];
 
-/// The text of the books after month 1, in which the unit only works.
+/// The text of the books after month 1, in which Avalon's unit only works.
 const BOOKS_AFTER_WORK: &str = "money founding 500
 money joining 1000
 money income 1000
@@ -104,7 +104,8 @@ fn a_faulty_line_is_told_and_the_mail_is_gone(rt: HostRuntime) -> Result<(), Fai
     plays_course(&rt, rt.alloc(), &FIRST_MONTHS[1])
 }
 
-/// Refused closings: wrong pass text, wrong month, and a wrong number of words of the dice.
+/// Closings that are refused: wrong pass text, wrong month, and a wrong number of words of the
+/// dice.
 static REFUSED: [Step; 7] = [
     Step::Told(Asked::Close(2, "no", &[]), "wrong pass"),
     Step::Told(Asked::Close(1, "pw", &[0]), "wrong pass"),

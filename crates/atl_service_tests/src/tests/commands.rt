@@ -14,7 +14,7 @@ use std::alloc::Global;
 use std::process::Abort;
 use std::test::Fail;
 
-/// The first report of a faction that joins the small world.
+/// The first report of Avalon, when it joins the small world as faction 1.
 pub(crate) const FIRST_REPORT: &str = "Atlantis report, month 0, faction 1 \"Avalon\".
 Orders:
 None.
@@ -23,7 +23,7 @@ Exits: none.
 * Unit 1 \"Unit 1\": 1 men, 1000 money.
 ";
 
-/// The first report of a second faction in the small world.
+/// The first report of Bree, when it joins the small world as faction 2.
 pub(crate) const SECOND_REPORT: &str = "Atlantis report, month 0, faction 2 \"Bree\".
 Orders:
 None.
@@ -33,7 +33,7 @@ Exits: none.
 * Unit 2 \"Unit 2\": 1 men, 1000 money.
 ";
 
-/// The first report of a faction that begins in the island's second land region.
+/// The first report of Avalon, when it joins the island and begins in its second land region.
 pub(crate) const FAR_REPORT: &str = "Atlantis report, month 0, faction 1 \"Avalon\".
 Orders:
 None.
@@ -173,7 +173,7 @@ const A_MONTH: [Step; 4] = [
     Step::Told(Asked::Report(1, "pw"), AFTER_WORK),
 ];
 
-/// Lists of commands that are run as a whole, with the wanted answers and the tables afterwards.
+/// Steps whose commands are run as one list, with the wanted answers and the tables afterwards.
 static LISTS: [AtOnce; 2] = [
     AtOnce {
         steps: &CLUB,

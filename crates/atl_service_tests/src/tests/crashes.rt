@@ -128,8 +128,8 @@ fn served<S: Alter>(
     }
 }
 
-/// Runs the commands of a plan after `writings` earlier writes; the result is how many writes were
-/// done, and the connection.
+/// Runs the commands of a plan; the result is how many writes were done, with the `writings` that
+/// were done before, and the connection.
 fn runs<S: Alter>(
     rt: &impl Abort,
     service: Service<S>,
@@ -141,8 +141,8 @@ fn runs<S: Alter>(
     (done.saturating_add(writings), service.end())
 }
 
-/// Inserts the rows of a course, opens the campaign again, and runs the commands; the result is how
-/// many writes were done, and the connection.
+/// Inserts the rows of a plan's course, opens the campaign again, and runs the commands; the result
+/// is how many writes were done, and the connection.
 fn goes_on<S: Alter + Drop>(
     rt: &impl Abort,
     alloc: Global,
@@ -159,8 +159,8 @@ fn goes_on<S: Alter + Drop>(
     }
 }
 
-/// Founds a campaign, inserts its rows and runs the commands; the result is how many writes were
-/// done, and the connection.
+/// Founds a plan's campaign, inserts the course's rows and runs the commands; the result is how
+/// many writes were done, and the connection.
 fn works<S: Alter + Drop>(
     rt: &impl Abort,
     alloc: Global,
@@ -182,7 +182,7 @@ fn options() -> Options {
     options
 }
 
-/// The files as a crash leaves them.
+/// Lets both files crash; the result is the files as the crash leaves them.
 fn crashed<D: Crash>(files: Files<D>) -> Files<D> {
     let Files { mut log, mut db } = files;
     log.crash();
@@ -273,7 +273,8 @@ fn stops(rt: &impl Abort, alloc: Global, plan: &Plan, which: WhichDisk) -> Resul
     Err(Fail::new("stopped each time"))
 }
 
-/// Asserts, for each course, what a crash leaves if one disk stops at each of its calls.
+/// Asserts, for each course of `COURSES`, what a crash leaves after one disk stops at each of its
+/// calls in turn.
 fn stops_each(rt: &impl Abort, alloc: Global, which: WhichDisk) -> Result<(), Fail> {
     for course in COURSES.iter() {
         let plan = planned(alloc, course)?;
@@ -282,13 +283,15 @@ fn stops_each(rt: &impl Abort, alloc: Global, which: WhichDisk) -> Result<(), Fa
     Ok(())
 }
 
-/// If the log's disk stops at any of its calls, the campaign before or after a write is left.
+/// If the log's disk stops at any of its calls, a crash leaves the campaign before a write or after
+/// it.
 #[test]
 fn the_log_stops(rt: HostRuntime) -> Result<(), Fail> {
     stops_each(&rt, rt.alloc(), WhichDisk::Log)
 }
 
-/// If the database's disk stops at any of its calls, the campaign before or after a write is left.
+/// If the database's disk stops at any of its calls, a crash leaves the campaign before a write or
+/// after it.
 #[test]
 fn the_database_stops(rt: HostRuntime) -> Result<(), Fail> {
     stops_each(&rt, rt.alloc(), WhichDisk::Database)

@@ -47,8 +47,8 @@ pub(crate) fn assert_refused<S: Alter>(
     }
 }
 
-/// Refused foundings: SQL statements on an empty database, a world text, a pass text, and the first
-/// check that fails.
+/// Foundings that are refused: SQL statements on an empty database, a world text, a pass text, and
+/// the name of the first check that fails.
 static REFUSED: [(&str, &str, &str, &str); 8] = [
     ("", "a = = b", "a b", "world"),
     ("", SMALL, "a b", "bad pass text"),

@@ -25,12 +25,13 @@ static STEPS: [i64; 17] = [
     1, 2, 4, 8, 16, 32, 64, 128, 256, 512, 1024, 2048, 4096, 8192, 16384, 32768, 65536,
 ];
 
-/// SQL that makes the books balance for 10,000 units, and sets the next unit number.
+/// SQL that makes the books balance with 10,000 units, and sets the next unit number.
 const MANY_ARE_BOOKED: &str =
     "UPDATE books SET amount = amount + 9999 WHERE entry = 1 AND thing = 1;
 UPDATE campaign SET next_unit = 10001";
 
-/// SQL that makes the books balance for 100,000 units, and sets the next unit number.
+/// SQL that makes the books balance with 100,000 units, the most there may be, and sets the next
+/// unit number.
 const UNITS_ARE_FULL: &str =
     "UPDATE books SET amount = amount + 99999 WHERE entry = 1 AND thing = 1;
 UPDATE campaign SET next_unit = 100001";
@@ -126,7 +127,7 @@ fn doubled(conn: &mut Connection<MemStore>, sql: &str, last: i64) -> Result<(), 
     Ok(())
 }
 
-/// Fills a campaign by the SQL of a `Filled`.
+/// Fills the campaign of a database by the SQL of a `Filled`.
 fn fill(conn: &mut Connection<MemStore>, filled: &Filled) -> Result<(), Fail> {
     if let Some((sql, last)) = filled.more {
         doubled(conn, sql, last)?;
@@ -134,7 +135,8 @@ fn fill(conn: &mut Connection<MemStore>, filled: &Filled) -> Result<(), Fail> {
     conn.change(filled.then)
 }
 
-/// Runs the join in a filled campaign, and asserts its answer and what the tables hold afterwards.
+/// Runs the join of a `Filled` in the campaign that it filled, and asserts its answer and what the
+/// tables hold afterwards.
 fn answers(
     rt: &impl Abort,
     alloc: Global,
@@ -147,7 +149,7 @@ fn answers(
     done
 }
 
-/// Fills a campaign, and asserts the answer to a join in it.
+/// Fills a campaign by a `Filled`, and asserts the answer to the join in it.
 fn join_is_answered(rt: &impl Abort, alloc: Global, filled: &Filled) -> Result<(), Fail> {
     let mut conn = joined(rt, alloc)?;
     fill(&mut conn, filled)?;

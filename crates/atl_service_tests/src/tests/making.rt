@@ -6,7 +6,7 @@ use sqlite::{Alter, Connection, MemStore};
 use std::alloc::Global;
 use std::test::Fail;
 
-/// The bytes of a text.
+/// The bytes of a text, as a `Sequence`.
 fn bytes(alloc: Global, text: &str) -> Result<Sequence<u8>, Fail> {
     Ok(Sequence::from_slice(alloc, text.as_bytes())?)
 }

@@ -31,7 +31,7 @@ Market wood: 30 in stock at 7, 0 wanted at 5.
 * Unit 1 \"Unit 1\": 1 men, 983 money, 3 wood.
 ";
 
-/// The text of the books after month 2.
+/// The text of the books after month 2, in which unit 1 buys 3 wood.
 const BOOKS_AFTER_BUYING: &str = "money founding 500
 money joining 1000
 money income 2000

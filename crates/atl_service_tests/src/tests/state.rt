@@ -62,7 +62,7 @@ fn founds(rt: &impl Abort, alloc: Global, world: &World) -> Result<(), Fail> {
     Ok(())
 }
 
-/// A campaign just founded holds what its world says.
+/// A campaign just founded has the money and people that its world says, and the pass text.
 #[test]
 fn founding(rt: HostRuntime) -> Result<(), Fail> {
     let world = small_world(rt.alloc())?;
@@ -117,7 +117,7 @@ fn has_unit(rt: &impl Abort, campaign: &Campaign) {
     assert_count(rt, campaign.unit_count(), 1);
 }
 
-/// Has Avalon join, and asserts the books, the totals, the faction and its unit.
+/// Has Avalon join the small world, and asserts the books, the totals, the faction and its unit.
 fn joins(rt: &impl Abort, alloc: Global, world: &World) -> Result<(), Fail> {
     let mut campaign = small_campaign(alloc, world)?;
     avalon_joins(rt, world, &mut campaign);

@@ -60,7 +60,7 @@ pub(crate) const FORMAT: &str = "SELECT format FROM campaign";
 /// Counts the rows of the table `market`: the stocks.
 pub(crate) const STOCKED: &str = "SELECT count(*) FROM market";
 
-/// Sums all stocks.
+/// Sums how much all markets have in stock.
 pub(crate) const STOCK: &str = "SELECT sum(stock) FROM market";
 
 /// Asserts, for each SELECT of `wanted`, the number that it returns.

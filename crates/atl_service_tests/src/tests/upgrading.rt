@@ -120,8 +120,8 @@ fn is_upgraded(rt: &impl Abort, alloc: Global, story: &Story) -> Result<(), Fail
 /// The one step by which Avalon joins in the island's third region.
 const FAR_JOINS: [Step; 1] = [Step::Joined(Asked::Join("Avalon", "pw", 1), 1, 1)];
 
-/// Avalon's report: its unit is in the third region, and the market in the first, so BUY has a
-/// fault.
+/// Avalon's report on month 1: its unit is in the third region, and the market in the first, so BUY
+/// has a fault.
 const AFTER_BUYING: &str = "Atlantis report, month 1, faction 1 \"Avalon\".
 Orders:
 Unit 1, line 3, BUY: fault 24 NoMarket.
@@ -174,7 +174,7 @@ const SENDS_EARLY: [Step; 2] = [
 /// SQL that gives unit 1 4 wood, booked under Joining.
 const HAS_WOOD: &str = "INSERT INTO has VALUES (1, 0, 0, 4); INSERT INTO books VALUES (2, 2, 4)";
 
-/// Avalon's report: 3 wood are sold, and 20 more come into stock.
+/// Avalon's report on month 1: 3 wood are sold to the market, and 20 more come into stock.
 const AFTER_SELLING: &str = "Atlantis report, month 1, faction 1 \"Avalon\".
 Orders:
 Unit 1, line 3, SELL: done 3.

@@ -2,7 +2,7 @@
 //! written once.
 use std::process::Abort;
 
-/// Asserts that the number of a fault, which may have none, is the wanted one.
+/// Asserts that the number of a fault is the wanted one; None means that the fault has none.
 pub(crate) fn assert_fault_number(rt: &impl Abort, answer: Option<u8>, wanted: Option<u8>) {
     assert_eq!(rt; answer, wanted);
 }

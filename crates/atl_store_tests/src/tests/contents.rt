@@ -5,7 +5,7 @@ use sqlite::{Alter, Connection, params};
 use std::alloc::Global;
 use std::test::Fail;
 
-/// Runs SQL statements; the answer is `Done`.
+/// Runs SQL statements on a database; the answer is `Done`.
 pub(crate) fn run_statements<S: Alter>(
     alloc: Global,
     conn: &mut Connection<S>,

@@ -34,7 +34,8 @@ fn set_amount(
     Ok(())
 }
 
-/// Sets a number of the campaign: `peasants 1 77` sets the peasants of region 1 to 77.
+/// Sets a number of the campaign, as `text` says: `peasants 1 77` sets the peasants of region 1 to
+/// 77.
 pub(crate) fn set(campaign: &mut Campaign, text: &str) -> Result<(), Fail> {
     let (what, rest) = text.split_once(' ').ok_or("what is set")?;
     let [of, first, second] = numbers(rest)?;
@@ -63,8 +64,8 @@ fn set_lent(holding: &mut Holding, what: &str, first: u32, second: u32) -> Resul
     Ok(())
 }
 
-/// Changes a unit through the holding that is lent, which marks all of it: `days 3 1 30` sets unit
-/// 3's days of skill 1.
+/// Changes a unit through its holding, which the campaign lends and marks whole: `days 3 1 30` sets
+/// unit 3's days of skill 1.
 pub(crate) fn lend(campaign: &mut Campaign, text: &str) -> Result<(), Fail> {
     let (what, rest) = text.split_once(' ').ok_or("what is lent")?;
     let [unit, first, second] = numbers(rest)?;
@@ -93,7 +94,8 @@ pub(crate) fn report(alloc: Global, campaign: &mut Campaign, line: &str) -> Resu
     Ok(())
 }
 
-/// Begins a structure of the first kind in region 1, of which 2 are done and which unit 1 owns.
+/// Begins a structure of the first kind, with this name, in region 1: 2 of it are built, and unit 1
+/// owns it.
 pub(crate) fn begin(alloc: Global, campaign: &mut Campaign, name: &str) -> Result<(), Fail> {
     let name = Text::from_str(alloc, name)?;
     if campaign.next_structure() != 1 || campaign.structure(1).is_some() {

@@ -133,8 +133,8 @@ pub(crate) fn new_files(alloc: Global) -> Files<Memory> {
     }
 }
 
-/// The files that an earlier script made; without one they are empty, so that the disk may stop
-/// while they are opened too.
+/// The files that the script `earlier` makes; without one they are new and empty, so that the disk
+/// may also stop while they are opened.
 fn files_of(alloc: Global, game: &mut Game, earlier: &str) -> Result<Files<Memory>, Fail> {
     if earlier.is_empty() {
         return Ok(new_files(alloc));

@@ -48,8 +48,8 @@ is_kept_tables -> yes";
     play_new(&rt, rt.alloc(), script)
 }
 
-/// SQL statements on an old file, a world text's name, and the answers then of a load, and of an
-/// upgrade to that world.
+/// A case: SQL on a file of the first format, a world text's name, and the answers that a load, and
+/// an upgrade to that world, then have.
 type Case = (&'static str, &'static str, &'static str, &'static str);
 
 /// Statements that make the campaign's table again without STRICT, with a word as its month.

@@ -3,7 +3,7 @@ use std::alloc::Global;
 use std::fmt::Display;
 use std::test::Fail;
 
-/// The answer `Done`.
+/// The answer `Done`, of a step that was carried out.
 pub(crate) fn done(alloc: Global) -> Result<String, Fail> {
     Ok(String::from_str(alloc, "Done")?)
 }

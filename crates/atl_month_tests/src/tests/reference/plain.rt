@@ -15,7 +15,7 @@ pub(crate) struct Person {
     pub money: u64,
 }
 
-/// An amount of an item, or days of a skill, that a unit has.
+/// How much of an item a unit has, or how many days of a skill.
 #[derive(Clone, Copy, Drop, PartialEq, Eq)]
 pub(crate) struct Good {
     pub unit: u32,
@@ -135,7 +135,7 @@ fn lands_of(alloc: Global, campaign: &Campaign) -> Result<Vec<Land>, AllocError>
     Ok(lands)
 }
 
-/// Appends the stocks of a region's markets to a list.
+/// Appends the stocks of a region's markets to the list of stocks.
 fn add_stocks(number: u32, region: &Region, stocks: &mut Vec<Stock>) -> Result<(), AllocError> {
     for (item, amount) in region.stocks.iter() {
         stocks.push(Stock {

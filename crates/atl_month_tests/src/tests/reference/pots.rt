@@ -22,7 +22,7 @@ pub(crate) enum Claim {
     Want(u32, u64),
 }
 
-/// An order with what it asks for, or its fault.
+/// An order with what it asks for, or its fault (`Claim`).
 #[derive(Clone, Copy, Drop)]
 pub(crate) struct Claimed<'m> {
     pub order: PhaseOrder<'m>,
@@ -79,7 +79,8 @@ fn note_taker(
     Ok(())
 }
 
-/// Splits a pot among the units of its region that want its thing, and appends what each gets.
+/// Splits a pot among the units of its region that want its thing, and appends to `given` what each
+/// gets.
 fn add_shares(
     alloc: Global,
     plain: &Plain,
@@ -136,7 +137,7 @@ pub(crate) fn given_to(given: &[Given], unit: u32) -> u64 {
     0
 }
 
-/// The outcome of an order: its fault, or that it was done, with the number `told`.
+/// The outcome of an order in its event: its fault, or that it was done, with the number `told`.
 pub(crate) fn outcome(claim: Claim, told: u64) -> Outcome {
     match claim {
         Claim::Fault(fault) => Outcome::Fault(fault.number()),

@@ -103,8 +103,8 @@ fn output(world: &World, region: u32, item: u32) -> u64 {
     }
 }
 
-/// Adds a pot for each item to those of a region: the terrain's output, or no bound for items made
-/// of raw items.
+/// Appends a region's pots in PRODUCE, one for each item: the terrain's output of it, or no bound
+/// if it is made of raw items.
 pub(crate) fn add_pots(world: &World, region: u32, pots: &mut Vec<Pot>) -> Result<(), AllocError> {
     let mut thing: u32 = 0;
     for item in world.items() {

@@ -44,7 +44,7 @@ fn most_bought(plain: &Plain, person: Person, market: &Market) -> u64 {
     payable.min(MOST_PIECES.saturating_sub(held))
 }
 
-/// Whether a unit has nothing to sell (SELL), or no money to buy one (BUY).
+/// Whether a unit has none of a market's item to sell (SELL), or not the money to buy one (BUY).
 fn is_short(trade: Trade, plain: &Plain, person: Person, market: &Market) -> bool {
     match trade {
         Trade::Sell => plain.amount(person.number, false, u32::from(market.item)) == 0,
@@ -86,7 +86,7 @@ fn pot(trade: Trade, plain: &Plain, region: u32, market: &Market) -> Pot {
     }
 }
 
-/// Adds the pots of a region's markets in SELL or BUY.
+/// Appends a region's pots in SELL or BUY, one for each of its markets.
 pub(crate) fn add_pots(
     trade: Trade,
     world: &World,
@@ -102,8 +102,8 @@ pub(crate) fn add_pots(
     Ok(())
 }
 
-/// What a unit and a market have of an item after `pieces` changed hands; `held` and `stock` are
-/// what they had.
+/// What a unit and a market have of an item after `pieces` changed hands; before that they had
+/// `held` and `stock`.
 fn moved(trade: Trade, held: u64, stock: u64, pieces: u64) -> (u64, u64) {
     match trade {
         Trade::Sell => (held.wrapping_sub(pieces), stock.wrapping_add(pieces)),
@@ -123,7 +123,7 @@ fn money_behind(trade: Trade, person: Person, market: &Market, pieces: u64) -> u
     }
 }
 
-/// The entry of the books for the money of SELL or BUY.
+/// The entry of the books under which the money of SELL or BUY is booked.
 fn entry_of(trade: Trade) -> Entry {
     match trade {
         Trade::Sell => Entry::Sold,

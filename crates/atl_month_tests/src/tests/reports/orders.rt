@@ -206,7 +206,8 @@ fn assert_cases(rt: &impl Abort, alloc: Global, world: &World) -> Result<(), Fai
     Ok(())
 }
 
-/// A report lists a mailing's faulty lines and the faction's own events, or None if there are none.
+/// A report lists a mailing's faulty lines and the faction's own events, or says `None.` if there
+/// is neither.
 #[test]
 fn faults_and_events(rt: HostRuntime) -> Result<(), Fail> {
     let world = read_world(rt.alloc(), SMALL)?;

@@ -12,7 +12,7 @@ use atl_world::{Format, Sequence, Text, World};
 use std::alloc::Global;
 use std::test::Fail;
 
-/// The number of the second format.
+/// The number of the second format, in the column `format` of the table `campaign`.
 const SECOND_FORMAT: i64 = 2;
 
 /// The number of Joining among the entries of the books.

@@ -267,7 +267,7 @@ const KEEN_HIDER: Person = Person {
     ..MAN
 };
 
-/// Scenes with units without men, which exist only within a month, and the wanted reports.
+/// Scenes in which units have lost all men, as happens only within a month, and the wanted reports.
 static EMPTY: [Case; 3] = [
     // A unit without men has no stealth, so that another faction sees it, and it doesn't guard.
     Case {
@@ -565,7 +565,7 @@ fn assert_case(rt: &impl Abort, alloc: Global, world: &World, case: &Case) -> Re
     tell(rt, alloc, world, &campaign, case)
 }
 
-/// Asserts the report of each case.
+/// Asserts, for each case, the report that its faction has to get.
 fn assert_cases(rt: &impl Abort, alloc: Global, cases: &[Case]) -> Result<(), Fail> {
     let world = read_world(alloc, ISLE)?;
     for case in cases {
