@@ -20,8 +20,8 @@ use std::test::Fail;
 
 // ---- what is compared
 
-/// Asserts that the list `told` is the list `wanted`; the message says of what they are (`what`),
-/// and names the index of the first difference.
+/// Asserts that the list `told` is the list `wanted`; the message names what is listed (`what`) and
+/// the index of the first difference.
 fn assert_equal_lists<T: PartialEq>(rt: &impl Abort, what: &str, told: &[T], wanted: &[T]) {
     assert!(rt; told.len() == wanted.len(), "so many {what}");
     for (place, (told, wanted)) in told.iter().zip(wanted.iter()).enumerate() {

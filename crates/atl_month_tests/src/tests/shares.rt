@@ -35,7 +35,8 @@ pub(crate) fn are_small(wants: &[u64]) -> bool
     wants.iter().all(|want| *want <= 999_999_999)
 }
 
-/// Asserts that `share` splits a pot among some wants as is wanted: a row of `SHARED`.
+/// Asserts that `share` splits a pot among the wants `wants` into the shares `wanted`, as a row of
+/// `SHARED` says.
 fn shares(
     rt: &impl Abort,
     alloc: Global,

@@ -128,8 +128,8 @@ fn served<S: Alter>(
     }
 }
 
-/// Runs the commands of a plan; the result is how many writes were done, with the `writings` that
-/// were done before, and the connection.
+/// Runs the commands of a plan; the result is how many writes were done, counting the `writings`
+/// before the commands, and the connection.
 fn runs<S: Alter>(
     rt: &impl Abort,
     service: Service<S>,

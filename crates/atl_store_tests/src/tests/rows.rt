@@ -131,7 +131,7 @@ impl Line for StoredMarket {
     }
 }
 
-/// Prints a row that is read with its rowid as the row is printed without it.
+/// Prints a row that was read with its rowid: the columns of the row, without the rowid.
 impl<T: Line> Line for RowWithId<T> {
     /// The columns of the row, without its rowid.
     fn line(&self, alloc: Global) -> Result<String, AllocError> {

@@ -201,8 +201,9 @@ fn play_stopped(
     stop_and_reopen(alloc, files, game, stop.script)
 }
 
-/// Stops the disk at each of its calls, up to a run in which it doesn't stop, and asserts each time
-/// that a crash leaves the steps done, or one more.
+/// Plays a script again and again, and stops the disk one call later each time, up to a run in
+/// which it doesn't stop. Asserts each time that a crash leaves what the steps done make, or one
+/// step more.
 fn stop_at_each_call(
     rt: &impl Abort,
     alloc: Global,
@@ -222,7 +223,7 @@ fn stop_at_each_call(
 }
 
 /// Stops each of the two disks at each of its calls while a script is played, and asserts each time
-/// that a crash leaves the steps done, or one more.
+/// that a crash leaves what the steps done make, or one step more.
 fn stop_each_disk(rt: &impl Abort, alloc: Global, earlier: &str, script: &str) -> Result<(), Fail> {
     let mut game = new_game(alloc)?;
     let stages = contents_in_memory(alloc, &mut game, earlier, script)?;

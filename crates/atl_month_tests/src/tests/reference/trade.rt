@@ -27,7 +27,8 @@ fn asked(order: PhaseOrder<'_>) -> (u64, u16) {
     }
 }
 
-/// How many of a market's item a unit can sell: as many as it has, and has room for the money of.
+/// How many of a market's item a unit can sell: all that it has, or fewer if it has no room for the
+/// money of all.
 fn most_sold(plain: &Plain, person: Person, market: &Market) -> u64 {
     let held = plain.amount(person.number, false, u32::from(market.item));
     let room = MOST_MONEY.saturating_sub(person.money);
