@@ -259,8 +259,8 @@ fn reckoned(
     Ok(plain)
 }
 
-/// Asserts that a phase makes of the campaign of `crowd` what the reference calculates, with the
-/// same events.
+/// Asserts that a phase changes the campaign of `crowd` as the reference calculates, and has the
+/// same events as it.
 fn agrees(rt: &impl Abort, alloc: Global, world: &World, played: Played) -> Result<(), Fail> {
     let campaign = crowd(alloc, world)?;
     let month = crowd_month(alloc, world)?;

@@ -164,8 +164,8 @@ fn at_once(rt: &impl Abort, alloc: Global, list: &AtOnce) -> Result<(), Fail> {
     is_run(rt, alloc, &commands, list)
 }
 
-/// A join, a closing, the same closing again, which is refused, and a report, to run as one list.
-/// `closing` tests the same month one command at a time.
+/// Steps to run as one list: a join, a closing, the same closing again, which is refused, and a
+/// report. `closing` tests the same month one command at a time.
 const A_MONTH: [Step; 4] = [
     Step::Told(AVALON, "joined"),
     Step::Told(MONTH_ONE, "month done"),

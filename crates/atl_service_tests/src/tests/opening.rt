@@ -198,7 +198,7 @@ fn assert_campaign(
     is_made_of(rt, alloc, service.world(), campaign, rows)
 }
 
-/// A session that closes a month, and one that finds it closed.
+/// Two sessions: one closes month 1, and one finds it closed.
 static MONTH_STANDS: [Session; 2] = [
     Session {
         world: Some(SMALL),
@@ -222,7 +222,8 @@ fn a_month_stands(rt: &impl Abort, alloc: Global) -> Result<(), Fail> {
     assert_campaign(rt, alloc, conn, rows.as_str())
 }
 
-/// A campaign opened after a closing has the same rows, and the month isn't closed again.
+/// A campaign opened after a closing has the rows that the closing left, and the month isn't closed
+/// again.
 #[test]
 fn a_closed_month_is_opened_again(rt: HostRuntime) -> Result<(), Fail> {
     a_month_stands(&rt, rt.alloc())
@@ -251,20 +252,21 @@ static COMES_BACK: [Session; 3] = [
     },
 ];
 
-/// Asserts that a campaign is opened twice on its connection, and that no other is founded there.
+/// Asserts that a campaign is opened twice on its connection, and that no second campaign is
+/// founded there.
 fn comes_back(rt: &impl Abort, alloc: Global) -> Result<(), Fail> {
     let (_, conn) = on_connection(rt, alloc, &COMES_BACK)?;
     assert_refused(rt, found(alloc, conn, SMALL, b"gm"), "not empty");
     Ok(())
 }
 
-/// A campaign opened again on its connection has the same rows.
+/// A campaign opened again on its connection has the rows that it had before.
 #[test]
 fn a_campaign_is_opened_on_its_connection(rt: HostRuntime) -> Result<(), Fail> {
     comes_back(&rt, rt.alloc())
 }
 
-/// A campaign opened again from its files has the same rows.
+/// A campaign opened again from its files has the rows that it had before.
 #[test]
 fn a_campaign_is_opened_from_its_files(rt: HostRuntime) -> Result<(), Fail> {
     in_files(&rt, rt.alloc(), new_files(rt.alloc()), &COMES_BACK)

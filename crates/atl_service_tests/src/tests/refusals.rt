@@ -20,7 +20,7 @@ static JOINS_TWICE: [Step; 5] = [
     Step::Told(Asked::Report(1, "pw"), FIRST_REPORT),
 ];
 
-/// A second join under the same name is refused.
+/// A second join under the name Avalon is refused.
 #[test]
 fn a_name_is_taken_once(rt: HostRuntime) -> Result<(), Fail> {
     plays(&rt, rt.alloc(), SMALL, &JOINS_ONCE, &AFTER_JOINING)?;

@@ -36,15 +36,16 @@ fn written_old(
     Ok(conn)
 }
 
-/// The file of a story, written from a campaign that was played in a database of its own.
+/// The file of a story before its upgrade, written from a campaign that was played in a database of
+/// its own.
 fn old(rt: &impl Abort, alloc: Global, story: &Story) -> Result<Connection<MemStore>, Fail> {
     let mut service = begun_in_memory(alloc, ISLE)?;
     follow(rt, alloc, &mut service, story.before)?;
     written_old(alloc, &service, story.by_hand)
 }
 
-/// The rows that the upgraded campaign of a story must have: those of the same campaign, played in
-/// the second format.
+/// The rows that the upgraded campaign of a story must have: those that its first steps and its SQL
+/// make in the second format.
 fn rows_wanted(rt: &impl Abort, alloc: Global, story: &Story) -> Result<String, Fail> {
     let mut service = begun_in_memory(alloc, ISLE)?;
     follow(rt, alloc, &mut service, story.before)?;
@@ -109,7 +110,8 @@ fn goes_on(
     done
 }
 
-/// Asserts that the file of a story is upgraded with the same rows, and is opened and played on.
+/// Asserts that the file of a story is upgraded and keeps its campaign's rows, and is opened and
+/// played on.
 fn is_upgraded(rt: &impl Abort, alloc: Global, story: &Story) -> Result<(), Fail> {
     let conn = old(rt, alloc, story)?;
     let rows = rows_wanted(rt, alloc, story)?;
