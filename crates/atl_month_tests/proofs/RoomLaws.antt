@@ -17,7 +17,8 @@ use Rattle.atl_market.specs.Work.{work_spec}
 use Rattle.atl_month.specs.Upkeep.{upkeep_spec}
 use Rattle.atl_month.proofs.PhaseLaws.{early_are, later_are, upkeep_alone, work_alone}
 
--- A number that is at most `most_moved` if `b` is true, and at most 0 if not, is at most 5,000,000,000,000,000,000.
+-- How far a phase may move one amount of the books (`moved`) is at most 5*10^18: it is at most `most_moved` if the
+-- phase may move this amount (`b`), and at most 0 if not.
 little : (b : Bool) (moved : ℕ) → moved ≤ (if b then most_moved else 0) → moved ≤ 5000000000000000000
 little true moved l = omega (arith, l)
 little false moved l = omega (arith, l)

@@ -20,7 +20,8 @@ use std::test::Fail;
 
 // ---- what is compared
 
-/// Asserts that two lists are equal; the message names the index of the first difference.
+/// Asserts that the list `told` is the list `wanted`; the message names what is listed (`what`) and
+/// the index of the first difference.
 fn assert_equal_lists<T: PartialEq>(rt: &impl Abort, what: &str, told: &[T], wanted: &[T]) {
     assert!(rt; told.len() == wanted.len(), "so many {what}");
     for (place, (told, wanted)) in told.iter().zip(wanted.iter()).enumerate() {
@@ -28,7 +29,8 @@ fn assert_equal_lists<T: PartialEq>(rt: &impl Abort, what: &str, told: &[T], wan
     }
 }
 
-/// Asserts that goods, stocks and books of a campaign are those of the reference's campaign.
+/// Asserts that goods, stocks and books of a campaign (`told`) are those of the reference's
+/// (`wanted`), both sorted and without amounts of 0.
 fn assert_amounts(
     rt: &impl Abort,
     alloc: Global,
@@ -56,8 +58,8 @@ fn assert_amounts(
     Ok(())
 }
 
-/// Asserts that units, regions, goods, stocks, books and events after a phase are those of the
-/// reference.
+/// Asserts that a campaign's units, regions, goods, stocks and books after a phase, and the month's
+/// events, are those of the reference (`wanted`).
 fn assert_campaign(
     rt: &impl Abort,
     alloc: Global,
@@ -92,7 +94,8 @@ static PLAYED: [Played; 7] = [
     Played::Upkeep,
 ];
 
-/// The campaign and the month after SELL, for a good campaign and mailings read with its world.
+/// Plays SELL as the program does; the result is the campaign and the month after it.
+/// The campaign must be good, and the month's mailings read with its world.
 fn run_sell(
     alloc: Global,
     world: &World,
@@ -105,7 +108,8 @@ fn run_sell(
     SellPhase {}.run(alloc, world, campaign, month)
 }
 
-/// The campaign and the month after BUY, for a good campaign and mailings read with its world.
+/// Plays BUY as the program does; the result is the campaign and the month after it.
+/// The campaign must be good, and the month's mailings read with its world.
 fn run_buy(
     alloc: Global,
     world: &World,
@@ -118,7 +122,8 @@ fn run_buy(
     BuyPhase {}.run(alloc, world, campaign, month)
 }
 
-/// The campaign and the month after TAX, for a good campaign and mailings read with its world.
+/// Plays TAX as the program does; the result is the campaign and the month after it.
+/// The campaign must be good, and the month's mailings read with its world.
 fn run_tax(
     alloc: Global,
     world: &World,
@@ -131,7 +136,8 @@ fn run_tax(
     TaxPhase.run(alloc, world, campaign, month)
 }
 
-/// The campaign and the month after RECRUIT, for a good campaign and mailings read with its world.
+/// Plays RECRUIT as the program does; the result is the campaign and the month after it.
+/// The campaign must be good, and the month's mailings read with its world.
 fn run_recruit(
     alloc: Global,
     world: &World,
@@ -144,7 +150,8 @@ fn run_recruit(
     RecruitPhase.run(alloc, world, campaign, month)
 }
 
-/// The campaign and the month after PRODUCE, for a good campaign and mailings read with its world.
+/// Plays PRODUCE as the program does; the result is the campaign and the month after it.
+/// The campaign must be good, and the month's mailings read with its world.
 fn run_produce(
     alloc: Global,
     world: &World,
@@ -157,7 +164,8 @@ fn run_produce(
     ProducePhase.run(alloc, world, campaign, month)
 }
 
-/// The campaign and the month after WORK, for a good campaign and mailings read with its world.
+/// Plays WORK as the program does; the result is the campaign and the month after it.
+/// The campaign must be good, and the month's mailings read with its world.
 fn run_work(
     alloc: Global,
     world: &World,
@@ -170,7 +178,8 @@ fn run_work(
     WorkPhase.run(alloc, world, campaign, month)
 }
 
-/// The campaign and the month after upkeep, for a good campaign and mailings read with its world.
+/// Plays upkeep as the program does; the result is the campaign and the month after it.
+/// The campaign must be good, and the month's mailings read with its world.
 fn run_upkeep(
     alloc: Global,
     world: &World,
@@ -183,7 +192,8 @@ fn run_upkeep(
     UpkeepPhase.run(alloc, world, campaign, month)
 }
 
-/// The campaign and the month after a phase that shares pots, run by the program.
+/// Plays a phase that shares pots as the program does; the result is the campaign and the month
+/// after it.
 fn run_sharing(
     alloc: Global,
     world: &World,
@@ -204,7 +214,8 @@ fn run_sharing(
     }
 }
 
-/// The campaign and the month after any of the compared phases, run by the program.
+/// Plays a phase of `PLAYED` as the program does; the result is the campaign and the month after
+/// it.
 fn run_on(
     alloc: Global,
     world: &World,
@@ -221,7 +232,7 @@ fn run_on(
     }
 }
 
-/// Plays a phase on the reference's campaign by the reference calculation.
+/// Plays a phase of `PLAYED` on the reference's campaign by the reference calculation.
 fn reckon(
     alloc: Global,
     world: &World,
@@ -235,7 +246,7 @@ fn reckon(
     }
 }
 
-/// The reference's campaign after a phase, calculated from a campaign and a month.
+/// The campaign that the reference calculates for a phase of `PLAYED`, from a campaign and a month.
 fn reckoned(
     alloc: Global,
     world: &World,
@@ -248,7 +259,8 @@ fn reckoned(
     Ok(plain)
 }
 
-/// Asserts that a phase on the campaign of `crowd` gives the results of the reference.
+/// Asserts that a phase changes the campaign of `crowd` as the reference calculates, and has the
+/// same events as it.
 fn agrees(rt: &impl Abort, alloc: Global, world: &World, played: Played) -> Result<(), Fail> {
     let campaign = crowd(alloc, world)?;
     let month = crowd_month(alloc, world)?;
@@ -258,7 +270,8 @@ fn agrees(rt: &impl Abort, alloc: Global, world: &World, played: Played) -> Resu
     Ok(())
 }
 
-/// Asserts that each phase of `PLAYED` gives the results of the reference.
+/// Asserts that each phase of `PLAYED` makes of the campaign of `crowd` what the reference
+/// calculates.
 fn all_agree(rt: &impl Abort, alloc: Global, world: &World) -> Result<(), Fail> {
     for played in PLAYED.iter() {
         agrees(rt, alloc, world, *played)?;
@@ -266,7 +279,8 @@ fn all_agree(rt: &impl Abort, alloc: Global, world: &World) -> Result<(), Fail> 
     Ok(())
 }
 
-/// Each phase that shares pots, and upkeep, gives the results of the reference for 300 units.
+/// Each phase that shares pots, and upkeep, makes of a campaign of 300 units what the reference
+/// calculates.
 #[test]
 fn phases_agree(rt: HostRuntime) -> Result<(), Fail> {
     let world = crowd_world(rt.alloc())?;
@@ -275,8 +289,8 @@ fn phases_agree(rt: HostRuntime) -> Result<(), Fail> {
 
 // ---- shares
 
-/// Lists of wants, each tried with every pot from 0 to `MOST_SHARED`, which is more than its wants
-/// together.
+/// Lists of wants. Each is tried with every pot from 0 to `MOST_SHARED`, which is more than all
+/// wants of any list together.
 static WANTS: [&[u64]; 6] = [
     &[50, 60, 70],
     &[1, 1, 1, 1, 1, 1, 1],
@@ -286,10 +300,10 @@ static WANTS: [&[u64]; 6] = [
     &[0, 0],
 ];
 
-/// The largest pot that the lists of `WANTS` share.
+/// The largest pot that is shared among the wants of `WANTS`.
 const MOST_SHARED: u64 = 300;
 
-/// Asserts that `share` splits one pot as the reference does.
+/// Asserts that `share` splits one pot among these wants as the reference does.
 fn pot_agrees(rt: &impl Abort, alloc: Global, pot: u64, wants: &[u64]) -> Result<(), Fail> {
     if pot > MOST_SHARED || !are_small(wants) {
         return Err(Fail::new("a pot and wants that are small enough"));
@@ -300,7 +314,8 @@ fn pot_agrees(rt: &impl Abort, alloc: Global, pot: u64, wants: &[u64]) -> Result
     Ok(())
 }
 
-/// Asserts that `share` splits each pot up to `MOST_SHARED` as the reference does.
+/// Asserts that `share` splits each pot up to `MOST_SHARED` among these wants as the reference
+/// does.
 fn pots_agree(rt: &impl Abort, alloc: Global, wants: &[u64]) -> Result<(), Fail> {
     for pot in 0..=MOST_SHARED {
         pot_agrees(rt, alloc, pot, wants)?;

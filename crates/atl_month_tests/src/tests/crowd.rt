@@ -101,7 +101,7 @@ fee = 9
 /// How many items the crowd's world has.
 const ITEMS: u32 = 5;
 
-/// A market of a region: its item, its two prices, and its limit.
+/// A market of a region: its item with its name, its price and what it pays for one, and its limit.
 #[derive(Clone, Copy, Drop)]
 struct Stall {
     item: u32,
@@ -177,11 +177,11 @@ static MONEY: [i64; 7] = [0, 3, 20, 150, 900, 0, 4_000];
 /// Each unit whose number is a multiple of this has `FULL_PURSE` of money.
 const RICH: u32 = 37;
 
-/// Money that leaves a unit hardly any room for more.
+/// Money that leaves a unit hardly any room for more, since it may have 999,999,999.
 const FULL_PURSE: i64 = 999_999_990;
 
-/// How much of an item a unit has, picked by unit number plus item; the last leaves hardly any room
-/// for more.
+/// How much of an item a unit has, picked by unit number plus item; with the last amount the unit
+/// has hardly any room for more.
 static PIECES: [i64; 5] = [0, 2, 0, 30, 999_999_995];
 
 /// How many days of a skill a unit has for each man, picked by unit number plus skill.
@@ -229,11 +229,11 @@ static BOUGHT: [&str; 13] = [
     "BUY 1 cart",
 ];
 
-/// How many men a unit tries to recruit, picked by its number.
+/// How many men the RECRUIT order of a unit asks for, picked by its number.
 static RECRUITED: [u32; 5] = [1, 20, 3, 7, 400];
 
-/// Each unit whose number is a multiple of this orders the next unit, which is another faction's,
-/// and not itself.
+/// The orders picked by a multiple of this number are written for the next unit, which is another
+/// faction's, and not for the unit with that number.
 const ASTRAY: u32 = 29;
 
 /// The number of Joining among the entries of the books.
@@ -248,7 +248,7 @@ const PEOPLE_BOOKED: i64 = 1;
 /// The number of the first item among the things of the books.
 const FIRST_ITEM_BOOKED: i64 = 2;
 
-/// The value of a table at the index `number`, modulo its length.
+/// The value that `number` picks from a table: the one at the index `number`, modulo its length.
 fn dealt<T: Copy + Drop>(table: &[T], number: u32) -> T
     requires { 1 ≤ length table.now }
 {
@@ -257,7 +257,7 @@ fn dealt<T: Copy + Drop>(table: &[T], number: u32) -> T
 
 // ---- the world
 
-/// The two markets of a region.
+/// The two markets of a region, picked by its number.
 fn stalls_of(region: u32) -> [Stall; 2] {
     [
         dealt(&STALLS, region),
@@ -309,12 +309,12 @@ pub(crate) fn crowd_world(alloc: Global) -> Result<World, Fail> {
 
 // ---- the units
 
-/// The faction of a unit.
+/// The faction of the unit with this number; consecutive numbers are of the four factions in turn.
 fn faction_of(number: u32) -> u32 {
     number % FACTIONS + 1
 }
 
-/// The region of a unit.
+/// The region of the unit with this number; up to `IN_A_ROW` consecutive numbers are in one region.
 fn region_of(number: u32) -> u32 {
     number / IN_A_ROW % REGIONS + 1
 }
@@ -324,7 +324,7 @@ fn guards(number: u32) -> bool {
     region_of(number) % FACTIONS + 1 == faction_of(number) && number % 5 != 0
 }
 
-/// The money of a unit.
+/// The money of the unit with this number.
 fn money_of(number: u32) -> i64 {
     if number % RICH == 0 {
         FULL_PURSE
@@ -333,7 +333,7 @@ fn money_of(number: u32) -> i64 {
     }
 }
 
-/// The row of a unit in the table `unit`, with what its number picks.
+/// The row of the unit with this number in the table `unit`, with what the number picks.
 fn unit(alloc: Global, number: u32) -> Result<StoredUnit, AllocError> {
     Ok(StoredUnit {
         number: i64::from(number),
@@ -347,7 +347,7 @@ fn unit(alloc: Global, number: u32) -> Result<StoredUnit, AllocError> {
     })
 }
 
-/// The rows of all units in the table `unit`.
+/// The rows of all 300 units in the table `unit`.
 fn units(alloc: Global) -> Result<Sequence<StoredUnit>, AllocError> {
     let mut units = Sequence::new(alloc);
     for number in 1..=UNITS {
@@ -356,7 +356,8 @@ fn units(alloc: Global) -> Result<Sequence<StoredUnit>, AllocError> {
     Ok(units)
 }
 
-/// Adds a row to the table `has`, an amount of an item or days of a skill, unless the amount is 0.
+/// Adds to the rows of `has` how much a unit has of an item (`sort` 0), or its days of a skill (1),
+/// unless that is 0.
 fn add_good(
     number: u32,
     sort: i64,
@@ -375,12 +376,12 @@ fn add_good(
     })
 }
 
-/// How much a unit has of an item.
+/// How much of an item the unit with this number has.
 fn pieces(number: u32, item: u32) -> i64 {
     dealt(&PIECES, number.wrapping_add(item))
 }
 
-/// Adds the rows of a unit's items.
+/// Adds a unit's items to the rows of the table `has`.
 fn add_items(number: u32, has: &mut Sequence<StoredHas>) -> Result<(), AllocError> {
     for item in 0..ITEMS {
         add_good(number, 0, item, pieces(number, item), has)?;
@@ -388,7 +389,7 @@ fn add_items(number: u32, has: &mut Sequence<StoredHas>) -> Result<(), AllocErro
     Ok(())
 }
 
-/// Adds the rows of a unit's days of study.
+/// Adds a unit's days of study to the rows of the table `has`.
 fn add_days(number: u32, has: &mut Sequence<StoredHas>) -> Result<(), AllocError> {
     for skill in 0..SKILLS {
         let each = dealt(&DAYS, number.wrapping_add(skill));
@@ -410,13 +411,13 @@ fn has(alloc: Global) -> Result<Sequence<StoredHas>, AllocError> {
 
 // ---- the stocks
 
-/// The stock of a market in a region.
+/// How much a region's market `stall` has in stock.
 fn stock_of(region: u32, stall: Stall) -> i64 {
     let thirds = dealt(&FILLED, region.wrapping_add(stall.item));
     i64::from(stall.limit.wrapping_mul(thirds) / 3)
 }
 
-/// Adds the rows of a region's stocks that aren't 0.
+/// Adds a region's stocks that aren't 0 to the rows of the table `market`.
 fn add_stocks(region: u32, markets: &mut Sequence<StoredMarket>) -> Result<(), AllocError> {
     for stall in stalls_of(region).iter() {
         let stock = stock_of(region, *stall);
@@ -431,7 +432,7 @@ fn add_stocks(region: u32, markets: &mut Sequence<StoredMarket>) -> Result<(), A
     Ok(())
 }
 
-/// The rows of all stocks.
+/// The rows of the table `market`: all stocks that aren't 0.
 fn stocks(alloc: Global) -> Result<Sequence<StoredMarket>, AllocError> {
     let mut markets = Sequence::new(alloc);
     for region in 1..=REGIONS {
@@ -453,7 +454,8 @@ fn all_in_stock(markets: &Sequence<StoredMarket>, item: u32) -> i64 {
 
 // ---- factions and books
 
-/// The campaign row, which has the next free numbers.
+/// The one row of the table `campaign`, which has the next free numbers of a faction, a unit and a
+/// structure.
 fn head(alloc: Global) -> Result<Sequence<StoredCampaignRow>, AllocError> {
     let mut all = Sequence::new(alloc);
     all.push(StoredCampaignRow {
@@ -468,7 +470,7 @@ fn head(alloc: Global) -> Result<Sequence<StoredCampaignRow>, AllocError> {
     Ok(all)
 }
 
-/// The row of a faction.
+/// The row of the faction with this number in the table `faction`.
 fn faction(alloc: Global, number: u32) -> Result<StoredFaction, AllocError> {
     let name = format!(in alloc; "F{number}")?;
     Ok(StoredFaction {
@@ -480,7 +482,7 @@ fn faction(alloc: Global, number: u32) -> Result<StoredFaction, AllocError> {
     })
 }
 
-/// The rows of the factions.
+/// The rows of the four factions.
 fn factions(alloc: Global) -> Result<Sequence<StoredFaction>, AllocError> {
     let mut all = Sequence::new(alloc);
     for number in 1..=FACTIONS {
@@ -533,7 +535,7 @@ fn all_pieces(item: u32) -> i64 {
     all
 }
 
-/// Books all that the units have and all that is in stock under Joining.
+/// Books under Joining the money, men and items of all units, and all that is in stock.
 fn book_all(
     markets: &Sequence<StoredMarket>,
     books: &mut Sequence<StoredBooks>,
@@ -549,8 +551,8 @@ fn book_all(
     Ok(())
 }
 
-/// Replaces the rows of a campaign just founded by those of the crowd, and adds the crowd's
-/// holdings to the books.
+/// Replaces the rows of a campaign just founded by those of the crowd; the books get rows under
+/// Joining for all that the units have and all that is in stock.
 fn fill(alloc: Global, parts: &mut Parts) -> Result<(), AllocError> {
     parts.markets = stocks(alloc)?;
     book_all(&parts.markets, &mut parts.books)?;
@@ -562,7 +564,7 @@ fn fill(alloc: Global, parts: &mut Parts) -> Result<(), AllocError> {
     Ok(())
 }
 
-/// All rows of the campaign of 300 units, made from a founding.
+/// All rows of the campaign of 300 units: those of a founding, changed by `fill`.
 fn rows(alloc: Global, world: &World) -> Result<Parts, AllocError> {
     let mut parts = founded(alloc, world, b"gm")?.parts()?;
     fill(alloc, &mut parts)?;
@@ -587,8 +589,8 @@ pub(crate) fn crowd(alloc: Global, world: &World) -> Result<Campaign, Fail>
 
 // ---- the month
 
-/// The unit that gets the orders of a unit's number: the unit itself, or the next one if the number
-/// is a multiple of `ASTRAY`.
+/// The unit for which the orders that `number` picks are written: the unit with this number, or the
+/// next one if the number is a multiple of `ASTRAY`.
 fn told_unit(number: u32) -> u32 {
     if number % ASTRAY == 0 {
         number.wrapping_add(1)
@@ -620,7 +622,7 @@ fn mailing(alloc: Global, faction: u32) -> Result<String, AllocError> {
     Ok(mailing)
 }
 
-/// The texts as references, in the same order.
+/// The texts as `&str`, in the same order, as `month` takes them.
 fn lent(alloc: Global, texts: &[String]) -> Result<Vec<&str>, AllocError> {
     let mut all = Vec::new(alloc);
     for text in texts {
@@ -629,7 +631,7 @@ fn lent(alloc: Global, texts: &[String]) -> Result<Vec<&str>, AllocError> {
     Ok(all)
 }
 
-/// The month in which all four factions have sent their mailings.
+/// The month to which all four factions of the crowd have sent their mailings.
 pub(crate) fn crowd_month(alloc: Global, world: &World) -> Result<Month, Fail>
     ensures { IfOk result (λ month. AreFit world.now month.readings) }
 {

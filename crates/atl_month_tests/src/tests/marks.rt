@@ -81,12 +81,13 @@ fn paid(alloc: Global, world: &World) -> Result<Campaign, Fail> {
     after_month(alloc, world, campaign, &PAYING, &[0])
 }
 
-/// Asserts that a truth value is true.
+/// Asserts that a condition is true.
 fn assert_true(rt: &impl Abort, told: bool) {
     assert!(rt; told);
 }
 
-/// Whether unit 1 has two men and its new name.
+/// Whether unit 1 has two men and the name `Watch`, as it has after a month of the mailing
+/// `PAYING`.
 fn has_a_recruit(campaign: &Campaign) -> bool {
     match campaign.unit(1) {
         Some(unit) => unit.holding.men() == 2 && unit.holding.name().as_str() == "Watch",
@@ -94,7 +95,7 @@ fn has_a_recruit(campaign: &Campaign) -> bool {
     }
 }
 
-/// A new name, PAY, RECRUIT and upkeep mark the units and their rows, and none of their goods.
+/// A month with a new name, PAY, RECRUIT and upkeep marks both units and their rows, and no goods.
 #[test]
 fn names_pay_recruits_and_upkeep_mark_no_goods(rt: HostRuntime) -> Result<(), Fail> {
     let world = small_world(rt.alloc())?;
@@ -106,10 +107,10 @@ fn names_pay_recruits_and_upkeep_mark_no_goods(rt: HostRuntime) -> Result<(), Fa
 
 // ---- the goods of a unit, thing by thing
 
-/// How much wood unit 1 has.
+/// How much wood unit 1 has in the campaign of `equipped`.
 const WOOD: i64 = 20;
 
-/// How many days of carpentry unit 1 has.
+/// How many days of carpentry unit 1 has in the campaign of `equipped`.
 const CARPENTRY: i64 = 30;
 
 /// Adds rows by which unit 1 has wood and days of carpentry; the wood is booked under Joining.
@@ -150,7 +151,8 @@ fn island_after_month(alloc: Global, world: &World, mailing: &str) -> Result<Cam
     after_month(alloc, world, campaign, &[mailing], &[0, 0, 0, 0])
 }
 
-/// Appends a list of numbers to a text, and `|` after them.
+/// Appends the numbers of marked units to the text `told`, each with a blank after it, and then
+/// `|`.
 fn tell_numbers(
     alloc: Global,
     numbers: MarkedNumbers<'_>,
@@ -162,7 +164,8 @@ fn tell_numbers(
     told.push_str("|")
 }
 
-/// Appends the marked things of one unit to a text, each as `unit:thing`.
+/// Appends the items, or the skills, that are marked one by one of one unit to the text `told`,
+/// each as `unit:thing` with a blank after it.
 fn tell_things_of(
     alloc: Global,
     unit: u32,
@@ -175,7 +178,8 @@ fn tell_things_of(
     Ok(())
 }
 
-/// Appends the marked things of all units to a text, each as `unit:thing`, and `|` after them.
+/// Appends the items, or the skills, that are marked one by one of all units to the text `told`,
+/// each as `unit:thing`, and then `|`.
 fn tell_things(
     alloc: Global,
     units: Entries<'_, Numbered<()>>,
@@ -187,7 +191,7 @@ fn tell_things(
     told.push_str("|")
 }
 
-/// What is marked of units, as five lists in a text, each ended by `|`.
+/// What a campaign has marked of units, as five lists in a text, each ended by `|`.
 /// They are the marked units, marked rows, units with all their goods marked, single items, and
 /// single skills.
 fn marks_of(alloc: Global, campaign: &Campaign) -> Result<String, AllocError> {
@@ -200,8 +204,8 @@ fn marks_of(alloc: Global, campaign: &Campaign) -> Result<String, AllocError> {
     Ok(told)
 }
 
-/// Asserts which marks of units a campaign has, as `marks_of` prints them; the message names the
-/// index of the row.
+/// Asserts which marks of units a campaign has, as `marks_of` prints them; the message names `row`,
+/// the index in the table of cases.
 fn assert_marks(
     rt: &impl Abort,
     alloc: Global,

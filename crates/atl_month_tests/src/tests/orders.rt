@@ -13,8 +13,8 @@ use std::alloc::Global;
 use std::process::Abort;
 use std::test::Fail;
 
-/// Appends the orders that a phase gets, each as unit, line, faction and keyword, and `|` after
-/// them.
+/// Appends the orders that a phase gets of a month to the text `told`, each as unit, line, faction
+/// and keyword, and then `|`.
 fn tell<P: PhaseVerbs>(
     alloc: Global,
     month: &Month,
@@ -103,7 +103,7 @@ static ROWS: [(&[&str], &str); 9] = [
     ),
 ];
 
-/// Asserts which orders the phases get of one row's mailings.
+/// Asserts which orders the five phases of `told_of` get of the mailings of one row of `ROWS`.
 fn row_tells(
     rt: &impl Abort,
     alloc: Global,
@@ -118,7 +118,7 @@ fn row_tells(
     Ok(())
 }
 
-/// Asserts which orders the phases get of each row of `ROWS`.
+/// Asserts, for each row of `ROWS`, which orders the five phases of `told_of` get of its mailings.
 fn rows_tell(rt: &impl Abort, alloc: Global, world: &World) -> Result<(), Fail> {
     for (row, (texts, wanted)) in ROWS.iter().enumerate() {
         row_tells(rt, alloc, world, row, texts, wanted)?;
@@ -144,7 +144,7 @@ fn formed(alloc: Global, world: &World) -> Result<Month, Fail> {
     Ok(month)
 }
 
-/// Asserts which month-long orders of some mailings count.
+/// Asserts which month-long orders of the mailings `texts` count, as `tell` prints them.
 fn month_long_are(
     rt: &impl Abort,
     alloc: Global,
@@ -165,7 +165,7 @@ fn month_long_are(
     Ok(())
 }
 
-/// Only the last month-long order in a mailing for a unit counts, and TAX and GIVE are none.
+/// Only the last month-long order for a unit in a mailing counts; TAX and GIVE aren't month-long.
 #[test]
 fn month_long_orders(rt: HostRuntime) -> Result<(), Fail> {
     let world = world(rt.alloc())?;
@@ -182,7 +182,8 @@ fn month_long_orders(rt: HostRuntime) -> Result<(), Fail> {
     )
 }
 
-/// Asserts which unit each alias of `formed` stands for; an alias without a unit has none.
+/// Asserts which unit each of four aliases stands for in the month of `formed`: two aliases have no
+/// unit.
 fn aliases_are(rt: &impl Abort, month: &Month) {
     assert!(rt; month.alias(1, 1) == Some(7));
     assert!(rt; month.alias(1, 2).is_none());
@@ -190,7 +191,8 @@ fn aliases_are(rt: &impl Abort, month: &Month) {
     assert!(rt; month.alias(3, 1).is_none());
 }
 
-/// Asserts the aliases of the month of `formed`, and which orders the phases get.
+/// Asserts the aliases of the month of `formed`, and which orders the five phases of `told_of` get
+/// of it.
 fn formed_tells(rt: &impl Abort, alloc: Global, month: &Month) -> Result<(), Fail> {
     aliases_are(rt, month);
     let told = told_of(alloc, month)?;
@@ -212,7 +214,7 @@ fn aliases_of_factions(rt: HostRuntime) -> Result<(), Fail> {
     formed_tells(&rt, rt.alloc(), &month)
 }
 
-/// The event of a FORM that made unit 7.
+/// The event of a FORM that made unit 7, to add to a month.
 const EVENT: Event = Event {
     faction: 1,
     unit: 4,
@@ -221,7 +223,7 @@ const EVENT: Event = Event {
     outcome: Outcome::Done(7),
 };
 
-/// Asserts that an order has this verb, or that both are None.
+/// Asserts that the verb of an order is the wanted one; None means that there is no such order.
 fn assert_verb(rt: &impl Abort, told: Option<Verb>, wanted: Option<Verb>) {
     assert!(rt; told == wanted);
 }
@@ -248,7 +250,8 @@ fn orders_are(rt: &impl Abort, month: &Month) {
     assert!(rt; month.mailing(3).is_none());
 }
 
-/// Asserts the events of a month before and after one is added, and the words of the dice.
+/// Asserts that a month has no event, and has `EVENT` once it is added, and that 7 and 9 are its
+/// words of the dice.
 fn events_are(rt: &impl Abort, mut month: Month) -> Result<(), Fail> {
     assert!(rt; month.events().is_empty());
     month.add_event(EVENT)?;

@@ -11,6 +11,7 @@ pub(crate) struct Studying;
 impl PhaseVerbs for Studying {
     ghost is_of = { is_studying };
 
+    /// Whether `verb` is STUDY.
     fn has(&self, verb: Verb) -> bool {
         matches!(verb, Verb::Study)
     }
@@ -23,6 +24,7 @@ pub(crate) struct Working;
 impl PhaseVerbs for Working {
     ghost is_of = { is_working };
 
+    /// Whether `verb` is WORK.
     fn has(&self, verb: Verb) -> bool {
         matches!(verb, Verb::Work)
     }

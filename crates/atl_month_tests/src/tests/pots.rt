@@ -27,6 +27,7 @@ impl Pots for Places {
 
     ghost ready = { λ _. ⊤ };
 
+    /// How much there is to share in `region`.
     fn pot(&self, region: u32) -> u64 {
         match region {
             1 => u64::from(self.first),
@@ -39,8 +40,8 @@ impl Pots for Places {
 /// A unit's region, and how much it wants of that region's pot; None if it wants none.
 type Taker = (u32, Option<u16>);
 
-/// Cases: the units in their order, the pots of regions 1 and 2, and each unit's number with the
-/// share that it has to get.
+/// Cases: the takers in the order of their numbers from 1, the pots of regions 1 and 2, and each
+/// unit's number with the share that it has to get.
 static SHARED: [(&[Taker], (u16, u16), &str); 8] = [
     (&[], (100, 100), ""),
     (
@@ -124,7 +125,7 @@ fn wants_of(alloc: Global, takers: &[Taker]) -> Result<Numbered<u32>, Fail>
     Ok(wants)
 }
 
-/// The shares of all units as text: each unit's number and its share.
+/// The shares that units got, as text: each unit's number and its share.
 fn told_of(alloc: Global, given: &Numbered<u32>) -> Result<String, AllocError> {
     let mut told = String::new(alloc);
     for (number, share) in given.iter() {
@@ -133,7 +134,7 @@ fn told_of(alloc: Global, given: &Numbered<u32>) -> Result<String, AllocError> {
     Ok(told)
 }
 
-/// What each taker gets of the pots of regions 1 and 2, as text.
+/// What `pot_shares` gives each taker of the pots of regions 1 and 2, as text.
 fn shares(
     alloc: Global,
     world: &World,
@@ -150,7 +151,7 @@ fn shares(
     Ok(told_of(alloc, &given)?)
 }
 
-/// Asserts what each taker gets in each row of `SHARED`.
+/// Asserts, for each row of `SHARED`, what `pot_shares` gives each taker.
 fn shares_all(rt: &impl Abort, alloc: Global, world: &World) -> Result<(), Fail> {
     for (row, (takers, pots, wanted)) in SHARED.iter().enumerate() {
         let told = shares(alloc, world, takers, *pots)?;

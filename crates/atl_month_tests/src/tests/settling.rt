@@ -8,7 +8,7 @@ use atl_month::{UpkeepInput, upkeep_payments};
 use std::alloc::{AllocError, Global};
 use std::test::Fail;
 
-/// What a man costs a month.
+/// What the upkeep of a man costs a month, in each case of `SETTLED`.
 const MAINTENANCE: u32 = 10;
 
 /// Cases: region, faction, men and money of each unit, and what upkeep has to take from each: the
@@ -36,7 +36,7 @@ static SETTLED: [(&[(u8, u8, u16, u16)], &str); 11] = [
     ),
 ];
 
-/// What upkeep reads of each unit of a case; the units are numbered from 1.
+/// What upkeep reads of each unit of a case, in the order of the units, which are numbered from 1.
 fn upkeep_inputs_of(
     alloc: Global,
     units: &[(u8, u8, u16, u16)],
@@ -62,8 +62,8 @@ fn upkeep_inputs_of(
     Ok(purses)
 }
 
-/// What upkeep takes from each unit, as text: the money that it pays, and how many of its men
-/// starve.
+/// What upkeep takes from each unit of a case, as text: the money that it pays, and how many of its
+/// men starve.
 fn told_of(alloc: Global, units: &[(u8, u8, u16, u16)]) -> Result<String, Fail> {
     let purses = upkeep_inputs_of(alloc, units)?;
     let mut told = String::new(alloc);

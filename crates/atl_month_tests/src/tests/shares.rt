@@ -6,7 +6,7 @@ use std::alloc::Global;
 use std::process::Abort;
 use std::test::Fail;
 
-/// A pot, what each of several takers wants of it, and what each gets.
+/// Cases: a pot, what each of several takers wants of it, and what each has to get.
 static SHARED: [(u64, &[u64], &[u64]); 8] = [
     (100, &[50, 60, 70], &[27, 34, 39]),
     (100, &[110, 70], &[61, 39]),
@@ -22,7 +22,8 @@ static SHARED: [(u64, &[u64], &[u64]); 8] = [
     ),
 ];
 
-/// Asserts what each taker gets of a pot; the message names the pot.
+/// Asserts that what the takers of a pot got (`told`) is what each has to get (`wanted`); the
+/// message names the pot.
 pub(crate) fn assert_shares(rt: &impl Abort, pot: u64, told: &[u64], wanted: &[u64]) {
     assert_eq!(rt; told, wanted, "of {pot}");
 }
@@ -34,7 +35,8 @@ pub(crate) fn are_small(wants: &[u64]) -> bool
     wants.iter().all(|want| *want <= 999_999_999)
 }
 
-/// Asserts how `share` splits one row's pot among the wants of the row.
+/// Asserts that `share` splits a pot among the wants `wants` into the shares `wanted`, as a row of
+/// `SHARED` says.
 fn shares(
     rt: &impl Abort,
     alloc: Global,
@@ -50,7 +52,7 @@ fn shares(
     Ok(())
 }
 
-/// Asserts how `share` splits the pot of each row of `SHARED`.
+/// Asserts, for each row of `SHARED`, that `share` splits its pot as the row says.
 fn shares_all(rt: &impl Abort, alloc: Global) -> Result<(), Fail> {
     for (pot, wants, wanted) in SHARED.iter() {
         shares(rt, alloc, *pot, wants, wanted)?;
@@ -64,7 +66,8 @@ fn a_pot_is_shared(rt: HostRuntime) -> Result<(), Fail> {
     shares_all(&rt, rt.alloc())
 }
 
-/// How much all takers get together of a pot of 999,999,999.
+/// How much `share` gives of a pot of 999,999,999 to all takers together; `wants` has what each
+/// wants.
 fn given_to_crowd(alloc: Global, wants: &[u64]) -> Result<u64, Fail> {
     if !are_small(wants) {
         return Err(Fail::new("wants that are small enough"));
@@ -76,7 +79,7 @@ fn given_to_crowd(alloc: Global, wants: &[u64]) -> Result<u64, Fail> {
     Ok(sum)
 }
 
-/// 100,000 takers that each want the largest pot get all of it together.
+/// 100,000 takers that each want all of the largest pot get all of it together.
 #[test]
 fn a_crowd_gets_the_whole_pot(rt: HostRuntime) -> Result<(), Fail> {
     let wants = [999_999_999u64].repeat(rt.alloc(), 100_000)?;

@@ -7,7 +7,7 @@ pub(crate) fn assert_row(rt: &impl Abort, row: usize, told: &str, wanted: &str) 
     assert_eq!(rt; told, wanted, "at {row}");
 }
 
-/// Appends a pair of numbers to a text, as `first second;`.
+/// Appends a pair of numbers to the text `told`, as `first second;`.
 pub(crate) fn tell_pair(
     alloc: Global,
     first: u64,

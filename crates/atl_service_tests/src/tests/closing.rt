@@ -34,8 +34,9 @@ Exits: none.
 * Unit 1 \"Unit 1\": 1 men, 1002 money.
 ";
 
-/// SELECTs and what they return after month 1. The money is 2,502 (500 founded, 1,000 joined, 1,000
-/// of income, 12 of wages, 10 spent on upkeep), and the people are 1,001.
+/// SELECTs and what they return after month 1 of the small world, which Avalon has joined. The
+/// money is 2,502 (500 founded, 1,000 joined, 1,000 of income, 12 of wages, 10 spent on upkeep),
+/// and the people are 1,001.
 pub(crate) const AFTER_MONTH_ONE: [(&str, Option<i64>); 12] = [
     (MONTH, Some(1)),
     (NEXT, Some(200002)),
@@ -51,7 +52,7 @@ pub(crate) const AFTER_MONTH_ONE: [(&str, Option<i64>); 12] = [
     (MAIL_BYTES, None),
 ];
 
-/// The text of the books after month 1, in which the unit only works.
+/// The text of the books after month 1, in which Avalon's unit only works.
 const BOOKS_AFTER_WORK: &str = "money founding 500
 money joining 1000
 money income 1000
@@ -103,7 +104,8 @@ fn a_faulty_line_is_told_and_the_mail_is_gone(rt: HostRuntime) -> Result<(), Fai
     plays_course(&rt, rt.alloc(), &FIRST_MONTHS[1])
 }
 
-/// Refused closings: wrong pass text, wrong month, and a wrong number of words of the dice.
+/// Closings that are refused: wrong pass text, wrong month, and a wrong number of words of the
+/// dice.
 static REFUSED: [Step; 7] = [
     Step::Told(Asked::Close(2, "no", &[]), "wrong pass"),
     Step::Told(Asked::Close(1, "pw", &[0]), "wrong pass"),
@@ -114,7 +116,7 @@ static REFUSED: [Step; 7] = [
     Step::Told(Asked::Close(1, "gm", &[0, 0]), "wrong dice"),
 ];
 
-/// A closing with wrong pass text, month or number of dice words is refused and changes nothing.
+/// A closing with wrong pass text, month or number of dice words is refused and changes no row.
 #[test]
 fn a_refused_closing_changes_nothing(rt: HostRuntime) -> Result<(), Fail> {
     refuses(&rt, rt.alloc(), EVERY_TABLE, &REFUSED)
@@ -129,7 +131,7 @@ static AFTER_NOBODY: [(&str, Option<i64>); 5] = [
     (REGION_MONEY, Some(2500)),
 ];
 
-/// Two closings in a campaign that no faction has joined.
+/// The steps of two months in a campaign that no faction has joined: a closing of each.
 static NOBODY: [Step; 2] = [
     Step::Closed(MONTH_ONE, 1),
     Step::Closed(Asked::Close(2, "gm", &[7]), 2),
@@ -149,7 +151,7 @@ Unit 1, line 0, WORK: done 0.
 Unit 1: 1 starved.
 ";
 
-/// A faction starves; afterwards its mail is refused, and its report stays.
+/// Steps in which a faction starves; afterwards its mail is refused, and its report stays.
 static STARVED: [Step; 6] = [
     Step::Joined(AVALON, 1, 1),
     Step::Closed(MONTH_ONE, 1),

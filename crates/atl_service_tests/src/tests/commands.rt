@@ -14,7 +14,7 @@ use std::alloc::Global;
 use std::process::Abort;
 use std::test::Fail;
 
-/// The first report of a faction that joins the small world.
+/// The first report of Avalon, when it joins the small world as faction 1.
 pub(crate) const FIRST_REPORT: &str = "Atlantis report, month 0, faction 1 \"Avalon\".
 Orders:
 None.
@@ -23,7 +23,7 @@ Exits: none.
 * Unit 1 \"Unit 1\": 1 men, 1000 money.
 ";
 
-/// The first report of a second faction in the small world.
+/// The first report of Bree, when it joins the small world as faction 2.
 pub(crate) const SECOND_REPORT: &str = "Atlantis report, month 0, faction 2 \"Bree\".
 Orders:
 None.
@@ -33,7 +33,7 @@ Exits: none.
 * Unit 2 \"Unit 2\": 1 men, 1000 money.
 ";
 
-/// The first report of a faction that begins in the island's second land region.
+/// The first report of Avalon, when it joins the island and begins in its second land region.
 pub(crate) const FAR_REPORT: &str = "Atlantis report, month 0, faction 1 \"Avalon\".
 Orders:
 None.
@@ -45,7 +45,7 @@ Exits: north 4, west 2.
 /// The command by which Avalon joins, with 0 as the word of the dice.
 pub(crate) const AVALON: Asked = Asked::Join("Avalon", "pw", 0);
 
-/// One faction joins and asks for its report.
+/// Steps in which one faction joins and asks for its report.
 static ONE_JOINS: [Step; 2] = [
     Step::Joined(AVALON, 1, 1),
     Step::Told(Asked::Report(1, "pw"), FIRST_REPORT),
@@ -58,7 +58,7 @@ fn first_report(rt: HostRuntime) -> Result<(), Fail> {
     plays(&rt, rt.alloc(), SMALL, &ONE_JOINS, &AFTER_JOINING)
 }
 
-/// Two factions join, and the second asks for its report.
+/// Steps in which two factions join, and the second asks for its report.
 static TWO_JOIN: [Step; 3] = [
     Step::Told(AVALON, "joined"),
     Step::Told(Asked::Join("Bree", "pb", 0), "joined"),
@@ -78,22 +78,22 @@ fn another_faction_is_seen_without_money(rt: HostRuntime) -> Result<(), Fail> {
     plays(&rt, rt.alloc(), SMALL, &TWO_JOIN, &AFTER_TWO)
 }
 
-/// A faction joins in the second land region, and asks for its report.
+/// Steps in which a faction joins in the island's second land region, and asks for its report.
 static FAR_JOINS: [Step; 2] = [
     Step::Told(Asked::Join("Avalon", "pw", 1), "joined"),
     Step::Told(Asked::Report(1, "pw"), FAR_REPORT),
 ];
 
-/// SELECTs and what they return after a faction joined in the second land region.
+/// SELECTs and what they return after a faction joined in the island's second land region.
 static AFTER_FAR: [(&str, Option<i64>); 2] = [(FACTIONS, Some(1)), (UNITS, Some(1))];
 
-/// A faction that joins with the dice word 1 begins in the second land region.
+/// A faction that joins the island with the dice word 1 begins in the second land region.
 #[test]
 fn the_second_land_region(rt: HostRuntime) -> Result<(), Fail> {
     plays(&rt, rt.alloc(), ISLE, &FAR_JOINS, &AFTER_FAR)
 }
 
-/// Joins, mailings and reports, some of them refused.
+/// Steps of a club: joins, mailings and reports, some of them refused.
 const CLUB: [Step; 12] = [
     Step::Told(Asked::Join(" x", "pw", 0), "bad name"),
     Step::Told(Asked::Join("Avalon", "a b", 0), "bad pass text"),
@@ -124,7 +124,7 @@ const AFTER_CLUB: [(&str, Option<i64>); 8] = [
     (MAIL_BYTES, Some(19)),
 ];
 
-/// Asserts that there is one answer for each step, and that it is the wanted one.
+/// Asserts that there is one answer for each step, and that it is the one that the step wants.
 fn are_told(rt: &impl Abort, answers: &[Answer], steps: &[Step]) {
     assert_count(rt, answers.len(), steps.len());
     for (answer, step) in answers.iter().zip(steps.iter()) {
@@ -132,7 +132,8 @@ fn are_told(rt: &impl Abort, answers: &[Answer], steps: &[Step]) {
     }
 }
 
-/// Runs commands as one list, and asserts their answers.
+/// Runs the commands of steps as one list, and asserts that each answer is the one that its step
+/// wants.
 fn runs_all(rt: &impl Abort, service: &mut impl Served, commands: &[Command], steps: &[Step]) {
     match service.run_all(commands) {
         Ok(answers) => are_told(rt, &answers, steps),
@@ -147,7 +148,8 @@ struct AtOnce {
     after: &'static [(&'static str, Option<i64>)],
 }
 
-/// Runs a list of commands in a new campaign, and asserts the answers and the tables.
+/// Runs the commands of an `AtOnce` as one list in a new campaign, and asserts the answers and the
+/// tables.
 fn is_run(rt: &impl Abort, alloc: Global, commands: &[Command], list: &AtOnce) -> Result<(), Fail> {
     let mut service = begun_in_memory(alloc, SMALL)?;
     runs_all(rt, &mut service, commands, list.steps);
@@ -162,8 +164,8 @@ fn at_once(rt: &impl Abort, alloc: Global, list: &AtOnce) -> Result<(), Fail> {
     is_run(rt, alloc, &commands, list)
 }
 
-/// A join, a closing, the same closing again, which is refused, and a report, to run as one list.
-/// `closing` tests the same month one command at a time.
+/// Steps to run as one list: a join, a closing, the same closing again, which is refused, and a
+/// report. `closing` tests the same month one command at a time.
 const A_MONTH: [Step; 4] = [
     Step::Told(AVALON, "joined"),
     Step::Told(MONTH_ONE, "month done"),
@@ -171,7 +173,7 @@ const A_MONTH: [Step; 4] = [
     Step::Told(Asked::Report(1, "pw"), AFTER_WORK),
 ];
 
-/// Lists of commands that are run as a whole, with the wanted answers and the tables afterwards.
+/// Steps whose commands are run as one list, with the wanted answers and the tables afterwards.
 static LISTS: [AtOnce; 2] = [
     AtOnce {
         steps: &CLUB,
@@ -191,7 +193,8 @@ fn are_run(rt: &impl Abort, alloc: Global) -> Result<(), Fail> {
     Ok(())
 }
 
-/// A list of commands, run as a whole, has the answers and leaves the tables that its steps name.
+/// Commands that are run as one list get the answers that they get one by one, and leave the same
+/// tables.
 #[test]
 fn a_list_is_run_as_one_by_one(rt: HostRuntime) -> Result<(), Fail> {
     plays(&rt, rt.alloc(), SMALL, LISTS[0].steps, LISTS[0].after)?;

@@ -12,13 +12,13 @@ pub(crate) fn assert_count(rt: &impl Abort, told: usize, wanted: usize) {
     assert_eq!(rt; told, wanted);
 }
 
-/// Asserts that what a query returned, which may be no number, is the wanted one.
+/// Asserts that the number that a query returned, None if it returned none, is the wanted one.
 pub(crate) fn assert_amount(rt: &impl Abort, told: Option<i64>, wanted: Option<i64>) {
     assert_eq!(rt; told, wanted);
 }
 
-/// Asserts the total of a campaign; None, if it has too many units or regions to be summed, is a
-/// failure.
+/// Asserts the total of a thing in a campaign; None, if there are too many units or regions to be
+/// summed, is a failure.
 pub(crate) fn assert_total(rt: &impl Abort, told: Option<u64>, wanted: u64) {
     assert_eq!(rt; told, Some(wanted));
 }

@@ -29,7 +29,7 @@ const SECOND_MAIL: Asked = Asked::Mail(
 /// The command that closes month 2.
 const MONTH_TWO: Asked = Asked::Close(2, "gm", &[0]);
 
-/// A join, and two mailings with the closing of their months.
+/// The steps of two months: Avalon's join, and two mailings with the closing of their months.
 const TWO_MONTHS: [Step; 5] = [
     Step::Joined(AVALON, 1, 1),
     Step::Mailed(FIRST_MAIL, 2, &[]),
@@ -38,11 +38,11 @@ const TWO_MONTHS: [Step; 5] = [
     Step::Closed(MONTH_TWO, 2),
 ];
 
-/// SELECTs and what they return after both months. Of 1,000 money unit 1 has 1,002 after its first
-/// month, in which it works for 12 and pays 10. It pays 170, takes 10 in tax, works and pays 10
-/// again, and gets the 100 of unit 2, which is swept: 944. Unit 3 recruits for 50, works and pays
-/// 10: 22. The region has 500, gets 1,000 and, of a peasant less, 999, and gives the tax. The
-/// people are 1,001.
+/// SELECTs and what they return after both months of `TWO_MONTHS`. Of 1,000 money unit 1 has 1,002
+/// after its first month, in which it works for 12 and pays 10. It pays 170, takes 10 in tax, works
+/// and pays 10 again, and gets the 100 of unit 2, which is swept: 944. Unit 3 recruits for 50,
+/// works and pays 10: 22. The region has 500, gets 1,000 and, of a peasant less, 999, and gives the
+/// tax. The people are 1,001.
 const AFTER_BOTH: [(&str, Option<i64>); 8] = [
     (MONTH, Some(2)),
     (NEXT, Some(200004)),
@@ -64,7 +64,8 @@ fn both_months_are_closed(rt: HostRuntime) -> Result<(), Fail> {
 /// The command by which Cork joins.
 const CORK: Asked = Asked::Join("Cork", "pc", 0);
 
-/// A join, the mailings of two factions, and the closing of the month.
+/// The steps of a month on the island: Cork's join, the mailings of Avalon and Bree, and the
+/// closing.
 const MONTH_OF_TWO: [Step; 4] = [
     Step::Joined(CORK, 3, 12),
     Step::Mailed(Asked::Mail(1, "pw", OF_AVALON), 18, &[]),
@@ -93,7 +94,7 @@ const AFTER_MONTH_OF_TWO: [(&str, Option<i64>); 12] = [
     (BOOKED, Some(4872)),
 ];
 
-/// A month of two factions, without a stopped disk, leaves the worked-out tables.
+/// A month with the orders of two factions, without a stopped disk, leaves the worked-out tables.
 #[test]
 fn a_month_of_two_factions_is_closed(rt: HostRuntime) -> Result<(), Fail> {
     plays_course(&rt, rt.alloc(), &COURSES[1])

@@ -16,7 +16,8 @@ use std::alloc::Global;
 use std::process::Abort;
 use std::test::Fail;
 
-/// A course, its commands, and all rows of the campaign after each write; no rows before the first.
+/// A course, its commands, and `stages`: an empty text for the time before the first write, and
+/// after each write all rows of the campaign.
 struct Plan {
     course: Course,
     commands: Vec<Command>,
@@ -30,8 +31,8 @@ impl Drop for Plan {
     }
 }
 
-/// The service of a campaign in memory before the commands of a course; the campaign's rows are
-/// appended to `stages` after each write.
+/// The service in which the commands of a course are to be run, in memory; the campaign's rows are
+/// appended to `stages` after the founding, and after the course's rows are added, if it has any.
 fn set_up(
     alloc: Global,
     course: &Course,
@@ -61,7 +62,8 @@ fn run_noted(
     Ok(())
 }
 
-/// Appends the rows after each write of a course to `stages`, if no disk stops.
+/// Plays a course in memory, where no disk stops; appends to `stages` an empty text, and then the
+/// campaign's rows after each write.
 fn note_stages(
     alloc: Global,
     course: &Course,
@@ -73,7 +75,7 @@ fn note_stages(
     run_noted(alloc, &mut service, commands, stages)
 }
 
-/// The plan of a course: its commands, and the rows after each write if no disk stops.
+/// The plan of a course: its commands, and the campaign's rows after each write if no disk stops.
 fn planned(alloc: Global, course: &Course) -> Result<Plan, Fail> {
     let commands = commands_of(alloc, course.steps)?;
     let mut stages = Vec::new(alloc);
@@ -90,7 +92,7 @@ fn is_done(answer: &Answer) -> bool {
     matches!(told(answer), "joined" | "mailed" | "month done")
 }
 
-/// Runs the commands, and returns how many were done. The one at which the disk stops must be
+/// Runs the commands, and returns how many were done. The command at which the disk stops must be
 /// answered Store, and all later ones Closed; then there is no campaign, and there are no books.
 fn run_each(rt: &impl Abort, service: &mut impl Served, commands: &[Command]) -> usize {
     let mut done = 0usize;
@@ -111,8 +113,8 @@ fn run_each(rt: &impl Abort, service: &mut impl Served, commands: &[Command]) ->
     done
 }
 
-/// The service that was founded or opened, or the connection if the disk stopped; asserts that the
-/// cause is then Store.
+/// The service that a founding or an opening (`tried`) gave, or the connection if the disk stopped;
+/// asserts that the cause is then Store.
 fn served<S: Alter>(
     rt: &impl Abort,
     tried: Result<Service<S>, Refused<S>>,
@@ -126,8 +128,8 @@ fn served<S: Alter>(
     }
 }
 
-/// Runs the commands of a plan after `writings` earlier writes; the result is how many writes were
-/// done, and the connection.
+/// Runs the commands of a plan; the result is how many writes were done, counting the `writings`
+/// before the commands, and the connection.
 fn runs<S: Alter>(
     rt: &impl Abort,
     service: Service<S>,
@@ -139,8 +141,8 @@ fn runs<S: Alter>(
     (done.saturating_add(writings), service.end())
 }
 
-/// Inserts the rows of a course, opens the campaign again, and runs the commands; the result is how
-/// many writes were done, and the connection.
+/// Inserts the rows of a plan's course, opens the campaign again, and runs the commands; the result
+/// is how many writes were done, and the connection.
 fn goes_on<S: Alter + Drop>(
     rt: &impl Abort,
     alloc: Global,
@@ -157,8 +159,8 @@ fn goes_on<S: Alter + Drop>(
     }
 }
 
-/// Founds a campaign, inserts its rows and runs the commands; the result is how many writes were
-/// done, and the connection.
+/// Founds a plan's campaign, inserts the course's rows and runs the commands; the result is how
+/// many writes were done, and the connection.
 fn works<S: Alter + Drop>(
     rt: &impl Abort,
     alloc: Global,
@@ -180,7 +182,7 @@ fn options() -> Options {
     options
 }
 
-/// The files as a crash leaves them.
+/// Lets both files crash; the result is the files as the crash leaves them.
 fn crashed<D: Crash>(files: Files<D>) -> Files<D> {
     let Files { mut log, mut db } = files;
     log.crash();
@@ -188,7 +190,7 @@ fn crashed<D: Crash>(files: Files<D>) -> Files<D> {
     Files { log, db }
 }
 
-/// Whether these rows are the plan's rows after `writings` writes.
+/// Whether `rows` are the campaign's rows that the plan has after `writings` writes.
 fn is_stage(plan: &Plan, writings: usize, rows: &str) -> bool {
     match plan.stages.get(writings) {
         Some(stage) => stage.as_str() == rows,
@@ -271,7 +273,8 @@ fn stops(rt: &impl Abort, alloc: Global, plan: &Plan, which: WhichDisk) -> Resul
     Err(Fail::new("stopped each time"))
 }
 
-/// Asserts, for each course, what a crash leaves if one disk stops at each of its calls.
+/// Asserts, for each course of `COURSES`, what a crash leaves after one disk stops at each of its
+/// calls in turn.
 fn stops_each(rt: &impl Abort, alloc: Global, which: WhichDisk) -> Result<(), Fail> {
     for course in COURSES.iter() {
         let plan = planned(alloc, course)?;
@@ -280,13 +283,15 @@ fn stops_each(rt: &impl Abort, alloc: Global, which: WhichDisk) -> Result<(), Fa
     Ok(())
 }
 
-/// If the log's disk stops at any of its calls, the campaign before or after a write is left.
+/// If the log's disk stops at any of its calls, a crash leaves the campaign before a write or after
+/// it.
 #[test]
 fn the_log_stops(rt: HostRuntime) -> Result<(), Fail> {
     stops_each(&rt, rt.alloc(), WhichDisk::Log)
 }
 
-/// If the database's disk stops at any of its calls, the campaign before or after a write is left.
+/// If the database's disk stops at any of its calls, a crash leaves the campaign before a write or
+/// after it.
 #[test]
 fn the_database_stops(rt: HostRuntime) -> Result<(), Fail> {
     stops_each(&rt, rt.alloc(), WhichDisk::Database)

@@ -27,7 +27,7 @@ enum Told {
     Other,
 }
 
-/// The outcome for a cause of refusal.
+/// The outcome of opening a database, from the cause for which that was refused.
 fn refusal(why: &Cause) -> Told {
     match why {
         Cause::Damaged(rule) => Told::Damaged(rule.number()),
@@ -159,7 +159,8 @@ macro_rules! loose_campaign {
     };
 }
 
-/// SQL statements that make tables and indexes differently, and the outcome of opening afterwards.
+/// SQL statements that drop tables, or make other tables, an index or a view, and the outcome of
+/// opening afterwards.
 static SHAPES: [(&str, Told); 10] = [
     ("DROP TABLE campaign", Told::NotACampaign),
     (
@@ -246,7 +247,7 @@ static MEETINGS: [(&str, Told); 16] = [
     ),
 ];
 
-/// Avalon and Bree join the island.
+/// The steps by which Avalon and Bree join the island.
 static BOTH_JOIN: [Step; 2] = [
     Step::Joined(Asked::Join("Avalon", "pw", 1), 1, 1),
     Step::Joined(Asked::Join("Bree", "pb", 1), 2, 2),
@@ -295,13 +296,14 @@ fn the_first_rule_that_rows_break_is_told(rt: HostRuntime) -> Result<(), Fail> {
     assert_openings(&rt, rt.alloc(), &ROWS)
 }
 
-/// Opening a database whose stocks break a rule reports this rule.
+/// Opening a database reports the rule that its stocks, or an entry 17 of the books, break; it is
+/// refused if the table of stocks is made otherwise.
 #[test]
 fn stocks_that_break_a_rule_are_told(rt: HostRuntime) -> Result<(), Fail> {
     assert_openings(&rt, rt.alloc(), &STOCKS)
 }
 
-/// Opening a database whose tables or indexes are made differently is refused.
+/// Opening a database whose tables or indexes aren't made as a campaign's are is refused.
 #[test]
 fn tables_made_otherwise_are_refused(rt: HostRuntime) -> Result<(), Fail> {
     assert_openings(&rt, rt.alloc(), &SHAPES)
@@ -330,14 +332,16 @@ static BEGUN: [&str; 5] = [
     "UPDATE unit SET guard = 1; BEGIN",
 ];
 
-/// Asserts that opening is answered Store while a transaction is open.
+/// Asserts that opening a database is answered Store after SQL statements that leave a transaction
+/// open.
 fn waits_for_the_end(rt: &impl Abort, alloc: Global, sql: &str) -> Result<(), Fail> {
     let conn = changed(rt, alloc, Connection::open_in_memory(alloc)?, sql)?;
     assert_opening(rt, asked(alloc, conn), Told::Store, sql);
     Ok(())
 }
 
-/// Asserts that opening is answered Store while a transaction is open, for each row of `BEGUN`.
+/// Asserts that opening a database is answered Store after the SQL statements of each row of
+/// `BEGUN`.
 fn wait_for_the_end(rt: &impl Abort, alloc: Global) -> Result<(), Fail> {
     for sql in BEGUN.iter() {
         waits_for_the_end(rt, alloc, sql)?;

@@ -13,7 +13,7 @@ use std::alloc::Global;
 use std::process::Abort;
 use std::test::Fail;
 
-/// The name of a cause of refusal.
+/// The name of a cause for which a founding, an opening or an upgrade is refused.
 pub(crate) fn told(cause: &Cause) -> &'static str {
     match cause {
         Cause::World(_) => "world",
@@ -47,8 +47,8 @@ pub(crate) fn assert_refused<S: Alter>(
     }
 }
 
-/// Refused foundings: SQL statements on an empty database, a world text, a pass text, and the first
-/// check that fails.
+/// Foundings that are refused: SQL statements on an empty database, a world text, a pass text, and
+/// the name of the first check that fails.
 static REFUSED: [(&str, &str, &str, &str); 8] = [
     ("", "a = = b", "a b", "world"),
     ("", SMALL, "a b", "bad pass text"),
@@ -80,7 +80,8 @@ static REFUSED: [(&str, &str, &str, &str); 8] = [
     ("BEGIN", SMALL, "gm", "store"),
 ];
 
-/// Asserts why a founding is refused, and that it changes no row.
+/// Asserts why a founding by a world and a pass text is refused, and that it changes no row of the
+/// database.
 fn founds_nothing<S: Alter + Drop>(
     rt: &impl Abort,
     alloc: Global,
@@ -121,7 +122,7 @@ fn the_first_check_that_fails_is_told(rt: HostRuntime) -> Result<(), Fail> {
     are_refused(&rt, rt.alloc())
 }
 
-/// Asserts that no second campaign is founded in a database.
+/// Asserts that no second campaign is founded in a database that holds one.
 fn refuses_another(rt: &impl Abort, alloc: Global) -> Result<(), Fail> {
     let conn = changed(rt, alloc, Connection::open_in_memory(alloc)?, EVERY_TABLE)?;
     founds_nothing(rt, alloc, conn, (SMALL, "gm"), "not empty")
@@ -139,7 +140,7 @@ const JOINING_MONEY: &str = "SELECT count(*) FROM books WHERE entry = 2 AND thin
 /// Sums the people booked under Joining.
 const JOINING_PEOPLE: &str = "SELECT sum(amount) FROM books WHERE entry = 2 AND thing = 1";
 
-/// Avalon joins.
+/// The one step by which Avalon joins.
 static AVALON_JOINS: [Step; 1] = [Step::Told(AVALON, "joined")];
 
 /// SELECTs and what they return after a faction joined without money: none is booked under Joining.

@@ -10,25 +10,28 @@ use std::alloc::Global;
 use std::process::Abort;
 use std::test::Fail;
 
-/// SQL that adds, for each unit, one with a number higher by `?1`, up to `?2`.
+/// SQL that adds, for each unit, one with a number higher by `?1`, unless that is above `?2`.
 const MORE_UNITS: &str =
     "INSERT INTO unit SELECT number + ?1, 1, 'Unit', 1, 0, 1, 0, 0 FROM unit WHERE number + ?1 <= ?2";
 
-/// SQL that adds, for each faction, a gone one with a number higher by `?1`, up to `?2`.
+/// SQL that adds, for each faction, a gone one with a number higher by `?1`, unless that is above
+/// `?2`.
 const MORE_FACTIONS: &str =
     "INSERT INTO faction SELECT number + ?1, 'F' || (number + ?1), 'F' || (number + ?1), 'pw', 1 FROM faction WHERE number + ?1 <= ?2";
 
-/// By how much the numbers are raised in turn: each step doubles the rows.
+/// By how much `MORE_UNITS` or `MORE_FACTIONS` raises the numbers each time it is run (`?1`): each
+/// run doubles the rows.
 static STEPS: [i64; 17] = [
     1, 2, 4, 8, 16, 32, 64, 128, 256, 512, 1024, 2048, 4096, 8192, 16384, 32768, 65536,
 ];
 
-/// SQL that makes the books balance for 10,000 units, and sets the next unit number.
+/// SQL that makes the books balance with 10,000 units, and sets the next unit number.
 const MANY_ARE_BOOKED: &str =
     "UPDATE books SET amount = amount + 9999 WHERE entry = 1 AND thing = 1;
 UPDATE campaign SET next_unit = 10001";
 
-/// SQL that makes the books balance for 100,000 units, and sets the next unit number.
+/// SQL that makes the books balance with 100,000 units, the most there may be, and sets the next
+/// unit number.
 const UNITS_ARE_FULL: &str =
     "UPDATE books SET amount = amount + 99999 WHERE entry = 1 AND thing = 1;
 UPDATE campaign SET next_unit = 100001";
@@ -44,10 +47,10 @@ const NUMBERS_ARE_FULL: &str = "UPDATE campaign SET next_unit = 1000000000";
 /// The command by which Bree joins.
 const BREE: Asked = Asked::Join("Bree", "pb", 0);
 
-/// Bree joins.
+/// The one step by which Bree joins.
 const BREE_JOINS: [Step; 1] = [Step::Told(BREE, "joined")];
 
-/// Bree is refused, as the campaign is full.
+/// The one step by which Bree tries to join, and is refused as the campaign is full.
 const NOBODY_JOINS: [Step; 1] = [Step::Told(BREE, "full")];
 
 /// A campaign filled by hand, a join in it, and what the tables hold afterwards.
@@ -105,7 +108,7 @@ static FILLED: [Filled; 4] = [
     },
 ];
 
-/// Avalon joins.
+/// The one step by which Avalon joins.
 static AVALON_JOINS: [Step; 1] = [Step::Told(AVALON, "joined")];
 
 /// The database of the small world that Avalon has joined.
@@ -115,7 +118,8 @@ fn joined(rt: &impl Abort, alloc: Global) -> Result<Connection<MemStore>, Fail> 
     Ok(service.end())
 }
 
-/// Doubles the rows of a table until it has the number `last`.
+/// Runs the SQL of `MORE_UNITS` or `MORE_FACTIONS` for each of `STEPS`, until there are rows up to
+/// the number `last`.
 fn doubled(conn: &mut Connection<MemStore>, sql: &str, last: i64) -> Result<(), Fail> {
     for step in STEPS.iter() {
         conn.execute(sql, params![*step, last])?;
@@ -123,7 +127,7 @@ fn doubled(conn: &mut Connection<MemStore>, sql: &str, last: i64) -> Result<(), 
     Ok(())
 }
 
-/// Fills a campaign by the SQL of a `Filled`.
+/// Fills the campaign of a database by the SQL of a `Filled`.
 fn fill(conn: &mut Connection<MemStore>, filled: &Filled) -> Result<(), Fail> {
     if let Some((sql, last)) = filled.more {
         doubled(conn, sql, last)?;
@@ -131,7 +135,8 @@ fn fill(conn: &mut Connection<MemStore>, filled: &Filled) -> Result<(), Fail> {
     conn.change(filled.then)
 }
 
-/// Runs the join in a filled campaign, and asserts its answer and what the tables hold afterwards.
+/// Runs the join of a `Filled` in the campaign that it filled, and asserts its answer and what the
+/// tables hold afterwards.
 fn answers(
     rt: &impl Abort,
     alloc: Global,
@@ -144,7 +149,7 @@ fn answers(
     done
 }
 
-/// Fills a campaign, and asserts the answer to a join in it.
+/// Fills a campaign by a `Filled`, and asserts the answer to the join in it.
 fn join_is_answered(rt: &impl Abort, alloc: Global, filled: &Filled) -> Result<(), Fail> {
     let mut conn = joined(rt, alloc)?;
     fill(&mut conn, filled)?;

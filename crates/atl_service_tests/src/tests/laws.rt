@@ -2,7 +2,7 @@
 //! clause is proved.
 use atl_service::only_the_last_mail_counts;
 
-/// Asserts nothing: the clause of the law is proved.
+/// Calls the law `only_the_last_mail_counts` and asserts nothing: its clause is proved.
 #[test]
 fn states_that_only_the_last_mail_counts() {
     only_the_last_mail_counts();

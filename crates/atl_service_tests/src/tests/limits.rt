@@ -6,7 +6,8 @@ use std::test::Fail;
 /// SQL that makes month 9,999 the last closed one.
 const LAST_IS_CLOSED: &str = "UPDATE campaign SET month = 9999";
 
-/// Closings after the last month, all refused.
+/// Steps by which months 9,999 and 10,000 are to be closed when month 9,999 was the last, all
+/// refused.
 static NO_MONTH_MORE: [Step; 3] = [
     Step::Told(Asked::Close(9999, "gm", &[0]), "wrong month"),
     Step::Told(Asked::Close(10000, "gm", &[0]), "month limit"),

@@ -13,7 +13,7 @@ pub(crate) const FAULTY: &str =
 /// A mailing that forms a unit, with three orders.
 const FORMS: &str = "#ATLANTIS 1\nUNIT 1\nFORM 1\nRECRUIT 2\nEND\nPAY NEW 1 100\n#END\n";
 
-/// Avalon joins, and sends a mailing with a faulty line, which is stored whole.
+/// Steps in which Avalon joins, and sends a mailing with a faulty line, which is stored whole.
 static ONE_FAULTY: [Step; 3] = [
     Step::Told(AVALON, "joined"),
     Step::Mailed(Asked::Mail(1, "pw", FAULTY), 1, &[(5, 2)]),
@@ -29,7 +29,7 @@ fn one_faulty_line(rt: HostRuntime) -> Result<(), Fail> {
     plays(&rt, rt.alloc(), SMALL, &ONE_FAULTY, &AFTER_ONE)
 }
 
-/// Two mailings of a faction: the second replaces the first.
+/// Steps in which a faction sends two mailings: the second replaces the first.
 static TWO_SENT: [Step; 4] = [
     Step::Told(AVALON, "joined"),
     Step::Mailed(Asked::Mail(1, "pw", FAULTY), 1, &[(5, 2)]),
@@ -46,7 +46,7 @@ fn the_last_mailing_is_kept(rt: HostRuntime) -> Result<(), Fail> {
     plays(&rt, rt.alloc(), SMALL, &TWO_SENT, &AFTER_TWO)
 }
 
-/// Refused mailings, one for each refusal.
+/// Mailings that are refused in the campaign of `EVERY_TABLE`, one for each refusal of `Mail`.
 static REFUSED: [Step; 7] = [
     Step::Told(Asked::Mail(9, "no", "hello"), "no faction"),
     Step::Told(Asked::Mail(1, "no", "hello"), "wrong pass"),
@@ -57,13 +57,14 @@ static REFUSED: [Step; 7] = [
     Step::Told(Asked::Mail(1, "pw", "#ATLANTIS 2"), "wrong faction"),
 ];
 
-/// A refused mailing changes nothing, whatever the refusal.
+/// A refused mailing changes no row, neither of the campaign nor of the tables, whatever the
+/// refusal.
 #[test]
 fn a_refused_mailing_changes_nothing(rt: HostRuntime) -> Result<(), Fail> {
     refuses(&rt, rt.alloc(), EVERY_TABLE, &REFUSED)
 }
 
-/// A mailing of 65,537 bytes is refused, and one of 65,536 is stored.
+/// Steps by which a mailing of 65,537 bytes is refused, and one of 65,536 is stored.
 static LIMITS: [Step; 4] = [
     Step::Told(AVALON, "joined"),
     Step::Told(Asked::LongMail("pw", 65_526), "too long"),

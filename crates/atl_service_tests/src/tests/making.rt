@@ -6,7 +6,7 @@ use sqlite::{Alter, Connection, MemStore};
 use std::alloc::Global;
 use std::test::Fail;
 
-/// The bytes of a text.
+/// The bytes of a text, as a `Sequence`.
 fn bytes(alloc: Global, text: &str) -> Result<Sequence<u8>, Fail> {
     Ok(Sequence::from_slice(alloc, text.as_bytes())?)
 }
@@ -62,7 +62,7 @@ pub(crate) fn report(alloc: Global, faction: u32, pass: &str) -> Result<Command,
     })
 }
 
-/// The service of a campaign of a world just founded in a database.
+/// Founds the campaign of a world text in a database; the result is its service.
 pub(crate) fn begun<S: Alter + Drop>(
     alloc: Global,
     conn: Connection<S>,
@@ -74,12 +74,12 @@ pub(crate) fn begun<S: Alter + Drop>(
     }
 }
 
-/// The service of a campaign of a world just founded in a new database in memory.
+/// Founds the campaign of a world text in a new database in memory; the result is its service.
 pub(crate) fn begun_in_memory(alloc: Global, world: &str) -> Result<Service<MemStore>, Fail> {
     begun(alloc, Connection::open_in_memory(alloc)?, world)
 }
 
-/// The service of the campaign that a database holds.
+/// Opens the campaign that a database holds; the result is its service.
 pub(crate) fn opened<S: Alter + Drop>(
     alloc: Global,
     conn: Connection<S>,
@@ -90,7 +90,8 @@ pub(crate) fn opened<S: Alter + Drop>(
     }
 }
 
-/// The service of the campaign that a database holds after SQL statements on it.
+/// Runs SQL statements on a database, and opens the campaign that it holds; the result is its
+/// service.
 pub(crate) fn filled<S: Alter + Drop>(
     alloc: Global,
     conn: Connection<S>,

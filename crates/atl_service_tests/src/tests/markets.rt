@@ -19,8 +19,8 @@ Market wood: 0 in stock at 7, 30 wanted at 5.
 /// The mailing by which unit 1 buys 3 wood.
 const BUYS: Asked = Asked::Mail(1, "pw", "#ATLANTIS 1\nUNIT 1\nBUY 3 wood\n");
 
-/// Avalon's report on month 2: of 20 wood in stock 3 are bought for 7 each, and then it is full
-/// again.
+/// Avalon's report on month 2: of 20 wood in stock 3 are bought for 7 each, and then the market is
+/// stocked up to its limit of 30.
 const AFTER_BUYING: &str = "Atlantis report, month 2, faction 1 \"Avalon\".
 Orders:
 Unit 1, line 3, BUY: done 3.
@@ -31,7 +31,7 @@ Market wood: 30 in stock at 7, 0 wanted at 5.
 * Unit 1 \"Unit 1\": 1 men, 983 money, 3 wood.
 ";
 
-/// The text of the books after month 2.
+/// The text of the books after month 2, in which unit 1 buys 3 wood.
 const BOOKS_AFTER_BUYING: &str = "money founding 500
 money joining 1000
 money income 2000
@@ -60,7 +60,7 @@ Market wood: 30 in stock at 7, 0 wanted at 5.
 * Unit 1 \"Unit 1\": 1 men, 985 money, 3 wood.
 ";
 
-/// A month that stocks the market.
+/// The steps of a month that stocks the market: a join, the report before, and the closing.
 static STOCKED_ONCE: [Step; 3] = [
     Step::Joined(AVALON, 1, 1),
     Step::Told(Asked::Report(1, "pw"), NOTHING_IN_STOCK),
@@ -84,7 +84,7 @@ fn a_market_is_stocked(rt: HostRuntime) -> Result<(), Fail> {
     plays(&rt, rt.alloc(), MART, &STOCKED_ONCE, &AFTER_STOCKING)
 }
 
-/// Three months: the market is stocked, a unit buys, and it tries to sell.
+/// The steps of three months: the market is stocked, a unit buys, and it tries to sell.
 static TRADES: [Step; 9] = [
     Step::Joined(AVALON, 1, 1),
     Step::Closed(MONTH_ONE, 1),

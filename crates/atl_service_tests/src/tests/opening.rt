@@ -29,31 +29,31 @@ pub(crate) struct Session {
     pub(crate) after: &'static [(&'static str, Option<i64>)],
 }
 
-/// Avalon joins, sends a mailing, and asks for its report.
+/// Steps in which Avalon joins, sends a mailing, and asks for its report.
 const AVALON_COMES: [Step; 3] = [
     Step::Joined(AVALON, 1, 1),
     Step::Mailed(Asked::Mail(1, "pw", "#ATLANTIS 1\nUNIT 1\nWORK\n"), 1, &[]),
     Step::Told(Asked::Report(1, "pw"), FIRST_REPORT),
 ];
 
-/// Avalon's report and mail are unchanged, and Bree joins.
+/// Steps by which Avalon's report and mail are found as Avalon left them, and Bree joins.
 pub(crate) const BREE_COMES: [Step; 3] = [
     Step::Told(Asked::Report(1, "pw"), FIRST_REPORT),
     Step::Keeps(Some("#ATLANTIS 1\nUNIT 1\nWORK\n")),
     Step::Joined(Asked::Join("Bree", "pb", 0), 2, 2),
 ];
 
-/// Both factions and their reports are unchanged.
+/// Steps by which both factions and their first reports are found again.
 pub(crate) const BOTH_ARE_THERE: [Step; 3] = [
     Step::Numbers(3, 3, 2),
     Step::Told(Asked::Report(1, "pw"), FIRST_REPORT),
     Step::Told(Asked::Report(2, "pb"), SECOND_REPORT),
 ];
 
-/// Avalon joins, and month 1 is closed.
+/// Steps in which Avalon joins, and month 1 is closed.
 const A_MONTH: [Step; 2] = [Step::Joined(AVALON, 1, 1), Step::Closed(MONTH_ONE, 1)];
 
-/// Month 1 is still closed, and isn't closed again.
+/// Steps by which month 1 is found closed, with its report, and isn't closed again.
 const AFTER_A_MONTH: [Step; 4] = [
     Step::Month(1),
     Step::Told(MONTH_ONE, "wrong month"),
@@ -72,7 +72,7 @@ pub(crate) fn rows_in(alloc: Global, service: &impl Served) -> Result<String, Fa
     rows_of(alloc, service.campaign().ok_or("closed")?)
 }
 
-/// All rows of a service's campaign after some steps.
+/// Runs steps, asserts what they want, and returns all rows of the service's campaign.
 fn rows_after(
     rt: &impl Abort,
     alloc: Global,
@@ -83,7 +83,7 @@ fn rows_after(
     rows_in(alloc, service)
 }
 
-/// Asserts all rows of a service's campaign.
+/// Asserts that all rows of a service's campaign, as `rows_in` prints them, are `rows`.
 pub(crate) fn assert_rows(
     rt: &impl Abort,
     alloc: Global,
@@ -95,7 +95,8 @@ pub(crate) fn assert_rows(
     Ok(())
 }
 
-/// The service of a campaign that is founded of a world, or, without a world, opened.
+/// The service of the campaign that is founded in a database of a world text; if that is None, the
+/// stored campaign is opened.
 fn served<S: Alter + Drop>(
     alloc: Global,
     conn: Connection<S>,
@@ -107,8 +108,8 @@ fn served<S: Alter + Drop>(
     }
 }
 
-/// Plays a session; the campaign must have the rows of the session before. The result is its rows
-/// at the end, and the connection.
+/// Plays a session on a database, whose campaign must have the rows of the session before. The
+/// result is its rows at the end, and the connection.
 fn played<S: Alter + Drop>(
     rt: &impl Abort,
     alloc: Global,
@@ -128,7 +129,8 @@ fn played<S: Alter + Drop>(
     Ok((rows, conn))
 }
 
-/// Plays sessions on one connection, each with the rows that the one before left.
+/// Plays sessions on one connection, each with the rows that the one before left; the result is the
+/// rows at the end, and the connection.
 fn on_connection(
     rt: &impl Abort,
     alloc: Global,
@@ -160,7 +162,7 @@ pub(crate) fn in_files<D: Disk + Drop>(
     Ok(())
 }
 
-/// The campaign that `check` makes of the rows of another.
+/// The campaign that `check` makes of all rows of a campaign.
 fn checked(alloc: Global, world: &World, campaign: &Campaign) -> Result<Campaign, Fail> {
     match check(alloc, world, campaign.parts()?) {
         Ok(again) => Ok(again),
@@ -168,7 +170,8 @@ fn checked(alloc: Global, world: &World, campaign: &Campaign) -> Result<Campaign
     }
 }
 
-/// Asserts a campaign's rows, and that `check` makes the same campaign of them.
+/// Asserts that a campaign has these rows, and that the campaign that `check` makes of them has
+/// them too.
 fn is_made_of(
     rt: &impl Abort,
     alloc: Global,
@@ -182,7 +185,8 @@ fn is_made_of(
     Ok(())
 }
 
-/// Opens the campaign, and asserts its rows, and that `check` makes the same campaign of them.
+/// Opens the campaign of a database, and asserts that it has these rows, and that the campaign that
+/// `check` makes of them has them too.
 fn assert_campaign(
     rt: &impl Abort,
     alloc: Global,
@@ -194,7 +198,7 @@ fn assert_campaign(
     is_made_of(rt, alloc, service.world(), campaign, rows)
 }
 
-/// A session that closes a month, and one that finds it closed.
+/// Two sessions: one closes month 1, and one finds it closed.
 static MONTH_STANDS: [Session; 2] = [
     Session {
         world: Some(SMALL),
@@ -218,7 +222,8 @@ fn a_month_stands(rt: &impl Abort, alloc: Global) -> Result<(), Fail> {
     assert_campaign(rt, alloc, conn, rows.as_str())
 }
 
-/// A campaign opened after a closing has the same rows, and the month isn't closed again.
+/// A campaign opened after a closing has the rows that the closing left, and the month isn't closed
+/// again.
 #[test]
 fn a_closed_month_is_opened_again(rt: HostRuntime) -> Result<(), Fail> {
     a_month_stands(&rt, rt.alloc())
@@ -247,31 +252,32 @@ static COMES_BACK: [Session; 3] = [
     },
 ];
 
-/// Asserts that a campaign is opened twice on its connection, and that no other is founded there.
+/// Asserts that a campaign is opened twice on its connection, and that no second campaign is
+/// founded there.
 fn comes_back(rt: &impl Abort, alloc: Global) -> Result<(), Fail> {
     let (_, conn) = on_connection(rt, alloc, &COMES_BACK)?;
     assert_refused(rt, found(alloc, conn, SMALL, b"gm"), "not empty");
     Ok(())
 }
 
-/// A campaign opened again on its connection has the same rows.
+/// A campaign opened again on its connection has the rows that it had before.
 #[test]
 fn a_campaign_is_opened_on_its_connection(rt: HostRuntime) -> Result<(), Fail> {
     comes_back(&rt, rt.alloc())
 }
 
-/// A campaign opened again from its files has the same rows.
+/// A campaign opened again from its files has the rows that it had before.
 #[test]
 fn a_campaign_is_opened_from_its_files(rt: HostRuntime) -> Result<(), Fail> {
     in_files(&rt, rt.alloc(), new_files(rt.alloc()), &COMES_BACK)
 }
 
-/// SQL that adds a table of notes with an index.
+/// SQL that adds a person's own table with an index to the database: `notes`, which has one note.
 const NOTES: &str = "CREATE TABLE notes (number INTEGER NOT NULL, words TEXT NOT NULL);
 CREATE INDEX notes_by_words ON notes (words);
 INSERT INTO notes (number, words) VALUES (7, 'pay the printer')";
 
-/// Queries for the note, and their results.
+/// Queries that find the note of `NOTES`, and what they return.
 pub(crate) const NOTED: [(&str, Option<i64>); 2] = [
     ("SELECT count(*) FROM notes", Some(1)),
     (

@@ -66,7 +66,7 @@ QUIT 2
 QUIT 1
 ";
 
-/// The report of the faction that quit.
+/// Avalon's report on the month in which it quits.
 const AFTER_QUITTING: &str = "Atlantis report, month 1, faction 1 \"Avalon\".
 Orders:
 Unit 1, line 3, QUIT: fault 11 WrongNumber.

@@ -8,10 +8,10 @@ use atl_service::Refusal;
 use atl_test_worlds::SMALL;
 use std::test::Fail;
 
-/// Avalon joins.
+/// The one step by which Avalon joins.
 static JOINS_ONCE: [Step; 1] = [Step::Told(AVALON, "joined")];
 
-/// Avalon joins, and is refused the second time.
+/// Steps in which Avalon joins, and is refused the second time.
 static JOINS_TWICE: [Step; 5] = [
     Step::Told(AVALON, "joined"),
     Step::Numbers(2, 2, 1),
@@ -20,14 +20,14 @@ static JOINS_TWICE: [Step; 5] = [
     Step::Told(Asked::Report(1, "pw"), FIRST_REPORT),
 ];
 
-/// A second join under the same name is refused.
+/// A second join under the name Avalon is refused.
 #[test]
 fn a_name_is_taken_once(rt: HostRuntime) -> Result<(), Fail> {
     plays(&rt, rt.alloc(), SMALL, &JOINS_ONCE, &AFTER_JOINING)?;
     plays(&rt, rt.alloc(), SMALL, &JOINS_TWICE, &AFTER_JOINING)
 }
 
-/// Refused joins and reports.
+/// Joins and reports that are refused in the campaign of `EVERY_TABLE`, each with its refusal.
 static REFUSED: [Step; 6] = [
     Step::Told(Asked::Join(" x", "a b", 0), "bad name"),
     Step::Told(Asked::Join("Avalon", "a b", 0), "bad pass text"),
@@ -37,7 +37,7 @@ static REFUSED: [Step; 6] = [
     Step::Told(Asked::Report(1, "no"), "wrong pass"),
 ];
 
-/// Refused joins and reports change nothing.
+/// Refused joins and reports change no row, neither of the campaign nor of the tables.
 #[test]
 fn refused_joinings_and_reports_change_nothing(rt: HostRuntime) -> Result<(), Fail> {
     refuses(&rt, rt.alloc(), EVERY_TABLE, &REFUSED)

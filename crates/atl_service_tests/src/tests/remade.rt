@@ -130,7 +130,7 @@ fn remade(alloc: Global) -> Result<Files<Memory>, Fail> {
     Ok(files)
 }
 
-/// Asserts that the campaign has Avalon and its unit.
+/// The one step that asserts that the campaign has Avalon and its unit, by the next numbers.
 const AVALON_IS_THERE: [Step; 1] = [Step::Numbers(2, 2, 1)];
 
 /// Sessions in which the campaign of the file is opened, played on, and opened once more.

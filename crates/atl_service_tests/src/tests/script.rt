@@ -9,7 +9,7 @@ use std::alloc::Global;
 use std::process::Abort;
 use std::test::Fail;
 
-/// A command to run.
+/// A command to run, with the texts and numbers that it is made of.
 pub(crate) enum Asked {
     /// A name, a pass text and a dice word.
     Join(&'static str, &'static str, u32),
@@ -44,7 +44,7 @@ pub(crate) enum Step {
     Books(&'static str),
 }
 
-/// The command of an `Asked`.
+/// The command that an `Asked` describes.
 fn command_of(alloc: Global, asked: &Asked) -> Result<Command, Fail> {
     match asked {
         Asked::Join(name, pass, word) => join(alloc, name, pass, *word),
@@ -55,7 +55,7 @@ fn command_of(alloc: Global, asked: &Asked) -> Result<Command, Fail> {
     }
 }
 
-/// The command of a step, if it has one.
+/// The command of a step, or None if it only asserts something.
 fn asked_by(step: &Step) -> Option<&Asked> {
     match step {
         Step::Told(asked, _)
@@ -83,13 +83,13 @@ pub(crate) fn commands_of(alloc: Global, steps: &[Step]) -> Result<Vec<Command>,
     Ok(commands)
 }
 
-/// Runs a command, and returns its answer.
+/// Runs the command that an `Asked` describes, and returns its answer.
 fn answered(alloc: Global, service: &mut impl Served, asked: &Asked) -> Result<Answer, Fail> {
     let command = command_of(alloc, asked)?;
     Ok(service.run(&command))
 }
 
-/// Asserts the faction and the unit in the answer to a join.
+/// Asserts that a join is answered with the numbers of a faction (`first`) and a unit (`member`).
 fn has_joined(rt: &impl Abort, answer: &Answer, first: u32, member: u32) {
     match answer {
         Answer::Joined { faction, unit } => {
@@ -100,7 +100,8 @@ fn has_joined(rt: &impl Abort, answer: &Answer, first: u32, member: u32) {
     }
 }
 
-/// Asserts the orders and the faulty lines in the answer to a mailing.
+/// Asserts that a mailing is answered with this many orders (`wanted`) and these faulty lines, each
+/// a line's number and its fault's.
 fn is_mailed(rt: &impl Abort, answer: &Answer, wanted: usize, faulty: &[(u32, u32)]) {
     match answer {
         Answer::Mailed { orders, faults } => {
@@ -115,7 +116,7 @@ fn is_mailed(rt: &impl Abort, answer: &Answer, wanted: usize, faulty: &[(u32, u3
     }
 }
 
-/// Asserts the month in the answer to a closing.
+/// Asserts that a closing is answered with this month.
 fn is_closed(rt: &impl Abort, answer: &Answer, wanted: u32) {
     match answer {
         Answer::MonthDone { month } => assert_number(rt, i64::from(*month), i64::from(wanted)),
@@ -123,7 +124,7 @@ fn is_closed(rt: &impl Abort, answer: &Answer, wanted: u32) {
     }
 }
 
-/// Asserts the last closed month of the campaign.
+/// Asserts that this month is the last that was closed in the service's campaign.
 fn has_month(rt: &impl Abort, service: &impl Served, month: u32) {
     match service.campaign() {
         Some(campaign) => assert_number(rt, i64::from(campaign.month()), i64::from(month)),
@@ -131,7 +132,7 @@ fn has_month(rt: &impl Abort, service: &impl Served, month: u32) {
     }
 }
 
-/// Asserts the next numbers of a faction and a unit, and how many units there are.
+/// Asserts the numbers that the campaign's next faction and unit get, and how many units it has.
 fn has_numbers(rt: &impl Abort, service: &impl Served, faction: u32, unit: u32, units: usize) {
     match service.campaign() {
         Some(campaign) => {
@@ -143,7 +144,7 @@ fn has_numbers(rt: &impl Abort, service: &impl Served, faction: u32, unit: u32, 
     }
 }
 
-/// Asserts the mail of faction 1 that the campaign keeps.
+/// Asserts which mail of faction 1 the campaign keeps; None if it keeps none.
 fn keeps(rt: &impl Abort, service: &impl Served, text: &Option<&str>) {
     match service.campaign() {
         Some(campaign) => match (campaign.mail_of(1), text) {
@@ -155,7 +156,7 @@ fn keeps(rt: &impl Abort, service: &impl Served, text: &Option<&str>) {
     }
 }
 
-/// Asserts the text of the books.
+/// Asserts the text of the books of the service's campaign.
 fn has_books(rt: &impl Abort, service: &impl Served, wanted: &str) -> Result<(), Fail> {
     match service.books() {
         Some(text) => assert_text(rt, text?.as_str(), wanted),
@@ -164,7 +165,7 @@ fn has_books(rt: &impl Abort, service: &impl Served, wanted: &str) -> Result<(),
     Ok(())
 }
 
-/// Asserts the answer to the command of a step.
+/// Asserts that the answer to the command of a step is the one that the step wants.
 pub(crate) fn assert_answer(rt: &impl Abort, answer: &Answer, step: &Step) {
     match step {
         Step::Told(_, words) => assert_text(rt, told(answer), words),
@@ -175,7 +176,7 @@ pub(crate) fn assert_answer(rt: &impl Abort, answer: &Answer, step: &Step) {
     }
 }
 
-/// Asserts what a step says of the campaign.
+/// Asserts what a step says of the service's campaign, if it says anything.
 fn assert_campaign(rt: &impl Abort, service: &impl Served, step: &Step) -> Result<(), Fail> {
     match step {
         Step::Closed(_, month) | Step::Month(month) => has_month(rt, service, *month),
@@ -187,7 +188,8 @@ fn assert_campaign(rt: &impl Abort, service: &impl Served, step: &Step) -> Resul
     Ok(())
 }
 
-/// Runs the command of a step, and asserts its answer and the campaign.
+/// Runs the command of a step, if it has one, and asserts the answer and what the step says of the
+/// campaign.
 fn take(
     rt: &impl Abort,
     alloc: Global,
@@ -201,7 +203,8 @@ fn take(
     assert_campaign(rt, service, step)
 }
 
-/// Runs the command of each step in turn, and asserts its answer and what it says of the campaign.
+/// Runs the command of each step in turn, and asserts the answer and what the step says of the
+/// campaign.
 pub(crate) fn follow(
     rt: &impl Abort,
     alloc: Global,
@@ -214,7 +217,7 @@ pub(crate) fn follow(
     Ok(())
 }
 
-/// Founds a campaign in memory, takes the steps, and asserts what the tables hold at the end.
+/// Founds a campaign in memory, runs the steps, and asserts what the tables hold at the end.
 pub(crate) fn plays(
     rt: &impl Abort,
     alloc: Global,
@@ -237,7 +240,8 @@ pub(crate) struct Course {
     pub(crate) after: &'static [(&'static str, Option<i64>)],
 }
 
-/// Plays a course in memory; the campaign is opened again after the rows are added.
+/// Plays a course in memory, and asserts all that it wants; the campaign is opened again after the
+/// rows are added.
 pub(crate) fn plays_course(rt: &impl Abort, alloc: Global, course: &Course) -> Result<(), Fail> {
     let conn = begun_in_memory(alloc, course.world)?.end();
     let mut service = filled(alloc, conn, course.rows)?;

@@ -6,7 +6,7 @@ use sqlite::{Alter, Connection};
 use std::alloc::AllocError;
 use std::test::Fail;
 
-/// The calls of a service.
+/// A service that runs commands, and shows its campaign and the text of the books.
 pub(crate) trait Served {
     /// Runs one command, and returns its answer.
     fn run(&mut self, command: &Command) -> Answer;

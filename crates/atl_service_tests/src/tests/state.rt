@@ -27,7 +27,7 @@ fn small_campaign(alloc: Global, world: &World) -> Result<Campaign, Fail>
     Ok(founded(alloc, world, b"gm")?)
 }
 
-/// Avalon joins, with 5 as the word of the dice.
+/// Has Avalon join a campaign, with 5 as the word of the dice.
 fn avalon_joins(rt: &impl Abort, world: &World, campaign: &mut Campaign)
     requires { IsGood world.now campaign.old.value }
 {
@@ -35,7 +35,7 @@ fn avalon_joins(rt: &impl Abort, world: &World, campaign: &mut Campaign)
     assert!(rt; done.is_ok());
 }
 
-/// The total of a thing, or None if there are too many units or regions to sum.
+/// The total of a thing in a campaign, or None if there are too many units or regions to sum.
 fn total(campaign: &Campaign, thing: Thing) -> Option<u64> {
     if campaign.unit_count() > MOST_UNITS || campaign.region_count() > MOST_REGIONS {
         return None;
@@ -43,7 +43,8 @@ fn total(campaign: &Campaign, thing: Thing) -> Option<u64> {
     Some(campaign.total(thing))
 }
 
-/// Asserts what a campaign just founded holds.
+/// Asserts the month, the pass text, the next numbers and the totals of the small world's campaign
+/// just after its founding.
 fn is_founded(rt: &impl Abort, campaign: &Campaign) {
     assert_number(rt, i64::from(campaign.month()), 0);
     assert_text(rt, campaign.pass().as_str(), "gm");
@@ -54,21 +55,22 @@ fn is_founded(rt: &impl Abort, campaign: &Campaign) {
     assert_total(rt, total(campaign, Thing::People), 1000);
 }
 
-/// Founds the campaign of a world, and asserts what it holds.
+/// Founds the campaign of the small world, and asserts what it holds.
 fn founds(rt: &impl Abort, alloc: Global, world: &World) -> Result<(), Fail> {
     let campaign = small_campaign(alloc, world)?;
     is_founded(rt, &campaign);
     Ok(())
 }
 
-/// A campaign just founded holds what its world says.
+/// A campaign just founded has the money and people that its world says, and the pass text.
 #[test]
 fn founding(rt: HostRuntime) -> Result<(), Fail> {
     let world = small_world(rt.alloc())?;
     founds(&rt, rt.alloc(), &world)
 }
 
-/// Asserts the books after a join.
+/// Asserts what the books of the small world's campaign have of money and people after Avalon has
+/// joined.
 fn has_entries(rt: &impl Abort, campaign: &Campaign) {
     assert_count(rt, campaign.things(), 2);
     if campaign.things() >= 2 {
@@ -79,14 +81,14 @@ fn has_entries(rt: &impl Abort, campaign: &Campaign) {
     }
 }
 
-/// Asserts the totals after a join.
+/// Asserts the totals of money, people and item 0 after Avalon has joined the small world.
 fn has_totals(rt: &impl Abort, campaign: &Campaign) {
     assert_total(rt, total(campaign, Thing::Money), 1500);
     assert_total(rt, total(campaign, Thing::People), 1001);
     assert_total(rt, total(campaign, Thing::Item(0)), 0);
 }
 
-/// Asserts the faction that joined.
+/// Asserts that faction 1 has joined as Avalon, and isn't gone.
 fn has_faction(rt: &impl Abort, campaign: &Campaign) {
     match campaign.faction(1) {
         Some(faction) => {
@@ -98,7 +100,7 @@ fn has_faction(rt: &impl Abort, campaign: &Campaign) {
     }
 }
 
-/// Asserts the unit of the faction that joined.
+/// Asserts that Avalon's unit 1 has one man and is in region 1, and that there is no other unit.
 fn has_unit(rt: &impl Abort, campaign: &Campaign) {
     match campaign.unit(1) {
         Some(unit) => {
@@ -115,7 +117,7 @@ fn has_unit(rt: &impl Abort, campaign: &Campaign) {
     assert_count(rt, campaign.unit_count(), 1);
 }
 
-/// Has Avalon join, and asserts the books, the totals, the faction and its unit.
+/// Has Avalon join the small world, and asserts the books, the totals, the faction and its unit.
 fn joins(rt: &impl Abort, alloc: Global, world: &World) -> Result<(), Fail> {
     let mut campaign = small_campaign(alloc, world)?;
     avalon_joins(rt, world, &mut campaign);
@@ -149,7 +151,7 @@ fn report_of(alloc: Global, world: &World, campaign: &Campaign) -> Result<Text, 
     Ok(Text::from_string(text))
 }
 
-/// Asserts the stored report of faction 1.
+/// Asserts that the stored report of faction 1 is `FIRST_REPORT`.
 fn has_report(rt: &impl Abort, campaign: &Campaign) {
     match campaign.report(1) {
         Some(stored) => assert_text(rt, stored.as_str(), FIRST_REPORT),
@@ -157,7 +159,7 @@ fn has_report(rt: &impl Abort, campaign: &Campaign) {
     }
 }
 
-/// Stores the first faction's report of what it sees, and asserts that it is stored.
+/// Stores the report of what faction 1 sees, and asserts that `FIRST_REPORT` is then stored.
 fn stores(
     rt: &impl Abort,
     alloc: Global,
@@ -170,8 +172,8 @@ fn stores(
     Ok(())
 }
 
-/// Has Avalon join, and asserts that its report is stored, and that a lent unit changes the total
-/// of money.
+/// Has Avalon join, and asserts that its report is stored, and that money set in a lent unit
+/// changes the total of money.
 fn lends_and_stores(rt: &impl Abort, alloc: Global, world: &World) -> Result<(), Fail> {
     let mut campaign = small_campaign(alloc, world)?;
     avalon_joins(rt, world, &mut campaign);
@@ -180,7 +182,7 @@ fn lends_and_stores(rt: &impl Abort, alloc: Global, world: &World) -> Result<(),
     done
 }
 
-/// A lent unit changes the total of money, and a stored report is found.
+/// Money set in a lent unit changes the total of money, and a report that was stored is found.
 #[test]
 fn lending_and_reporting(rt: HostRuntime) -> Result<(), Fail> {
     let world = small_world(rt.alloc())?;

@@ -39,7 +39,7 @@ pub(crate) const GOODS: &str = "SELECT sum(amount) FROM has WHERE sort = 0";
 /// Sums the days of all units' skills.
 pub(crate) const DAYS: &str = "SELECT sum(amount) FROM has WHERE sort = 1";
 
-/// Sums how much is built of all structures.
+/// Sums how much of all structures is built.
 pub(crate) const DONE: &str = "SELECT sum(done) FROM structure";
 
 /// Selects the people booked as starved.
@@ -57,13 +57,13 @@ pub(crate) const UPKEEP: &str = "SELECT amount FROM books WHERE entry = 7 AND th
 /// Selects the number of the file's format.
 pub(crate) const FORMAT: &str = "SELECT format FROM campaign";
 
-/// Counts the rows of stocks.
+/// Counts the rows of the table `market`: the stocks.
 pub(crate) const STOCKED: &str = "SELECT count(*) FROM market";
 
-/// Sums all stocks.
+/// Sums how much all markets have in stock.
 pub(crate) const STOCK: &str = "SELECT sum(stock) FROM market";
 
-/// Asserts what each of these SELECTs returns.
+/// Asserts, for each SELECT of `wanted`, the number that it returns.
 pub(crate) fn assert_tables(
     rt: &impl Abort,
     tables: &mut impl Tables,

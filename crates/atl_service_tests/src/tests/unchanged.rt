@@ -38,7 +38,7 @@ fn add_rows<S: Alter>(
     Ok(())
 }
 
-/// All rows of all tables, as `Debug` prints them.
+/// All rows of all tables of a database, as `Debug` prints them.
 pub(crate) fn all_rows<S: Alter>(alloc: Global, conn: &mut Connection<S>) -> Result<String, Fail> {
     let mut text = String::new(alloc);
     for query in conn.query_all(QUERIES, &[])?.iter() {
@@ -47,7 +47,7 @@ pub(crate) fn all_rows<S: Alter>(alloc: Global, conn: &mut Connection<S>) -> Res
     Ok(text)
 }
 
-/// Asserts all rows of all tables.
+/// Asserts that all rows of all tables, as `all_rows` prints them, are `rows`.
 pub(crate) fn assert_all_rows<S: Alter>(
     rt: &impl Abort,
     alloc: Global,
@@ -58,7 +58,8 @@ pub(crate) fn assert_all_rows<S: Alter>(
     Ok(())
 }
 
-/// Asserts the answer to a step, and that the campaign has the same rows before and after.
+/// Runs a step, and asserts its answer, and that the service's campaign has the same rows before
+/// and after.
 fn leaves_rows(
     rt: &impl Abort,
     alloc: Global,
@@ -70,8 +71,8 @@ fn leaves_rows(
     assert_rows(rt, alloc, service, rows.as_str())
 }
 
-/// Asserts the answer to a step, and that the campaign and the tables have the same rows before and
-/// after.
+/// Opens the campaign of a database and runs a step; asserts its answer, and that the campaign and
+/// the tables have the same rows before and after.
 fn leaves_all_rows<S: Alter + Drop>(
     rt: &impl Abort,
     alloc: Global,
@@ -88,7 +89,8 @@ fn leaves_all_rows<S: Alter + Drop>(
     Ok(conn)
 }
 
-/// Asserts the answer to each step, and that none changes a row of the campaign or of the tables.
+/// Runs each step in the campaign of a database; asserts its answer, and that it changes no row of
+/// the campaign or of the tables.
 fn leave_all_rows<S: Alter + Drop>(
     rt: &impl Abort,
     alloc: Global,
@@ -103,7 +105,8 @@ fn leave_all_rows<S: Alter + Drop>(
 }
 
 /// Asserts the answer to each step, and that none changes a row of the campaign or of the tables.
-/// They run on the island with a market that Avalon and Bree have joined, after SQL statements.
+/// The steps run on the island with a market that Avalon and Bree have joined, after SQL
+/// statements.
 pub(crate) fn refuses(
     rt: &impl Abort,
     alloc: Global,

@@ -36,22 +36,23 @@ fn written_old(
     Ok(conn)
 }
 
-/// The file of a story, written from a campaign that was played in a database of its own.
+/// The file of a story before its upgrade, written from a campaign that was played in a database of
+/// its own.
 fn old(rt: &impl Abort, alloc: Global, story: &Story) -> Result<Connection<MemStore>, Fail> {
     let mut service = begun_in_memory(alloc, ISLE)?;
     follow(rt, alloc, &mut service, story.before)?;
     written_old(alloc, &service, story.by_hand)
 }
 
-/// The rows that the upgraded campaign of a story must have: those of the same campaign, played in
-/// the second format.
+/// The rows that the upgraded campaign of a story must have: those that its first steps and its SQL
+/// make in the second format.
 fn rows_wanted(rt: &impl Abort, alloc: Global, story: &Story) -> Result<String, Fail> {
     let mut service = begun_in_memory(alloc, ISLE)?;
     follow(rt, alloc, &mut service, story.before)?;
     rows_in(alloc, &filled(alloc, service.end(), story.by_hand)?)
 }
 
-/// Asserts why a database isn't opened; returns the connection.
+/// Asserts that a database isn't opened, and why; returns the connection.
 fn stays_shut(
     rt: &impl Abort,
     alloc: Global,
@@ -61,7 +62,7 @@ fn stays_shut(
     assert_refused(rt, open(alloc, conn), words)
 }
 
-/// Asserts why a file isn't upgraded; returns the connection.
+/// Asserts that a file isn't upgraded to a world text, and why; returns the connection.
 fn refuses(
     rt: &impl Abort,
     alloc: Global,
@@ -72,7 +73,8 @@ fn refuses(
     assert_refused(rt, upgrade(alloc, conn, world), words)
 }
 
-/// Upgrades a file after refused attempts, and asserts the campaign's rows.
+/// Asserts that a file isn't opened, nor upgraded to two wrong world texts; then upgrades it, and
+/// asserts the campaign's rows.
 fn upgraded(
     rt: &impl Abort,
     alloc: Global,
@@ -91,8 +93,8 @@ fn upgraded(
     }
 }
 
-/// Asserts that the upgraded file isn't upgraded again, opens it, and asserts the campaign's rows,
-/// the later steps, and the tables at the end.
+/// Asserts that the upgraded file isn't upgraded again; opens it, and asserts the campaign's rows,
+/// the answers to the later steps, and the tables at the end.
 fn goes_on(
     rt: &impl Abort,
     alloc: Global,
@@ -108,7 +110,8 @@ fn goes_on(
     done
 }
 
-/// Asserts that the file of a story is upgraded with the same rows, and is opened and played on.
+/// Asserts that the file of a story is upgraded and keeps its campaign's rows, and is opened and
+/// played on.
 fn is_upgraded(rt: &impl Abort, alloc: Global, story: &Story) -> Result<(), Fail> {
     let conn = old(rt, alloc, story)?;
     let rows = rows_wanted(rt, alloc, story)?;
@@ -116,11 +119,11 @@ fn is_upgraded(rt: &impl Abort, alloc: Global, story: &Story) -> Result<(), Fail
     goes_on(rt, alloc, conn, story, rows.as_str())
 }
 
-/// Avalon joins in the island's third region.
+/// The one step by which Avalon joins in the island's third region.
 const FAR_JOINS: [Step; 1] = [Step::Joined(Asked::Join("Avalon", "pw", 1), 1, 1)];
 
-/// Avalon's report: its unit is in the third region, and the market in the first, so BUY has a
-/// fault.
+/// Avalon's report on month 1: its unit is in the third region, and the market in the first, so BUY
+/// has a fault.
 const AFTER_BUYING: &str = "Atlantis report, month 1, faction 1 \"Avalon\".
 Orders:
 Unit 1, line 3, BUY: fault 24 NoMarket.
@@ -133,8 +136,8 @@ Exits: north 4, west 2.
 /// The command that closes month 1 of the island.
 const MONTH_ONE: Asked = Asked::Close(1, "gm", &[0, 0, 0, 0]);
 
-/// The report stored before the upgrade is still answered; then a unit tries to buy, and a month is
-/// closed.
+/// Steps after the upgrade: the report stored before is still answered; then a unit tries to buy,
+/// and a month is closed.
 const BUYS_NOTHING: [Step; 4] = [
     Step::Told(Asked::Report(1, "pw"), FAR_REPORT),
     Step::Mailed(
@@ -153,7 +156,7 @@ const AFTER_NOTHING: [(&str, Option<i64>); 3] = [
     (STOCK, Some(20)),
 ];
 
-/// A story in which nobody reaches the market.
+/// The story of a file whose one unit doesn't reach the market.
 static FAR_FROM_MARKET: Story = Story {
     before: &FAR_JOINS,
     by_hand: "",
@@ -164,7 +167,7 @@ static FAR_FROM_MARKET: Story = Story {
 /// The mailing by which unit 1 sells 3 wood.
 const SELLS: &str = "#ATLANTIS 1\nUNIT 1\nSELL 3 wood\n";
 
-/// Avalon joins, and sends a mailing with SELL before the upgrade.
+/// Steps before the upgrade: Avalon joins, and sends a mailing with SELL.
 const SENDS_EARLY: [Step; 2] = [
     Step::Joined(AVALON, 1, 1),
     Step::Mailed(Asked::Mail(1, "pw", SELLS), 1, &[]),
@@ -173,7 +176,7 @@ const SENDS_EARLY: [Step; 2] = [
 /// SQL that gives unit 1 4 wood, booked under Joining.
 const HAS_WOOD: &str = "INSERT INTO has VALUES (1, 0, 0, 4); INSERT INTO books VALUES (2, 2, 4)";
 
-/// Avalon's report: 3 wood are sold, and 20 more come into stock.
+/// Avalon's report on month 1: 3 wood are sold to the market, and 20 more come into stock.
 const AFTER_SELLING: &str = "Atlantis report, month 1, faction 1 \"Avalon\".
 Orders:
 Unit 1, line 3, SELL: done 3.
@@ -201,7 +204,7 @@ item \"wood\" total 24
 item \"cart\" total 0
 ";
 
-/// After the upgrade the mailing is still stored, and a closing carries it out.
+/// Steps after the upgrade: the mailing is still stored, and a closing carries it out.
 const SELLS_THREE: [Step; 4] = [
     Step::Keeps(Some(SELLS)),
     Step::Closed(MONTH_ONE, 1),
@@ -212,7 +215,7 @@ const SELLS_THREE: [Step; 4] = [
 /// SELECTs and what they return after the month in which 3 wood are sold.
 const AFTER_THREE: [(&str, Option<i64>); 2] = [(STOCKED, Some(1)), (STOCK, Some(23))];
 
-/// A story with mail from before the upgrade.
+/// The story of a file with mail that was sent before the upgrade.
 static WITH_EARLY_MAIL: Story = Story {
     before: &SENDS_EARLY,
     by_hand: HAS_WOOD,

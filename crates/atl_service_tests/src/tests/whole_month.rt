@@ -156,7 +156,7 @@ item \"wood\" total 23
 item \"cart\" total 0
 ";
 
-/// Both mailings, the closing, both reports and the books.
+/// The steps of the month of ten units: both mailings, the closing, both reports and the books.
 const MONTH_OF_ORDERS: [Step; 6] = [
     Step::Mailed(Asked::Mail(2, "pb", OF_BREE), 7, &[]),
     Step::Mailed(Asked::Mail(1, "pw", OF_AVALON), 16, &[]),

@@ -9,7 +9,7 @@ use sqlite::{Alter, Connection};
 use std::alloc::Global;
 use std::test::Fail;
 
-/// The answer of `create` for the campaign of a world just founded.
+/// Founds the campaign of a world text, and makes its tables by `create`; the result is the answer.
 pub(crate) fn create_answer<S: Alter>(
     alloc: Global,
     conn: &mut Connection<S>,
@@ -22,7 +22,7 @@ pub(crate) fn create_answer<S: Alter>(
     done_or_fault(alloc, create(conn, world, &mut campaign))
 }
 
-/// Makes a file of the first format with the campaign of a world just founded; the answer is
+/// Founds the campaign of a world text, and makes a file of the first format with it; the answer is
 /// `Done`.
 pub(crate) fn create_old_answer<S: Alter>(
     alloc: Global,
@@ -34,7 +34,8 @@ pub(crate) fn create_old_answer<S: Alter>(
     done(alloc)
 }
 
-/// The answer of `write_join` after Avalon has joined the campaign of the small world.
+/// Writes by `write_join` that Avalon has joined the campaign of the small world; the result is the
+/// answer.
 pub(crate) fn join_answer<S: Alter>(
     alloc: Global,
     conn: &mut Connection<S>,
@@ -46,7 +47,7 @@ pub(crate) fn join_answer<S: Alter>(
     done_or_fault(alloc, write_join(conn, &campaign, 1))
 }
 
-/// The answer of `write_mail` with a mailing of faction 1.
+/// Writes a mailing of faction 1 by `write_mail`; the result is the answer.
 pub(crate) fn mail_answer<S: Alter>(
     alloc: Global,
     conn: &mut Connection<S>,
@@ -57,7 +58,7 @@ pub(crate) fn mail_answer<S: Alter>(
     done_or_fault(alloc, write_mail(conn, 1, b"#ATLANTIS 1"))
 }
 
-/// The answer of `write_changes`, which writes what is marked of the campaign.
+/// Writes what is marked of the campaign by `write_changes`; the result is the answer.
 pub(crate) fn write_answer<S: Alter>(
     alloc: Global,
     conn: &mut Connection<S>,
@@ -69,7 +70,8 @@ pub(crate) fn write_answer<S: Alter>(
     done_or_fault(alloc, write_changes(conn, campaign))
 }
 
-/// The answer of `load`; if it is `Done`, the campaign is replaced by the loaded one.
+/// Loads the campaign by `load`, and gives the answer; if it is `Done`, `campaign` is replaced by
+/// the loaded one.
 pub(crate) fn load_answer<S: Alter>(
     alloc: Global,
     conn: &mut Connection<S>,
@@ -84,8 +86,9 @@ pub(crate) fn load_answer<S: Alter>(
     }
 }
 
-/// The answer of `upgrade` to a world text; if it is `Done`, the campaign is replaced by the
-/// upgraded one. For a text that is no world the answer is `World`, without its fault.
+/// Upgrades a file by `upgrade` to a world text, and gives the answer; if it is `Done`, `campaign`
+/// is replaced by the upgraded one. For a text that is no world the answer is `World`, without its
+/// fault.
 pub(crate) fn upgrade_answer<S: Alter>(
     alloc: Global,
     conn: &mut Connection<S>,

@@ -11,7 +11,7 @@ use atl_world::{Text, World};
 use std::alloc::Global;
 use std::test::Fail;
 
-/// The world text that has a name in scripts; any other name gives a text that is no world.
+/// The world text that `name` stands for in scripts; any other name gives a text that is no world.
 pub(crate) fn world_text(name: &str) -> &'static str {
     match name {
         "small" => SMALL,
@@ -35,7 +35,7 @@ pub(crate) fn founded_by(alloc: Global, text: &str) -> Result<Campaign, Fail> {
     founded_in(alloc, &world)
 }
 
-/// Avalon joins and gets its first report.
+/// Has Avalon join a campaign as faction 1, and gives it its first report.
 fn welcome(alloc: Global, world: &World, campaign: &mut Campaign) -> Result<(), Fail>
     requires { IsGood world.now campaign.old.value }
 {
@@ -58,14 +58,16 @@ pub(crate) fn joined(alloc: Global) -> Result<Campaign, Fail> {
     joined_in(alloc, &world)
 }
 
-/// Whether the books have at most 202 things, as `create` and `write_changes` require.
+/// Whether the books have at most 202 things (money, people and items), as `create` and
+/// `write_changes` require.
 pub(crate) fn has_few_things(campaign: &Campaign) -> bool
     ensures { IsTrue result → campaign.now.value.books.things ≤ most_things }
 {
     campaign.things() <= 202
 }
 
-/// Whether faction 1 has a unit, the last one numbered, and a report, as `write_join` requires.
+/// Whether a campaign has faction 1, its report and the unit numbered last, and books of money and
+/// people, as `write_join` requires.
 pub(crate) fn has_arrived(campaign: &Campaign) -> bool
     ensures { IsTrue result → HasArrival campaign.now.value 1 }
 {

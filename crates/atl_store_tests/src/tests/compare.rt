@@ -2,12 +2,12 @@
 //! written once.
 use std::process::Abort;
 
-/// Asserts that the number of a fault, which may have none, is the wanted one.
+/// Asserts that the number of a fault is the wanted one; None means that the fault has none.
 pub(crate) fn assert_fault_number(rt: &impl Abort, answer: Option<u8>, wanted: Option<u8>) {
     assert_eq!(rt; answer, wanted);
 }
 
-/// Asserts that an answer is the wanted one; the message names the step.
+/// Asserts that the answer of a step is the wanted one; the message names the step.
 pub(crate) fn assert_text(rt: &impl Abort, answer: &str, wanted: &str, step: &str) {
     assert_eq!(rt; answer, wanted, "{step}");
 }

@@ -5,7 +5,7 @@ use sqlite::{Alter, Connection, params};
 use std::alloc::Global;
 use std::test::Fail;
 
-/// Runs SQL statements; the answer is `Done`.
+/// Runs SQL statements on a database; the answer is `Done`.
 pub(crate) fn run_statements<S: Alter>(
     alloc: Global,
     conn: &mut Connection<S>,
@@ -15,12 +15,13 @@ pub(crate) fn run_statements<S: Alter>(
     done(alloc)
 }
 
-/// Adds two factions, eleven units and a boat to the tables of the isle.
+/// Adds two factions, eleven units and a boat to the tables of the isle, where nobody has joined;
+/// the answer is `Done`.
 pub(crate) fn settle<S: Alter>(alloc: Global, conn: &mut Connection<S>) -> Result<String, Fail> {
     run_statements(alloc, conn, ROWS)
 }
 
-/// Overwrites the world text in the campaign's row.
+/// Overwrites the world text in the campaign's row; the answer is `Done`.
 pub(crate) fn set_world_text<S: Alter>(
     alloc: Global,
     conn: &mut Connection<S>,
@@ -30,7 +31,8 @@ pub(crate) fn set_world_text<S: Alter>(
     done(alloc)
 }
 
-/// Limits how many steps of the database one statement may take, or removes the limit.
+/// Limits how many steps SQLite may take for one statement, or removes the limit (None); the answer
+/// is `Done`.
 pub(crate) fn limit_steps<S: Alter>(
     alloc: Global,
     conn: &mut Connection<S>,
@@ -51,7 +53,7 @@ pub(crate) fn query_number<S: Alter>(
     text_of(alloc, number)
 }
 
-/// A SELECT for all rows of each table.
+/// For each of the ten tables of a campaign, a SELECT for all its rows.
 static ALL_ROWS: [&str; 10] = [
     "SELECT * FROM campaign ORDER BY id",
     "SELECT * FROM faction ORDER BY number",
@@ -65,7 +67,8 @@ static ALL_ROWS: [&str; 10] = [
     "SELECT * FROM market ORDER BY region, item",
 ];
 
-/// How many tables there are, and all rows of each table of a campaign, or the error of reading it.
+/// A database as text: how many tables it has, and for each table of a campaign all rows, or the
+/// error of reading them.
 pub(crate) fn contents<S: Alter>(alloc: Global, conn: &mut Connection<S>) -> Result<String, Fail> {
     let mut text = text_of(alloc, conn.schema().tables.len())?;
     for select in ALL_ROWS.iter() {

@@ -50,7 +50,7 @@ static UPGRADES: [(Option<u8>, &str); 7] = [
     (None, "Memory"),
 ];
 
-/// The fault that has this number in docs/FORMATS.md, "Upgrading a file".
+/// The fault of `upgrade` that has this number in docs/FORMATS.md, "Upgrading a file".
 fn upgrade_fault(number: Option<u8>) -> UpgradeFault {
     match number {
         Some(1) => UpgradeFault::Store,

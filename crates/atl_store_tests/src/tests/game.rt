@@ -8,7 +8,8 @@ use atl_world::let_go;
 use std::alloc::Global;
 use std::test::Fail;
 
-/// A campaign, and a text that a step kept for a later one to compare.
+/// What the steps of a script work on: a campaign in memory, and a text that a step kept for a
+/// later one to compare.
 pub(crate) struct Game {
     pub campaign: Campaign,
     pub kept: String,
@@ -21,7 +22,8 @@ impl Drop for Game {
     }
 }
 
-/// The campaign of the small world just after its founding, and an empty text.
+/// The game in which a script begins: the campaign of the small world just after its founding, and
+/// an empty text.
 pub(crate) fn new_game(alloc: Global) -> Result<Game, Fail> {
     let campaign = founded_by(alloc, SMALL)?;
     Ok(Game {
@@ -36,24 +38,24 @@ fn rows_of(alloc: Global, campaign: &Campaign) -> Result<String, Fail> {
     Ok(format!(in alloc; "{parts:?}")?)
 }
 
-/// Keeps a text for a later step.
+/// Keeps a text for a later step to compare; the answer is `Done`.
 pub(crate) fn keep(alloc: Global, game: &mut Game, text: String) -> Result<String, Fail> {
     game.kept = text;
     done(alloc)
 }
 
-/// Answers whether a text is the one that was kept.
+/// Whether a text is the one that was kept, as the answer `yes` or `no`.
 pub(crate) fn is_kept(alloc: Global, game: &Game, text: &str) -> Result<String, Fail> {
     yes_or_no(alloc, game.kept.as_str() == text)
 }
 
-/// Keeps the rows of the campaign.
+/// Keeps the rows of the campaign as text; the answer is `Done`.
 pub(crate) fn keep_campaign(alloc: Global, game: &mut Game) -> Result<String, Fail> {
     let rows = rows_of(alloc, &game.campaign)?;
     keep(alloc, game, rows)
 }
 
-/// Answers whether the rows of the campaign are those that were kept.
+/// Whether the rows of the campaign are those that were kept, as the answer `yes` or `no`.
 pub(crate) fn is_kept_campaign(alloc: Global, game: &Game) -> Result<String, Fail> {
     let rows = rows_of(alloc, &game.campaign)?;
     is_kept(alloc, game, rows.as_str())

@@ -20,14 +20,14 @@ fn quote(alloc: Global, bytes: &[u8]) -> Result<String, AllocError> {
     }
 }
 
-/// A row that can be printed.
+/// A row of a table that can be printed.
 trait Line {
-    /// The columns with blanks between them, texts in quotation marks.
+    /// The row's columns as text, with blanks between them; texts are in quotation marks.
     fn line(&self, alloc: Global) -> Result<String, AllocError>;
 }
 
-/// The campaign row: its id, format, month, next numbers of a faction, a unit and a structure, the
-/// pass text, and `small` or `another world` for the world text.
+/// Prints the campaign row: its id, format, month, next numbers of a faction, a unit and a
+/// structure, the pass text, and `small` or `another world` for the world text.
 impl Line for StoredCampaign {
     /// The columns of the campaign row, with `small` or `another world` for the world text.
     fn line(&self, alloc: Global) -> Result<String, AllocError> {
@@ -44,8 +44,10 @@ impl Line for StoredCampaign {
     }
 }
 
-/// A faction: its number, the name under which it joined, its name, its pass text, and 1 if gone.
+/// Prints a faction: its number, the name under which it joined, its name, its pass text, and 1 if
+/// gone.
 impl Line for StoredFaction {
+    /// The columns of the faction's row.
     fn line(&self, alloc: Global) -> Result<String, AllocError> {
         let joined_as = quote(alloc, self.joined_as.as_slice())?;
         let name = quote(alloc, self.name.as_slice())?;
@@ -54,15 +56,18 @@ impl Line for StoredFaction {
     }
 }
 
-/// A region: its number, peasants and money.
+/// Prints a region: its number, peasants and money.
 impl Line for StoredRegion {
+    /// The columns of the region's row.
     fn line(&self, alloc: Global) -> Result<String, AllocError> {
         format!(in alloc; "{} {} {}", self.number, self.peasants, self.money)
     }
 }
 
-/// A unit: its number, faction, name, region, structure, men, money, and 1 if its guard flag is on.
+/// Prints a unit: its number, faction, name, region, structure, men, money, and 1 if its guard flag
+/// is on.
 impl Line for StoredUnit {
+    /// The columns of the unit's row.
     fn line(&self, alloc: Global) -> Result<String, AllocError> {
         let name = quote(alloc, self.name.as_slice())?;
         let place = format!(in alloc; "{} {}", self.region, self.structure)?;
@@ -71,8 +76,10 @@ impl Line for StoredUnit {
     }
 }
 
-/// An item or a skill of a unit: the unit, 0 for an item or 1 for a skill, its number, the amount.
+/// Prints an item or a skill of a unit: the unit, 0 for an item or 1 for a skill, its number, the
+/// amount.
 impl Line for StoredHas {
+    /// The columns of the row of the table `has`.
     fn line(&self, alloc: Global) -> Result<String, AllocError> {
         format!(in alloc;
             "{} {} {} {}",
@@ -81,8 +88,9 @@ impl Line for StoredHas {
     }
 }
 
-/// A structure: its number, kind, name, region, how much is done, and its owner.
+/// Prints a structure: its number, kind, name, region, how much is done, and its owner.
 impl Line for StoredStructure {
+    /// The columns of the structure's row.
     fn line(&self, alloc: Global) -> Result<String, AllocError> {
         let name = quote(alloc, self.name.as_slice())?;
         let work = format!(in alloc; "{} {} {}", self.region, self.done, self.owner)?;
@@ -90,43 +98,48 @@ impl Line for StoredStructure {
     }
 }
 
-/// A mailing: its faction and its text.
+/// Prints a mailing: its faction and its text.
 impl Line for StoredMail {
+    /// The columns of the mailing's row.
     fn line(&self, alloc: Global) -> Result<String, AllocError> {
         let text = quote(alloc, self.text.as_slice())?;
         format!(in alloc; "{} {text}", self.faction)
     }
 }
 
-/// A report: its faction and its text.
+/// Prints a report: its faction and its text.
 impl Line for StoredReport {
+    /// The columns of the report's row.
     fn line(&self, alloc: Global) -> Result<String, AllocError> {
         format!(in alloc; "{} {:?}", self.faction, self.text.as_str())
     }
 }
 
-/// An amount of the books: the numbers of its entry and its thing, and the amount.
+/// Prints an amount of the books: the numbers of its entry and its thing, and the amount.
 impl Line for StoredBooks {
+    /// The columns of the row of the table `books`.
     fn line(&self, alloc: Global) -> Result<String, AllocError> {
         format!(in alloc; "{} {} {}", self.entry, self.thing, self.amount)
     }
 }
 
-/// A stock: its region, its item, and how much there is.
+/// Prints a stock: its region, its item, and how much there is.
 impl Line for StoredMarket {
+    /// The columns of the row of the table `market`.
     fn line(&self, alloc: Global) -> Result<String, AllocError> {
         format!(in alloc; "{} {} {}", self.region, self.item, self.stock)
     }
 }
 
-/// A row that is read with its rowid: the columns of the row, without the rowid.
+/// Prints a row that was read with its rowid: the columns of the row, without the rowid.
 impl<T: Line> Line for RowWithId<T> {
+    /// The columns of the row, without its rowid.
     fn line(&self, alloc: Global) -> Result<String, AllocError> {
         self.row.line(alloc)
     }
 }
 
-/// All rows, separated by commas, or `nothing` if there is none.
+/// All rows of a list as text, separated by commas, or `nothing` if there is none.
 fn lines<T: Line>(alloc: Global, rows: &[T]) -> Result<String, AllocError> {
     if rows.is_empty() {
         return String::from_str(alloc, "nothing");

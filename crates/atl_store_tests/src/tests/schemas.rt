@@ -30,7 +30,7 @@ fn assert_answer(rt: &impl Abort, alloc: Global, change: &(&str, &str)) -> Resul
     play_new(rt, alloc, script.as_str())
 }
 
-/// `has_all_tables` answers as `CHANGES` says after each of its statements.
+/// `has_all_tables` answers as `CHANGES` says after the SQL of each of its rows.
 #[test]
 fn a_schema_is_that_of_a_campaign(rt: HostRuntime) -> Result<(), Fail> {
     for change in CHANGES.iter() {

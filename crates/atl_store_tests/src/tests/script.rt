@@ -20,7 +20,8 @@ use std::alloc::Global;
 use std::process::Abort;
 use std::test::Fail;
 
-/// Carries out a step that changes the campaign in memory.
+/// Carries out a step that changes the campaign in memory: `word` is its first word, `rest` what
+/// follows.
 fn change(alloc: Global, campaign: &mut Campaign, word: &str, rest: &str) -> Result<(), Fail> {
     match word {
         "set" => set(campaign, rest),
@@ -38,13 +39,13 @@ fn change(alloc: Global, campaign: &mut Campaign, word: &str, rest: &str) -> Res
     }
 }
 
-/// The stock of an item in a region, as text.
+/// How much a region has in stock of an item, as text; `text` has the numbers of both.
 fn stock(alloc: Global, campaign: &Campaign, text: &str) -> Result<String, Fail> {
     let [region, item, _] = numbers(text)?;
     text_of(alloc, campaign.stock(region, item))
 }
 
-/// The answer of a step that works on the campaign in memory alone.
+/// Carries out a step that works on the campaign in memory alone; the result is its answer.
 fn campaign_answer(alloc: Global, game: &mut Game, step: &str) -> Result<String, Fail> {
     let (word, rest) = step.split_once(' ').unwrap_or((step, ""));
     match word {
@@ -59,7 +60,8 @@ fn campaign_answer(alloc: Global, game: &mut Game, step: &str) -> Result<String,
     }
 }
 
-/// The answer of a step by which a person reads or changes the database by hand.
+/// Carries out a step by which a person reads or changes the database by hand, and leaves any other
+/// to `campaign_answer`; the result is the answer.
 fn person_answer<S: Alter>(
     alloc: Global,
     conn: &mut Connection<S>,
@@ -105,7 +107,7 @@ pub(crate) fn answer<S: Alter>(
     }
 }
 
-/// Carries out the step of a line, and asserts its answer.
+/// Carries out the step of a line of a script, and asserts that it is answered as the line says.
 fn play_line<S: Alter>(
     rt: &impl Abort,
     alloc: Global,
@@ -119,7 +121,8 @@ fn play_line<S: Alter>(
     Ok(())
 }
 
-/// Carries out the step of each line of a script in turn, and asserts its answer.
+/// Carries out the step of each line of a script in turn, and asserts that it is answered as the
+/// line says.
 pub(crate) fn play<S: Alter>(
     rt: &impl Abort,
     alloc: Global,

@@ -34,7 +34,8 @@ fn set_amount(
     Ok(())
 }
 
-/// Sets a number of the campaign: `peasants 1 77` sets the peasants of region 1 to 77.
+/// Sets a number of the campaign, as `text` says: `peasants 1 77` sets the peasants of region 1 to
+/// 77.
 pub(crate) fn set(campaign: &mut Campaign, text: &str) -> Result<(), Fail> {
     let (what, rest) = text.split_once(' ').ok_or("what is set")?;
     let [of, first, second] = numbers(rest)?;
@@ -47,7 +48,8 @@ pub(crate) fn set(campaign: &mut Campaign, text: &str) -> Result<(), Fail> {
     Ok(())
 }
 
-/// Sets the money, the days of a skill or the guard flag of a holding that is lent, or nothing.
+/// Sets the money, the days of a skill or the guard flag of a unit's holding, as `what` says;
+/// `nothing` sets none of them.
 fn set_lent(holding: &mut Holding, what: &str, first: u32, second: u32) -> Result<(), Fail> {
     if first > HOLDING_LIMIT {
         return Err(Fail::new("an amount that fits"));
@@ -62,8 +64,8 @@ fn set_lent(holding: &mut Holding, what: &str, first: u32, second: u32) -> Resul
     Ok(())
 }
 
-/// Changes a unit through the holding that is lent, which marks all of it: `days 3 1 30` sets unit
-/// 3's days of skill 1.
+/// Changes a unit through its holding, which the campaign lends and marks whole: `days 3 1 30` sets
+/// unit 3's days of skill 1.
 pub(crate) fn lend(campaign: &mut Campaign, text: &str) -> Result<(), Fail> {
     let (what, rest) = text.split_once(' ').ok_or("what is lent")?;
     let [unit, first, second] = numbers(rest)?;
@@ -73,26 +75,27 @@ pub(crate) fn lend(campaign: &mut Campaign, text: &str) -> Result<(), Fail> {
     set_lent(holding, what, first, second)
 }
 
-/// Removes the unit whose number the text is.
+/// Removes the unit whose number is `text` from the campaign.
 pub(crate) fn remove(campaign: &mut Campaign, text: &str) -> Result<(), Fail> {
     campaign.remove_unit(text.parse::<u32>()?);
     Ok(())
 }
 
-/// Gives faction 1 another name.
+/// Gives faction 1 another name: `name`.
 pub(crate) fn rename(alloc: Global, campaign: &mut Campaign, name: &str) -> Result<(), Fail> {
     campaign.set_faction_name(1, Text::from_str(alloc, name)?);
     Ok(())
 }
 
-/// Gives faction 1 another report of one line.
+/// Gives faction 1 another report, which is the one line `line`.
 pub(crate) fn report(alloc: Global, campaign: &mut Campaign, line: &str) -> Result<(), Fail> {
     let text = Text::from_string(format!(in alloc; "{line}\n")?);
     campaign.set_report(1, text)?;
     Ok(())
 }
 
-/// Begins a structure of the first kind in region 1, of which 2 are done and which unit 1 owns.
+/// Begins a structure of the first kind, with this name, in region 1: 2 of it are built, and unit 1
+/// owns it.
 pub(crate) fn begin(alloc: Global, campaign: &mut Campaign, name: &str) -> Result<(), Fail> {
     let name = Text::from_str(alloc, name)?;
     if campaign.next_structure() != 1 || campaign.structure(1).is_some() {
@@ -108,7 +111,7 @@ pub(crate) fn begin(alloc: Global, campaign: &mut Campaign, name: &str) -> Resul
     Ok(())
 }
 
-/// Books an amount of money as income.
+/// Books the amount of money that `text` has as income.
 pub(crate) fn book(campaign: &mut Campaign, text: &str) -> Result<(), Fail> {
     let amount = text.parse::<i64>()?;
     if campaign.things() < 2 {

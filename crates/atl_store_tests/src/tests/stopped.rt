@@ -71,7 +71,7 @@ fn contents_in_memory(
     contents_after_steps(alloc, &mut conn, game, script)
 }
 
-/// A connection to files, or None if the disk stops.
+/// A connection to files, or None if a disk stops while they are opened.
 pub(crate) fn open<D: Disk + Drop>(
     alloc: Global,
     files: Files<D>,
@@ -110,8 +110,8 @@ fn crash<D: Crash>(files: Files<D>) -> Files<D> {
     Files { log, db }
 }
 
-/// Plays a script on files and lets them crash; the result is how many steps were done, and what is
-/// left.
+/// Plays a script on files, lets them crash, and opens them again; the result is how many steps
+/// were done, and what the database then holds, as text.
 fn stop_and_reopen<D: Crash + Drop>(
     alloc: Global,
     files: Files<D>,
@@ -133,8 +133,8 @@ pub(crate) fn new_files(alloc: Global) -> Files<Memory> {
     }
 }
 
-/// The files that an earlier script made; without one they are empty, so that the disk may stop
-/// while they are opened too.
+/// The files that the script `earlier` makes; without one they are new and empty, so that the disk
+/// may also stop while they are opened.
 fn files_of(alloc: Global, game: &mut Game, earlier: &str) -> Result<Files<Memory>, Fail> {
     if earlier.is_empty() {
         return Ok(new_files(alloc));
@@ -150,7 +150,7 @@ enum WhichDisk {
     Database,
 }
 
-/// The files on disks, one of which stops after `calls` calls.
+/// The files on two disks, one of which (`which`) stops after `calls` calls.
 fn stopping_files(files: Files<Memory>, which: WhichDisk, calls: u64) -> Files<Fuse<Memory>> {
     let Files { log, db } = files;
     let (of_log, of_db) = match which {
@@ -163,14 +163,16 @@ fn stopping_files(files: Files<Memory>, which: WhichDisk, calls: u64) -> Files<F
     }
 }
 
-/// Whether a text is the stage with an index: the contents after that many steps.
+/// Whether a text is the one at the index `number` of `stages`: what the database holds after that
+/// many steps.
 fn is_stage(text: &str, stages: &[String], number: usize) -> bool {
     stages
         .get(number)
         .is_some_and(|stage| stage.as_str() == text)
 }
 
-/// Asserts that what is left is the contents after the `done` steps, or after one more.
+/// Asserts that what a crash left (`left`) is what the database holds after `done` steps, or after
+/// one more.
 fn assert_whole_steps(rt: &impl Abort, done: usize, left: &str, stages: &[String]) {
     let next = done.wrapping_add(1);
     assert!(rt;
@@ -179,7 +181,7 @@ fn assert_whole_steps(rt: &impl Abort, done: usize, left: &str, stages: &[String
     );
 }
 
-/// A script, the script that made its files, and which disk stops while it is played.
+/// A script to play, the script that makes its files (`earlier`), and which disk stops meanwhile.
 #[derive(Clone, Copy, Drop)]
 struct Stop<'a> {
     earlier: &'a str,
@@ -187,8 +189,8 @@ struct Stop<'a> {
     which: WhichDisk,
 }
 
-/// Plays the script while the disk stops after `calls` calls; the result is the steps done, and
-/// what is left after a crash.
+/// Plays a script while the disk stops after `calls` calls; the result is how many steps were done,
+/// and what the database holds after a crash, as text.
 fn play_stopped(
     alloc: Global,
     game: &mut Game,
@@ -199,8 +201,9 @@ fn play_stopped(
     stop_and_reopen(alloc, files, game, stop.script)
 }
 
-/// Stops the disk at each of its calls, up to a run in which it doesn't stop, and asserts what is
-/// left each time.
+/// Plays a script again and again, and stops the disk one call later each time, up to a run in
+/// which it doesn't stop. Asserts each time that a crash leaves what the steps done make, or one
+/// step more.
 fn stop_at_each_call(
     rt: &impl Abort,
     alloc: Global,
@@ -219,7 +222,8 @@ fn stop_at_each_call(
     Err(Fail::new("stopped each time"))
 }
 
-/// Stops each of the two disks in turn at each of its calls, and asserts what is left.
+/// Stops each of the two disks at each of its calls while a script is played, and asserts each time
+/// that a crash leaves what the steps done make, or one step more.
 fn stop_each_disk(rt: &impl Abort, alloc: Global, earlier: &str, script: &str) -> Result<(), Fail> {
     let mut game = new_game(alloc)?;
     let stages = contents_in_memory(alloc, &mut game, earlier, script)?;

@@ -48,8 +48,8 @@ is_kept_tables -> yes";
     play_new(&rt, rt.alloc(), script)
 }
 
-/// SQL statements on an old file, a world text's name, and the answers then of a load, and of an
-/// upgrade to that world.
+/// A case: SQL on a file of the first format, a world text's name, and the answers that a load, and
+/// an upgrade to that world, then have.
 type Case = (&'static str, &'static str, &'static str, &'static str);
 
 /// Statements that make the campaign's table again without STRICT, with a word as its month.
@@ -124,8 +124,8 @@ static CASES: [Case; 18] = [
     ),
 ];
 
-/// The lines of a script after an upgrade: if the upgrade was done, a load that is Done; otherwise
-/// the tables are the same as before, and `load` answers as before.
+/// The last lines of a case's script: if the upgrade is to be done, a load that is Done; otherwise
+/// a comparison of the tables with those kept before, and a load that is answered as before.
 fn rest_of(alloc: Global, load: &str, upgrade: &str) -> Result<String, Fail> {
     if upgrade == "Done" {
         Ok(String::from_str(alloc, "load")?)
@@ -134,8 +134,8 @@ fn rest_of(alloc: Global, load: &str, upgrade: &str) -> Result<String, Fail> {
     }
 }
 
-/// Asserts a case's answers of `load` and of `upgrade`, and then that the tables are unchanged or
-/// loaded.
+/// Asserts a case's answers of `load` and of `upgrade`, and then that a load is Done, or, if
+/// nothing was upgraded, that the tables are unchanged.
 fn assert_answer(rt: &impl Abort, alloc: Global, case: &Case) -> Result<(), Fail> {
     let (sql, world, load, upgrade) = *case;
     let before = format!(in alloc;
@@ -150,7 +150,8 @@ fn assert_answer(rt: &impl Abort, alloc: Global, case: &Case) -> Result<(), Fail
     play_new(rt, alloc, script.as_str())
 }
 
-/// `load` and `upgrade` answer the first check that a file of the first format fails.
+/// `load` and `upgrade` answer with the fault of the first check that a file of the first format
+/// fails.
 #[test]
 fn the_first_check_that_fails_is_told(rt: HostRuntime) -> Result<(), Fail> {
     for case in CASES.iter() {

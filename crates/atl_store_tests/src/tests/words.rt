@@ -3,7 +3,7 @@ use std::alloc::Global;
 use std::fmt::Display;
 use std::test::Fail;
 
-/// The answer `Done`.
+/// The answer `Done`, of a step that was carried out.
 pub(crate) fn done(alloc: Global) -> Result<String, Fail> {
     Ok(String::from_str(alloc, "Done")?)
 }
@@ -14,12 +14,12 @@ pub(crate) fn yes_or_no(alloc: Global, is_so: bool) -> Result<String, Fail> {
     Ok(String::from_str(alloc, word)?)
 }
 
-/// A number or a fault as text.
+/// A value, as a number or a fault, as the text that `Display` makes of it.
 pub(crate) fn text_of<D: Display + Drop>(alloc: Global, value: D) -> Result<String, Fail> {
     Ok(format!(in alloc; "{value}")?)
 }
 
-/// The answer `Done`, or the text of the fault.
+/// The outcome of a call as an answer: `Done`, or the text of its fault.
 pub(crate) fn done_or_fault<E: Display + Drop>(
     alloc: Global,
     outcome: Result<(), E>,

@@ -3,9 +3,9 @@
 use super::script::play_new;
 use std::test::Fail;
 
-/// Only marked rows are written: after a change in each table but `unit`, `has`, `mail` and
-/// `market`, the unit keeps the name that it was given by hand. The mail stays, since it is not
-/// marked.
+/// What is marked is written, and nothing else: after a change in each table but `unit`, `has`,
+/// `mail` and `market`, the tables have these changes. The unit keeps the name that it was given by
+/// hand, and the mail stays, as neither is marked.
 #[test]
 fn marked_rows_alone_are_written(rt: HostRuntime) -> Result<(), Fail> {
     let script = "create small
@@ -216,7 +216,7 @@ SELECT stock FROM market WHERE region = 1 AND item = 1 -> 2";
     play_new(&rt, rt.alloc(), script)
 }
 
-/// Stocks that were written are read and loaded again.
+/// Stocks that were written are there when their table is read, and when the campaign is loaded.
 #[test]
 fn stocks_come_back(rt: HostRuntime) -> Result<(), Fail> {
     let script = "create isle with markets

@@ -4,7 +4,7 @@ use atl_campaign::{Campaign, Entry, Event, Region, Thing, Unit};
 use atl_world::let_go;
 use std::alloc::{AllocError, Global};
 
-/// A unit's numbers without its goods: faction, region, guard, men and money.
+/// A unit without its goods: its number, faction, region, guard flag, men and money.
 #[derive(Clone, Copy, Drop, PartialEq, Eq)]
 pub(crate) struct Person {
     pub number: u32,
@@ -15,7 +15,7 @@ pub(crate) struct Person {
     pub money: u64,
 }
 
-/// An amount of an item, or days of a skill, that a unit has.
+/// How much of an item a unit has, or how many days of a skill.
 #[derive(Clone, Copy, Drop, PartialEq, Eq)]
 pub(crate) struct Good {
     pub unit: u32,
@@ -24,7 +24,7 @@ pub(crate) struct Good {
     pub amount: u64,
 }
 
-/// A region's peasants and money.
+/// A region: its number, peasants and money.
 #[derive(Clone, Copy, Drop, PartialEq, Eq)]
 pub(crate) struct Land {
     pub number: u32,
@@ -48,7 +48,7 @@ pub(crate) struct Booked {
     pub amount: i64,
 }
 
-/// A campaign as lists, and the events of the orders played on it.
+/// A campaign as lists, and the events of the phase played on it.
 pub(crate) struct Plain {
     pub people: Vec<Person>,
     pub goods: Vec<Good>,
@@ -65,7 +65,7 @@ impl Drop for Plain {
     }
 }
 
-/// The numbers of a unit without its goods.
+/// A unit of the program as a `Person`, without its goods.
 fn person_of(number: u32, unit: &Unit) -> Person {
     Person {
         number,
@@ -77,7 +77,7 @@ fn person_of(number: u32, unit: &Unit) -> Person {
     }
 }
 
-/// The numbers of all units of a campaign, without their goods.
+/// All units of a campaign, each as a `Person`, without their goods.
 fn people_of(alloc: Global, campaign: &Campaign) -> Result<Vec<Person>, AllocError> {
     let mut people = Vec::new(alloc);
     for (number, unit) in campaign.units() {
@@ -86,7 +86,7 @@ fn people_of(alloc: Global, campaign: &Campaign) -> Result<Vec<Person>, AllocErr
     Ok(people)
 }
 
-/// Appends the items of a unit to the goods.
+/// Appends the items of a unit to the list of goods.
 fn add_items(number: u32, unit: &Unit, goods: &mut Vec<Good>) -> Result<(), AllocError> {
     for (thing, amount) in unit.holding.items() {
         goods.push(Good {
@@ -99,7 +99,7 @@ fn add_items(number: u32, unit: &Unit, goods: &mut Vec<Good>) -> Result<(), Allo
     Ok(())
 }
 
-/// Appends a unit's days of study to the goods.
+/// Appends a unit's days of study to the list of goods.
 fn add_days(number: u32, unit: &Unit, goods: &mut Vec<Good>) -> Result<(), AllocError> {
     for (thing, days) in unit.holding.days() {
         goods.push(Good {
@@ -122,7 +122,7 @@ fn goods_of(alloc: Global, campaign: &Campaign) -> Result<Vec<Good>, AllocError>
     Ok(goods)
 }
 
-/// Peasants and money of all regions of a campaign.
+/// All regions of a campaign: number, peasants and money of each.
 fn lands_of(alloc: Global, campaign: &Campaign) -> Result<Vec<Land>, AllocError> {
     let mut lands = Vec::new(alloc);
     for (number, region) in campaign.regions() {
@@ -135,7 +135,7 @@ fn lands_of(alloc: Global, campaign: &Campaign) -> Result<Vec<Land>, AllocError>
     Ok(lands)
 }
 
-/// Appends the stocks of a region's markets to a list.
+/// Appends the stocks of a region's markets to the list of stocks.
 fn add_stocks(number: u32, region: &Region, stocks: &mut Vec<Stock>) -> Result<(), AllocError> {
     for (item, amount) in region.stocks.iter() {
         stocks.push(Stock {
@@ -170,7 +170,7 @@ fn books_of(alloc: Global, campaign: &Campaign) -> Result<Vec<Booked>, AllocErro
     Ok(books)
 }
 
-/// The difference from `before` to `after`, negative if it falls.
+/// By how much an amount rises from `before` to `after`; negative if it falls.
 fn rise(before: u64, after: u64) -> i64 {
     let before = i64::try_from(before).unwrap_or(0);
     let after = i64::try_from(after).unwrap_or(0);
@@ -179,7 +179,7 @@ fn rise(before: u64, after: u64) -> i64 {
 
 /// Makes the lists of a campaign, looks things up in them, and changes them.
 impl Plain {
-    /// The lists of a campaign, without events.
+    /// A campaign as lists, with no events yet.
     pub fn of(alloc: Global, campaign: &Campaign) -> Result<Plain, AllocError> {
         let people = people_of(alloc, campaign)?;
         let goods = goods_of(alloc, campaign)?;
@@ -256,8 +256,8 @@ impl Plain {
         }
     }
 
-    /// Sets how much a unit has of an item, or its days of a skill; what the unit didn't have is
-    /// added at the end.
+    /// Sets how much a unit has of an item, or its days of a skill; a good that isn't in the list
+    /// is added at the end.
     pub fn set_amount(&mut self, new: Good) -> Result<(), AllocError> {
         let mut is_new = true;
         for good in self.goods.iter_mut() {
@@ -272,7 +272,8 @@ impl Plain {
         Ok(())
     }
 
-    /// Sets how much a region has in stock of an item; what it didn't have is added at the end.
+    /// Sets how much a region has in stock of an item; a stock that isn't in the list is added at
+    /// the end.
     pub fn set_stock(&mut self, new: Stock) -> Result<(), AllocError> {
         let mut is_new = true;
         for stock in self.stocks.iter_mut() {

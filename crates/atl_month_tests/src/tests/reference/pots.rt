@@ -5,7 +5,8 @@ use atl_campaign::{EventFault, Outcome};
 use atl_phase::PhaseOrder;
 use std::alloc::{AllocError, Global};
 
-/// How much of a thing there is to share in a region.
+/// A pot of a region: how much there is to share (`size`), and of what (`thing`: an item, or 0 in
+/// phases that share one thing alone).
 #[derive(Clone, Copy, Drop)]
 pub(crate) struct Pot {
     pub region: u32,
@@ -13,21 +14,22 @@ pub(crate) struct Pot {
     pub size: u64,
 }
 
-/// What an order asks for: a thing and how much of it the unit wants, or the order's fault.
+/// What an order asks for: a thing's number and how much of it the unit wants, or the order's
+/// fault.
 #[derive(Clone, Copy, Drop)]
 pub(crate) enum Claim {
     Fault(EventFault),
     Want(u32, u64),
 }
 
-/// An order with what it asks for, or its fault.
+/// An order with what it asks for, or its fault (`Claim`).
 #[derive(Clone, Copy, Drop)]
 pub(crate) struct Claimed<'m> {
     pub order: PhaseOrder<'m>,
     pub claim: Claim,
 }
 
-/// What a unit gets of a pot.
+/// What a unit gets of a pot: how much of which thing.
 #[derive(Clone, Copy, Drop)]
 pub(crate) struct Given {
     pub unit: u32,
@@ -59,8 +61,8 @@ fn want_of(claims: &[Claimed<'_>], unit: u32, thing: u32) -> Option<u64> {
     wanted
 }
 
-/// Appends a unit and its want to the lists, if it is in the pot's region and wants the pot's
-/// thing.
+/// Appends a unit to `takers` and its want to `wants`, if it is in the pot's region and wants the
+/// pot's thing.
 fn note_taker(
     claims: &[Claimed<'_>],
     pot: Pot,
@@ -77,7 +79,8 @@ fn note_taker(
     Ok(())
 }
 
-/// Splits a pot among the units of its region that want its thing, and appends what each gets.
+/// Splits a pot among the units of its region that want its thing, and appends to `given` what each
+/// gets.
 fn add_shares(
     alloc: Global,
     plain: &Plain,
@@ -93,7 +96,7 @@ fn add_shares(
     add_given(pot, &takers, &share(alloc, pot.size, &wants)?, given)
 }
 
-/// Appends the shares of the takers of a pot.
+/// Appends what each unit of `takers` gets of a pot: the amount at its index in `shares`.
 fn add_given(
     pot: Pot,
     takers: &[u32],
@@ -134,7 +137,7 @@ pub(crate) fn given_to(given: &[Given], unit: u32) -> u64 {
     0
 }
 
-/// The outcome of an order: its fault, or that it was done, with the number `told`.
+/// The outcome of an order in its event: its fault, or that it was done, with the number `told`.
 pub(crate) fn outcome(claim: Claim, told: u64) -> Outcome {
     match claim {
         Claim::Fault(fault) => Outcome::Fault(fault.number()),

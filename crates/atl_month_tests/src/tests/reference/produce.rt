@@ -103,8 +103,8 @@ fn output(world: &World, region: u32, item: u32) -> u64 {
     }
 }
 
-/// Adds a pot for each item to those of a region: the terrain's output, or no bound for items made
-/// of raw items.
+/// Appends a region's pots in PRODUCE, one for each item: the terrain's output of it, or no bound
+/// if it is made of raw items.
 pub(crate) fn add_pots(world: &World, region: u32, pots: &mut Vec<Pot>) -> Result<(), AllocError> {
     let mut thing: u32 = 0;
     for item in world.items() {
@@ -122,7 +122,7 @@ pub(crate) fn add_pots(world: &World, region: u32, pots: &mut Vec<Pot>) -> Resul
     Ok(())
 }
 
-/// Sets how much a unit has of an item, and books the difference.
+/// Sets how much a unit has of an item, and books by how much that is more or less than before.
 fn set_item(
     plain: &mut Plain,
     unit: u32,
@@ -141,7 +141,7 @@ fn set_item(
     })
 }
 
-/// Gives a unit what it made, takes the raw items used, and books both.
+/// Gives a unit what it made, takes the raw items that it used, and books both under Made and Used.
 pub(crate) fn pay(world: &World, plain: &mut Plain, given: Given) -> Result<(), AllocError> {
     let Some(item) = world.items().get(given.thing as usize) else {
         return Ok(());

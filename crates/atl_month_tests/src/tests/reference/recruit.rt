@@ -8,7 +8,7 @@ use atl_phase::PhaseOrder;
 use atl_world::World;
 use std::alloc::AllocError;
 
-/// The most men of a unit.
+/// The most men that a unit may have.
 const MOST_MEN: u64 = 999_999;
 
 /// The number of the only thing that RECRUIT shares: people.
@@ -19,7 +19,7 @@ fn price(world: &World) -> u64 {
     u64::from(world.rules().recruit_price)
 }
 
-/// How many men an order asks for.
+/// How many men a RECRUIT order asks for in its text, whatever the unit can pay.
 fn asked(order: PhaseOrder<'_>) -> u64 {
     match &order.order.operands {
         Operands::Number(men) => u64::from(*men),
@@ -35,7 +35,7 @@ fn want(world: &World, person: Person, order: PhaseOrder<'_>) -> u64 {
     asked(order).min(payable).min(room)
 }
 
-/// How many men a RECRUIT order asks for, or its fault.
+/// How many men a RECRUIT order asks for, as far as the unit can pay and has room, or its fault.
 pub(crate) fn claim(world: &World, plain: &Plain, order: PhaseOrder<'_>) -> Claim {
     let Some(person) = own(plain, order) else {
         return Claim::Fault(EventFault::NotYours);
@@ -46,7 +46,7 @@ pub(crate) fn claim(world: &World, plain: &Plain, order: PhaseOrder<'_>) -> Clai
     Claim::Want(PEOPLE, want(world, person, order))
 }
 
-/// The pot of a region: how many of its peasants can be recruited.
+/// The pot of a region in RECRUIT: how many of its peasants can be recruited.
 pub(crate) fn pot(world: &World, land: Land) -> Pot {
     let fraction = u64::from(world.rules().recruit_fraction);
     Pot {

@@ -26,7 +26,7 @@ fn share_at(pot: u64, wants: &[u64], place: usize, total: u128) -> u64 {
     u64::try_from(with.wrapping_sub(before)).unwrap_or(0)
 }
 
-/// What each want gets of a pot, in the same order.
+/// What each want gets of a pot, in the order of the wants.
 pub(crate) fn share(alloc: Global, pot: u64, wants: &[u64]) -> Result<Vec<u64>, AllocError> {
     let total = sum_of(wants);
     let mut given = Vec::new(alloc);

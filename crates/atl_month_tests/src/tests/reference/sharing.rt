@@ -72,7 +72,7 @@ fn claims<'m>(
     Ok(claims)
 }
 
-/// Adds a region's pots in a phase.
+/// Appends the pots that a region has in a phase.
 fn add_pots(
     sharing: Sharing,
     world: &World,
@@ -114,7 +114,7 @@ fn told_of(sharing: Sharing, world: &World, plain: &Plain, given: &[Given], unit
     }
 }
 
-/// Adds the event of each order of a phase.
+/// Adds the event of each order of a phase to the reference's campaign.
 fn tell(
     sharing: Sharing,
     world: &World,

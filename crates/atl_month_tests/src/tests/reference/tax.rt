@@ -5,7 +5,7 @@ use atl_campaign::EventFault;
 use atl_phase::PhaseOrder;
 use atl_world::World;
 
-/// The most money of a unit.
+/// The most money that a unit may have.
 pub(crate) const MOST_MONEY: u64 = 999_999_999;
 
 /// The number of the only thing that TAX shares: money.
@@ -28,7 +28,7 @@ pub(crate) fn claim(world: &World, plain: &Plain, order: PhaseOrder<'_>) -> Clai
     Claim::Want(MONEY, due.min(MOST_MONEY.saturating_sub(person.money)))
 }
 
-/// The pot of a region: its money.
+/// The pot of a region in TAX: its money.
 pub(crate) fn pot(land: Land) -> Pot {
     Pot {
         region: land.number,

@@ -19,7 +19,7 @@ pub(crate) enum Trade {
     Buy,
 }
 
-/// How many of which item an order asks to sell or buy.
+/// How many of which item an order of SELL or BUY names in its text.
 fn asked(order: PhaseOrder<'_>) -> (u64, u16) {
     match &order.order.operands {
         Operands::Goods { amount, item } => (u64::from(*amount), *item),
@@ -27,7 +27,8 @@ fn asked(order: PhaseOrder<'_>) -> (u64, u16) {
     }
 }
 
-/// How many of a market's item a unit can sell: what it has, as far as it has room for the money.
+/// How many of a market's item a unit can sell: all that it has, or fewer if it has no room for the
+/// money of all.
 fn most_sold(plain: &Plain, person: Person, market: &Market) -> u64 {
     let held = plain.amount(person.number, false, u32::from(market.item));
     let room = MOST_MONEY.saturating_sub(person.money);
@@ -44,7 +45,7 @@ fn most_bought(plain: &Plain, person: Person, market: &Market) -> u64 {
     payable.min(MOST_PIECES.saturating_sub(held))
 }
 
-/// Whether a unit has nothing to sell (SELL), or no money to buy one (BUY).
+/// Whether a unit has none of a market's item to sell (SELL), or not the money to buy one (BUY).
 fn is_short(trade: Trade, plain: &Plain, person: Person, market: &Market) -> bool {
     match trade {
         Trade::Sell => plain.amount(person.number, false, u32::from(market.item)) == 0,
@@ -52,7 +53,8 @@ fn is_short(trade: Trade, plain: &Plain, person: Person, market: &Market) -> boo
     }
 }
 
-/// How many of which item an order of SELL or BUY asks for, or its fault.
+/// How many of which item an order of SELL or BUY asks for, as far as the unit can trade, or its
+/// fault.
 pub(crate) fn claim(trade: Trade, world: &World, plain: &Plain, order: PhaseOrder<'_>) -> Claim {
     let Some(person) = own(plain, order) else {
         return Claim::Fault(EventFault::NotYours);
@@ -71,7 +73,7 @@ pub(crate) fn claim(trade: Trade, world: &World, plain: &Plain, order: PhaseOrde
     Claim::Want(u32::from(item), amount.min(most))
 }
 
-/// The pot of a market: its room for more (SELL), or its stock (BUY).
+/// The pot of a market: how much more it has room for (SELL), or its stock (BUY).
 fn pot(trade: Trade, plain: &Plain, region: u32, market: &Market) -> Pot {
     let thing = u32::from(market.item);
     let stock = plain.stock(region, thing);
@@ -85,7 +87,7 @@ fn pot(trade: Trade, plain: &Plain, region: u32, market: &Market) -> Pot {
     }
 }
 
-/// Adds the pots of a region's markets in SELL or BUY.
+/// Appends a region's pots in SELL or BUY, one for each of its markets.
 pub(crate) fn add_pots(
     trade: Trade,
     world: &World,
@@ -101,8 +103,8 @@ pub(crate) fn add_pots(
     Ok(())
 }
 
-/// What a unit and a market have of an item after `pieces` changed hands; `held` and `stock` are
-/// what they had.
+/// What a unit and a market have of an item after `pieces` changed hands; before that they had
+/// `held` and `stock`.
 fn moved(trade: Trade, held: u64, stock: u64, pieces: u64) -> (u64, u64) {
     match trade {
         Trade::Sell => (held.wrapping_sub(pieces), stock.wrapping_add(pieces)),
@@ -122,7 +124,7 @@ fn money_behind(trade: Trade, person: Person, market: &Market, pieces: u64) -> u
     }
 }
 
-/// The entry of the books for the money of SELL or BUY.
+/// The entry of the books under which the money of SELL or BUY is booked.
 fn entry_of(trade: Trade) -> Entry {
     match trade {
         Trade::Sell => Entry::Sold,

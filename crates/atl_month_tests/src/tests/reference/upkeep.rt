@@ -36,8 +36,8 @@ fn short_of(maintenance: u64, person: Person) -> u64 {
     due.saturating_sub(person.money)
 }
 
-/// Adds what a unit has left and is short of to the sums; if `is_before`, also to the sums over
-/// lower numbers.
+/// Adds what a unit has left, and what it is short of, to the sums of `purse`; if it has a lower
+/// number (`is_before`), also to the sums over lower numbers.
 fn add(maintenance: u64, purse: Purse, person: Person, is_before: bool) -> Purse {
     let (left, short) = (left_of(maintenance, person), short_of(maintenance, person));
     let (left_before, short_before) = if is_before { (left, short) } else { (0, 0) };
@@ -49,7 +49,8 @@ fn add(maintenance: u64, purse: Purse, person: Person, is_before: bool) -> Purse
     }
 }
 
-/// The sums over all units of one unit's faction in its region, and over those with lower numbers.
+/// The sums over all units of the faction of the unit `one` in its region, and over those of them
+/// with lower numbers.
 fn purse_of(maintenance: u64, plain: &Plain, one: Person) -> Purse {
     let mut purse = Purse {
         left: 0,
@@ -65,7 +66,7 @@ fn purse_of(maintenance: u64, plain: &Plain, one: Person) -> Purse {
     purse
 }
 
-/// How much of an amount that is handed out in turn a taker who wants `own` gets, after takers who
+/// How much of `amount` a taker who wants `own` gets if it is handed out in turn, after takers who
 /// want `before` together.
 fn part(amount: u64, before: u64, own: u64) -> u64 {
     let with = before.wrapping_add(own);
@@ -98,7 +99,7 @@ fn all_taken(alloc: Global, maintenance: u64, plain: &Plain) -> Result<Vec<Taken
     Ok(all)
 }
 
-/// Reduces the days of a unit's skills to the share of the men who don't starve.
+/// Reduces a unit's days of each skill to the share of its men who don't starve.
 fn keep_days(plain: &mut Plain, one: Taken) {
     let men = one.person.men;
     let left = men.wrapping_sub(one.starved);
@@ -110,7 +111,8 @@ fn keep_days(plain: &mut Plain, one: Taken) {
     }
 }
 
-/// Takes the upkeep of a unit, removes those who starve with their days, and books both.
+/// Takes the upkeep of a unit, removes its men who starve and the days that they had, and books the
+/// money and the men.
 fn take(plain: &mut Plain, one: Taken) -> Result<(), AllocError> {
     let person = one.person;
     let men = person.men.wrapping_sub(one.starved);
@@ -121,7 +123,7 @@ fn take(plain: &mut Plain, one: Taken) -> Result<(), AllocError> {
     plain.book(Entry::Starved, Thing::People, person.men, men)
 }
 
-/// Takes the upkeep of each unit, removes those who starve, and books both.
+/// Takes the upkeep of each unit, removes the men who starve, and books the money and the men.
 fn take_all(plain: &mut Plain, all: &[Taken]) -> Result<(), AllocError> {
     for one in all {
         take(plain, *one)?;

@@ -40,7 +40,7 @@ pub(crate) fn claim(world: &World, plain: &Plain, order: PhaseOrder<'_>) -> Clai
     Claim::Want(PLACES, person.men.min(paid))
 }
 
-/// Whether a unit has men, and no month-long order from its own faction.
+/// Whether a unit has men, and `orders` has no month-long order for it from its own faction.
 fn is_idle(person: Person, orders: &[PhaseOrder<'_>]) -> bool {
     for order in orders {
         if order.unit == person.number && order.faction == person.faction {
@@ -50,7 +50,8 @@ fn is_idle(person: Person, orders: &[PhaseOrder<'_>]) -> bool {
     person.men != 0
 }
 
-/// Appends an order of WORK for each unit that has men and no month-long order from its faction.
+/// Appends the order `work` for each unit that has men and no month-long order from its own
+/// faction.
 fn add_idle<'m>(
     plain: &Plain,
     orders: &[PhaseOrder<'m>],
@@ -72,7 +73,8 @@ fn add_idle<'m>(
     Ok(())
 }
 
-/// All orders of WORK, and one more for each idle unit, sorted by unit, line and faction.
+/// The WORK orders among month-long orders, and one more for each idle unit, sorted by unit, line
+/// and faction.
 pub(crate) fn tasks<'m>(
     alloc: Global,
     plain: &Plain,

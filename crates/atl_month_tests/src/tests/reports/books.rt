@@ -165,7 +165,7 @@ item \"cart\" made 2
 item \"cart\" total 2
 ";
 
-/// The text of the books of the island without units: as at the founding.
+/// The text of the books of the island without units, where only the founding is booked.
 const OF_THE_ISLE: &str = "money founding 650
 money total 650
 people founding 1300
@@ -184,7 +184,7 @@ static OF_SMALL: [(Scene, &str); 3] = [
 /// Scenes of the island, and the wanted text of the books of each.
 static OF_ISLE: [(Scene, &str); 2] = [(PRODUCTION, OF_PRODUCTION), (NOBODY, OF_THE_ISLE)];
 
-/// Asserts the text of a campaign's books.
+/// Asserts that the text of a campaign's books is the wanted one.
 fn tell(
     rt: &impl Abort,
     alloc: Global,
@@ -199,7 +199,7 @@ fn tell(
     Ok(())
 }
 
-/// Asserts the text of a scene's books.
+/// Asserts that the text of the books of a scene's campaign is the wanted one.
 fn assert_case(
     rt: &impl Abort,
     alloc: Global,
@@ -211,7 +211,7 @@ fn assert_case(
     tell(rt, alloc, world, &campaign, wanted)
 }
 
-/// Asserts the text of each scene's books.
+/// Asserts, for each scene, that the text of the books of its campaign is the wanted one.
 fn assert_cases(
     rt: &impl Abort,
     alloc: Global,
@@ -224,14 +224,16 @@ fn assert_cases(
     Ok(())
 }
 
-/// The text of the books lists each entry of money and people in order, and their totals.
+/// The text of the books lists the amounts of money and of people that aren't 0, by entry, and
+/// their totals.
 #[test]
 fn books_of_money_and_people(rt: HostRuntime) -> Result<(), Fail> {
     let world = read_world(rt.alloc(), SMALL)?;
     assert_cases(&rt, rt.alloc(), &world, &OF_SMALL)
 }
 
-/// The text of the books lists the entries of each item and its total, 0 too.
+/// The text of the books lists the amounts of each item that aren't 0, by entry, and its total,
+/// even if that is 0.
 #[test]
 fn books_of_items(rt: HostRuntime) -> Result<(), Fail> {
     let world = read_world(rt.alloc(), ISLE)?;

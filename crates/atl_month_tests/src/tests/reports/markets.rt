@@ -28,7 +28,7 @@ restock = 20
 /// A unit of one man in region 4, which has the markets.
 const MERCHANT: Person = Person { region: 4, ..MAN };
 
-/// A scene, and the wanted report of faction 1 on it.
+/// A scene, and the wanted report of faction 1 on what it sees in it.
 #[derive(Clone, Copy)]
 struct Case {
     scene: Scene,

@@ -17,13 +17,13 @@ struct Case {
     wanted: &'static str,
 }
 
-/// A faulty line with an order that is unknown.
+/// A faulty line: line 5 has an unknown order.
 const UNKNOWN_ORDER: FaultyLine = FaultyLine {
     line: 5,
     fault: LineFault::UnknownOrder,
 };
 
-/// A faulty line with a bad name.
+/// A faulty line: line 65 has a bad name.
 const BAD_NAME: FaultyLine = FaultyLine {
     line: 65,
     fault: LineFault::BadName,
@@ -74,7 +74,7 @@ const FORMED_BY_NOBODY: Event = Event {
     outcome: Outcome::Fault(1),
 };
 
-/// An event with the number 99, which no fault has.
+/// An event with the fault 99, a number that no fault has.
 const NAMELESS: Event = Event {
     faction: 1,
     unit: 1,
@@ -174,7 +174,7 @@ Unit 2: 3 starved.
     },
 ];
 
-/// The view of a faction that sees no region.
+/// What Avalon, faction 1, sees in month 3: no region.
 fn nowhere(alloc: Global) -> Result<View, Fail> {
     Ok(View {
         month: 3,
@@ -184,7 +184,7 @@ fn nowhere(alloc: Global) -> Result<View, Fail> {
     })
 }
 
-/// Asserts the report on the faulty lines and events of a case.
+/// Asserts the report that the faulty lines and events of a case give.
 fn assert_case(
     rt: &impl Abort,
     alloc: Global,
@@ -197,7 +197,7 @@ fn assert_case(
     Ok(())
 }
 
-/// Asserts the report on the faulty lines and events of each case.
+/// Asserts, for each case, the report that its faulty lines and events give.
 fn assert_cases(rt: &impl Abort, alloc: Global, world: &World) -> Result<(), Fail> {
     let view = nowhere(alloc)?;
     for case in CASES.iter() {
@@ -206,7 +206,8 @@ fn assert_cases(rt: &impl Abort, alloc: Global, world: &World) -> Result<(), Fai
     Ok(())
 }
 
-/// A report lists a mailing's faulty lines and the faction's own events, or None if there are none.
+/// A report lists a mailing's faulty lines and the faction's own events, or says `None.` if there
+/// is neither.
 #[test]
 fn faults_and_events(rt: HostRuntime) -> Result<(), Fail> {
     let world = read_world(rt.alloc(), SMALL)?;

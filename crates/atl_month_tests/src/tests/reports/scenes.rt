@@ -12,7 +12,7 @@ use atl_world::{Format, Sequence, Text, World};
 use std::alloc::Global;
 use std::test::Fail;
 
-/// The number of the second format.
+/// The number of the second format, in the column `format` of the table `campaign`.
 const SECOND_FORMAT: i64 = 2;
 
 /// The number of Joining among the entries of the books.
@@ -24,10 +24,10 @@ const STOCKED: i64 = 16;
 /// The number of the first item among the things of the books.
 const FIRST_ITEM: i64 = 2;
 
-/// The column `sort` of the table `has` for an item.
+/// The value of the column `sort` of the table `has` for an item.
 const ITEM: i64 = 0;
 
-/// The column `sort` of the table `has` for a skill.
+/// The value of the column `sort` of the table `has` for a skill.
 const SKILL: i64 = 1;
 
 /// The item wood, as the columns `sort` and `thing` of the table `has`.
@@ -48,13 +48,13 @@ pub(crate) const STEALTH: (i64, i64) = (SKILL, 4);
 /// The skill observation, as the columns `sort` and `thing` of the table `has`.
 pub(crate) const OBSERVATION: (i64, i64) = (SKILL, 5);
 
-/// The number of the kind boat.
+/// The number of the boat among the island's kinds of structures.
 pub(crate) const BOAT: i64 = 0;
 
-/// The number of the kind lodge.
+/// The number of the lodge among the island's kinds of structures.
 pub(crate) const LODGE: i64 = 1;
 
-/// A unit of faction 1 or 2, which has the name of a new unit.
+/// A unit of faction 1 or 2 with all that it has; its name is the one that new units get.
 #[derive(Clone, Copy)]
 pub(crate) struct Person {
     pub faction: i64,
@@ -115,7 +115,7 @@ pub(crate) const NOBODY: Scene = Scene {
     books: &[],
 };
 
-/// The campaign row of a scene, in a sequence of its own.
+/// The rows of the table `campaign`: the one row of a scene's campaign.
 fn heads(alloc: Global, scene: &Scene) -> Result<Sequence<StoredCampaignRow>, Fail> {
     let mut all = Sequence::new(alloc);
     all.push(StoredCampaignRow {
@@ -188,7 +188,7 @@ fn units(alloc: Global, people: &[Person]) -> Result<Sequence<StoredUnit>, Fail>
     Ok(all)
 }
 
-/// Adds the rows of the table `has` for one unit.
+/// Adds a unit's rows of the table `has`: its amounts of items and days of skills.
 fn has_of(all: &mut Sequence<StoredHas>, unit: i64, has: &[((i64, i64), i64)]) -> Result<(), Fail> {
     for ((sort, thing), amount) in has {
         all.push(StoredHas {
@@ -201,7 +201,7 @@ fn has_of(all: &mut Sequence<StoredHas>, unit: i64, has: &[((i64, i64), i64)]) -
     Ok(())
 }
 
-/// The rows of the table `has` for all units.
+/// The rows of the table `has` for all units, which are numbered from 1.
 fn has(alloc: Global, people: &[Person]) -> Result<Sequence<StoredHas>, Fail> {
     let mut all = Sequence::new(alloc);
     let mut number: i64 = 0;
@@ -212,7 +212,7 @@ fn has(alloc: Global, people: &[Person]) -> Result<Sequence<StoredHas>, Fail> {
     Ok(all)
 }
 
-/// The row of a structure.
+/// The row of a structure in the table `structure`.
 fn structure(alloc: Global, number: i64, built: &Built) -> Result<StoredStructure, Fail> {
     Ok(StoredStructure {
         number,
@@ -274,7 +274,7 @@ fn books(alloc: Global, rows: &[(i64, i64, i64)]) -> Result<Sequence<StoredBooks
     Ok(all)
 }
 
-/// How much of an item a unit has.
+/// How much of an item (its number) a unit of a scene has.
 fn held(person: &Person, item: i64) -> i64 {
     let mut sum: i64 = 0;
     for ((sort, thing), amount) in person.has {
@@ -327,7 +327,7 @@ fn book_stocks(stocks: &[(i64, i64, i64)], all: &mut Sequence<StoredBooks>) -> R
     Ok(())
 }
 
-/// All rows of a scene's campaign, made from a founding.
+/// All rows of a scene's campaign: those of a founding, with all that the scene has put in.
 fn rows_of(alloc: Global, world: &World, scene: &Scene) -> Result<Parts, Fail> {
     let mut parts = founded(alloc, world, b"gm")?.parts()?;
     book_joining(scene.people, &mut parts.books)?;

@@ -28,7 +28,7 @@ struct Case {
     wanted: &'static str,
 }
 
-/// A case of faction 1 without units, faulty lines and events; the cases set what differs.
+/// A case that others are made of: faction 1's report, with no units, faulty lines and events.
 const PLAIN: Case = Case {
     scene: NOBODY,
     empty: &[],
@@ -267,7 +267,7 @@ const KEEN_HIDER: Person = Person {
     ..MAN
 };
 
-/// Scenes with units without men, which exist only within a month, and the wanted reports.
+/// Scenes in which units have lost all men, as happens only within a month, and the wanted reports.
 static EMPTY: [Case; 3] = [
     // A unit without men has no stealth, so that another faction sees it, and it doesn't guard.
     Case {
@@ -345,7 +345,7 @@ const FAULTS: [FaultyLine; 1] = [FaultyLine {
     fault: LineFault::UnknownOrder,
 }];
 
-/// Events of a month, of factions 1 and 2.
+/// Events of a month: three of faction 1, and one of faction 2.
 const EVENTS: [Event; 4] = [
     Event {
         faction: 1,
@@ -543,7 +543,7 @@ fn empty_all(campaign: &mut Campaign, numbers: &[u32]) {
     }
 }
 
-/// Asserts the report of the case's faction on a campaign.
+/// Asserts the report of a case's faction on a campaign, with the case's faulty lines and events.
 fn tell(
     rt: &impl Abort,
     alloc: Global,
@@ -557,14 +557,15 @@ fn tell(
     Ok(())
 }
 
-/// Asserts the report of a case's faction on its scene, after some units have lost their men.
+/// Asserts the report of a case's faction on its scene, after the units of `empty` have lost their
+/// men.
 fn assert_case(rt: &impl Abort, alloc: Global, world: &World, case: &Case) -> Result<(), Fail> {
     let mut campaign = campaign_of(alloc, world, &case.scene)?;
     empty_all(&mut campaign, case.empty);
     tell(rt, alloc, world, &campaign, case)
 }
 
-/// Asserts the report of each case.
+/// Asserts, for each case, the report that its faction has to get.
 fn assert_cases(rt: &impl Abort, alloc: Global, cases: &[Case]) -> Result<(), Fail> {
     let world = read_world(alloc, ISLE)?;
     for case in cases {

@@ -37,7 +37,7 @@ static EVENTS: [Event; 2] = [
     },
 ];
 
-/// The wanted report of faction 1.
+/// The wanted report of faction 1 just after it has joined, with `FAULTS` and its own event.
 const WHOLE: &str = "Atlantis report, month 0, faction 1 \"Avalon\".
 Orders:
 Line 5: 2 UnknownOrder.
@@ -47,7 +47,7 @@ Exits: none.
 * Unit 1 \"Unit 1\": 1 men, 1000 money.
 ";
 
-/// The campaign of a world just founded.
+/// The campaign of a world, just after its founding.
 fn founded_in(alloc: Global, world: &World) -> Result<Campaign, Fail>
     ensures { IfOk result (λ campaign. IsGood world.now campaign.value) }
 {
@@ -75,7 +75,7 @@ fn assert_report(
     Ok(())
 }
 
-/// Asserts the report of Avalon just after it has joined.
+/// Has Avalon join a campaign just founded, and asserts its report.
 fn joins_and_reads(rt: &impl Abort, alloc: Global, world: &World) -> Result<(), Fail> {
     let mut campaign = founded_in(alloc, world)?;
     avalon_joins(world, &mut campaign)?;

@@ -3,7 +3,8 @@ use Rattle.atl_campaign.proofs.GoodLaws.{IsEarly-good}
 use Rattle.atl_month_tests.proofs.RoomLaws.{room_for_selling}
 use Rattle.atl_month_tests.proofs.tests.agreeing.run_sell.Goals as goal
 
--- what `run` of SELL requires: first a bound on the size of the phase, whose type has no fields, then its own clauses
+-- what `run` of SELL requires, as `run_sell` calls it: a bound on the size of `SellPhase`, a type without fields, and
+-- then its clauses `needs`, `room` and `read`
 pub run-requires : goal.run-requires
 run-requires c = (
   omega arith,

@@ -6,11 +6,11 @@ use Rattle.atl_records.proofs.EveryLaws.{every-empty, every-insert}
 use Rattle.atl_month_tests.proofs.tests.pots.wants_of.Goals as goal
 use Rattle.atl_month_tests.proofs.tests.pots.wants_of.Goals.{in-Some+in_ok-insert, in_default}
 
--- the invariant of the loop over takers holds before the first one, with an empty map
+-- before the first taker the map of wants is empty, so no want in it is more than 999,999,999
 pub loop-want-init : goal.loop-want-init
 loop-want-init c = rw c.new-wants.ensures (every-empty (λ (number want : ℕ). want ≤ 999999999))
 
--- the invariant of the loop over takers holds after one more, whether it wants something or not
+-- after one more taker no want in the map is more than 999,999,999, whether the taker's want was put in or it has none
 pub loop-want-preserved : goal.loop-want-preserved
 loop-want-preserved c =
     elim c.match-want.branch [

@@ -3,7 +3,8 @@ use Rattle.atl_month.specs.declared.upkeep_sharing.UpkeepInput.{UpkeepInput}
 use Rattle.atl_month.specs.UpkeepSharing.{AreInOrder, IsUpkeepInput}
 use Rattle.atl_month_tests.proofs.tests.settling.upkeep_inputs_of.Given as goal
 
--- before each unit: what was read so far is within its limits and sorted by unit numbers, none of which is above `last`
+-- before each unit of a case: the inputs made of the units so far are each within their limits (`IsUpkeepInput`), and
+-- are sorted by unit number, none of which is above `last`
 abbrev pub invariant-loop-region : goal.invariant-loop-region
 invariant-loop-region l = record {
   each : All IsUpkeepInput l.purses.items;
