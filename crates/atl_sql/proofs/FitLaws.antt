@@ -83,9 +83,9 @@ pub record MakesRow (t : Table) (width number : ℕ) (values : Row) : Type 0 whe
   pub source : value_rows ((int number ∷ values) ++ []) (width + 2) (length (given_row width) / (width + 2)) (given_row width) ≡ (int number ∷ Null ∷ values) ∷ []
   -- the terms of the UPDATE give the number of the row that is there, and the values
   pub changed : (more r : Row) → eval_all (changed_row width) (((int number ∷ values) ++ more) ∷ r ∷ []) ≡ column r 0 ∷ Null ∷ values
-  -- SQL's casts leave the stored row unchanged
+  -- SQL's casts to the columns' types leave the row as stored (the number, NULL, the values) unchanged
   pub casted : cast_row t (int number ∷ Null ∷ values) ≡ int number ∷ Null ∷ values
-  -- SQL shows the stored row as the number and the values
+  -- of the row as stored, SQL shows the number and the values
   pub shown : visible t (int number ∷ Null ∷ values) ≡ int number ∷ values
   -- the column after the number and the values is the rowid of the row to change
   pub aimed : (x : Value) (more : Row) → column ((int number ∷ values) ++ x ∷ more) (width + 1) ≡ x
@@ -123,7 +123,7 @@ module _ (tree : ℕ) (name key_name : List ℕ) (columns : List Column) (unique
         let behind : map (λ k. column its_row (place_of t k)) (range_with_len 1 width) ≡ values = shifted (λ k. column its_row (place_of t k)) (column values) second 0 width ∙ alone in
         ap (λ l. int n ∷ l) (subst (λ w. map (λ k. column its_row (place_of t k)) (range_with_len 1 w) ≡ values) (fits_length columns values fits) behind)
       where
-        -- the stored row's values after the number are shown as the given ones
+        -- for `shown_is`: column `k + 1` of the stored row, as SQL shows it, is value `k` of `values`
         second : (k : ℕ) → column its_row (place_of t (k + 1)) ≡ column values k
         second k =
             let apart : nat_eq 0 (k + 1) ≡ false = grind (arith, nat_tests) in

@@ -228,14 +228,14 @@ module _ {S A Z : Type 0} (g : Ghosts S) (sql : List ℕ) (old : Held S) (forms 
     idle = reads.idle;
   }
     where
-      -- the disk was clean before the second read, if it is clean after it
+      -- for `read_again`: the disk was clean between the two reads, if it is clean after the second
       before : HasCleanDisk (state g new) → HasCleanDisk (state g mid)
       before clean = omega (arith, reads.survives.clean, clean)
 
-      -- rows that the SELECT shows after the first read are rows that it shows of the tables before that read
+      -- for `read_again`: rows that the SELECT shows between the two reads are rows that it shows before the first
       selects : HasCleanDisk (state g new) → (rows : List Row) → Selects g sql mid rows → Selects g sql old rows
       selects clean rows told = (told.0, told.1, asked_then (state g old) (state g mid) (state g told.0) (streams.same (before clean)) told.2, told.3)
 
-      -- a fault with which the SELECT is refused after the first read is one with which it is refused before that read
+      -- for `read_again`: a fault of refusing the SELECT between the reads is one of refusing it before the first
       refuses : HasCleanDisk (state g new) → (fault : ReadFault) → RefusesToSelect g sql mid fault → RefusesToSelect g sql old fault
       refuses clean fault told = (told.0, told.1, told.2, asked_then (state g old) (state g mid) (state g told.0) (streams.same (before clean)) told.3, told.4, told.5)

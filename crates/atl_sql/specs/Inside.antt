@@ -10,11 +10,11 @@ use Rattle.sqlite_trees.specs.Tree.{Trees}
 use Rattle.atl_sql.specs.Sets.{Set, Is, rows_in, put, puts, drop_key}
 use Rattle.atl_sql.specs.Tables.{Part, table_of, no_tables, all_tables, all_trees, HasAll, IsSoundDatabase}
 
--- the schema begins with the tables of a campaign, and the trees list and obey it (`IsSoundDatabase`)
+-- the schema begins with the tables of a campaign, and the trees are sound under it (`IsSoundDatabase`)
 pub record HasTables (db : Database) : Type 0 where
   -- the schema begins with the tables of a campaign
   pub begins : HasAll db.schema
-  -- the trees list the schema and obey it, and the rowids in the ten tables are integers, no two alike
+  -- the trees list the schema, their rows keep its rules, and rowids of the ten tables are integers, no two alike
   pub sound : IsSoundDatabase db.schema db.trees
 
 -- the database has no table, no index and no view
@@ -51,7 +51,7 @@ Both First Second old new = (mid : Database) × First old mid × Second mid new
 pub record Alters (table : Table) (S : Set) (old new : Database) : Type 0 where
   -- the rows of the table are exactly those of the set `S`
   pub rows : Is (rows_in table new.trees) S
-  -- each other table of a campaign is as it was
+  -- each table of a campaign but `table` holds what it held before
   pub others : (t : Table) → Has all_tables t → t.tree ≢ table.tree → new.trees t.tree ≡ old.trees t.tree
 
 -- The rows of each of these parts become what `Becomes` says, and the tables of all other parts are as they were.

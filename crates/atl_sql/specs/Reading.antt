@@ -55,7 +55,7 @@ module _ {S : Type 0} (g : Ghosts S) (sql : List ℕ) (old : Held S) where
     pub rows : HasCleanDisk (state g new) → IfOk result (λ rows. Selects rows.items)
     -- Err has the fault of the SELECT's refusal.
     pub refused : HasCleanDisk (state g new) → IfErr result RefusesToSelect
-    -- Nothing is changed (`Rests`).
+    -- On a clean disk an open connection was open before, with its tables as they were or as last committed (`Rests`).
     pub rests : HasCleanDisk (state g new) → Rests (state g old) (state g new)
     -- On a clean disk a crash leaves only what it could have left before, and only a failure closes the connection.
     -- A disk in doubt stays so, no failure is forgotten, and shield and step limit stay (`Survives`).
@@ -74,7 +74,7 @@ module _ {S : Type 0} (g : Ghosts S) (sql : List ℕ) (old : Held S) where
     pub refused : HasCleanDisk (state g new) → IfErr result (λ fault. fault ≢ OtherType → fault ≢ Memory → RefusesToSelect fault)
     -- Memory is returned only if the SELECT is refused for lack of memory, or is answered and its rows may lack memory.
     pub memory : HasCleanDisk (state g new) → IfErr result (λ fault. fault ≡ Memory → RefusesToSelect Memory ⊎ ((rows : List Row) × Selects rows))
-    -- Nothing is changed (`Rests`).
+    -- On a clean disk an open connection was open before, with its tables as they were or as last committed (`Rests`).
     pub rests : HasCleanDisk (state g new) → Rests (state g old) (state g new)
     -- On a clean disk a crash leaves only what it could have left before, and only a failure closes the connection.
     -- A disk in doubt stays so, no failure is forgotten, and shield and step limit stay (`Survives`).
@@ -91,7 +91,7 @@ module _ {S : Type 0} (g : Ghosts S) (sql : List ℕ) (old : Held S) where
     pub refused : HasCleanDisk (state g new) → IfErr result RefusesToSelect
     -- After Ok the connection has the same tables and step limit (`IsAsked`), so the SELECT can be asked again.
     pub same : HasCleanDisk (state g new) → OnOk result (IsAsked (state g old) (state g new))
-    -- Nothing is changed (`Rests`).
+    -- On a clean disk an open connection was open before, with its tables as they were or as last committed (`Rests`).
     pub rests : HasCleanDisk (state g new) → Rests (state g old) (state g new)
     -- On a clean disk a crash leaves only what it could have left before, and only a failure closes the connection.
     -- A disk in doubt stays so, no failure is forgotten, and shield and step limit stay (`Survives`).

@@ -179,7 +179,7 @@ small_size w world kind = size_small (slice_get w.kinds kind) (λ x is. (world.k
 
 -- ---- markets
 
--- a market that is found is in a region of the world
+-- if looking up region n, and then item i in it, finds a market, that region and that market are in the map
 market_there : (regions : FinMap nat_cmp RegionPlan) (i : ℕ) (n : ℕ) (o : Option RegionPlan) → get regions n ≡ o → is_some (option_and_then (λ (q : RegionPlan). get q.markets i) o) ≡ true → (q : RegionPlan) × (m : Market) × (get regions n ≡ Some q) × (get q.markets i ≡ Some m)
 market_there regions i n None is e = absurd (false≢true e)
 market_there regions i n (Some q) is e = let found = some_there (get q.markets i) e in (q, found.0, is, found.1)
@@ -448,7 +448,7 @@ module _ (f : Format) (w : WorldValue) (p : Parts) (k : RowsKeep f w p) where
   either_sort h (inl skill) = inl skill
   either_sort h (inr item) = inr item.0
 
-  -- the unit, sort and thing of a row of `has` in range, whose unit exists, fit 32 bits (HasWholeKey)
+  -- unit, sort and thing of a row of `has` fit 32 bits, if its unit exists, it is in range, and its thing is there
   keyed : (h : StoredHas) → (IsThere units (as_u32 h.unit)) × (has_in_range h ≡ true) → ((n : ℕ) → (sort : ℕ) → is_of n sort h ≡ true → ThingThere n sort h) → HasWholeKey h
   keyed h (there, range) thing =
       let unit_few = there_below units (as_u32 h.unit) last_unit few_units there in
@@ -477,7 +477,7 @@ module _ (f : Format) (w : WorldValue) (p : Parts) (k : RowsKeep f w p) where
   all_found = all_forall (λ n h. (sort : ℕ) → is_of n sort h ≡ true → IsFound n sort h) p.has (λ n. all_forall (λ sort h. is_of n sort h ≡ true → IsFound n sort h) p.has (λ sort.
       unkept (is_of n sort) (IsFound n sort) p.has (rows_found (λ h. as_u32 h.thing) (λ h. as_u32 h.amount) (filter (is_of n sort) p.has) (things_apart n sort p.has all_keyed k.range.keys.has))))
 
-  -- the amount of a row of `has` fits 32 bits (IsWhole) and is not 0
+  -- the amount of a row of `has` fits 32 bits and isn't 0, if its unit exists, it is in range (SortOf), and it IsFound
   exact_of : (h : StoredHas) → IsThere units (as_u32 h.unit) → SortOf h → ((n : ℕ) → (sort : ℕ) → is_of n sort h ≡ true → IsFound n sort h) → IsWhole h.amount × (is_zero h.amount ≡ false)
   unfolding campaign_of
   exact_of h there (inl skill) found =
@@ -495,7 +495,7 @@ module _ (f : Format) (w : WorldValue) (p : Parts) (k : RowsKeep f w p) where
   abbrev KeyedPlaced : StoredHas → Type 0
   KeyedPlaced h = HasWholeKey h × Placed h
 
-  -- the unit, sort, thing and amount of a row of `has` fit 32 bits, and the amount is not 0 (IsExact)
+  -- a row of `has` that is KeyedPlaced and IsFound is exact (IsExact): its numbers fit 32 bits, its amount is not 0
   exact : (h : StoredHas) → KeyedPlaced h → ((n : ℕ) → (sort : ℕ) → is_of n sort h ≡ true → IsFound n sort h) → IsExact h
   exact h (keys, (there, range)) found = let amount = exact_of h there (sort_of h range).1 found in record { keys = keys; amount = amount.0; some = amount.1 }
 
@@ -521,7 +521,7 @@ module _ (f : Format) (w : WorldValue) (p : Parts) (k : RowsKeep f w p) where
   abbrev regions : FinMap nat_cmp Region
   regions = by_number (λ r. as_u32 r.number) (region_of p.markets) p.regions
 
-  -- the region, item and stock of a row of `market` in range fit 32 bits, and the stock is not 0 (IsExact)
+  -- a row of `market` of a market of the world, its stock in range, is exact: its numbers fit 32 bits, the stock isn't 0
   exact_market : (m : StoredMarket) → is_of_market w m ≡ true → market_in_range w m ≡ true → market.IsExact m
   exact_market m named range =
       let found = market_there w.regions (as_u32 m.item) (as_u32 m.region) (get w.regions (as_u32 m.region)) refl named in
