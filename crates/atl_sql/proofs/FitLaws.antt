@@ -44,7 +44,7 @@ fits_cast (c ∷ cs) (v ∷ vs) fits = let here = fits.0 in let later = fits_cas
 
 -- ---- the columns of a row, one by one
 
--- mapping a range that begins one higher is mapping the range by the shifted function
+-- if `f (k + 1)` is `g k` for each k, mapping a range from a + 1 by f is mapping the range from a by g
 shifted : {X : Type 0} (f g : ℕ → X) → ((k : ℕ) → f (k + 1) ≡ g k) → (a n : ℕ) → map f (range_with_len (a + 1) n) ≡ map g (range_with_len a n)
 shifted f g same a zero = refl
 shifted f g same a (suc n) = let here = same a in let later = shifted f g same (a + 1) n in cc
@@ -91,7 +91,7 @@ pub record MakesRow (t : Table) (width number : ℕ) (values : Row) : Type 0 whe
   pub aimed : (x : Value) (more : Row) → column ((int number ∷ values) ++ x ∷ more) (width + 1) ≡ x
 
 module _ (tree : ℕ) (name key_name : List ℕ) (columns : List Column) (uniques : List (List ℕ)) where
-  -- the table: the row's number as its key, and then these columns
+  -- the table whose first column, its key, is the row's number, and whose other columns are `columns`
   abbrev t : Table
   t = table tree name (number key_name ∷ columns) (Some 0) (0 ∷ []) uniques []
 

@@ -93,7 +93,7 @@ pub record HasKey (t : Table) (at : ℕ) (places : List ℕ) : Type 0 where
   pub hits : (indexes : List Index) (new x : Row)
       → conflicts (Some places) (all_indexes ++ indexes) t new x ≡ (agree_at places x new || list_any (shares (Some places) t new x) indexes)
 
--- the text is a DELETE of the rows that the filter finds, from the table of this tree and this index in the schema
+-- the text `sql` means the DELETE, by `filter`, of rows of the table with index `at` in the schema and tree `tree`
 abbrev pub IsTakeOut : ℕ → ℕ → List ℕ → List Term → Type 0
 IsTakeOut tree at sql filter = (more : List Table) (indexes : List Index) → command_of (understood (all_and more indexes) sql) ≡ Delete at (record { lets = []; body = delete_query tree filter })
 
@@ -117,7 +117,7 @@ pub record MakesValues (t : Table) (places : List ℕ) (width : ℕ) (terms : Li
   pub ints : (n : ℤ) → AreInts places (Int n ∷ values)
   -- the column at the index `hole` is the one after the values, which is the rowid of the row to change
   pub aimed : (x : Value) (more : Row) → column (values ++ x ∷ more) hole ≡ x
-  -- the UPDATE of a row with the same key makes a row that shows the values
+  -- of a row with the key of these values, the UPDATE makes a row of which SQL shows these values
   pub changed : (more r : Row) → at_places places r ≡ take (length places) values
       → visible t (cast_row t (eval_all project ((values ++ more) ∷ r ∷ []))) ≡ values
 

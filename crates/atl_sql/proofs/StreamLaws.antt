@@ -167,7 +167,7 @@ module _ {S : Type 0} (g : Ghosts S) (sql : List ℕ) (old : Held S) where
         idle = idle giving.idle;
       }
 
-      -- the values read, with that of the next row, are those of the rows given, with the next row
+      -- if the values read are those of the rows given, they still are once the next row is given and its value is read
       pub read_more : (old_items new_items : List A) (row : Row) → map shown old_items ≡ map (first_columns (length forms)) given → AddsRow forms shown old_items row new_items → map shown new_items ≡ map (first_columns (length forms)) (given ++ row ∷ [])
       read_more old_items new_items row read adds =
           ap (map shown) adds.1 ∙ map_at_end shown old_items adds.0 ∙ ap (λ rs. rs ++ shown adds.0 ∷ []) read ∙ ap (λ r. map (first_columns (length forms)) given ++ r ∷ []) adds.2 ∙ sym (map_at_end (first_columns (length forms)) given row)

@@ -109,7 +109,7 @@ differ_not (Blob x) b p q h = absurd (true≢false (sym p))
 
 -- ---- the query of the update: the one row that has the rowid
 
--- the query of an upsert's UPDATE: the row with the rowid in column `place` of the parameters, and the values to set
+-- the query of an upsert's UPDATE: the row of the tree with the rowid in column `place` of the parameters, what to set
 abbrev pub update_query : ℕ → ℕ → List Term → Query
 update_query tree place project = record (delete_query tree (op2 (Compare Eq Binary) (col 1 0) (col 0 place) ∷ [])) { project = col 1 0 ∷ project }
 

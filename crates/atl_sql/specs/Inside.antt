@@ -58,7 +58,7 @@ pub record Alters (table : Table) (S : Set) (old new : Database) : Type 0 where
 pub record Changes (Becomes : Part → List Row → List Row → Type 0) (parts : List Part) (old new : Database) : Type 0 where
   -- the rows of each of these parts become what `Becomes` says
   pub done : (part : Part) → Has parts part → Becomes part (rows_in (table_of part) old.trees) (rows_in (table_of part) new.trees)
-  -- the tables of all other parts are as they were
+  -- the tables of all parts that are not in the list `parts` are as they were
   pub others : (part : Part) → ¬ Has parts part → new.trees (table_of part).tree ≡ old.trees (table_of part).tree
 
 -- `Does` is done for each part of the list, one after another
@@ -74,7 +74,7 @@ Puts table key row old new = Alters table (put key row (Has (rows_in table old.t
 abbrev pub Drops : Table → ℕ → Row → Database → Database → Type 0
 Drops table key k old new = Alters table (drop_key key k (Has (rows_in table old.trees))) old new
 
--- all these rows are put into the table (`Puts`), one after another
+-- all these rows are put, one after another, into the table, whose key is its first `key` columns (`Puts`)
 abbrev pub PutsRows : Table → ℕ → List Row → Database → Database → Type 0
 PutsRows table key news old new = Alters table (puts key news (Has (rows_in table old.trees))) old new
 

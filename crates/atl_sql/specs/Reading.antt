@@ -72,7 +72,7 @@ module _ {S : Type 0} (g : Ghosts S) (sql : List ℕ) (old : Held S) where
     pub other : HasCleanDisk (state g new) → IfErr result (λ fault. fault ≡ OtherType → (rows : List Row) × Selects rows × ¬ AreTyped forms rows)
     -- A fault other than OtherType and Memory is that of the SELECT's refusal.
     pub refused : HasCleanDisk (state g new) → IfErr result (λ fault. fault ≢ OtherType → fault ≢ Memory → RefusesToSelect fault)
-    -- Memory is returned only if the SELECT is refused for lack of memory, or is answered and its rows may lack memory.
+    -- Memory is returned only if the SELECT is refused for lack of memory, or shows rows, for which memory may run out.
     pub memory : HasCleanDisk (state g new) → IfErr result (λ fault. fault ≡ Memory → RefusesToSelect Memory ⊎ ((rows : List Row) × Selects rows))
     -- On a clean disk an open connection was open before, with its tables as they were or as last committed (`Rests`).
     pub rests : HasCleanDisk (state g new) → Rests (state g old) (state g new)

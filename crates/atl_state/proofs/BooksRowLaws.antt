@@ -115,7 +115,7 @@ accounts_apart things r s h k differ =
       | inr apart ↦ apart
     ]
 
--- the books have no amount yet for the account of a row, if it is read as one (IsBooked)
+-- if a row is read as an account (IsBooked), the books have no amount yet for this account
 abbrev IsFree : ℕ → BooksValue → StoredBooks → Type 0
 IsFree things books r = (h : IsBooked things r) → get books.amounts h.account ≡ None
 

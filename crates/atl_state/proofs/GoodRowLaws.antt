@@ -273,7 +273,7 @@ module _ (w : WorldValue) (world : IsWorld w) (c : CampaignValue) (good : IsGood
   }
 
   module _ (f : Format) (fits : Fits f c) (p : Parts) (rows : AreRowsOf f c p) where
-    -- the rows of `campaign` are, in some order, the list of the good campaign's campaign row alone
+    -- the rows of `campaign` are a permutation of a list of one row, the campaign row of the good campaign
     head_listed : IsPermutation (campaign_row f c ∷ []) p.campaign
     unfolding rows_of
     head_listed = rows.campaign
@@ -323,7 +323,7 @@ module _ (w : WorldValue) (world : IsWorld w) (c : CampaignValue) (good : IsGood
     unfolding rows_of
     markets_listed = rows.markets
 
-    -- the rows of `campaign` are the campaign row of the good campaign alone
+    -- the table `campaign` has just one row, the campaign row of the good campaign
     pub its_head : p.campaign ≡ campaign_row f c ∷ []
     its_head = only_row (campaign_row f c) p.campaign head_listed
 

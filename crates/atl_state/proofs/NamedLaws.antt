@@ -90,12 +90,12 @@ is_in bound (negsuc n) h = let most : suc n ≤ bound = from_le (suc n) bound h 
 abbrev AreBelow : ℕ → BooksValue → Type 0
 AreBelow bound books = (e : Entry) (t : Thing) → IsWithin bound (amount_in books e t)
 
--- all amounts of books that are from -bound to bound stay so once such an amount is set
+-- if the amounts of books and an amount z are from -bound to bound, so are those of the books once z is set
 below-with : (bound : ℕ) (books : BooksValue) (e : Entry) (t : Thing) (z : ℤ) → IsWithin bound z → AreBelow bound books → AreBelow bound (with_amount books e t z)
 below-with bound books e t z here old f u =
     subst (IsWithin bound) (sym (amount-with_amount books e t z f u)) (elim (eq_by_cmp account_cmp (f, u) (e, t)) as (λ b. IsWithin bound (cond b z (amount_in books f u))) [ true ↦ here | false ↦ old f u ])
 
--- all amounts of books that are from -bound to bound stay so once rows with such amounts are read
+-- if the amounts of books and of rows are from -bound to bound, so are those of the books once the rows are put in
 below-put : (things bound : ℕ) (rows : List StoredBooks) (books : BooksValue) → AreBooks things books → AllByRecursion (IsBooked things) rows → AllByRecursion (λ r. IsWithin bound r.amount) rows → AreBelow bound books → AreBelow bound (put_amounts rows books)
 below-put things bound [] books are booked here old = old
 below-put things bound (r ∷ rows) books are booked here old =

@@ -92,9 +92,9 @@ none_or_below m (suc n) most every there = there_below m (suc n) most every (the
 pub record RowsKeep (f : Format) (w : WorldValue) (p : Parts) : Type 0 where
   -- the world keeps the rules of worlds (`IsWorld`)
   pub world : IsWorld w
-  -- rule 1: there is one campaign row, of the format
+  -- rule 1: there is exactly one campaign row, with the id 1 and the number of the format
   pub one : is_one_campaign_row f p.campaign ≡ true
-  -- rule 1: the rows of `market` are such as the format may have
+  -- rule 1: there are only rows of `market` that the format may have: in the first none, in the second any
   pub format : are_of_format f p.markets ≡ true
   -- rule 2: keys differ, and numbers are in their ranges
   pub range : AreRowsInRange w p
@@ -521,7 +521,8 @@ module _ (f : Format) (w : WorldValue) (p : Parts) (k : RowsKeep f w p) where
   abbrev regions : FinMap nat_cmp Region
   regions = by_number (λ r. as_u32 r.number) (region_of p.markets) p.regions
 
-  -- a row of `market` of a market of the world, its stock in range, is exact: its numbers fit 32 bits, the stock isn't 0
+  -- a row of `market` that is of a market of the world, with its stock in range, is exact (IsExact): region, item and
+  -- stock fit 32 bits, and the stock is not 0
   exact_market : (m : StoredMarket) → is_of_market w m ≡ true → market_in_range w m ≡ true → market.IsExact m
   exact_market m named range =
       let found = market_there w.regions (as_u32 m.item) (as_u32 m.region) (get w.regions (as_u32 m.region)) refl named in

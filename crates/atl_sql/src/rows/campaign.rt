@@ -169,7 +169,8 @@ impl HasSelect for StoredCampaign {
 
     ghost columns = { refl };
 
-    /// The first format, and the SELECT of all rows of `campaign`.
+    /// The first format, since files of both formats have the table, and the SELECT of all rows of
+    /// `campaign`.
     fn select_of() -> (Format, &'static str) {
         (Format::First, ALL)
     }
