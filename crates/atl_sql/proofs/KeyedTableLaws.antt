@@ -27,11 +27,11 @@ use Rattle.atl_sql.proofs.Terms.{cast_null, cast_int}
 
 -- the three parts whose key is several numbers: those of the tables `has`, `books` and `market`
 data Keyed : Type 0 where
-  -- the items and skills of units, in `has`
+  -- the part in the table `has`: the items and skills of units
   InHas : Keyed
-  -- the amounts of the books, in `books`
+  -- the part in the table `books`: the amounts of the books
   InBooks : Keyed
-  -- the stocks of markets, in `market`
+  -- the part in the table `market`: the stocks of markets
   InMarket : Keyed
 
 -- the part that has `has`, `books` or `market` as its table

@@ -93,7 +93,7 @@ map_at_end f (y ∷ xs) x = ap (λ ys. f y ∷ ys) (map_at_end f xs x)
 
 -- a query is running, has given the rows `given`, and changed nothing
 pub record IsGiving {S : Type 0} (g : Ghosts S) (sql : List ℕ) (old : Held S) (given : List Row) (now : Held S) : Type 0 where
-  -- the connection is in no transaction
+  -- the connection on which the query runs is in no transaction
   pub idle : now.in_transaction ≡ false
   -- the query has so far done what `Survives` says, with nothing committed: a crash leaves only what it could before
   pub survives : Survives (state g old) (state g now) (λ _. ⊥)

@@ -184,7 +184,7 @@ module _ (schema : Schema) (t : Table) (unlinked : (olds news : List Row) → wo
   abbrev pub given : Row → Row → Row
   given new r = params ++ rowid r ∷ shown t new
 
-  -- after an upsert the new row was put, or the row with its key was changed
+  -- from the old trees to the new ones, an upsert put this new row, or changed the row with its key
   abbrev pub Upserted : Row → Trees → Trees → Type 0
   Upserted new db next =
       (((r : Row) → Has (db t.tree) r → hits new r ≡ false) × Swaps schema t (hits new) (cast_row t new) db next)

@@ -85,9 +85,9 @@ pub record Commits (Before : Database → Type 0) (Does : Database → Database 
   pub does : Before old.now → Done Does old.now new.now
   -- all that the tables hold is committed
   pub committed : new.committed ≡ new.now
-  -- the connection is in no transaction
+  -- afterwards the connection is in no transaction
   pub idle : new.in_transaction ≡ false
-  -- the connection is open
+  -- afterwards the connection is open
   pub is_open : IsTrue new.is_open
 
 -- A transaction that failed: while the connection is open, its tables are those of the last commit before.
@@ -97,7 +97,7 @@ pub record LeavesOff (old new : State) : Type 0 where
   pub was_open : IsTrue new.is_open → IsTrue old.is_open
   -- while the connection is open, its tables are those of the last commit before, and nothing was committed
   pub undone : IsTrue new.is_open → (new.now ≡ old.committed) × (new.committed ≡ old.committed)
-  -- the connection is in no transaction
+  -- afterwards the connection is in no transaction
   pub idle : new.in_transaction ≡ false
 
 -- what a crash may leave besides what it could have left before: the trees of a database to which `Does` was done,

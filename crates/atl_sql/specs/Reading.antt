@@ -120,7 +120,7 @@ pub record PartSelect : Type 0 where
   pub since : Format
   -- the names of the columns that the SELECT shows
   pub names : List (List ℕ)
-  -- the text of the SELECT
+  -- the text of the SELECT that reads the part
   pub select : List ℕ
   -- the rows that the SELECT shows, computed from the trees
   pub in_table : Trees → List Row

@@ -98,25 +98,25 @@ market_table = table 12 (codes "market") (number (codes "region") ∷ number (co
 
 -- the parts of a campaign, one for each table: `Own` is the campaign row, `Goods` what units have, `Markets` the stocks
 pub data Part : Type 0 where
-  -- the campaign row, in the table `campaign`
+  -- the part in the table `campaign`: the campaign row
   Own : Part
-  -- the factions, in `faction`
+  -- the part in the table `faction`: the factions
   Factions : Part
-  -- the regions, in `region`
+  -- the part in the table `region`: the regions
   Regions : Part
-  -- the units, in `unit`
+  -- the part in the table `unit`: the units
   Units : Part
-  -- the items and skills of units, in `has`
+  -- the part in the table `has`: the items and skills of units
   Goods : Part
-  -- the structures, in `structure`
+  -- the part in the table `structure`: the structures
   Structures : Part
-  -- the mailings, in `mail`
+  -- the part in the table `mail`: the mailings
   Mail : Part
-  -- the last reports, in `report`
+  -- the part in the table `report`: the last report of each faction
   Reports : Part
-  -- the amounts of the books, in `books`
+  -- the part in the table `books`: the amounts of the books
   Books : Part
-  -- the stocks of markets, in `market`
+  -- the part in the table `market`: the stocks of markets
   Markets : Part
 
 -- the table of a part

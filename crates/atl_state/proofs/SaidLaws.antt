@@ -223,7 +223,7 @@ module _ (f : Format) (w : WorldValue) (p : Parts) (k : RowsKeep f w p) where
   pub factions_apart : Apart (λ r. as_u32 r.number) p.factions
   factions_apart = Apart-keys faction_key (λ r. as_u32 r.number) same (λ r. IsWhole r.number) (λ r s. one_apart r.number s.number) p.factions (each_passes faction_in_range (λ r. IsWhole r.number) (λ r h. (faction_number r h).0) p.factions ranges.factions) k.range.keys.factions
 
-  -- the numbers of the factions assembled are at most last_faction
+  -- the numbers of the factions assembled from the rows are at most last_faction
   few_factions : Every (λ n f. n ≤ last_faction) (by_number (λ r. as_u32 r.number) faction_of p.factions)
   few_factions = by_number-every (λ r. as_u32 r.number) faction_of (λ n f. n ≤ last_faction) faction_in_range (λ r h. (faction_number r h).1) p.factions ranges.factions
 
@@ -238,7 +238,7 @@ module _ (f : Format) (w : WorldValue) (p : Parts) (k : RowsKeep f w p) where
   factions_said = rows_order (λ r. as_u32 r.number) faction_of faction_row p.factions factions_apart (each_passes faction_in_range (λ r. faction_row (as_u32 r.number) (faction_of r) ≡ r) same_faction p.factions ranges.factions)
 
   -- ---- regions
-  -- the numbers of the regions assembled are at most last_region
+  -- the numbers of the regions assembled from the rows are at most last_region
   few_regions : (n : ℕ) → IsThere (by_number (λ r. as_u32 r.number) (region_of p.markets) p.regions) n → n ≤ last_region
   unfolding campaign_of
   few_regions n there = let known = (k.known.regions n).0 there in (k.world.regions n known.0 known.1).number_most
@@ -276,7 +276,7 @@ module _ (f : Format) (w : WorldValue) (p : Parts) (k : RowsKeep f w p) where
   units_apart : Apart (λ r. as_u32 r.number) p.units
   units_apart = Apart-keys unit_key (λ r. as_u32 r.number) same (λ r. IsWhole r.number) (λ r s. one_apart r.number s.number) p.units (each_passes unit_in_range (λ r. IsWhole r.number) (λ r h. (unit_number r h).0) p.units ranges.units) k.range.keys.units
 
-  -- the numbers of the units assembled are at most last_unit
+  -- the numbers of the units assembled from the rows are at most last_unit
   few_units : Every (λ n u. n ≤ last_unit) (by_number (λ r. as_u32 r.number) (unit_of p.has) p.units)
   few_units = by_number-every (λ r. as_u32 r.number) (unit_of p.has) (λ n u. n ≤ last_unit) unit_in_range (λ r h. (unit_number r h).1) p.units ranges.units
 
@@ -290,7 +290,7 @@ module _ (f : Format) (w : WorldValue) (p : Parts) (k : RowsKeep f w p) where
       Apart-keys structure_key (λ r. as_u32 r.number) same (λ r. IsWhole r.number) (λ r s. one_apart r.number s.number) p.structures (each_passes (structure_in_range w) (λ r. IsWhole r.number) (λ r h. (structure_number r h).0) p.structures ranges.structures)
       k.range.keys.structures
 
-  -- the numbers of the structures assembled are at most most_structures
+  -- the numbers of the structures assembled from the rows are at most most_structures
   few_structures : Every (λ n s. n ≤ most_structures) (by_number (λ r. as_u32 r.number) structure_of p.structures)
   few_structures = by_number-every (λ r. as_u32 r.number) structure_of (λ n s. n ≤ most_structures) (structure_in_range w) (λ r h. (structure_number r h).1) p.structures ranges.structures
 
@@ -409,7 +409,7 @@ module _ (f : Format) (w : WorldValue) (p : Parts) (k : RowsKeep f w p) where
   their_days : Every (λ n u. u.holding.days ≡ things_had n 1 p.has) units
   their_days = by_number-every (λ r. as_u32 r.number) (unit_of p.has) (λ n u. u.holding.days ≡ things_had n 1 p.has) unit_in_range (λ r h. refl) p.units ranges.units
 
-  -- the men of a unit assembled are at most men_limit
+  -- the men of each unit assembled from the rows are at most men_limit
   their_men : Every (λ n u. u.holding.men ≤ men_limit) units
   their_men = by_number-every (λ r. as_u32 r.number) (unit_of p.has) (λ n u. u.holding.men ≤ men_limit) unit_in_range (λ r h. (in_range 1 men_limit most_u32 r.men (omega arith) (unit_ranges r h).men).1) p.units ranges.units
 
@@ -427,7 +427,7 @@ module _ (f : Format) (w : WorldValue) (p : Parts) (k : RowsKeep f w p) where
   unfolding campaign_of
   held_units = each_passes (is_of_unit (campaign_of w p)) (λ h. IsThere units (as_u32 h.unit)) (λ h e. some_there (get units (as_u32 h.unit)) e) p.has k.held
 
-  -- the number of a thing that a unit assembled has is below most_u32
+  -- the number of an item or skill that a unit assembled from the rows has is below most_u32
   few_things : (n sort thing : ℕ) → IsThere units n → (sort ≡ 1) ⊎ (sort ≡ 0) → IsThere (things_had n sort p.has) thing → thing < most_u32
   unfolding campaign_of
   few_things n sort thing there (inl skill) (v, is) =

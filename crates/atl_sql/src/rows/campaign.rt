@@ -105,7 +105,7 @@ impl Drop for StoredCampaign {
     }
 }
 
-/// A stored campaign row can be taken apart: its columns, without its world text.
+/// Lets a stored campaign row be read without its world text: the other columns remain.
 impl StoredCampaign {
     /// All columns of the row but the world text, which is dropped.
     pub fn into_campaign_row(self) -> StoredCampaignRow
