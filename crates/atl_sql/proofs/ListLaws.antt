@@ -75,9 +75,9 @@ without_drops (i ∷ ids) rows r h id (inr later) = without_drops ids (without_r
 
 -- the rowids in `found` are exactly those of the rows that pass the test `p`
 pub record AreFound (p : Row → Bool) (rows found : List Row) : Type 0 where
-  -- each rowid that was found is that of a row that passes the test
+  -- each rowid in `found` is that of one of `rows` that passes the test `p`
   pub sound : (x : Row) → Has found x → (r : Row) × Has rows r × (p r ≡ true) × (x ≡ rowid r ∷ [])
-  -- the rowid of each row that passes the test was found
+  -- the rowid of each of `rows` that passes the test `p` is in `found`
   pub complete : (r : Row) → Has rows r → p r ≡ true → Has found (rowid r ∷ [])
 
 -- the rowid of a row of a table is an integer, if the rowids of all its rows are

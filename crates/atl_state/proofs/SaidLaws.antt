@@ -65,7 +65,7 @@ whole16 : (z : ℤ) → as_u16 z < most_u16 → z ≡ pos (as_u16 z)
 whole16 (pos n) h = ap pos (sym (min_less n most_u16 h))
 whole16 (negsuc n) h = absurd (omega arith)
 
--- a flag of a row that is 0 or 1 is the number that is written for the flag read
+-- if a row's number for a flag is 0 or 1, writing the flag that is read from it gives this number again
 flag_whole : (z : ℤ) → is_from 0 1 z ≡ true → flag (is_set z) ≡ z
 flag_whole (pos zero) h = refl
 flag_whole (pos (suc zero)) h = refl
