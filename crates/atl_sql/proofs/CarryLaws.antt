@@ -43,12 +43,12 @@ none_share t target new r (i ∷ indexes) plain = rw (plain i (inl refl)) (none_
 pub among_all : (tables : List Table) (t : Table) → Has all_tables t → Has (all_tables ++ tables) t
 among_all tables t there = has_left all_tables tables t there
 
--- a database with a campaign's tables is sound under the schema of the ten tables and then its others (`all_and`)
+-- the trees of a database with a campaign's tables are sound under its schema, told as `all_and` of its other tables
 pub sound_under : (db : Database) (has : HasTables db) → IsSoundDatabase (all_and has.begins.tables has.begins.indexes) db.trees
 sound_under db has = subst (λ s. IsSoundDatabase s db.trees) has.begins.is has.sound
 
 module _ (t : Table) (old new : Database) (has : HasTables old) (ours : Has all_tables t) where
-  -- the schema of `old`: the ten tables with their indexes, and then the others
+  -- the schema of `old`: the ten tables with their indexes, and then its other tables and indexes
   abbrev schema : Schema
   schema = all_and has.begins.tables has.begins.indexes
 
@@ -63,7 +63,7 @@ module _ (t : Table) (old new : Database) (has : HasTables old) (ours : Has all_
     sound = subst (λ s. IsSoundDatabase s new.trees) (sym is) sound;
   }
 
-  -- if the schema and all tables but `t` stay, all tables and indexes that aren't the campaign's are kept (`Carries`)
+  -- if schema and all tables but `t` are unchanged, all tables and indexes but the campaign's are kept (`Carries`)
   pub carried : new.schema ≡ schema → OthersStay → Carries old new
   carried is others =
       let same : new.schema ≡ old.schema = is ∙ sym has.begins.is in

@@ -16,11 +16,11 @@ use Rattle.atl_sql.specs.Errors.{is_memory}
 use Rattle.atl_sql.specs.Statements.{Statements}
 use Rattle.atl_sql.specs.Causes.{IsGiven, IsBroken, IsRefused, Gives, Leads, IsReached}
 
--- if the disk failed between two states, it failed between the first state and any after the second
+-- if the disk failed between the counts `a` and `b` of its failures, and `b` is at most `c`, it did between a and c
 more_later : (a b c : ℕ) → b ≤ c → MoreFaults a b → MoreFaults a c
 more_later a b c later more = omega (arith, later, more)
 
--- if the disk failed between two states, it failed between any state before the first and the second
+-- if the disk failed between the counts `b` and `c` of its failures, and `a` is at most `b`, it did between a and c
 more_before : (a b c : ℕ) → a ≤ b → MoreFaults b c → MoreFaults a c
 more_before a b c before more = omega (arith, before, more)
 

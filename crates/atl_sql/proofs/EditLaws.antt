@@ -31,7 +31,7 @@ use Rattle.sqlite.proofs.Callers.{one_step}
 use Rattle.atl_sql.specs.Sets.{AreKeyedByRowid}
 use Rattle.atl_sql.proofs.ListLaws.{keyed_without, keyed_put, has_map, map_has, AreFound, stays, was_there}
 
--- a step whose result is Ok went on, and didn't stop with an error
+-- if a step either stopped with an error or did `R`, and its result is Ok, it did `R`
 pub went : {B E R : Type 0} {b : B} {Stops : E → Type 0} → ((stop : E) × Stops stop × (Ok b ≡ Err stop)) ⊎ R → R
 went (inl stopped) = absurd (let e = stopped.2 in cc)
 went (inr on) = on
@@ -42,26 +42,26 @@ same_value e = cc
 
 -- after an edit the rows that pass the test `p` are gone, and no other row and no other table changed
 pub record Loses (schema : Schema) (table : Table) (p : Row → Bool) (db next : Trees) : Type 0 where
-  -- each row that is left was there, and fails the test
+  -- each row of the table after the edit was there before it, and fails the test `p`
   pub from : (r : Row) → Has (next table.tree) r → Has (db table.tree) r × (p r ≡ false)
-  -- each row that fails the test is left
+  -- each row of the table before the edit that fails the test `p` is there after it
   pub kept : (r : Row) → Has (db table.tree) r → p r ≡ false → Has (next table.tree) r
-  -- the rowids of the rows that are left are integers, no two alike
+  -- after the edit the rowids of the table are integers, no two alike
   pub keyed : AreKeyedByRowid (next table.tree)
-  -- each table of the schema that has another tree holds what it held
+  -- each table of the schema with another tree than `table` holds after the edit what it held before
   pub others : (t : Table) → Has schema.tables t → t.tree ≢ table.tree → next t.tree ≡ db t.tree
 
 -- after an edit the rows that pass the test `p` are gone, the row `new` is there, and nothing else changed
 pub record Swaps (schema : Schema) (table : Table) (p : Row → Bool) (new : Row) (db next : Trees) : Type 0 where
-  -- the new row is in the table
+  -- after the edit the row `new` is in the table
   pub there : Has (next table.tree) new
-  -- each row of the table is the new one, or was there and fails the test
+  -- each row of the table after the edit is `new`, or was there before it and fails the test `p`
   pub from : (r : Row) → Has (next table.tree) r → (r ≡ new) ⊎ (Has (db table.tree) r × (p r ≡ false))
-  -- each row that was there and fails the test is still there
+  -- each row of the table before the edit that fails the test `p` is there after it
   pub kept : (r : Row) → Has (db table.tree) r → p r ≡ false → Has (next table.tree) r
-  -- the rowids of the table's rows afterwards are integers, no two alike
+  -- after rows that pass `p` gave way to `new`, the table's rowids are integers, no two alike
   pub keyed : AreKeyedByRowid (next table.tree)
-  -- each table of the schema that has another tree holds what it held
+  -- each table of the schema with another tree than `table` holds after the edit what it held before
   pub others : (t : Table) → Has schema.tables t → t.tree ≢ table.tree → next t.tree ≡ db t.tree
 
 module _ (schema : Schema) (table : Table) (unlinked : (olds news : List Row) → works schema Enforced 0 table.tree olds news ≡ []) where
@@ -115,7 +115,7 @@ module _ (schema : Schema) (table : Table) (unlinked : (olds news : List Row) �
           subst AreKeyedByRowid (sym rows) (keyed_put (cast_row table new) (db table.tree) keyed (not-true _ (and_parts _ _ done.fresh).0) (and_parts _ _ done.keyed).0),
         )
 
-    -- whether a row of the table conflicts with the new row in a key
+    -- whether a row of the table (the second argument) conflicts in a key with the new row (the first)
     abbrev p : Row → Row → Bool
     p new r = conflicts None schema.indexes table new r
 
@@ -182,7 +182,7 @@ module _ (p : Row → Bool) (f : Row → Env) where
   has_chosen (x ∷ rows) r (inl same) passes = rw (← same, passes) (inl refl)
   has_chosen (x ∷ rows) r (inr later) passes = go (p x) (has_chosen rows r later passes)
     where
-      -- what is chosen of the later rows is chosen of all the rows, whether or not the first row is chosen too
+      -- for `has_chosen`: what is in the later rows' list is in the list of all rows, whether or not the first passes
       go : (b : Bool) → Has (flat_map (λ r. cond (p r) (f r ∷ []) []) rows) (f r) → Has (cond b (f x ∷ []) [] ++ flat_map (λ r. cond (p r) (f r ∷ []) []) rows) (f r)
       go true h = inr h
       go false h = h
@@ -192,7 +192,7 @@ module _ (p : Row → Bool) (f : Row → Env) where
   chosen_has [] e h = absurd h
   chosen_has (x ∷ rows) e h = go (p x) refl h (chosen_has rows e)
     where
-      -- what is chosen is of the first row, if that passes the test, or of a later row
+      -- for `chosen_has`: an element `e` is `f` of the first row, if that passes the test p, or of a later row
       go : (b : Bool) → p x ≡ b → Has (cond b (f x ∷ []) [] ++ flat_map (λ r. cond (p r) (f r ∷ []) []) rows) e
           → (Has (flat_map (λ r. cond (p r) (f r ∷ []) []) rows) e → (r : Row) × Has rows r × (p r ≡ true) × (e ≡ f r)) → (r : Row) × Has (x ∷ rows) r × (p r ≡ true) × (e ≡ f r)
       go true is (inl same) more = (x, inl refl, is, same)

@@ -44,7 +44,7 @@ fits_cast (c ∷ cs) (v ∷ vs) fits = let here = fits.0 in let later = fits_cas
 
 -- ---- the columns of a row, one by one
 
--- mapping a range that begins one higher is mapping the range by the shifted function
+-- if `f (k + 1)` is `g k` for each k, mapping a range from a + 1 by f is mapping the range from a by g
 shifted : {X : Type 0} (f g : ℕ → X) → ((k : ℕ) → f (k + 1) ≡ g k) → (a n : ℕ) → map f (range_with_len (a + 1) n) ≡ map g (range_with_len a n)
 shifted f g same a zero = refl
 shifted f g same a (suc n) = let here = same a in let later = shifted f g same (a + 1) n in cc
@@ -83,15 +83,15 @@ pub record MakesRow (t : Table) (width number : ℕ) (values : Row) : Type 0 whe
   pub source : value_rows ((int number ∷ values) ++ []) (width + 2) (length (given_row width) / (width + 2)) (given_row width) ≡ (int number ∷ Null ∷ values) ∷ []
   -- the terms of the UPDATE give the number of the row that is there, and the values
   pub changed : (more r : Row) → eval_all (changed_row width) (((int number ∷ values) ++ more) ∷ r ∷ []) ≡ column r 0 ∷ Null ∷ values
-  -- SQL's casts leave the stored row unchanged
+  -- SQL's casts to the columns' types leave the row as stored (the number, NULL, the values) unchanged
   pub casted : cast_row t (int number ∷ Null ∷ values) ≡ int number ∷ Null ∷ values
-  -- SQL shows the stored row as the number and the values
+  -- of the row as stored, SQL shows the number and the values
   pub shown : visible t (int number ∷ Null ∷ values) ≡ int number ∷ values
   -- the column after the number and the values is the rowid of the row to change
   pub aimed : (x : Value) (more : Row) → column ((int number ∷ values) ++ x ∷ more) (width + 1) ≡ x
 
 module _ (tree : ℕ) (name key_name : List ℕ) (columns : List Column) (uniques : List (List ℕ)) where
-  -- the table: the row's number as its key, and then these columns
+  -- the table whose first column, its key, is the row's number, and whose other columns are `columns`
   abbrev t : Table
   t = table tree name (number key_name ∷ columns) (Some 0) (0 ∷ []) uniques []
 
@@ -123,7 +123,7 @@ module _ (tree : ℕ) (name key_name : List ℕ) (columns : List Column) (unique
         let behind : map (λ k. column its_row (place_of t k)) (range_with_len 1 width) ≡ values = shifted (λ k. column its_row (place_of t k)) (column values) second 0 width ∙ alone in
         ap (λ l. int n ∷ l) (subst (λ w. map (λ k. column its_row (place_of t k)) (range_with_len 1 w) ≡ values) (fits_length columns values fits) behind)
       where
-        -- the stored row's values after the number are shown as the given ones
+        -- for `shown_is`: column `k + 1` of the stored row, as SQL shows it, is value `k` of `values`
         second : (k : ℕ) → column its_row (place_of t (k + 1)) ≡ column values k
         second k =
             let apart : nat_eq 0 (k + 1) ≡ false = grind (arith, nat_tests) in

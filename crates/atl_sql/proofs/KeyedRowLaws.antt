@@ -85,19 +85,19 @@ pub record HasKey (t : Table) (at : ℕ) (places : List ℕ) : Type 0 where
   pub ints : (schema : Schema) (x : Row) → passes Datatype schema (λ u. []) t x ≡ true → passes NotNull schema (λ u. []) t x ≡ true → AreInts places x
   -- the first columns that SQL shows of a row are its key
   pub first : (x : Row) → take (length places) (visible t x) ≡ at_places places x
-  -- if a row clashes with none in an index of the table, no row with another rowid has its key
+  -- if `r` clashes with none of `rows` in any index of the table, none of these with another rowid has the key of `r`
   pub unique : (indexes : List Index) (rows : List Row) (r : Row)
       → list_all (λ i. not (guards i t && clashes i.order i.columns rows r)) (all_indexes ++ indexes) ≡ true
       → list_any (λ y. agree_at places y r && differ (rowid y) (rowid r)) rows ≡ false
-  -- a row conflicts with the new one in this key if both are equal in its columns, or share values of a further index
+  -- row `x` conflicts with `new` in this key if they are equal in its columns, or share values of a further index
   pub hits : (indexes : List Index) (new x : Row)
       → conflicts (Some places) (all_indexes ++ indexes) t new x ≡ (agree_at places x new || list_any (shares (Some places) t new x) indexes)
 
--- the text is a DELETE of the rows that the filter finds, from the table of this tree and this index in the schema
+-- the text `sql` means the DELETE, by `filter`, of rows of the table with index `at` in the schema and tree `tree`
 abbrev pub IsTakeOut : ℕ → ℕ → List ℕ → List Term → Type 0
 IsTakeOut tree at sql filter = (more : List Table) (indexes : List Index) → command_of (understood (all_and more indexes) sql) ≡ Delete at (record { lets = []; body = delete_query tree filter })
 
--- the text is an INSERT of one row of these terms, with an UPDATE of the row that has the key
+-- the text `sql` is an INSERT of one row by `terms`, with an UPDATE by `project` of the row that has the key `places`
 -- The index `hole` is that of the rowid of that row, which comes after the parameters.
 abbrev pub IsPutUnder : ℕ → ℕ → List ℕ → List ℕ → ℕ → List Term → ℕ → List Term → Type 0
 IsPutUnder tree at places sql width terms hole project = (more : List Table) (indexes : List Index)
@@ -107,17 +107,17 @@ IsPutUnder tree at places sql width terms hole project = (more : List Table) (in
 pub record MakesValues (t : Table) (places : List ℕ) (width : ℕ) (terms : List Term) (hole : ℕ) (project : List Term) (values : Row) : Type 0 where
   -- the terms of the INSERT give the values, with NULL for a rowid that SQL chooses
   pub source : value_rows (values ++ []) width (length terms / width) terms ≡ (Null ∷ values) ∷ []
-  -- SQL's casts leave the row with NULL as its rowid unchanged
+  -- SQL's casts leave the row of these values, with NULL as its rowid, unchanged
   pub casted : cast_row t (Null ∷ values) ≡ Null ∷ values
-  -- SQL's casts leave the row with any rowid unchanged
+  -- SQL's casts leave the row of these values, with any rowid `n`, unchanged
   pub again : (n : ℤ) → cast_row t (Int n ∷ values) ≡ Int n ∷ values
-  -- SQL shows the row as the values
+  -- of a row of these values, with any rowid `n`, SQL shows the values alone
   pub shown : (n : ℤ) → visible t (Int n ∷ values) ≡ values
-  -- the row has integers in the columns of the key
+  -- a row of these values, with any rowid `n`, has integers in the columns of the key
   pub ints : (n : ℤ) → AreInts places (Int n ∷ values)
   -- the column at the index `hole` is the one after the values, which is the rowid of the row to change
   pub aimed : (x : Value) (more : Row) → column (values ++ x ∷ more) hole ≡ x
-  -- the UPDATE of a row with the same key makes a row that shows the values
+  -- of a row with the key of these values, the UPDATE makes a row of which SQL shows these values
   pub changed : (more r : Row) → at_places places r ≡ take (length places) values
       → visible t (cast_row t (eval_all project ((values ++ more) ∷ r ∷ []))) ≡ values
 

@@ -27,11 +27,11 @@ use Rattle.atl_sql.proofs.Terms.{cast_null, cast_int}
 
 -- the three parts whose key is several numbers: those of the tables `has`, `books` and `market`
 data Keyed : Type 0 where
-  -- the items and skills of units, in `has`
+  -- the part in the table `has`: the items and skills of units
   InHas : Keyed
-  -- the amounts of the books, in `books`
+  -- the part in the table `books`: the amounts of the books
   InBooks : Keyed
-  -- the stocks of markets, in `market`
+  -- the part in the table `market`: the stocks of markets
   InMarket : Keyed
 
 -- the part that has `has`, `books` or `market` as its table
@@ -81,7 +81,8 @@ key_is k = record { ours = listed (part_of k); place = λ more. refl; plain = λ
 abbrev given : ℕ → List Term
 given width = lit Null ∷ map (col 0) (range_with_len 0 width)
 
--- the terms of the UPDATE: the row that is there keeps its key, and takes over the parameters in its other columns
+-- the terms of the UPDATE of a row of `width` columns: it keeps the first `key`, its key, and takes the parameters for
+-- the others
 abbrev taken_over : ℕ → ℕ → List Term
 taken_over key width = map (col 1) (range_with_len 0 (key + 1)) ++ map (col 0) (range_with_len key (width - key))
 

@@ -75,9 +75,9 @@ without_drops (i ∷ ids) rows r h id (inr later) = without_drops ids (without_r
 
 -- the rowids in `found` are exactly those of the rows that pass the test `p`
 pub record AreFound (p : Row → Bool) (rows found : List Row) : Type 0 where
-  -- each rowid that was found is that of a row that passes the test
+  -- each rowid in `found` is that of one of `rows` that passes the test `p`
   pub sound : (x : Row) → Has found x → (r : Row) × Has rows r × (p r ≡ true) × (x ≡ rowid r ∷ [])
-  -- the rowid of each row that passes the test was found
+  -- the rowid of each of `rows` that passes the test `p` is in `found`
   pub complete : (r : Row) → Has rows r → p r ≡ true → Has found (rowid r ∷ [])
 
 -- the rowid of a row of a table is an integer, if the rowids of all its rows are
@@ -85,7 +85,7 @@ pub is_int_at : (rows : List Row) (r : Row) → AllByRecursion (λ r. is_int (ro
 is_int_at rows r ints h = int_is (rowid r) (all_has _ rows r ints h)
 
 module _ (p : Row → Bool) (rows found : List Row) (keyed : AreKeyedByRowid rows) (are : AreFound p rows found) where
-  -- a row that fails the test stays when the rows with the found rowids are removed
+  -- a row that fails the test `p` stays when the rows whose rowids are in `found` (`AreFound`) are removed
   pub stays : (r : Row) → Has rows r → p r ≡ false → Has (without_all rows (ids_of found)) r
   stays r h fails = without_keeps (ids_of found) rows r h (λ id there.
       let it = map_has (λ r. id_in (rowid r)) found id there in
@@ -97,7 +97,7 @@ module _ (p : Row → Bool) (rows found : List Row) (keyed : AreKeyedByRowid row
         | inr apart ↦ apart
       ])
 
-  -- a row that is left when the rows with the found rowids are removed was there, and fails the test
+  -- a row that is left when the rows whose rowids are in `found` are removed was there, and fails the test `p`
   pub was_there : (r : Row) → Has (without_all rows (ids_of found)) r → Has rows r × (p r ≡ false)
   was_there r h =
       let was = without_all_has (ids_of found) rows r h in (
@@ -127,7 +127,7 @@ apart_put : (new : Row) (rows : List Row) → IsAscending (λ a b. is_eq (value_
 apart_put new [] apart free = (tt, tt)
 apart_put new (r ∷ rows) apart free = go (value_cmp (rowid r) (rowid new)) refl (apart_put new rows apart.1 (or_parts _ _ free).1)
   where
-    -- no row of the table has the new row's rowid
+    -- for `apart_put`: no row of the table, which is `r ∷ rows`, has the rowid of the row `new`
     untaken : (x : Row) → Has (r ∷ rows) x → is_eq (value_cmp (rowid new) (rowid x)) ≡ false
     untaken x there = elim (cases_Bool (is_eq (value_cmp (rowid new) (rowid x)))) [
       | inl same ↦ absurd (true≢false (sym (some_from (λ r. is_eq (value_cmp (rowid r) (rowid new))) (r ∷ rows) x there (eq_sym _ _ same)) ∙ free))

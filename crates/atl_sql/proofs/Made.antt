@@ -15,9 +15,9 @@ pub record Makes (schema : Schema) (table : Table) (old new : Database) (S : Set
   pub schema_is : new.schema ≡ schema
   -- after the write the rows of this table are exactly those of the set `S`
   pub rows : Is (rows_in table new.trees) S
-  -- each table of the schema that has another tree holds what it held
+  -- each table of the schema with another tree than `table` holds after the write what it held before
   pub others : (t : Table) → Has schema.tables t → t.tree ≢ table.tree → new.trees t.tree ≡ old.trees t.tree
-  -- the trees obey the schema, and rowids of the ten tables are integers, no two alike (`IsSoundDatabase`)
+  -- the trees list the schema, their rows keep its rules, and rowids of the ten tables are integers, no two alike
   pub sound : IsSoundDatabase schema new.trees
 
 -- a CREATE TABLE turned the schema `before` into `after`, with one table more, without rows; the others are unchanged
@@ -26,9 +26,9 @@ pub record Creates (before after : Schema) (tree : ℕ) (old new : Database) : T
   pub schema_is : new.schema ≡ after
   -- the new table has no row
   pub empty : new.trees tree ≡ []
-  -- each table of the schema `before` holds what it held
+  -- each table of the schema `before` holds after the CREATE TABLE what it held before
   pub others : (t : Table) → Has before.tables t → new.trees t.tree ≡ old.trees t.tree
-  -- the trees and the schema fit each other (`IsDatabase`)
+  -- after the CREATE TABLE the trees list the schema, and their rows keep its rules (`IsDatabase`)
   pub sound : IsDatabase new
 
 -- the database has this schema, and each of its tables is empty

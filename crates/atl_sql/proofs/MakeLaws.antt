@@ -152,7 +152,7 @@ module _ (schema : Schema) (among : (u : Table) → Has all_tables u → Has sch
     upserts_sound (inl put_in) sound base is = stays_sound old next sound base is put_in.1.keyed put_in.1.others
     upserts_sound (inr over) sound base is = stays_sound old next sound base is over.3.keyed over.3.others
 
-    -- an upsert leaves each other table as it was
+    -- an upsert of the table `t` leaves each table of the schema with another tree as it was
     pub upserts_others : Upserted schema t unlinked limit params target place project plain new old.trees next.trees → (u : Table) → Has schema.tables u → u.tree ≢ t.tree → next.trees u.tree ≡ old.trees u.tree
     upserts_others (inl put_in) = put_in.1.others
     upserts_others (inr over) = over.3.others

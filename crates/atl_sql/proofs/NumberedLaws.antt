@@ -72,7 +72,7 @@ module _ (tree : ℕ) (name key_name : List ℕ) (columns : List Column) (unique
   abbrev width : ℕ
   width = length columns
 
-  -- the table: the row's number as its key, and then these columns
+  -- the table whose first column, its key, is the row's number, and whose other columns are `columns`
   abbrev t : Table
   t = table tree name (number key_name ∷ columns) (Some 0) (0 ∷ []) uniques []
 

@@ -14,7 +14,7 @@ use Rattle.atl_sql.proofs.CarryLaws.{carries_then, carries_none}
 pub record Towards (table : Table) (key : ℕ) (rest all : List Row) (old now : Database) : Type 0 where
   -- putting the rows `rest` into the table now gives the same set as putting all rows into the table as it was before
   pub rows : (r : Row) → puts key rest (Has (rows_in table now.trees)) r ↔ puts key all (Has (rows_in table old.trees)) r
-  -- each other table of a campaign is as it was
+  -- each table of a campaign but `table` holds now what it held before
   pub others : (t : Table) → Has all_tables t → t.tree ≢ table.tree → now.trees t.tree ≡ old.trees t.tree
 
 -- putting the same rows into two sets with the same rows gives two sets with the same rows
@@ -25,12 +25,12 @@ puts_same key (new ∷ news) S T same r = puts_same key news (put key new S) (pu
   λ h. elim h [ inl is ↦ inl is | inr was ↦ inr ((same x).1 was.0, was.1) ],
 )) r
 
--- putting the rows of two lists joined puts those of one and then those of the other
+-- a row that is in a set once `xs` and `ys` joined are put into it is in it once `xs` and then `ys` are put
 puts_append : (key : ℕ) (xs ys : List Row) (S : Set) (r : Row) → puts key (xs ++ ys) S r → puts key ys (puts key xs S) r
 puts_append key [] ys S r h = h
 puts_append key (x ∷ xs) ys S r h = puts_append key xs ys (put key x S) r h
 
--- putting the rows of one list and then those of the other puts those of both joined
+-- a row that is in a set once `xs` and then `ys` are put into it is in it once both lists joined are put
 append_puts : (key : ℕ) (xs ys : List Row) (S : Set) (r : Row) → puts key ys (puts key xs S) r → puts key (xs ++ ys) S r
 append_puts key [] ys S r h = h
 append_puts key (x ∷ xs) ys S r h = append_puts key xs ys (put key x S) r h

@@ -22,7 +22,7 @@ only_one [] x d least most is same = absurd (omega (arith, least))
 only_one (y ∷ []) x d least most is same = ap (λ z. z ∷ []) (sym is ∙ same)
 only_one (y ∷ z ∷ xs) x d least most is same = absurd (omega (arith, most))
 
--- a test for the index name that ends in the byte 49 is one for the name that the database makes, with the number 1
+-- a test for an index whose name ends in the byte 49 is one for an index whose name ends in the number 1 (`decimal 1`)
 pub named : (name : List ℕ) (tree table : ℕ) (key : List ℕ) (found : Index) (r : Bool)
     → Decides r (found ≡ record { name = codes "sqlite_autoindex_" ++ (name ++ (codes "_" ++ 49 ∷ [])); tree = tree; table = table; columns = key; order = plain; is_unique = true })
     → Decides r (found ≡ record { name = codes "sqlite_autoindex_" ++ (name ++ (codes "_" ++ decimal 1)); tree = tree; table = table; columns = key; order = plain; is_unique = true })

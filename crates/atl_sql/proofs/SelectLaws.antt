@@ -67,7 +67,7 @@ key_of part = 1
 
 -- ---- a SELECT of all rows
 
--- the SELECT of a part means, whatever other tables follow: its columns (`columns_of`) of all rows, in the key's order
+-- the SELECT of a part means its columns (`columns_of`) of all rows, in the key's order, whatever other tables follow
 -- The rows of its listing are just these.
 record IsMeant (part : Part) : Type 0 where
   -- the text means the query of the part's columns (`columns_of`) of all rows of its table, in the order of the key

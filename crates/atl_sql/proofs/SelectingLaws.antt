@@ -85,7 +85,7 @@ module _ {S : Type 0} (g : Ghosts S) (sql : List ℕ) (old begun mid end : Held 
     idle = ended;
   }
 
-  -- inside a transaction a SELECT is never too late (`IsTooLate`): one that is refused failed as a query
+  -- a SELECT that is refused inside the transaction failed as a query, not since no transaction was open (`IsTooLate`)
   not_late : (e : Error) → FailsToQuery sql [] (state g begun) (state g mid) e ⊎ IsTooLate sql [] (state g begun) (state g mid) e → FailsToQuery sql [] (state g begun) (state g mid) e
   not_late e (inl failed) = failed
   not_late e (inr late) = absurd (let no = sym begun_inside ∙ late.3 in cc)

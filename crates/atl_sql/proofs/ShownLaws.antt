@@ -33,7 +33,7 @@ other_only e is = elim (is_memory e) as (λ b. (if b then Memory else OtherType)
 pub refuses_row : (forms : List Form) (rows : List Row) (at : ℕ) (row : Row) (e : Error) → at < length rows → row ≡ get_or rows at row → (IsTrue (not (is_memory e)) → ¬ IsTyped forms row) → value_fault e ≡ OtherType → ¬ AreTyped forms rows
 refuses_row forms rows at row e within is refused told typed = refused (other_only e told) (typed row (has_at rows at row within is))
 
--- rows whose values are of their columns' forms, and one such row more, are such rows together (`AreTyped`)
+-- if the values of `rows` and of one row more are of their columns' forms, so are those of all together (`AreTyped`)
 typed_more : (forms : List Form) (rows more : List Row) (row : Row) → more ≡ rows ++ row ∷ [] → AreTyped forms rows → IsTyped forms row → AreTyped forms more
 typed_more forms rows more row is before typed r there = elim (has_either rows (row ∷ []) r (subst (λ l. Has l r) is there)) [
   | inl one ↦ before r one
@@ -44,7 +44,7 @@ typed_more forms rows more row is before typed r there = elim (has_either rows (
 pub typed_next : (forms : List Form) (rows : List Row) (at : ℕ) (row : Row) → at < length rows → row ≡ get_or rows at row → AreTyped forms (take at rows) → IsTyped forms row → AreTyped forms (take (at + 1) rows)
 typed_next forms rows at row within is = typed_more forms (take at rows) (take (at + 1) rows) row (take_more rows at row within ∙ ap (λ r. take at rows ++ r ∷ []) (sym is))
 
--- values read of the first `at` rows, and then that of the next row, are those of the first `at + 1` rows
+-- values read of the first `at` rows, with that of the next row at their end, are those of the first `at + 1` rows
 pub mapped_next : {A : Type 0} (shown : A → Row) (cut : Row → Row) (all more : List A) (a : A) (rows : List Row) (at : ℕ) (row : Row) → at < length rows → row ≡ get_or rows at row → more ≡ all ++ a ∷ [] → map shown all ≡ map cut (take at rows) → shown a ≡ cut row
     → map shown more ≡ map cut (take (at + 1) rows)
 mapped_next shown cut all more a rows at row within is more_is same one =

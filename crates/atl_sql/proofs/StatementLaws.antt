@@ -51,7 +51,7 @@ module _ (schema : Schema) (tree : ℕ) (name : List ℕ) (columns : List Column
   abbrev t : Table
   t = table tree name columns key primary uniques checks
 
-  -- the row that INSERT OR REPLACE stores for the values that are given
+  -- for values (second argument), the row that INSERT OR REPLACE stores if the trees are the given ones (first one)
   abbrev pub made : Trees → Row → Row
   made db src = with_rowid Chosen (db tree) (cast_row t (mended Replace t src))
 
@@ -86,7 +86,7 @@ module _ (schema : Schema) (tree : ℕ) (name : List ℕ) (columns : List Column
 
   -- ---- INSERT .. ON CONFLICT DO UPDATE
 
-  -- the row that an upsert would insert for the values that are given
+  -- for values (second argument), the row that an upsert would insert if the trees are the given ones (first one)
   abbrev pub made_up : Trees → Row → Row
   made_up db src = with_rowid Chosen (db tree) (cast_row t src)
 
@@ -95,7 +95,7 @@ module _ (schema : Schema) (tree : ℕ) (name : List ℕ) (columns : List Column
     abbrev q : Program
     q = record { lets = []; body = update_query tree hole project }
 
-    -- an upsert put this row, or changed the row with its key
+    -- from the old trees to the new ones, an upsert put this row, or changed the row with its key
     abbrev Changed : Row → Trees → Trees → Type 0
     Changed new db next = Upserted schema t unlinked limit params target hole project plain new db next
 

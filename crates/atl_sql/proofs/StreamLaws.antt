@@ -93,7 +93,7 @@ map_at_end f (y ∷ xs) x = ap (λ ys. f y ∷ ys) (map_at_end f xs x)
 
 -- a query is running, has given the rows `given`, and changed nothing
 pub record IsGiving {S : Type 0} (g : Ghosts S) (sql : List ℕ) (old : Held S) (given : List Row) (now : Held S) : Type 0 where
-  -- the connection is in no transaction
+  -- the connection on which the query runs is in no transaction
   pub idle : now.in_transaction ≡ false
   -- the query has so far done what `Survives` says, with nothing committed: a crash leaves only what it could before
   pub survives : Survives (state g old) (state g now) (λ _. ⊥)
@@ -167,7 +167,7 @@ module _ {S : Type 0} (g : Ghosts S) (sql : List ℕ) (old : Held S) where
         idle = idle giving.idle;
       }
 
-      -- the values read, with that of the next row, are those of the rows given, with the next row
+      -- if the values read are those of the rows given, they still are once the next row is given and its value is read
       pub read_more : (old_items new_items : List A) (row : Row) → map shown old_items ≡ map (first_columns (length forms)) given → AddsRow forms shown old_items row new_items → map shown new_items ≡ map (first_columns (length forms)) (given ++ row ∷ [])
       read_more old_items new_items row read adds =
           ap (map shown) adds.1 ∙ map_at_end shown old_items adds.0 ∙ ap (λ rs. rs ++ shown adds.0 ∷ []) read ∙ ap (λ r. map (first_columns (length forms)) given ++ r ∷ []) adds.2 ∙ sym (map_at_end (first_columns (length forms)) given row)
@@ -228,14 +228,14 @@ module _ {S A Z : Type 0} (g : Ghosts S) (sql : List ℕ) (old : Held S) (forms 
     idle = reads.idle;
   }
     where
-      -- the disk was clean before the second read, if it is clean after it
+      -- for `read_again`: the disk was clean between the two reads, if it is clean after the second
       before : HasCleanDisk (state g new) → HasCleanDisk (state g mid)
       before clean = omega (arith, reads.survives.clean, clean)
 
-      -- rows that the SELECT shows after the first read are rows that it shows of the tables before that read
+      -- for `read_again`: rows that the SELECT shows between the two reads are rows that it shows before the first
       selects : HasCleanDisk (state g new) → (rows : List Row) → Selects g sql mid rows → Selects g sql old rows
       selects clean rows told = (told.0, told.1, asked_then (state g old) (state g mid) (state g told.0) (streams.same (before clean)) told.2, told.3)
 
-      -- a fault with which the SELECT is refused after the first read is one with which it is refused before that read
+      -- for `read_again`: a fault of refusing the SELECT between the reads is one of refusing it before the first
       refuses : HasCleanDisk (state g new) → (fault : ReadFault) → RefusesToSelect g sql mid fault → RefusesToSelect g sql old fault
       refuses clean fault told = (told.0, told.1, told.2, asked_then (state g old) (state g mid) (state g told.0) (streams.same (before clean)) told.3, told.4, told.5)

@@ -109,7 +109,7 @@ differ_not (Blob x) b p q h = absurd (true≢false (sym p))
 
 -- ---- the query of the update: the one row that has the rowid
 
--- the query of an upsert's UPDATE: the row with the rowid in column `place` of the parameters, and the values to set
+-- the query of an upsert's UPDATE: the row of the tree with the rowid in column `place` of the parameters, what to set
 abbrev pub update_query : ℕ → ℕ → List Term → Query
 update_query tree place project = record (delete_query tree (op2 (Compare Eq Binary) (col 1 0) (col 0 place) ∷ [])) { project = col 1 0 ∷ project }
 
@@ -132,7 +132,7 @@ module _ (p : Row → Bool) (f : Row → Env) where
       let rest : chosen rows ≡ [] = none_chosen rows (λ y h. is y (inr h) ∙ miss y h) in
       rw (hit, rest, e) refl
     where
-      -- no later row has the rowid of the first row, which is the one that was asked for
+      -- for `one_chosen`, where the row asked for is the first of the list: no later row has its rowid
       miss : (y : Row) → Has rows y → is_eq (value_cmp (rowid y) (rowid r)) ≡ false
       miss y h = elim (cases_Bool (is_eq (value_cmp (rowid y) (rowid r)))) [
         | inl same ↦ absurd (true≢false (sym (eq_sym _ _ same) ∙ ap (λ z. is_eq (value_cmp (rowid z) (rowid y))) e ∙ all_has _ rows y apart.0 h))
@@ -176,15 +176,15 @@ module _ (schema : Schema) (t : Table) (unlinked : (olds news : List Row) → wo
   abbrev q : Program
   q = record { lets = []; body = update_query t.tree place project }
 
-  -- whether a row of the table has the key of the new row
+  -- whether a row of the table (the second argument) has the key of the new row (the first)
   abbrev pub hits : Row → Row → Bool
   hits new r = conflicts (Some target) schema.indexes t new r
 
-  -- what the update reads: the parameters, the rowid of the row that is there, and the new row
+  -- what the UPDATE reads for a new row and the row that is there: the parameters, the latter's rowid, and the new row
   abbrev pub given : Row → Row → Row
   given new r = params ++ rowid r ∷ shown t new
 
-  -- after an upsert the new row was put, or the row with its key was changed
+  -- from the old trees to the new ones, an upsert put this new row, or changed the row with its key
   abbrev pub Upserted : Row → Trees → Trees → Type 0
   Upserted new db next =
       (((r : Row) → Has (db t.tree) r → hits new r ≡ false) × Swaps schema t (hits new) (cast_row t new) db next)

@@ -41,7 +41,7 @@ module _ {S : Type 0} (g : Ghosts S) where
   -- ---- one statement
 
   module _ (old new : MutBor (Held S)) (sql : List ℕ) (params : Row) (same : new.ghost_name ≡ old.ghost_name) (survives : Survives (state g old.now) (state g new.now) (λ _. ⊥)) where
-    -- if the connection is outside a transaction, the statement is refused with TransactionState, and nothing changes
+    -- if no transaction had begun, the statement's result is the error TransactionState, and nothing changed
     abbrev Ended : Result ℕ Error → Type 0
     Ended r = (state g old.now).in_transaction ≡ false → (r ≡ Err (SqliteFailure TransactionState)) × (new.now ≡ old.now)
 

@@ -33,7 +33,7 @@ IsGiven own e before after = ((sql : List ℕ) × (params : Row) × own sql para
 abbrev pub IsBroken : State → State → Type 0
 IsBroken old new = MoreFaults old.faults new.faults ⊎ (old.is_open ≡ false)
 
--- a cause of an error: the call was refused, since something is too big, or it changed nothing
+-- a cause of the error of a call: the error says that something is too big, or the call changed nothing
 abbrev pub IsRefused : Error → State → State → Type 0
 IsRefused e before after = (e ≡ SqliteFailure TooBig) ⊎ IsUnchanged before after
 
@@ -42,15 +42,15 @@ IsRefused e before after = (e ≡ SqliteFailure TooBig) ⊎ IsUnchanged before a
 pub record Gives {S : Type 0} (g : Ghosts S) (own : Statements) (e : Error) (old new : Held S) : Type 0 where
   -- the connection before the call that gave the error
   pub before : Held S
-  -- the connection after that call
+  -- the connection after the call that gave the error
   pub after : Held S
   -- from the beginning of the transaction to the call that gave the error, only statements of `own` ran
   pub reached : IsReached g own (record old { in_transaction = true }) before
   -- nothing was committed before the call that gave the error
   pub kept : KeepsCommit (state g old) (state g before)
-  -- that call is a statement of `own`, or the commit, and ended with the error
+  -- the call that gave the error is a statement of `own`, or the commit, and ended with this error
   pub given : IsGiven own e (state g before) (state g after)
-  -- an error other than lack of memory comes of a broken disk or connection, or of a refusal of that call
+  -- an error other than lack of memory comes of a broken disk or connection, or the call that gave it was refused
   pub cause : is_memory e ≡ false → IsBroken (state g old) (state g new) ⊎ IsRefused e (state g before) (state g after)
 
 -- the fault is the one that `fault_of` makes of an error that a transaction of statements of `own` gave (`Gives`)

@@ -10,11 +10,11 @@ use Rattle.sqlite_trees.specs.Tree.{Trees}
 use Rattle.atl_sql.specs.Sets.{Set, Is, rows_in, put, puts, drop_key}
 use Rattle.atl_sql.specs.Tables.{Part, table_of, no_tables, all_tables, all_trees, HasAll, IsSoundDatabase}
 
--- the schema begins with the tables of a campaign, and the trees list and obey it (`IsSoundDatabase`)
+-- the schema begins with the tables of a campaign, and the trees are sound under it (`IsSoundDatabase`)
 pub record HasTables (db : Database) : Type 0 where
   -- the schema begins with the tables of a campaign
   pub begins : HasAll db.schema
-  -- the trees list the schema and obey it, and the rowids in the ten tables are integers, no two alike
+  -- the trees list the schema, their rows keep its rules, and rowids of the ten tables are integers, no two alike
   pub sound : IsSoundDatabase db.schema db.trees
 
 -- the database has no table, no index and no view
@@ -51,14 +51,14 @@ Both First Second old new = (mid : Database) × First old mid × Second mid new
 pub record Alters (table : Table) (S : Set) (old new : Database) : Type 0 where
   -- the rows of the table are exactly those of the set `S`
   pub rows : Is (rows_in table new.trees) S
-  -- each other table of a campaign is as it was
+  -- each table of a campaign but `table` holds what it held before
   pub others : (t : Table) → Has all_tables t → t.tree ≢ table.tree → new.trees t.tree ≡ old.trees t.tree
 
 -- The rows of each of these parts become what `Becomes` says, and the tables of all other parts are as they were.
 pub record Changes (Becomes : Part → List Row → List Row → Type 0) (parts : List Part) (old new : Database) : Type 0 where
   -- the rows of each of these parts become what `Becomes` says
   pub done : (part : Part) → Has parts part → Becomes part (rows_in (table_of part) old.trees) (rows_in (table_of part) new.trees)
-  -- the tables of all other parts are as they were
+  -- the tables of all parts that are not in the list `parts` are as they were
   pub others : (part : Part) → ¬ Has parts part → new.trees (table_of part).tree ≡ old.trees (table_of part).tree
 
 -- `Does` is done for each part of the list, one after another
@@ -74,7 +74,7 @@ Puts table key row old new = Alters table (put key row (Has (rows_in table old.t
 abbrev pub Drops : Table → ℕ → Row → Database → Database → Type 0
 Drops table key k old new = Alters table (drop_key key k (Has (rows_in table old.trees))) old new
 
--- all these rows are put into the table (`Puts`), one after another
+-- all these rows are put, one after another, into the table, whose key is its first `key` columns (`Puts`)
 abbrev pub PutsRows : Table → ℕ → List Row → Database → Database → Type 0
 PutsRows table key news old new = Alters table (puts key news (Has (rows_in table old.trees))) old new
 
@@ -85,9 +85,9 @@ pub record Commits (Before : Database → Type 0) (Does : Database → Database 
   pub does : Before old.now → Done Does old.now new.now
   -- all that the tables hold is committed
   pub committed : new.committed ≡ new.now
-  -- the connection is in no transaction
+  -- afterwards the connection is in no transaction
   pub idle : new.in_transaction ≡ false
-  -- the connection is open
+  -- afterwards the connection is open
   pub is_open : IsTrue new.is_open
 
 -- A transaction that failed: while the connection is open, its tables are those of the last commit before.
@@ -97,7 +97,7 @@ pub record LeavesOff (old new : State) : Type 0 where
   pub was_open : IsTrue new.is_open → IsTrue old.is_open
   -- while the connection is open, its tables are those of the last commit before, and nothing was committed
   pub undone : IsTrue new.is_open → (new.now ≡ old.committed) × (new.committed ≡ old.committed)
-  -- the connection is in no transaction
+  -- afterwards the connection is in no transaction
   pub idle : new.in_transaction ≡ false
 
 -- what a crash may leave besides what it could have left before: the trees of a database to which `Does` was done,

@@ -13,23 +13,23 @@ use Rattle.atl_sql.specs.declared.rows.has.ThingKind.TheVariants.{Item, Skill}
 use Rattle.atl_sql.specs.Tables.{Part, Own, Factions, Regions, Units, Goods, Structures, Mail, Reports, Books, Markets}
 use Rattle.atl_sql.specs.Written.{sort_number}
 
--- whether the first column of a row is a natural number for which `is_so` holds
+-- whether the first column of a row is a natural number for which the test `is_so`, the first argument, is true
 abbrev pub begins : (ℕ → Bool) → Row → Bool
 begins is_so (Int (pos n) ∷ row) = is_so n
 begins is_so row = false
 
--- whether `is_so` holds of the entry and the thing of a row of `books`
+-- whether the test `is_so`, the first argument, is true of the entry and the thing of a row of `books`
 -- The entry is given by its index, the first column less 1; the thing by its number, the second column.
 abbrev pub accounts : (ℕ → ℕ → Bool) → Row → Bool
 accounts is_so (Int (pos (suc entry)) ∷ Int (pos thing) ∷ row) = is_so entry thing
 accounts is_so row = false
 
--- whether a row of `has` is of this kind (item or skill) and `is_so` holds of its unit and its item or skill
+-- whether a row of `has` is of this kind (item or skill), and the test `is_so` is true of its unit and item or skill
 abbrev pub of_kind : ThingKind → (ℕ → ℕ → Bool) → Row → Bool
 of_kind sort is_so (Int (pos unit) ∷ Int (pos number) ∷ Int (pos thing) ∷ row) = number == sort_number sort && is_so unit thing
 of_kind sort is_so row = false
 
--- whether `is_so` holds of the region and the item of a row of `market`
+-- whether the test `is_so`, the first argument, is true of the region and the item of a row of `market`
 abbrev pub of_stock : (ℕ → ℕ → Bool) → Row → Bool
 of_stock is_so (Int (pos region) ∷ Int (pos item) ∷ row) = is_so region item
 of_stock is_so row = false

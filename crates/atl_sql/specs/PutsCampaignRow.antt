@@ -14,6 +14,6 @@ pub record PutsCampaignRow (head : CampaignRowValue) (world : List ℕ) (old new
   -- a campaign row that is there becomes the row of the values `head`, with its own world text
   pub again : (before : CampaignRowValue) (text : List ℕ) → Is (rows_in campaign_table old.trees) (λ r. r ≡ campaign_row before text) → Puts campaign_table 1 (campaign_row head text) old new
 
--- if the campaign row was that of the first format, with any world text, it becomes that of the second with this text
+-- a campaign row of the values `head`, in the first format, with any world text, becomes that of the second with `text`
 abbrev pub UpgradesCampaignRow : CampaignRowValue → List ℕ → Database → Database → Type 0
 UpgradesCampaignRow head text old new = (before : List ℕ) → Is (rows_in campaign_table old.trees) (λ r. r ≡ campaign_row_in First head before) → Puts campaign_table 1 (campaign_row head text) old new

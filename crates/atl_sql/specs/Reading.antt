@@ -55,7 +55,7 @@ module _ {S : Type 0} (g : Ghosts S) (sql : List ℕ) (old : Held S) where
     pub rows : HasCleanDisk (state g new) → IfOk result (λ rows. Selects rows.items)
     -- Err has the fault of the SELECT's refusal.
     pub refused : HasCleanDisk (state g new) → IfErr result RefusesToSelect
-    -- Nothing is changed (`Rests`).
+    -- On a clean disk an open connection was open before, with its tables as they were or as last committed (`Rests`).
     pub rests : HasCleanDisk (state g new) → Rests (state g old) (state g new)
     -- On a clean disk a crash leaves only what it could have left before, and only a failure closes the connection.
     -- A disk in doubt stays so, no failure is forgotten, and shield and step limit stay (`Survives`).
@@ -72,9 +72,9 @@ module _ {S : Type 0} (g : Ghosts S) (sql : List ℕ) (old : Held S) where
     pub other : HasCleanDisk (state g new) → IfErr result (λ fault. fault ≡ OtherType → (rows : List Row) × Selects rows × ¬ AreTyped forms rows)
     -- A fault other than OtherType and Memory is that of the SELECT's refusal.
     pub refused : HasCleanDisk (state g new) → IfErr result (λ fault. fault ≢ OtherType → fault ≢ Memory → RefusesToSelect fault)
-    -- Memory is returned only if the SELECT is refused for lack of memory, or is answered and its rows may lack memory.
+    -- Memory is returned only if the SELECT is refused for lack of memory, or shows rows, for which memory may run out.
     pub memory : HasCleanDisk (state g new) → IfErr result (λ fault. fault ≡ Memory → RefusesToSelect Memory ⊎ ((rows : List Row) × Selects rows))
-    -- Nothing is changed (`Rests`).
+    -- On a clean disk an open connection was open before, with its tables as they were or as last committed (`Rests`).
     pub rests : HasCleanDisk (state g new) → Rests (state g old) (state g new)
     -- On a clean disk a crash leaves only what it could have left before, and only a failure closes the connection.
     -- A disk in doubt stays so, no failure is forgotten, and shield and step limit stay (`Survives`).
@@ -91,7 +91,7 @@ module _ {S : Type 0} (g : Ghosts S) (sql : List ℕ) (old : Held S) where
     pub refused : HasCleanDisk (state g new) → IfErr result RefusesToSelect
     -- After Ok the connection has the same tables and step limit (`IsAsked`), so the SELECT can be asked again.
     pub same : HasCleanDisk (state g new) → OnOk result (IsAsked (state g old) (state g new))
-    -- Nothing is changed (`Rests`).
+    -- On a clean disk an open connection was open before, with its tables as they were or as last committed (`Rests`).
     pub rests : HasCleanDisk (state g new) → Rests (state g old) (state g new)
     -- On a clean disk a crash leaves only what it could have left before, and only a failure closes the connection.
     -- A disk in doubt stays so, no failure is forgotten, and shield and step limit stay (`Survives`).
@@ -120,7 +120,7 @@ pub record PartSelect : Type 0 where
   pub since : Format
   -- the names of the columns that the SELECT shows
   pub names : List (List ℕ)
-  -- the text of the SELECT
+  -- the text of the SELECT that reads the part
   pub select : List ℕ
   -- the rows that the SELECT shows, computed from the trees
   pub in_table : Trees → List Row

@@ -31,7 +31,7 @@ abbrev pub equations : ℕ → List (List ℕ) → List (List ℕ)
 equations n [] = []
 equations n (name ∷ more) = (name ++ codes " = " ++ parameter n) ∷ equations (n + 1) more
 
--- the text of the INSERT of a row that, where its key is there, sets the other columns of the row that has it
+-- the text of the INSERT of a row; where a row has its key, the first `key` columns, it sets that row's other columns
 abbrev pub upsert : Table → ℕ → List ℕ
 upsert t key =
     codes "INSERT INTO " ++ t.name ++ codes " (" ++ comma_list (column_names t) ++ codes ") VALUES (" ++ comma_list (map parameter (range_with_len 1 (length t.columns)))
@@ -41,15 +41,15 @@ upsert t key =
 abbrev pub deletion : Table → ℕ → List ℕ
 deletion t key = codes "DELETE FROM " ++ t.name ++ codes " WHERE " ++ separated (codes " AND ") (equations 1 (take key (column_names t)))
 
--- the SELECT that shows the columns `names` of all rows of a table, in the order of the key
+-- the SELECT that shows the columns `names` of all rows of a table, in the order of its key, the first `key` columns
 abbrev pub selection_of : List (List ℕ) → Table → ℕ → List ℕ
 selection_of names t key = codes "SELECT " ++ comma_list names ++ codes " FROM " ++ t.name ++ codes " ORDER BY " ++ comma_list (take key (column_names t))
 
--- the SELECT that shows all columns of all rows of a table, in the order of the key
+-- the SELECT that shows all columns of all rows of a table, in the order of its key, the first `key` columns
 abbrev pub selection : Table → ℕ → List ℕ
 selection t key = selection_of (column_names t) t key
 
--- the SELECT that shows all columns of all rows of a table, and the rowid as a last column, in the order of the key
+-- the SELECT that shows all columns of all rows of a table, and then the rowid, in the order of the first `key` columns
 abbrev pub selection_with_ids : Table → ℕ → List ℕ
 selection_with_ids t key = selection_of (column_names t ++ codes "rowid" ∷ []) t key
 

@@ -98,25 +98,25 @@ market_table = table 12 (codes "market") (number (codes "region") ∷ number (co
 
 -- the parts of a campaign, one for each table: `Own` is the campaign row, `Goods` what units have, `Markets` the stocks
 pub data Part : Type 0 where
-  -- the campaign row, in the table `campaign`
+  -- the part in the table `campaign`: the campaign row
   Own : Part
-  -- the factions, in `faction`
+  -- the part in the table `faction`: the factions
   Factions : Part
-  -- the regions, in `region`
+  -- the part in the table `region`: the regions
   Regions : Part
-  -- the units, in `unit`
+  -- the part in the table `unit`: the units
   Units : Part
-  -- the items and skills of units, in `has`
+  -- the part in the table `has`: the items and skills of units
   Goods : Part
-  -- the structures, in `structure`
+  -- the part in the table `structure`: the structures
   Structures : Part
-  -- the mailings, in `mail`
+  -- the part in the table `mail`: the mailings
   Mail : Part
-  -- the last reports, in `report`
+  -- the part in the table `report`: the last report of each faction
   Reports : Part
-  -- the amounts of the books, in `books`
+  -- the part in the table `books`: the amounts of the books
   Books : Part
-  -- the stocks of markets, in `market`
+  -- the part in the table `market`: the stocks of markets
   Markets : Part
 
 -- the table of a part
@@ -202,7 +202,7 @@ pub record AreTables (count : ℕ) (all : List Table) : Type 0 where
   pub others : List Table
   -- the list is the first `count` of the ten tables, and then the others
   pub is : all ≡ take count all_tables ++ others
-  -- none of the others has a foreign key
+  -- none of the tables after the first `count` has a foreign key
   pub free : AllByRecursion (λ t. t.references ≡ []) others
 
 -- The list `all` is the first `keys` of the four indexes, and then others,
@@ -212,15 +212,15 @@ pub record AreIndexes (count keys : ℕ) (all : List Index) : Type 0 where
   pub others : List Index
   -- the list is the first `keys` of the four indexes, and then the others
   pub is : all ≡ take keys all_indexes ++ others
-  -- none of the others makes anything unique in the first `count` tables
+  -- none of the indexes after the first `keys` makes anything unique in the first `count` tables
   pub plain : AllByRecursion (IsHarmless count) others
 
 -- The schema is the first `count` tables and `keys` indexes, then tables without a foreign key and indexes that make
 -- nothing unique in the first `count` tables; and there is no view.
 pub record Begins (count keys : ℕ) (schema : Schema) : Type 0 where
-  -- the tables after the first `count`
+  -- the schema's tables after the first `count`
   pub tables : List Table
-  -- the indexes after the first `keys`
+  -- the schema's indexes after the first `keys`
   pub indexes : List Index
   -- the schema is the first `count` tables and `keys` indexes, and then these tables and indexes
   pub is : schema ≡ first_and count keys tables indexes
@@ -274,9 +274,10 @@ HasAll = Begins table_count index_count
 abbrev pub all_trees : List ℕ
 all_trees = map (λ t. t.tree) all_tables
 
--- The trees list the schema and obey it (`IsSound`). In each of the ten tables the rowids are integers, no two alike.
+-- The trees list what the schema has, and their rows keep its rules (`IsSound`).
+-- In each of the ten tables the rowids are integers, no two alike.
 pub record IsSoundDatabase (schema : Schema) (db : Trees) : Type 0 where
   -- in each of the ten tables the rowids are integers, no two alike
   pub keyed : (table : Table) → Has all_tables table → AreKeyedByRowid (db table.tree)
-  -- the trees list the schema and obey it
+  -- the trees list what the schema has, and their rows keep its rules (`IsSound`)
   pub listed : IsSound schema db

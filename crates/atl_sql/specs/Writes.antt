@@ -44,7 +44,7 @@ WritesRow g table key row result old new = Writes g (Only (upsert table key) row
 abbrev pub TakesOut : {S A : Type 0} → Ghosts S → Table → ℕ → Row → Result A Error → MutBor (Held S) → MutBor (Held S) → Type 0
 TakesOut g table key k result old new = Writes g (Only (deletion table key) k) (Inside HasTables (Drops table key k)) result old new
 
--- A step of a transaction that puts all these rows into the table, one after another.
+-- A step of a transaction that puts these rows one after another into the table, whose key is its first `key` columns.
 abbrev pub WritesRows : {S A : Type 0} → Ghosts S → Table → ℕ → List Row → Result A Error → MutBor (Held S) → MutBor (Held S) → Type 0
 WritesRows g table key rows result old new = Writes g (Each (upsert table key) (Has rows)) (Inside HasTables (PutsRows table key rows)) result old new
 

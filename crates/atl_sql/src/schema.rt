@@ -60,7 +60,7 @@ fn begins(schema: &Schema, tables: usize, keys: usize) -> bool
 }
 
 /// Whether the schema begins with a format's tables and their indexes, has after them only tables
-/// without a foreign key and indexes that make nothing unique in the format's, and has no view.
+/// without a foreign key and indexes that make nothing unique in the first ones, and has no view.
 pub fn has_tables_of(schema: &Schema, format: Format) -> bool
     ensures { IsTrue result ↔ (HasTablesOf format schema.now) }
 {

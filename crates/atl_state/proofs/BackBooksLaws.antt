@@ -27,12 +27,12 @@ use Rattle.atl_campaign.proofs.HasLaws.{same}
 
 -- ---- each row
 
--- if P holds for the row of each account (an entry and a thing) in a list with its amount, it holds for all of its rows
+-- if P holds for the row of each account and amount of a list, it holds for each of the list's rows (`amounts_rows`)
 rows_each : (P : StoredBooks → Type 0) (es : List (Account × ℤ)) → AllByRecursion (λ x. P (books_row x.0.0 x.0.1 x.1)) es → AllByRecursion P (amounts_rows es)
 rows_each P [] h = tt
 rows_each P (x ∷ es) h = (h.0, rows_each P es h.1)
 
--- if P holds for all rows of a list of accounts (an entry and a thing) with amounts, it holds for the row of each
+-- if P holds for each row of a list of accounts and amounts (`amounts_rows`), it holds for the row of each account
 each_row : (P : StoredBooks → Type 0) (es : List (Account × ℤ)) → AllByRecursion P (amounts_rows es) → AllByRecursion (λ x. P (books_row x.0.0 x.0.1 x.1)) es
 each_row P [] h = tt
 each_row P (x ∷ es) h = (h.0, each_row P es h.1)

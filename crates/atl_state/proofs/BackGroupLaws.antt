@@ -29,12 +29,12 @@ module _ {X R : Type 0} (P : R → Type 0) (f : X → List R) where
 -- ---- the rows of all groups
 
 module _ {U R : Type 0} (f : ℕ × U → List R) (P : R → Type 0) where
-  -- from EachOf (over number n and value u) to all entries as pairs: P holds for all rows that f makes of an entry
+  -- if P holds of all rows that f makes of number n and value u of each entry (`EachOf`), it does of those of each pair
   of_each : (es : List (ℕ × U)) → EachOf (λ n u. AllByRecursion P (f (n, u))) es → AllByRecursion (λ e. AllByRecursion P (f e)) es
   of_each [] h = tt
   of_each (e ∷ es) h = (h.0, of_each es h.1)
 
-  -- from all entries as pairs to EachOf (over number n and value u): P holds for all rows that f makes of an entry
+  -- if P holds of all rows that f makes of each pair e, it does of those of number n and value u of each (`EachOf`)
   each_of : (es : List (ℕ × U)) → AllByRecursion (λ e. AllByRecursion P (f e)) es → EachOf (λ n u. AllByRecursion P (f (n, u))) es
   each_of [] h = tt
   each_of (e ∷ es) h = (h.0, each_of es h.1)
@@ -73,7 +73,8 @@ module _ {R : Type 0} (thing amount : R → ℕ) (mine : R → Bool) (m : FinMap
   abbrev IsIn : FinMap nat_cmp ℕ → R → Type 0
   IsIn k r = get k (thing r) ≡ Some (amount r)
 
-  -- a map is read back from rows of distinct things that are all in the map, if each amount of the map has a row
+  -- the map `m` is read back from the rows that pass the test `mine`, if these have distinct things and amounts that m
+  -- has too, and each amount of m has such a row
   pub amounts_back : Apart thing (filter mine rows) → AllByRecursion (λ r. mine r ≡ true → IsIn m r) listed
       → ((P : R → Type 0) → AllByRecursion (λ r. mine r ≡ true → P r) listed → Every (λ i a. (r : R) × (thing r ≡ i) × (amount r ≡ a) × P r) m) → by_number thing amount (filter mine rows) ≡ m
   amounts_back apart of there =

@@ -110,9 +110,9 @@ module _ (units : FinMap nat_cmp Unit) where
 
     -- unit k and sort s are unit n and sort `sort`: k is n, and s is `sort`
     record Of (n sort k s : ℕ) : Type 0 where
-      -- the unit k is n
+      -- the numbers of the two units, k and n, are equal
       unit : k ≡ n
-      -- the sort s is `sort`
+      -- the two sorts, s and `sort`, are equal
       kind : s ≡ sort
 
     -- if a row of unit k and sort s is read as of unit n and sort `sort`, k is n and s is `sort`

@@ -56,7 +56,7 @@ one_amount books a z none some =
 pub record IsBooked (things : ℕ) (r : StoredBooks) : Type 0 where
   -- the account, which is an entry and a thing, that the row is read as
   pub account : Account
-  -- the row written for the account and the row's amount is the row
+  -- r is the row that is written for the account with the amount that r has
   pub row : books_row account.0 account.1 r.amount ≡ r
   -- the row's entry is read as that of the account
   pub named : entry_numbered (as_u32 r.entry) ≡ Some account.0
@@ -115,7 +115,7 @@ accounts_apart things r s h k differ =
       | inr apart ↦ apart
     ]
 
--- the books have no amount yet for the account of a row, if it is read as one (IsBooked)
+-- if a row is read as an account (IsBooked), the books have no amount yet for this account
 abbrev IsFree : ℕ → BooksValue → StoredBooks → Type 0
 IsFree things books r = (h : IsBooked things r) → get books.amounts h.account ≡ None
 

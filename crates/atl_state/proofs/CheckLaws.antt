@@ -78,7 +78,7 @@ module _ (f : Format) (w : WorldValue) (p : Parts) where
   pub below_first : KeepsRulesBelow f w p 1
   below_first r h = absurd (omega (arith, from_one r))
 
-  -- if the rules below r and r itself are kept, all rules below the next number are
+  -- if r and all rules with lower numbers are kept, all rules below the number after that of r are
   pub below_next : (r : Rule) → KeepsRulesBelow f w p (rule_number r) → KeepsRule f w p r → KeepsRulesBelow f w p (rule_number r + 1)
   below_next r before holds s h =
       elim (cases_eq (rule_number s) (rule_number r)) [

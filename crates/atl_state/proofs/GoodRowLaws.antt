@@ -133,19 +133,19 @@ unit_back has n u few h items days =
 -- ---- a table with a key of one number
 
 module _ {V R : Type 0} (row : ℕ → V → R) (key : R → ℤ) (value : R → V) (keyed : (n : ℕ) (v : V) → key (row n v) ≡ pos n) (m : FinMap nat_cmp V) (few : Every (λ n v. n ≤ most_u32) m) (rows : List R) (h : IsPermutation (rows_by row (entries m)) rows) where
-  -- if number n is below k, the rows made for n and k have different keys
+  -- if number n is below k, the rows that `row` makes for n and for k have different keys
   apart : (n k : ℕ) (v u : V) → n < k → same (one_key (key (row n v))) (one_key (key (row k u))) ≡ false
   apart n k v u l = ap (λ z. same (one_key z) (one_key (key (row k u)))) (keyed n v) ∙ ap (λ z. same (one_key (pos n)) (one_key z)) (keyed k u) ∙ apart_numbers n k l
 
-  -- the rows of a map, in any order, have distinct keys
+  -- the rows that `row` makes of the numbers and values of the map `m`, in any order, have distinct keys
   pub table_keys : HaveKeys (λ r. one_key (key r)) rows
   table_keys = keys_permuted (λ r. one_key (key r)) (rows_by row (entries m)) rows h (rows_apart row (λ a b. same (one_key (key a)) (one_key (key b))) apart (entries m) (entries_rise m))
 
-  -- the keys of a map's rows, in any order, are read as they are: they fit 32 bits
+  -- the keys of the rows that `row` makes of the map `m`, in any order, fit 32 bits, so they are read as they are
   whole : AllByRecursion (λ r. IsWhole (key r)) rows
   whole = rows_so row (λ r. IsWhole (key r)) m rows h (λ n v is. subst IsWhole (sym (keyed n v)) (written_whole n (few n v is)))
 
-  -- the rows of a map, in any order, make that map again, if each value is read back from its row
+  -- the map `m` is read back from its rows, made by `row`, in any order, if each value is read back from its own row
   pub table_back : Every (λ n v. value (row n v) ≡ v) m → by_number (λ r. as_u32 (key r)) value rows ≡ m
   table_back back =
       map_back row (λ r. as_u32 (key r)) value m rows h (λ n v is. (ap as_u32 (keyed n v) ∙ read_whole n (few n v is), back n v is))
@@ -181,7 +181,8 @@ structure_small_enough w world s k r d o =
     let size = small_size w world s.kind in
     record { kind = omega (arith, k, kinds); region = omega (arith, r); done = omega (arith, d, size); owner = omega (arith, o) }
 
--- a unit's items and skills have numbers of 32 bits, and amounts from 1 to most_u32, if all are within their limits
+-- a unit's items and skills have numbers of 32 bits, and amounts from 1 to most_u32, if all are the world's, and its
+-- men, its amounts of items and its days of skills are within their limits
 few_goods : (w : WorldValue) → IsWorld w → (u : Unit) → Every (λ i a. i < length w.items) u.holding.items → Every (λ i a. i < length w.skills) u.holding.days → AreAmounts u.holding.items → u.holding.men ≤ men_limit
     → Every (λ i a. (1 ≤ a) × (a ≤ most_days * u.holding.men)) u.holding.days → (s : ℕ) → s < 2 → Every (λ i a. (i ≤ most_u32) × (1 ≤ a) × (a ≤ most_u32)) (goods_of s u)
 few_goods w world u items skills amounts men days zero l i a is =
@@ -272,7 +273,7 @@ module _ (w : WorldValue) (world : IsWorld w) (c : CampaignValue) (good : IsGood
   }
 
   module _ (f : Format) (fits : Fits f c) (p : Parts) (rows : AreRowsOf f c p) where
-    -- the rows of `campaign` are, in some order, the list of the good campaign's campaign row alone
+    -- the rows of `campaign` are a permutation of a list of one row, the campaign row of the good campaign
     head_listed : IsPermutation (campaign_row f c ∷ []) p.campaign
     unfolding rows_of
     head_listed = rows.campaign
@@ -322,7 +323,7 @@ module _ (w : WorldValue) (world : IsWorld w) (c : CampaignValue) (good : IsGood
     unfolding rows_of
     markets_listed = rows.markets
 
-    -- the rows of `campaign` are the campaign row of the good campaign alone
+    -- the table `campaign` has just one row, the campaign row of the good campaign
     pub its_head : p.campaign ≡ campaign_row f c ∷ []
     its_head = only_row (campaign_row f c) p.campaign head_listed
 

@@ -105,7 +105,7 @@ named_apart (e ∷ es) h = (others_named e.1 es h.0, named_apart es h.1)
 text_symm : (a b : List ℕ) → same_text a b ≡ same_text b a
 text_symm = (eq_by_cmp_equiv nat_list_cmp_total).symm
 
--- the campaign row of a campaign in a format, alone, passes is_one_campaign_row
+-- a list of one row, the campaign row of a campaign c in the format f, passes is_one_campaign_row
 head_true : (f : Format) (c : CampaignValue) → is_one_campaign_row f (campaign_row f c ∷ []) ≡ true
 head_true First c = refl
 head_true Second c = refl

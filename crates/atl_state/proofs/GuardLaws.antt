@@ -103,7 +103,7 @@ module _ (faction : ℕ → Option ℕ) where
   abbrev Fits : Option ℕ → List ℕ → Type 0
   Fits holder ns = (n x y : ℕ) → In n ns → faction n ≡ Some x → holder ≡ Some y → x ≡ y
 
-  -- if a list is Alike and Fits a holder, its rest Fits that holder, or the first number's faction if there is none
+  -- if the list `m ∷ ms` is Alike and Fits a holder, `ms` Fits that holder, or m's faction if there is no holder
   fits_on : (holder : Option ℕ) (m : ℕ) (ms : List ℕ) → Alike (m ∷ ms) → Fits holder (m ∷ ms) → Fits (option_or holder (faction m)) ms
   fits_on None m ms same fits n x y mine is first = same n m x y (inr mine) (inl refl) is first
   fits_on (Some z) m ms same fits n x y mine is held = fits n x y (inr mine) is held

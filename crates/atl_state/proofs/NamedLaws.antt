@@ -51,11 +51,11 @@ module _ (m : FinMap nat_cmp Faction) where
   abbrev number : StoredFaction → ℕ
   number r = as_u32 r.number
 
-  -- the map has under the row's number the faction of the row
+  -- the map `m` of factions has, under the number of a row, the faction that is read from the row
   abbrev Found : StoredFaction → Type 0
   Found r = get m (number r) ≡ Some (faction_of r)
 
-  -- if a row is `Found`, it has the joined name of the faction that the map has under the row's number
+  -- a row that is `Found` has the joined name of the faction that the map `m` has under the row's number
   its_name : (r : StoredFaction) (n : ℕ) (f : Faction) → Found r → number r ≡ n → get m n ≡ Some f → r.joined_as ≡ f.joined_as
   its_name r n f found e is = ap (λ (x : Faction). x.joined_as) (some_same (faction_of r) f (sym found ∙ ap (get m) e ∙ is))
 
@@ -70,7 +70,7 @@ module _ (m : FinMap nat_cmp Faction) where
   clash : (a b : List ℕ) → a ≡ b → same_text a b ≡ false → ⊥
   clash a b e d = false≢true (sym (ap (same_text a) e ∙ d) ∙ text_itself a)
 
-  -- two factions with the same joined name have the same number, if the rows' joined names differ
+  -- two factions of the map `m` with the same joined name have the same number, if the rows' joined names differ
   one_name : (rows : List StoredFaction) (n k : ℕ) (f g : Faction) → AreJoinedNamesDistinct rows → AllByRecursion Found rows → HasNumber number rows n → HasNumber number rows k → get m n ≡ Some f → get m k ≡ Some g → f.joined_as ≡ g.joined_as → n ≡ k
   unfolding IsDistinct
   one_name [] n k f g d all a b is at e = absurd a
@@ -90,12 +90,12 @@ is_in bound (negsuc n) h = let most : suc n ≤ bound = from_le (suc n) bound h 
 abbrev AreBelow : ℕ → BooksValue → Type 0
 AreBelow bound books = (e : Entry) (t : Thing) → IsWithin bound (amount_in books e t)
 
--- all amounts of books that are from -bound to bound stay so once such an amount is set
+-- if the amounts of books and an amount z are from -bound to bound, so are those of the books once z is set
 below-with : (bound : ℕ) (books : BooksValue) (e : Entry) (t : Thing) (z : ℤ) → IsWithin bound z → AreBelow bound books → AreBelow bound (with_amount books e t z)
 below-with bound books e t z here old f u =
     subst (IsWithin bound) (sym (amount-with_amount books e t z f u)) (elim (eq_by_cmp account_cmp (f, u) (e, t)) as (λ b. IsWithin bound (cond b z (amount_in books f u))) [ true ↦ here | false ↦ old f u ])
 
--- all amounts of books that are from -bound to bound stay so once rows with such amounts are read
+-- if the amounts of books and of rows are from -bound to bound, so are those of the books once the rows are put in
 below-put : (things bound : ℕ) (rows : List StoredBooks) (books : BooksValue) → AreBooks things books → AllByRecursion (IsBooked things) rows → AllByRecursion (λ r. IsWithin bound r.amount) rows → AreBelow bound books → AreBelow bound (put_amounts rows books)
 below-put things bound [] books are booked here old = old
 below-put things bound (r ∷ rows) books are booked here old =

@@ -65,7 +65,7 @@ whole16 : (z : ℤ) → as_u16 z < most_u16 → z ≡ pos (as_u16 z)
 whole16 (pos n) h = ap pos (sym (min_less n most_u16 h))
 whole16 (negsuc n) h = absurd (omega arith)
 
--- a flag of a row that is 0 or 1 is the number that is written for the flag read
+-- if a row's number for a flag is 0 or 1, writing the flag that is read from it gives this number again
 flag_whole : (z : ℤ) → is_from 0 1 z ≡ true → flag (is_set z) ≡ z
 flag_whole (pos zero) h = refl
 flag_whole (pos (suc zero)) h = refl
@@ -92,9 +92,9 @@ none_or_below m (suc n) most every there = there_below m (suc n) most every (the
 pub record RowsKeep (f : Format) (w : WorldValue) (p : Parts) : Type 0 where
   -- the world keeps the rules of worlds (`IsWorld`)
   pub world : IsWorld w
-  -- rule 1: there is one campaign row, of the format
+  -- rule 1: there is exactly one campaign row, with the id 1 and the number of the format
   pub one : is_one_campaign_row f p.campaign ≡ true
-  -- rule 1: the rows of `market` are such as the format may have
+  -- rule 1: there are only rows of `market` that the format may have: in the first none, in the second any
   pub format : are_of_format f p.markets ≡ true
   -- rule 2: keys differ, and numbers are in their ranges
   pub range : AreRowsInRange w p
@@ -179,7 +179,7 @@ small_size w world kind = size_small (slice_get w.kinds kind) (λ x is. (world.k
 
 -- ---- markets
 
--- a market that is found is in a region of the world
+-- if looking up region n, and then item i in it, finds a market, that region and that market are in the map
 market_there : (regions : FinMap nat_cmp RegionPlan) (i : ℕ) (n : ℕ) (o : Option RegionPlan) → get regions n ≡ o → is_some (option_and_then (λ (q : RegionPlan). get q.markets i) o) ≡ true → (q : RegionPlan) × (m : Market) × (get regions n ≡ Some q) × (get q.markets i ≡ Some m)
 market_there regions i n None is e = absurd (false≢true e)
 market_there regions i n (Some q) is e = let found = some_there (get q.markets i) e in (q, found.0, is, found.1)
@@ -223,7 +223,7 @@ module _ (f : Format) (w : WorldValue) (p : Parts) (k : RowsKeep f w p) where
   pub factions_apart : Apart (λ r. as_u32 r.number) p.factions
   factions_apart = Apart-keys faction_key (λ r. as_u32 r.number) same (λ r. IsWhole r.number) (λ r s. one_apart r.number s.number) p.factions (each_passes faction_in_range (λ r. IsWhole r.number) (λ r h. (faction_number r h).0) p.factions ranges.factions) k.range.keys.factions
 
-  -- the numbers of the factions assembled are at most last_faction
+  -- the numbers of the factions assembled from the rows are at most last_faction
   few_factions : Every (λ n f. n ≤ last_faction) (by_number (λ r. as_u32 r.number) faction_of p.factions)
   few_factions = by_number-every (λ r. as_u32 r.number) faction_of (λ n f. n ≤ last_faction) faction_in_range (λ r h. (faction_number r h).1) p.factions ranges.factions
 
@@ -238,7 +238,7 @@ module _ (f : Format) (w : WorldValue) (p : Parts) (k : RowsKeep f w p) where
   factions_said = rows_order (λ r. as_u32 r.number) faction_of faction_row p.factions factions_apart (each_passes faction_in_range (λ r. faction_row (as_u32 r.number) (faction_of r) ≡ r) same_faction p.factions ranges.factions)
 
   -- ---- regions
-  -- the numbers of the regions assembled are at most last_region
+  -- the numbers of the regions assembled from the rows are at most last_region
   few_regions : (n : ℕ) → IsThere (by_number (λ r. as_u32 r.number) (region_of p.markets) p.regions) n → n ≤ last_region
   unfolding campaign_of
   few_regions n there = let known = (k.known.regions n).0 there in (k.world.regions n known.0 known.1).number_most
@@ -276,7 +276,7 @@ module _ (f : Format) (w : WorldValue) (p : Parts) (k : RowsKeep f w p) where
   units_apart : Apart (λ r. as_u32 r.number) p.units
   units_apart = Apart-keys unit_key (λ r. as_u32 r.number) same (λ r. IsWhole r.number) (λ r s. one_apart r.number s.number) p.units (each_passes unit_in_range (λ r. IsWhole r.number) (λ r h. (unit_number r h).0) p.units ranges.units) k.range.keys.units
 
-  -- the numbers of the units assembled are at most last_unit
+  -- the numbers of the units assembled from the rows are at most last_unit
   few_units : Every (λ n u. n ≤ last_unit) (by_number (λ r. as_u32 r.number) (unit_of p.has) p.units)
   few_units = by_number-every (λ r. as_u32 r.number) (unit_of p.has) (λ n u. n ≤ last_unit) unit_in_range (λ r h. (unit_number r h).1) p.units ranges.units
 
@@ -290,7 +290,7 @@ module _ (f : Format) (w : WorldValue) (p : Parts) (k : RowsKeep f w p) where
       Apart-keys structure_key (λ r. as_u32 r.number) same (λ r. IsWhole r.number) (λ r s. one_apart r.number s.number) p.structures (each_passes (structure_in_range w) (λ r. IsWhole r.number) (λ r h. (structure_number r h).0) p.structures ranges.structures)
       k.range.keys.structures
 
-  -- the numbers of the structures assembled are at most most_structures
+  -- the numbers of the structures assembled from the rows are at most most_structures
   few_structures : Every (λ n s. n ≤ most_structures) (by_number (λ r. as_u32 r.number) structure_of p.structures)
   few_structures = by_number-every (λ r. as_u32 r.number) structure_of (λ n s. n ≤ most_structures) (structure_in_range w) (λ r h. (structure_number r h).1) p.structures ranges.structures
 
@@ -409,7 +409,7 @@ module _ (f : Format) (w : WorldValue) (p : Parts) (k : RowsKeep f w p) where
   their_days : Every (λ n u. u.holding.days ≡ things_had n 1 p.has) units
   their_days = by_number-every (λ r. as_u32 r.number) (unit_of p.has) (λ n u. u.holding.days ≡ things_had n 1 p.has) unit_in_range (λ r h. refl) p.units ranges.units
 
-  -- the men of a unit assembled are at most men_limit
+  -- the men of each unit assembled from the rows are at most men_limit
   their_men : Every (λ n u. u.holding.men ≤ men_limit) units
   their_men = by_number-every (λ r. as_u32 r.number) (unit_of p.has) (λ n u. u.holding.men ≤ men_limit) unit_in_range (λ r h. (in_range 1 men_limit most_u32 r.men (omega arith) (unit_ranges r h).men).1) p.units ranges.units
 
@@ -427,7 +427,7 @@ module _ (f : Format) (w : WorldValue) (p : Parts) (k : RowsKeep f w p) where
   unfolding campaign_of
   held_units = each_passes (is_of_unit (campaign_of w p)) (λ h. IsThere units (as_u32 h.unit)) (λ h e. some_there (get units (as_u32 h.unit)) e) p.has k.held
 
-  -- the number of a thing that a unit assembled has is below most_u32
+  -- the number of an item or skill that a unit assembled from the rows has is below most_u32
   few_things : (n sort thing : ℕ) → IsThere units n → (sort ≡ 1) ⊎ (sort ≡ 0) → IsThere (things_had n sort p.has) thing → thing < most_u32
   unfolding campaign_of
   few_things n sort thing there (inl skill) (v, is) =
@@ -448,7 +448,7 @@ module _ (f : Format) (w : WorldValue) (p : Parts) (k : RowsKeep f w p) where
   either_sort h (inl skill) = inl skill
   either_sort h (inr item) = inr item.0
 
-  -- the unit, sort and thing of a row of `has` in range, whose unit exists, fit 32 bits (HasWholeKey)
+  -- unit, sort and thing of a row of `has` fit 32 bits, if its unit exists, it is in range, and its thing is there
   keyed : (h : StoredHas) → (IsThere units (as_u32 h.unit)) × (has_in_range h ≡ true) → ((n : ℕ) → (sort : ℕ) → is_of n sort h ≡ true → ThingThere n sort h) → HasWholeKey h
   keyed h (there, range) thing =
       let unit_few = there_below units (as_u32 h.unit) last_unit few_units there in
@@ -477,7 +477,7 @@ module _ (f : Format) (w : WorldValue) (p : Parts) (k : RowsKeep f w p) where
   all_found = all_forall (λ n h. (sort : ℕ) → is_of n sort h ≡ true → IsFound n sort h) p.has (λ n. all_forall (λ sort h. is_of n sort h ≡ true → IsFound n sort h) p.has (λ sort.
       unkept (is_of n sort) (IsFound n sort) p.has (rows_found (λ h. as_u32 h.thing) (λ h. as_u32 h.amount) (filter (is_of n sort) p.has) (things_apart n sort p.has all_keyed k.range.keys.has))))
 
-  -- the amount of a row of `has` fits 32 bits (IsWhole) and is not 0
+  -- the amount of a row of `has` fits 32 bits and isn't 0, if its unit exists, it is in range (SortOf), and it IsFound
   exact_of : (h : StoredHas) → IsThere units (as_u32 h.unit) → SortOf h → ((n : ℕ) → (sort : ℕ) → is_of n sort h ≡ true → IsFound n sort h) → IsWhole h.amount × (is_zero h.amount ≡ false)
   unfolding campaign_of
   exact_of h there (inl skill) found =
@@ -495,7 +495,7 @@ module _ (f : Format) (w : WorldValue) (p : Parts) (k : RowsKeep f w p) where
   abbrev KeyedPlaced : StoredHas → Type 0
   KeyedPlaced h = HasWholeKey h × Placed h
 
-  -- the unit, sort, thing and amount of a row of `has` fit 32 bits, and the amount is not 0 (IsExact)
+  -- a row of `has` that is KeyedPlaced and IsFound is exact (IsExact): its numbers fit 32 bits, its amount is not 0
   exact : (h : StoredHas) → KeyedPlaced h → ((n : ℕ) → (sort : ℕ) → is_of n sort h ≡ true → IsFound n sort h) → IsExact h
   exact h (keys, (there, range)) found = let amount = exact_of h there (sort_of h range).1 found in record { keys = keys; amount = amount.0; some = amount.1 }
 
@@ -521,7 +521,8 @@ module _ (f : Format) (w : WorldValue) (p : Parts) (k : RowsKeep f w p) where
   abbrev regions : FinMap nat_cmp Region
   regions = by_number (λ r. as_u32 r.number) (region_of p.markets) p.regions
 
-  -- the region, item and stock of a row of `market` in range fit 32 bits, and the stock is not 0 (IsExact)
+  -- a row of `market` that is of a market of the world, with its stock in range, is exact (IsExact): region, item and
+  -- stock fit 32 bits, and the stock is not 0
   exact_market : (m : StoredMarket) → is_of_market w m ≡ true → market_in_range w m ≡ true → market.IsExact m
   exact_market m named range =
       let found = market_there w.regions (as_u32 m.item) (as_u32 m.region) (get w.regions (as_u32 m.region)) refl named in

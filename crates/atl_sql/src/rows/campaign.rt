@@ -105,7 +105,7 @@ impl Drop for StoredCampaign {
     }
 }
 
-/// A stored campaign row can be taken apart: its columns, without its world text.
+/// Lets a stored campaign row be read without its world text: the other columns remain.
 impl StoredCampaign {
     /// All columns of the row but the world text, which is dropped.
     pub fn into_campaign_row(self) -> StoredCampaignRow
@@ -169,7 +169,8 @@ impl HasSelect for StoredCampaign {
 
     ghost columns = { refl };
 
-    /// The first format, and the SELECT of all rows of `campaign`.
+    /// The first format, since files of both formats have the table, and the SELECT of all rows of
+    /// `campaign`.
     fn select_of() -> (Format, &'static str) {
         (Format::First, ALL)
     }

@@ -42,7 +42,7 @@ impl NumberedRow for Faction {
         campaign.marked_factions()
     }
 
-    /// The DELETE of the row of `faction` with a number.
+    /// The text of the DELETE of the row of `faction` with a given number.
     fn removal() -> &'static str {
         "DELETE FROM faction WHERE number = ?1"
     }
@@ -100,7 +100,8 @@ impl HasSelect for StoredFaction {
 
     ghost columns = { refl };
 
-    /// The first format, and the SELECT of all rows of `faction`.
+    /// The first format, since files of both formats have the table, and the SELECT of all rows of
+    /// `faction`.
     fn select_of() -> (Format, &'static str) {
         (
             Format::First,

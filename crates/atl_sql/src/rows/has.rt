@@ -111,7 +111,8 @@ impl HasSelect for RowWithId<StoredHas> {
 
     ghost columns = { refl };
 
-    /// The first format, and the SELECT of all rows of `has` with their rowids.
+    /// The first format, since files of both formats have the table, and the SELECT of all rows of
+    /// `has` with their rowids.
     fn select_of() -> (Format, &'static str) {
         (
             Format::First,

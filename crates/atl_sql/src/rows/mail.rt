@@ -59,7 +59,7 @@ impl NumberedRow for Sequence<u8> {
         campaign.marked_mail()
     }
 
-    /// The DELETE of the row of `mail` with a faction's number.
+    /// The text of the DELETE of the row of `mail` with a given faction's number.
     fn removal() -> &'static str {
         "DELETE FROM mail WHERE faction = ?1"
     }
@@ -98,7 +98,8 @@ impl HasSelect for StoredMail {
 
     ghost columns = { refl };
 
-    /// The first format, and the SELECT of all rows of `mail`.
+    /// The first format, since files of both formats have the table, and the SELECT of all rows of
+    /// `mail`.
     fn select_of() -> (Format, &'static str) {
         (
             Format::First,

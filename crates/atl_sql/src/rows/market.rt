@@ -78,7 +78,8 @@ impl HasSelect for RowWithId<StoredMarket> {
 
     ghost columns = { refl };
 
-    /// The second format, and the SELECT of all rows of `market` with their rowids.
+    /// The second format, since files of the first lack the table, and the SELECT of all rows of
+    /// `market` with their rowids.
     fn select_of() -> (Format, &'static str) {
         (
             Format::Second,

@@ -42,7 +42,7 @@ impl NumberedRow for Region {
         campaign.marked_regions()
     }
 
-    /// The DELETE of the row of `region` with a number.
+    /// The text of the DELETE of the row of `region` with a given number.
     fn removal() -> &'static str {
         "DELETE FROM region WHERE number = ?1"
     }
@@ -88,7 +88,8 @@ impl HasSelect for StoredRegion {
 
     ghost columns = { refl };
 
-    /// The first format, and the SELECT of all rows of `region`.
+    /// The first format, since files of both formats have the table, and the SELECT of all rows of
+    /// `region`.
     fn select_of() -> (Format, &'static str) {
         (
             Format::First,

@@ -41,7 +41,7 @@ impl NumberedRow for Text {
         campaign.marked_reports()
     }
 
-    /// The DELETE of the row of `report` with a faction's number.
+    /// The text of the DELETE of the row of `report` with a given faction's number.
     fn removal() -> &'static str {
         "DELETE FROM report WHERE faction = ?1"
     }
@@ -87,7 +87,8 @@ impl HasSelect for StoredReport {
 
     ghost columns = { refl };
 
-    /// The first format, and the SELECT of all rows of `report`.
+    /// The first format, since files of both formats have the table, and the SELECT of all rows of
+    /// `report`.
     fn select_of() -> (Format, &'static str) {
         (
             Format::First,

@@ -43,7 +43,7 @@ impl NumberedRow for Structure {
         campaign.marked_structures()
     }
 
-    /// The DELETE of the row of `structure` with a number.
+    /// The text of the DELETE of the row of `structure` with a given number.
     fn removal() -> &'static str {
         "DELETE FROM structure WHERE number = ?1"
     }
@@ -100,7 +100,8 @@ impl HasSelect for StoredStructure {
 
     ghost columns = { refl };
 
-    /// The first format, and the SELECT of all rows of `structure`.
+    /// The first format, since files of both formats have the table, and the SELECT of all rows of
+    /// `structure`.
     fn select_of() -> (Format, &'static str) {
         (
             Format::First,

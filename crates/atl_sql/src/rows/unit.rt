@@ -44,7 +44,7 @@ impl NumberedRow for Unit {
         campaign.marked_rows()
     }
 
-    /// The DELETE of the row of `unit` with a number.
+    /// The text of the DELETE of the row of `unit` with a given number.
     fn removal() -> &'static str {
         "DELETE FROM unit WHERE number = ?1"
     }
@@ -112,7 +112,8 @@ impl HasSelect for StoredUnit {
 
     ghost columns = { refl };
 
-    /// The first format, and the SELECT of all rows of `unit`.
+    /// The first format, since files of both formats have the table, and the SELECT of all rows of
+    /// `unit`.
     fn select_of() -> (Format, &'static str) {
         (
             Format::First,

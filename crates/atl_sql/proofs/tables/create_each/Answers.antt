@@ -9,7 +9,7 @@ use Rattle.atl_sql.proofs.tables.create_each.Goals as goal
 pub loop-table-init : goal.loop-table-init
 loop-table-init g c = begins g.S.Store makes_none
 
--- running the next text makes one table more, all empty (`MakesFirst`)
+-- running the next CREATE text makes one table more, and no table made so far has a row (`MakesFirst`)
 pub loop-table-preserved : goal.loop-table-preserved
 loop-table-preserved g c =
     let i = c.loop-table.table-index in

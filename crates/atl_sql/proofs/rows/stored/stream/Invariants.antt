@@ -7,7 +7,7 @@ use Rattle.atl_sql.proofs.rows.stored.stream.Given as goal
 -- the query is running and changed nothing, and the values read are those of the rows that it gave
 abbrev pub invariant-rows : goal.invariant-rows
 invariant-rows g l = record {
-  -- the rows are still lent by the same connection
+  -- the query that gives the rows borrows the same connection as before the loop
   lent : l.rows.conn.ghost_name ≡ l.initial.rows.conn.ghost_name;
   -- the rows that the query has given
   given : List Row;

@@ -7,7 +7,7 @@ use Rattle.atl_records.specs.declared.records.Unit.{Unit}
 use Rattle.atl_campaign.proofs.RuleLaws.{every_by_all}
 use Rattle.atl_state.proofs.rules.owners.are_with_owners.Goals as goal
 
--- the structure that a unit is inside, if it is there, has an owner
+-- if the structure that a unit is inside exists, it has an owner
 abbrev IsWithOwner : FinMap nat_cmp Structure → ℕ → Unit → Type 0
 IsWithOwner structures m u = (s : Structure) → get structures u.structure ≡ Some s → s.owner ≢ 0
 
