@@ -55,7 +55,8 @@ module _ (belongs_to : Unit → ℕ) where
   AreLists-kept units lists k u v is same old r =
       old r ∙ sym (numbers_where-insert_known (λ w. belongs_to w == r) units k u v is (ap (λ q. q == r) same))
 
-  -- lists with just the units of each key (AreLists), also u, have the others once u is taken out of its key's list
+  -- if lists have just the units of each key (AreLists), unit u among them, they have those without u once u is taken
+  -- out of the list of its key
   AreLists-undone : (units : FinMap nat_cmp Unit) (lists : FinMap nat_cmp (List ℕ)) (k : ℕ) (u : Unit) → get units k ≡ None → AreLists belongs_to (insert units k u) lists
       → AreLists belongs_to units (insert lists (belongs_to u) (take_number k (list_of lists (belongs_to u))))
   AreLists-undone units lists k u fresh old =
@@ -137,7 +138,7 @@ module _ (units : FinMap nat_cmp Unit) (lists : FinMap nat_cmp (List ℕ)) (are 
   outside : List ℕ
   outside = numbers_where (λ u. u.structure == 0) units
 
-  -- the lists by structure, with the units inside none under 0
+  -- the lists by structure, with the numbers of the units inside no structure (`outside`) under 0
   whole : FinMap nat_cmp (List ℕ)
   whole = insert lists 0 outside
 
@@ -146,7 +147,7 @@ module _ (units : FinMap nat_cmp Unit) (lists : FinMap nat_cmp (List ℕ)) (are 
   unfolding whole outside
   whole_listed = by_key lists 0 outside (λ r xs. xs ≡ numbers_where (λ u. u.structure == r) units) refl (λ r ne. rw (other_number r 0 (λ e. ne (sym e))) at (are r))
 
-  -- the lists by structure are those of `whole`, but with an empty list under 0
+  -- the lists by structure (`lists`) are those of `whole`, but under 0, where they have none (AreBare)
   whole_bare : AreBare lists whole
   unfolding whole
   whole_bare = by_key lists 0 outside (λ r xs. list_of lists r ≡ cond (r == 0) [] xs) (are 0) (λ r ne. rw (other_number r 0 (λ e. ne (sym e))) refl)
@@ -185,7 +186,7 @@ AreInsideLists-kept units lists n u v there same is =
 nobody_listed : (belongs_to : Unit → ℕ) → AreLists belongs_to empty empty
 nobody_listed belongs_to k = ap (λ o. unwrap_or o []) (get-empty nat_cmp k) ∙ sym (ap (λ es. map (λ e. e.0) (filter (λ e. belongs_to e.1 == k) es)) entries-empty)
 
--- an empty map of lists has the lists of an empty one, and an empty list under 0 (AreBare)
+-- for AreUnitLists-nobody: the empty map has the lists of the empty map, and none under 0 (AreBare)
 nobody_bare : AreBare empty empty
 nobody_bare k = elim (k == 0) as (λ b. list_of empty k ≡ cond b [] (list_of empty k)) [
   | true ↦ ap (λ o. unwrap_or o []) (get-empty nat_cmp k)

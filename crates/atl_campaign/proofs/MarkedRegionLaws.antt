@@ -29,7 +29,7 @@ marking regions marks n = record marks { numbers = marked_with marks.numbers n (
 within-none : AreStocksWithin set.empty set.empty empty
 within-none = record { stocks_within = λ q e. e; items_within = nothing }
   where
-    -- nothing is marked in an empty map of marks
+    -- for within-none: a number with marks in the empty map of marked things is in the empty set, as there is none
     nothing : (q : ℕ) → is_some (get {X = FinMap nat_cmp (Prim.Unit {0})} {R = nat_cmp} empty q) ≡ true → set.contains {R = nat_cmp} set.empty q ≡ true
     nothing q e = absurd (false≢true (sym (ap is_some (get-empty nat_cmp q)) ∙ e))
 

@@ -48,7 +48,7 @@ pub take_number-nil : (n : ℕ) → take_number n [] ≡ []
 unfolding take_number
 take_number-nil n = refl
 
--- a number is at most itself
+-- for taken_first: a number is at most itself (nat_le)
 itself : (n : ℕ) → nat_le n n ≡ true
 itself n = grind (arith, nat_tests)
 

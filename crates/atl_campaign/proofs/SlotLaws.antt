@@ -43,7 +43,7 @@ module _ {V : Type 0} where
   find_entry_step n q None rest h = absurd (false≢true h)
   find_entry_step n q (Some v) rest h = refl
 
-  -- the value in the slot that is chosen (`through`) is the choice between the values in the two slots
+  -- for find_lodged: the value in slot k or that in slot o (`through`), as b chooses, is the value in the chosen slot
   through_cond : (b : Bool) (s : slab.Slab V) (k : ℕ) (o : Option ℕ) → cond b (slab.get s k) (through s o) ≡ through s (cond b (Some k) o)
   through_cond true s k o = refl
   through_cond false s k o = refl
@@ -70,7 +70,7 @@ module _ {V : Type 0} where
   pub value_under : (i : FinMap nat_cmp ℕ) (s : slab.Slab V) (m : FinMap nat_cmp V) (n : ℕ) (o : Option ℕ) → HaveOwnSlots i s → values_of i s ≡ m → o ≡ get i n → through s o ≡ get m n
   value_under i s m n o held is there = ap (through s) there ∙ sym (get_values i s held n) ∙ ap (λ v. get v n) is
 
-  -- a slot in use is not empty
+  -- for leads_nowhere: what a slot holds, o, is not both a value and None
   empty_slot : (o : Option V) → is_some o ≡ true → o ≡ None → ⊥
   empty_slot None h e = false≢true h
   empty_slot (Some x) h e = some_none x e
@@ -84,7 +84,7 @@ module _ {V : Type 0} where
   pub unindexed : (i : FinMap nat_cmp ℕ) (s : slab.Slab V) (n : ℕ) → HaveOwnSlots i s → get (values_of i s) n ≡ None → get i n ≡ None
   unindexed i s n held h = leads_nowhere i s n (get i n) refl held (sym (get_values i s held n) ∙ h)
 
-  -- a slot in use is not a vacant one
+  -- slot j, which has a value, is not slot k, which has none
   vacant_slot : (s : slab.Slab V) (j k : ℕ) → j ≡ k → slab.get s k ≡ None → is_some (slab.get s j) ≡ true → ⊥
   vacant_slot s j k same vacant h = false≢true (sym (ap is_some (ap (slab.get s) same ∙ vacant)) ∙ h)
 

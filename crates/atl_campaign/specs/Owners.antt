@@ -18,7 +18,7 @@ first_other ns leaving = first_or_zero (filter (λ n. not (n == leaving)) ns)
 abbrev pub heir : CampaignValue → ℕ → ℕ → ℕ
 heir c s leaving = first_other (numbers_inside s c.units) leaving
 
--- the owner of structure s, which is given too, once unit `leaving` has left it; 0 if None is given, for no structure
+-- `owner_after` once structure s is looked up: its owner once unit `leaving` has left it; 0 if it is None
 abbrev pub owner_after_at : CampaignValue → ℕ → ℕ → Option Structure → ℕ
 owner_after_at c s leaving None = 0
 owner_after_at c s leaving (Some x) = if x.owner == leaving then heir c s leaving else x.owner

@@ -82,7 +82,7 @@ market_row region item stock = record { region = pos region; item = pos item; st
 abbrev pub rows_by : {V R : Type 0} → (ℕ → V → R) → List (ℕ × V) → List R
 rows_by row es = map (λ e. row e.0 e.1) es
 
--- a row for each of the given amounts that is not 0, in their order
+-- a row for each listed pair of a thing and its amount, in their order, but none that shows the amount 0
 abbrev pub amount_rows : {R : Type 0} → (R → ℤ) → (ℕ → ℕ → R) → List (ℕ × ℕ) → List R
 amount_rows amount row es = filter (λ r. not (is_zero (amount r))) (rows_by row es)
 
