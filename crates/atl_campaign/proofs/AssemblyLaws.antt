@@ -104,7 +104,8 @@ AreAmounts-insert m k v h old item amount e =
       | inr apart ↦ old item amount (sym (get_other m k item v apart) ∙ e)
     ]
 
--- a map's amounts still are from 1 to holding_limit (AreAmounts) once a row in range is put in, if of unit n's items
+-- a map's amounts still are from 1 to holding_limit (AreAmounts) once row r, which is in range, is put in if it is of
+-- unit n's items (b)
 chosen : (n : ℕ) (r : StoredHas) (m : FinMap nat_cmp ℕ) (b : Bool) → is_of n 0 r ≡ b → has_in_range r ≡ true → AreAmounts m → AreAmounts (cond b (insert m (thing_of r) (amount_of r)) m)
 chosen n r m true of h old = AreAmounts-insert m (thing_of r) (amount_of r) (amount_in_range n r h of) old
 chosen n r m false of h old = old
@@ -130,7 +131,7 @@ AreAmounts-had n rows h = put_in_range n rows empty h none_held
 
 -- ---- texts
 
--- a text that has the bytes `some`, if these are UTF-8, has the bytes `bytes`, if both are equal and `bytes` are UTF-8
+-- if what an Ok result holds is `some` once `some` is UTF-8, it is `bytes`, which is UTF-8 and equal to `some`
 pub IfOk-text : {E : Type 0} (r : Result (List ℕ) E) (some bytes : List ℕ) → some ≡ bytes → IsUtf8 bytes → IfOk r (λ made. IsUtf8 some → made ≡ some) → IfOk r (λ made. made ≡ bytes)
 IfOk-text (Ok made) some bytes e h f = f (subst IsUtf8 (sym e) h) ∙ e
 IfOk-text (Err x) some bytes e h f = tt

@@ -105,7 +105,8 @@ module _ (w : WorldValue) (c : CampaignValue) (n : ℕ) (u : Unit) (h : HoldingV
     posts = old.posts;
   }
 
-  -- with h held by unit n, factions and structures stay numbered without a gap, and units below the next unit number
+  -- with h held by unit n, factions and structures stay numbered without a gap, and units have numbers below the next
+  -- unit number (AreNumbered)
   pub next_kept : AreNumbered c → AreNumbered supplied
   next_kept old = record {
     factions = old.factions;

@@ -208,7 +208,8 @@ module _ (w : WorldValue) (name pass : List ℕ) (word : ℕ) (c : CampaignValue
         posts = posted-there (λ n. there-insert c.factions c.next_faction n member) old.posts;
       }
 
-  -- after a join, factions and structures are still numbered without a gap, and units below the next unit number
+  -- after a join, factions and structures are still numbered without a gap, and units have numbers below the next unit
+  -- number (AreNumbered)
   joined-next : AreNumbered c → AreNumbered (joined w name pass word c)
   unfolding joined
   joined-next old = record {

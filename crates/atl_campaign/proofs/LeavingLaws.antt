@@ -113,7 +113,8 @@ module _ (w : WorldValue) (c : CampaignValue) (n : ℕ) (u : Unit) (is : get c.u
           owner = λ some. let (v, here, inside) = (re.owned k x there).owned some in (v, here);
         }
 
-    -- once unit n is removed, factions and structures stay numbered without a gap, and units below the next unit number
+    -- once unit n is removed, factions and structures stay numbered without a gap, and units have numbers below the
+    -- next unit number (AreNumbered)
     next_left : AreNumbered c → AreNumbered after
     next_left old = record {
       factions = old.factions;
@@ -337,17 +338,17 @@ module _ (w : WorldValue) (c : CampaignValue) (n : ℕ) (u : Unit) (is : get c.u
 
   -- the campaign d has the units of c without n, and the factions, regions, books, month and reports of c
   pub record IsOnlyReduced (d : CampaignValue) : Type 0 where
-    -- the units of d are those of c without n
+    -- the campaign d has the units of c, but not unit n
     pub units : d.units ≡ remove c.units n
-    -- the factions of d are those of c
+    -- the campaign d has the factions of c, from which unit n was removed
     pub factions : d.factions ≡ c.factions
-    -- the regions of d are those of c
+    -- the campaign d has the regions of c, from which unit n was removed
     pub regions : d.regions ≡ c.regions
-    -- the books of d are those of c
+    -- the campaign d has the books of c, from which unit n was removed
     pub books : d.books ≡ c.books
-    -- the month of d is that of c
+    -- the campaign d has the month of c, from which unit n was removed
     pub month : d.month ≡ c.month
-    -- the reports of d are those of c
+    -- the campaign d has the reports of c, from which unit n was removed
     pub reports : d.reports ≡ c.reports
 
   -- removing unit n changes no faction, region, report or amount of the books, and not the month

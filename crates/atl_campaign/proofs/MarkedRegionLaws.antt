@@ -17,11 +17,11 @@ use Rattle.atl_campaign.proofs.UnitLaws.{within_both, within_more, within_things
 abbrev nothing_marked : ℕ → RoomySet
 nothing_marked room = record { numbers = set.empty; room = room }
 
--- the dirty set emptied, with the same room
+-- the given dirty set with no number left in it, and its room unchanged
 abbrev cleared : RoomySet → RoomySet
 cleared marks = record marks { numbers = set.empty }
 
--- the dirty set with region n added, if that region is there
+-- the given dirty set with region n added, if that region is there
 abbrev marking : FinMap nat_cmp Region → RoomySet → ℕ → RoomySet
 marking regions marks n = record marks { numbers = marked_with marks.numbers n (get regions n) }
 

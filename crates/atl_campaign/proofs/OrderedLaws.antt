@@ -16,7 +16,7 @@ use Rattle.atl_records.proofs.EveryLaws.{is_true, none_some}
 
 -- ---- put_number and take_number as recursions
 
--- n is put in front of a first element x if n is at most x (t), and else into the rest of the list
+-- for put_number-cons: n is put in front of a first element x if n is at most x (t), and else into the rest of the list
 put_step : (t : Bool) (n x : ℕ) (xs : List ℕ) → take (cond (not t) (1 + first_not_below n xs) 0) (x ∷ xs) ++ n ∷ drop (cond (not t) (1 + first_not_below n xs) 0) (x ∷ xs) ≡ cond t (n ∷ x ∷ xs) (x ∷ put_number n xs)
 unfolding put_number
 put_step true n x xs = refl
@@ -32,7 +32,8 @@ pub put_number-nil : (n : ℕ) → put_number n [] ≡ n ∷ []
 unfolding put_number
 put_number-nil n = refl
 
--- taking n out removes a first element x if n is at most x (t), and else takes n out of the rest of the list
+-- for take_number-cons: taking n out removes a first element x if n is at most x (t), and else takes n out of the rest
+-- of the list
 take_step : (t : Bool) (n x : ℕ) (xs : List ℕ) → remove (x ∷ xs) (cond (not t) (1 + first_not_below n xs) 0) ≡ cond t xs (x ∷ take_number n xs)
 unfolding take_number
 take_step true n x xs = refl
@@ -76,17 +77,18 @@ below k q h =
       | Greater ↦ λ e g. absurd (false≢true g)
     ] refl h
 
--- if n comes first once it is put into ys, it also does if x, which is greater, is in front of ys (where t is true)
+-- for put_first: if n comes first once it is put into ys, it also does if x, which is greater, is in front of ys (where
+-- t is true)
 first_holds : (n x : ℕ) (t : Bool) (xs ys : List ℕ) → n < x → put_number n ys ≡ n ∷ ys → put_number n (cond t (x ∷ ys) ys) ≡ n ∷ cond t (x ∷ ys) ys
 first_holds n x true xs ys l h = let e : nat_le n x ≡ true = grind (arith, nat_tests) in put_number-cons n x ys ∙ ap (λ b. cond b (n ∷ x ∷ ys) (x ∷ put_number n ys)) e
 first_holds n x false xs ys l h = h
 
--- putting n into a list leaves a lower number x in front, whether x is listed (t) or not
+-- for chosen-put_new: putting n into a list leaves a lower number x in front, whether x is listed (t) or not
 later_step : (n x : ℕ) (t : Bool) (ys zs : List ℕ) → x < n → zs ≡ put_number n ys → cond t (x ∷ zs) zs ≡ put_number n (cond t (x ∷ ys) ys)
 later_step n x true ys zs l h = let e : nat_le n x ≡ false = grind (arith, nat_tests) in ap (λ q. x ∷ q) h ∙ sym (put_number-cons n x ys ∙ ap (λ b. cond b (n ∷ x ∷ ys) (x ∷ put_number n ys)) e)
 later_step n x false ys zs l h = h
 
--- a number compares equal to itself
+-- for removed: a number compares equal to itself
 ties : (k : ℕ) → is_eq (nat_cmp k k) ≡ true
 ties k = elim (nat_cmp k k) as (λ o. nat_cmp k k ≡ o → is_eq o ≡ true) [
   | Less ↦ λ e. let l = ranked k k Less (sym e) in absurd (omega arith)

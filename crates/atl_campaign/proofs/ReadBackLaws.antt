@@ -99,7 +99,7 @@ module _ {V R : Type 0} (row : ℕ → V → R) where
   pub every_row : (P : R → Type 0) (m : FinMap nat_cmp V) → AllByRecursion P (rows_by row (entries m)) → Every (λ n v. P (row n v)) m
   every_row P m h = every-from_each (λ n v. P (row n v)) m (each_row P (entries m) h)
 
-  -- there are as many rows of entries as entries
+  -- for count_rows: entries have as many rows (rows_by) as there are entries
   count : (es : List (ℕ × V)) → length (rows_by row es) ≡ length es
   count [] = refl
   count (e ∷ es) = ap suc (count es)
@@ -146,11 +146,11 @@ is_equal Greater h = absurd (false≢true h)
 
 -- two keys have the same three numbers
 pub record SameKey (a b : Key) : Type 0 where
-  -- the keys have the same first number
+  -- the keys a and b have the same first number
   pub first : a.0 ≡ b.0
-  -- the keys have the same second number
+  -- the keys a and b have the same second number
   pub second : a.1 ≡ b.1
-  -- the keys have the same third number
+  -- the keys a and b have the same third number
   pub third : a.2 ≡ b.2
 
 -- keys that compare equal have the same three numbers
@@ -236,7 +236,7 @@ below_each : {V : Type 0} (k : ℕ) (es : List (ℕ × V)) → below_all nat_cmp
 below_each k [] h = tt
 below_each k (e ∷ es) h = (below k e.0 (and_parts _ _ h).0, below_each k es (and_parts _ _ h).1)
 
--- the numbers of sorted entries are strictly rising
+-- the numbers of entries that pass is_sorted are strictly rising (Rise)
 rise_sorted : {V : Type 0} (es : List (ℕ × V)) → is_sorted nat_cmp es ≡ true → Rise es
 rise_sorted [] h = tt
 rise_sorted (e ∷ es) h = (below_each e.0 es (and_parts _ _ h).0, rise_sorted es (and_parts _ _ h).1)

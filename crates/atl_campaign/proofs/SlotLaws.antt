@@ -269,7 +269,7 @@ rise : {V : Type 0} (k : ℕ) (es : List (ℕ × V)) → below_all nat_cmp k es 
 rise k [] h = tt
 rise k (e ∷ es) h = (is_less (nat_cmp k e.0) (and_parts _ _ h).0, rise k es (and_parts _ _ h).1)
 
--- the numbers of sorted entries are strictly sorted
+-- the numbers of entries that pass is_sorted rise strictly
 pub keys_rise : {V : Type 0} (es : List (ℕ × V)) → is_sorted nat_cmp es ≡ true → IsStrictlySortedBy nat_cmp (keys_of es)
 unfolding IsStrictlySortedBy
 keys_rise [] h = tt

@@ -92,11 +92,11 @@ module _ (marks rows goods : set.FinSet nat_cmp) (items skills : Things) (n : �
 
 -- ---- units
 
--- the dirty set with number n added
+-- the given dirty set with number n added
 abbrev marking : RoomySet → ℕ → RoomySet
 marking marks n = record marks { numbers = set.insert marks.numbers n }
 
--- the dirty set emptied, with the same room
+-- the given dirty set with no number left in it, and its room unchanged
 abbrev cleared : RoomySet → RoomySet
 cleared marks = record marks { numbers = set.empty }
 
@@ -187,7 +187,7 @@ module _ (units : FinMap nat_cmp Unit) (marks rows goods : RoomySet) (items skil
 
 -- a dirty set with the same numbers as another, and room for one unit more
 pub record IsWider (units : FinMap nat_cmp Unit) (marks more : RoomySet) : Type 0 where
-  -- both sets have the same numbers
+  -- the set `more`, which has room for one unit more, has the same numbers as `marks`
   pub same : more.numbers ≡ marks.numbers
   -- the wider set has room for the numbers it has, for all units, and for one unit more
   pub room : set.len marks.numbers + (len units + 1) ≤ more.room

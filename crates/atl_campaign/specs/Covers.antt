@@ -75,40 +75,41 @@ StaysMarked before after = (n : ℕ) → contains before n ≡ true → contains
 abbrev pub ThingsStayMarked : (goods : FinSet nat_cmp) (things : Things) (goods_after : FinSet nat_cmp) (things_after : Things) → Type 0
 ThingsStayMarked goods things goods_after things_after = (n thing : ℕ) → is_thing_marked goods things n thing ≡ true → is_thing_marked goods_after things_after n thing ≡ true
 
--- all that was marked before is marked after
+-- no mark is lost: all that is marked in `before`, the marks before some changes, is marked in `after`, those after
+-- them
 pub record StayMarked (before after : Marks) : Type 0 where
-  -- each faction that was marked is marked after
+  -- each faction that is marked before the changes is marked after them
   pub factions : StaysMarked before.factions after.factions
-  -- each region whose row was marked has its row marked after
+  -- each region whose row is marked before the changes has its row marked after them
   pub regions : StaysMarked before.regions after.regions
-  -- each region of which a stock was marked is still one of which a stock is marked (`markets`)
+  -- each region of which a stock is marked before the changes is one of which a stock is marked after them (`markets`)
   pub markets : StaysMarked before.markets after.markets
-  -- each stock that was marked, alone or with all of its region, is marked after
+  -- each stock that is marked before the changes, alone or with all of its region, is marked after them
   pub stocks : ThingsStayMarked before.stocks before.stock_items after.stocks after.stock_items
-  -- each structure that was marked is marked after
+  -- each structure that is marked before the changes is marked after them
   pub structures : StaysMarked before.structures after.structures
-  -- each faction whose mail was marked has its mail marked after
+  -- each faction whose mail is marked before the changes has its mail marked after them
   pub mail : StaysMarked before.mail after.mail
-  -- each faction whose report was marked has its report marked after
+  -- each faction whose report is marked before the changes has its report marked after them
   pub reports : StaysMarked before.reports after.reports
-  -- each unit of which something was marked is still one of which something is marked (`units`)
+  -- each unit of which something is marked before the changes is one of which something is marked after them (`units`)
   pub units : StaysMarked before.units after.units
-  -- each unit whose row was marked has its row marked after
+  -- each unit whose row is marked before the changes has its row marked after them
   pub rows : StaysMarked before.rows after.rows
-  -- each unit all of whose goods were marked has all of its goods marked after
+  -- each unit all of whose goods are marked before the changes has all of its goods marked after them
   pub goods : StaysMarked before.goods after.goods
-  -- each item of a unit that was marked, alone or with all goods of the unit, is marked after
+  -- each item of a unit that is marked before the changes, alone or with all goods of the unit, is marked after them
   pub items : ThingsStayMarked before.goods before.items after.goods after.items
-  -- each skill of a unit that was marked, alone or with all goods of the unit, is marked after
+  -- each skill of a unit that is marked before the changes, alone or with all goods of the unit, is marked after them
   pub skills : ThingsStayMarked before.goods before.skills after.goods after.skills
-  -- each amount of the books that was marked is marked after
+  -- each amount of the books that is marked before the changes is marked after them
   pub books : StaysMarked before.books after.books
-  -- the campaign row is marked after if it was marked before
+  -- the campaign row is marked after the changes if it is marked before them
   pub row : before.row ≡ true → after.row ≡ true
 
 -- from one marked campaign to another no mark is lost, and all that changed is marked
 pub record MarksChanges (before after : MarkedCampaign) : Type 0 where
-  -- all that was marked before is marked after
+  -- no mark is lost: all that is marked before the changes is marked after them
   pub stay : StayMarked before.marks after.marks
-  -- all that is not marked after is the same in both campaigns
+  -- all that is not marked after the changes is the same in the campaigns before and after them
   pub covers : Covers after.marks before.value after.value
