@@ -72,11 +72,11 @@ module _ {R V : Type 0} (number : R → ℕ) (value : R → V) where
 
 -- ---- numbers
 
--- the minimum of two numbers that are at least `low` is at least `low`
+-- for in_range: the minimum of n and `most` is at least `low`, if both are
 min_low : (low n most : ℕ) → low ≤ n → low ≤ most → low ≤ min n most
 min_low low n most h k = grind arith
 
--- the minimum of a number that is at most `high`, and another, is at most `high`
+-- for in_range: the minimum of n and `most` is at most `high`, if n is
 min_high : (n high most : ℕ) → n ≤ high → min n most ≤ high
 min_high n high most h = grind arith
 

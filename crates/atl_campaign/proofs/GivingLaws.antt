@@ -100,7 +100,8 @@ thing_of r = as_u32 r.thing
 abbrev amount_of : StoredHas → ℕ
 amount_of r = as_u32 r.amount
 
--- choosing between a unit with new items, one with new days, and the old one is choosing its items and its days apart
+-- for unit_given: choosing between a unit with new items, one with new days, and the old one is choosing its items and
+-- its days apart
 picked : (r : StoredUnit) (items items' days days' : FinMap nat_cmp ℕ) (mine item skill : Bool) → (item ≡ true → skill ≡ false)
     → cond mine (cond item (unit_with r items' days) (cond skill (unit_with r items days') (unit_with r items days))) (unit_with r items days) ≡ unit_with r (cond (mine && item) items' items) (cond (mine && skill) days' days)
 picked r items items' days days' false item skill h = refl

@@ -145,7 +145,7 @@ module _ {R K : Type 0} (key : R → K) (same : K → K → Bool) (itself : (k :
   abbrev pub IsMine : R → Type 0
   IsMine r = P r × (mine r ≡ true)
 
-  -- if P holds of each row, each row that the test `mine` lets through is one of which P holds and that passes (IsMine)
+  -- if P holds of each row, the rows that the test `mine` lets through are rows of the group for which P holds (IsMine)
   pub all_mine : (rows : List R) → AllByRecursion P rows → AllByRecursion IsMine (filter mine rows)
   all_mine rows all = kept mine IsMine rows (each_so P (λ r. mine r ≡ true → IsMine r) (λ r one passes. (one, passes)) rows all)
 

@@ -84,7 +84,8 @@ module _ {X : Type 0} where
         | false ↦ λ _. refl
       ] refl
 
-  -- once an entry with a new number is inserted at any index, its number finds it, and another what it found before
+  -- once an entry with a new number n is inserted at any index, looking up n finds its value, and looking up another
+  -- number finds what it found before
   find-insert : (es : List (ℕ × X)) (i n : ℕ) (v : X) (q : ℕ) → find nat_cmp n es ≡ None → find nat_cmp q (insert es i (n, v)) ≡ cond (eq_by_cmp nat_cmp q n) (Some v) (find nat_cmp q es)
   find-insert es zero n v q h = refl
   find-insert [] (suc i) n v q h = refl

@@ -99,7 +99,8 @@ listed_else lists k xs r = by_key lists k xs (λ q ys. k ≢ q → ys ≡ list_o
 pub listed_there : (lists : FinMap nat_cmp (List ℕ)) (k : ℕ) (xs : List ℕ) → list_of (insert lists k xs) k ≡ xs
 listed_there lists k xs = ap (λ o. unwrap_or o []) (get-insert nat_cmp_total lists k xs k ∙ ap (λ b. cond b (Some xs) (get lists k)) (itself k))
 
--- lists that have just the units of each key (AreLists) have them again once a number is put into one and taken out
+-- lists that have just the units of each key (AreLists) have them again once a number is put into one list and taken
+-- out of it
 pub AreLists-undone_at : (belongs_to : Unit → ℕ) (units : FinMap nat_cmp Unit) (old mid new : FinMap nat_cmp (List ℕ)) (n key : ℕ) → mid ≡ insert old key (put_number n (list_of old key)) → SameLists new (insert mid key (take_number n (list_of mid key)))
     → AreLists belongs_to units old → AreLists belongs_to units new
 AreLists-undone_at belongs_to units old mid new n key put same is =
@@ -237,7 +238,8 @@ module _ (belongs_to : Unit → ℕ) where
       (λ _. ap (put_number k) (old to) ∙ sym (numbers_where-gained (λ w. belongs_to w == to) units k u v is (other_number from to apart) (same_number to)))
       (λ q ne2 ne3. old q ∙ sym (numbers_where-insert_known (λ w. belongs_to w == q) units k u v is (other_number from q ne3 ∙ sym (other_number to q ne2)))) r ne)
 
-  -- the lists have just the units of each key (AreLists) once a changed unit is moved, whether its keys differ or not
+  -- the lists have just the units of each key (AreLists) once a changed unit is moved to its new key's list, whether
+  -- that key differs from the old one or not
   relisted : (units : FinMap nat_cmp Unit) (lists : FinMap nat_cmp (List ℕ)) (k : ℕ) (u v : Unit) → get units k ≡ Some u → AreLists belongs_to units lists
       → AreLists belongs_to (insert units k v) (unlisted_apart (listed_apart lists k (belongs_to v) (belongs_to u)) k (belongs_to u) (belongs_to v))
   relisted units lists k u v is old =

@@ -101,14 +101,15 @@ module _ {X : Type 0} (p : X → Bool) where
   abbrev chosen : List (ℕ × X) → List ℕ
   chosen es = map (λ e. e.0) (filter (λ e. p e.1) es)
 
-  -- a number below those of all entries comes first once it is put among the chosen numbers
+  -- a number k below those of all entries comes first once it is put among the numbers of those that pass (`chosen`)
   put_first : (k : ℕ) (es : List (ℕ × X)) → is_sorted nat_cmp es ≡ true → (e : ℕ × X) → k < e.0 → below_all nat_cmp e.0 es ≡ true → put_number k (chosen (e ∷ es)) ≡ k ∷ chosen (e ∷ es)
   put_first k [] s e l b = ap (put_number k) (chosen-cons p e []) ∙ first_holds k e.0 (p e.1) [] [] l (put_number-nil k) ∙ ap (λ ns. k ∷ ns) (sym (chosen-cons p e []))
   put_first k (f ∷ es) s e l b =
       let rest : put_number k (chosen (f ∷ es)) ≡ k ∷ chosen (f ∷ es) = put_first k es (and_parts _ _ s).1 f (omega (arith, below e.0 f.0 (and_parts _ _ b).0)) (and_parts _ _ s).0 in
       ap (put_number k) (chosen-cons p e (f ∷ es)) ∙ first_holds k e.0 (p e.1) [] (chosen (f ∷ es)) l rest ∙ ap (λ ns. k ∷ ns) (sym (chosen-cons p e (f ∷ es)))
 
-  -- putting a new entry that passes the test into sorted entries puts its number among the chosen numbers
+  -- putting a new entry that passes the test into sorted entries puts its number among the numbers of those that pass
+  -- (`chosen`)
   chosen-put_new : (k : ℕ) (v : X) → p v ≡ true → (es : List (ℕ × X)) → is_sorted nat_cmp es ≡ true → find nat_cmp k es ≡ None → chosen (put nat_cmp k v es) ≡ put_number k (chosen es)
   chosen-put_new k v h [] s g = chosen-cons p (k, v) [] ∙ ap (λ b. cond b (k ∷ []) []) h ∙ sym (put_number-nil k)
   chosen-put_new k v h (e ∷ es) s g =

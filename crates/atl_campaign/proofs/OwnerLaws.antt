@@ -68,7 +68,8 @@ pub place_stays : (c : MarkedCampaign) (n r s : ℕ) (u : Unit) → get c.value.
 unfolding place_marked
 place_stays c n r s u is same = sym (ap (place_marked_at c n r s) is ∙ ap (λ b. if b then put_marked c n r s else handed_marked (handed_marked (put_marked c n r s) u.structure n (heir c.value u.structure n)) s 0 n) same)
 
--- moving a unit to another structure hands on the one that it leaves, and the one that it enters if nobody owns it
+-- moving a unit to another structure hands on the one that it leaves, if it owns that, and gives it the one that it
+-- enters, if nobody owns that
 pub place_leaves : (c : MarkedCampaign) (n r s : ℕ) (u : Unit) → get c.value.units n ≡ Some u → (u.structure == s) ≡ false → handed_marked (handed_marked (put_marked c n r s) u.structure n (heir c.value u.structure n)) s 0 n ≡ place_marked c n r s
 unfolding place_marked
 place_leaves c n r s u is same = sym (ap (place_marked_at c n r s) is ∙ ap (λ b. if b then put_marked c n r s else handed_marked (handed_marked (put_marked c n r s) u.structure n (heir c.value u.structure n)) s 0 n) same)

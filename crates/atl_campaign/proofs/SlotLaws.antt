@@ -88,7 +88,7 @@ module _ {V : Type 0} where
   vacant_slot : (s : slab.Slab V) (j k : ℕ) → j ≡ k → slab.get s k ≡ None → is_some (slab.get s j) ≡ true → ⊥
   vacant_slot s j k same vacant h = false≢true (sym (ap is_some (ap (slab.get s) same ∙ vacant)) ∙ h)
 
-  -- two slabs with the same values give the same numbers with values for the same index entries
+  -- two slabs with the same values give the same numbers with values (slot_entries) for the same index entries
   lodged_same : (es : List (ℕ × ℕ)) (s t : slab.Slab V) → slab.SameValues s t → slot_entries es t ≡ slot_entries es s
   lodged_same [] s t same = refl
   lodged_same (e ∷ es) s t same = ap (λ o. slot_entry_at e.0 o (slot_entries es t)) (same e.1) ∙ ap (slot_entry_at e.0 (slab.get s e.1)) (lodged_same es s t same)
@@ -244,8 +244,8 @@ module _ {V : Type 0} where
   pub IsArena-changed : (i : FinMap nat_cmp ℕ) (s : slab.Slab V) (k : ℕ) (w : V) → is_some (slab.get s k) ≡ true → IsArena i s → IsArena i (slab.with_value s k w)
   IsArena-changed i s k w used held = record { slots_used = HaveOwnSlots-changed i s (slab.with_value s k w) k w (written s k w used) held.slots_used; none_idle = len_written s k w used ∙ held.none_idle }
 
-  -- an index and a slab that are an arena (IsArena) are one too with another slab that has the same values, and as many
-  -- slots in use
+  -- an index and a slab s that are an arena (IsArena) stay one with slab t in place of s, if t has the same values, and
+  -- as many slots in use
   pub IsArena-same : (i : FinMap nat_cmp ℕ) (s t : slab.Slab V) → slab.SameValues s t → slab.slab_len t ≡ slab.slab_len s → IsArena i s → IsArena i t
   IsArena-same i s t same as_many held = record { slots_used = HaveOwnSlots-same i s t same held.slots_used; none_idle = as_many ∙ held.none_idle }
 
@@ -281,12 +281,13 @@ module _ {V : Type 0} (s : slab.Slab V) where
   key_step n None rest h = absurd (false≢true h)
   key_step n (Some v) rest h = refl
 
-  -- the numbers of the entries with values are those of the entries with slots
+  -- the numbers of the entries with values (slot_entries) are those of the index entries es, if all their slots are in
+  -- use
   keys_lodged : (es : List (ℕ × ℕ)) → AreInUse es s → keys_of (slot_entries es s) ≡ keys_of es
   keys_lodged [] h = refl
   keys_lodged (e ∷ es) h = key_step e.0 (slab.get s e.1) (slot_entries es s) h.0 ∙ ap (λ ns. e.0 ∷ ns) (keys_lodged es h.1)
 
-  -- the entries of the map of values are those of the index, with values for slots
+  -- the entries of the map of values are those of the index, with values for slots (slot_entries)
   pub entries_values : (i : FinMap nat_cmp ℕ) → HaveOwnSlots i s → entries (values_of i s) ≡ slot_entries (entries i) s
   entries_values i held = entries_of (slot_entries (entries i) s) (rw (keys_lodged (entries i) (all_in_use i s held)) (keys_rise (entries i) (sorted i)))
 

@@ -34,7 +34,7 @@ abbrev pub days_under : Option Unit → FinMap nat_cmp ℕ
 days_under None = empty
 days_under (Some u) = u.holding.days
 
--- each unit has the same in both maps of each item, or of each skill (`under` picks which), that is not marked
+-- of each item, or each skill (`under` picks which), that is not marked, each unit has as much in both maps
 abbrev pub SameThings : FinSet nat_cmp → Things → (Option Unit → FinMap nat_cmp ℕ) → FinMap nat_cmp Unit → FinMap nat_cmp Unit → Type 0
 SameThings goods things under before after = (n thing : ℕ) → is_thing_marked goods things n thing ≡ false → get (under (get after n)) thing ≡ get (under (get before n)) thing
 
