@@ -14,7 +14,7 @@ first_or_zero (n ∷ ns) = n
 abbrev pub first_other : List ℕ → ℕ → ℕ
 first_other ns leaving = first_or_zero (filter (λ n. not (n == leaving)) ns)
 
--- the next owner of structure s when its owner leaves: the lowest-numbered other unit inside, or 0
+-- the next owner of structure s when its owner `leaving` leaves: the lowest-numbered other unit inside, or 0
 abbrev pub heir : CampaignValue → ℕ → ℕ → ℕ
 heir c s leaving = first_other (numbers_inside s c.units) leaving
 
