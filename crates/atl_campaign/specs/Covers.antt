@@ -44,27 +44,30 @@ own_row c = (c.month, (c.pass, (c.next_faction, (c.next_unit, c.next_structure))
 
 -- all that is not marked in m is the same in the campaigns before and after
 pub record Covers (m : Marks) (before after : CampaignValue) : Type 0 where
-  -- a faction that is not marked is the same in both campaigns, or is in neither
+  -- a faction that is not marked is the same in the campaigns before and after, or is in neither
   pub factions : SameBut m.factions before.factions after.factions
-  -- A region whose row is not marked is the same in both campaigns but for its stocks, or is in neither.
+  -- A region whose row is not marked is the same in the campaigns before and after but for its stocks, or is in
+  -- neither.
   pub regions : (n : ℕ) → contains m.regions n ≡ false → option_map unstocked (get after.regions n) ≡ option_map unstocked (get before.regions n)
-  -- A stock that is not marked is the same in both campaigns.
+  -- A stock that is not marked is the same in the campaigns before and after.
   pub stocks : (n item : ℕ) → is_thing_marked m.stocks m.stock_items n item ≡ false → stock_of after n item ≡ stock_of before n item
-  -- a structure that is not marked is the same in both campaigns, or is in neither
+  -- a structure that is not marked is the same in the campaigns before and after, or is in neither
   pub structures : SameBut m.structures before.structures after.structures
-  -- the mail of a faction whose mail is not marked is the same in both campaigns, or is in neither
+  -- the mail of a faction whose mail is not marked is the same in the campaigns before and after, or is in neither
   pub mail : SameBut m.mail before.mail after.mail
-  -- the report of a faction whose report is not marked is the same in both campaigns, or is in neither
+  -- the report of a faction whose report is not marked is the same in the campaigns before and after, or is in neither
   pub reports : SameBut m.reports before.reports after.reports
-  -- A unit whose row is not marked is the same in both campaigns but for its goods, or is in neither.
+  -- A unit whose row is not marked is the same in the campaigns before and after but for its goods, or is in neither.
   pub units : (n : ℕ) → contains m.rows n ≡ false → option_map bare (get after.units n) ≡ option_map bare (get before.units n)
-  -- what a unit has of an item that is not marked is the same in both campaigns, or is in neither
+  -- what a unit has of an item that is not marked is the same in the campaigns before and after, or is in neither
   pub items : SameThings m.goods m.items items_under before.units after.units
-  -- the days that a unit has of a skill that is not marked are the same in both campaigns, or are in neither
+  -- the days that a unit has of a skill that is not marked are the same in the campaigns before and after, or are in
+  -- neither
   pub days : SameThings m.goods m.skills days_under before.units after.units
-  -- an amount of the books that is not marked is the same in both campaigns
+  -- an amount of the books that is not marked is the same in the campaigns before and after
   pub books : (e : Entry) (t : Thing) → contains m.books (amount_number e t) ≡ false → amount_in after.books e t ≡ amount_in before.books e t
-  -- the month, the pass text and the next numbers are the same in both campaigns if the campaign row is not marked
+  -- the month, the pass text and the next numbers are the same in the campaigns before and after if the campaign row is
+  -- not marked
   pub row : m.row ≡ false → own_row after ≡ own_row before
 
 -- each number in the first dirty set is in the second: what was marked before some changes is marked after them
