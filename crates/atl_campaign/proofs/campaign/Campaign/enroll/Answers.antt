@@ -66,7 +66,7 @@ invariant_of-self-3 c =
           (more_marked things (record marks { numbers = amount_marked marks.numbers Joining Money }) Joining People (omega (arith, rows)) (more_marked things marks Joining Money (omega (arith, rows)) c.self-2.invariant.amounts));
     }
 
--- enroll makes the campaign that joined defines
+-- enroll makes the campaign that the definition `joined` gives
 pub returns-clause-ok : goal.returns-clause-ok
 unfolding joined
 returns-clause-ok c =
