@@ -79,7 +79,7 @@ marks-trans a b c one two = record { stay = stay-trans one.stay two.stay; covers
 
 -- ---- one change at a time
 
--- for put_stays and both_stay: `b || true` is true, whatever b is
+-- for put_stays, both_stay and thing_stays: `b || true` is true, whatever b is
 or-true : (b : Bool) → (b || true) ≡ true
 or-true true = refl
 or-true false = refl
@@ -460,7 +460,8 @@ module _ (c : MarkedCampaign) (n item amount : ℕ) where
       equal : (a b : ℕ) → (a == b) ≡ true → a ≡ b
       equal a b same = grind (arith, nat_tests)
 
-      -- if the stock of the item in region n, which is v, passes the test of being the new amount, v has that amount
+      -- if the stock of the item in region n, which is v, passes the test of being `amount`, v has `amount` of the item
+      -- in stock
       was : (v : Region) → get c.value.regions n ≡ Some v → (stock_of c.value n item == amount) ≡ true → amount_of v.stocks item ≡ amount
       was v is same = sym (ap (in_stock item) is) ∙ equal (stock_of c.value n item) amount same
 

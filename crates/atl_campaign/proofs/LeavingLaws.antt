@@ -260,7 +260,8 @@ module _ (w : WorldValue) (c : CampaignValue) (n : ℕ) (u : Unit) (is : get c.u
                 apart (is_same k (first.1 none k (inside_is_listed u.structure c.units some_place k v at within)));
           }
 
-      -- once unit n's structure has its next owner, each structure is owned by a unit left inside, or 0 (AreReowned)
+      -- once unit n's structure has its next owner, each structure is owned by a unit left inside, or by nobody where
+      -- none is left (AreReowned)
       as_handed_on : AreReowned handed_on
       as_handed_on = record {
         count = same_len c.structures u.structure mine (owned_by next mine) here;

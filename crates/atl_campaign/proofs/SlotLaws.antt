@@ -80,7 +80,7 @@ module _ {V : Type 0} where
   leads_nowhere i s n None e held h = refl
   leads_nowhere i s n (Some k) e held h = absurd (empty_slot (slab.get s k) (held.in_use n k e) h)
 
-  -- a number without a value leads to no slot
+  -- a number that has no value in the map of values leads to no slot
   pub unindexed : (i : FinMap nat_cmp ℕ) (s : slab.Slab V) (n : ℕ) → HaveOwnSlots i s → get (values_of i s) n ≡ None → get i n ≡ None
   unindexed i s n held h = leads_nowhere i s n (get i n) refl held (sym (get_values i s held n) ∙ h)
 
@@ -264,7 +264,7 @@ lent_same n F G h j = inl (n, λ w. h w j)
 
 -- ---- sorted by number
 
--- a number below all entries is less than each of their numbers
+-- a number that below_all finds below all entries is less than each of their numbers
 rise : {V : Type 0} (k : ℕ) (es : List (ℕ × V)) → below_all nat_cmp k es ≡ true → AllByRecursion (λ n. nat_cmp k n ≡ Less) (keys_of es)
 rise k [] h = tt
 rise k (e ∷ es) h = (is_less (nat_cmp k e.0) (and_parts _ _ h).0, rise k es (and_parts _ _ h).1)

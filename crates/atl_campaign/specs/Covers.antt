@@ -74,7 +74,8 @@ pub record Covers (m : Marks) (before after : CampaignValue) : Type 0 where
 abbrev pub StaysMarked : FinSet nat_cmp → FinSet nat_cmp → Type 0
 StaysMarked before after = (n : ℕ) → contains before n ≡ true → contains after n ≡ true
 
--- each item, skill or stock that was marked, by itself or with all of its unit or region, is marked after
+-- each item, skill or stock that is marked before some changes, by itself or with all of its unit or region, is marked
+-- after them
 abbrev pub ThingsStayMarked : (goods : FinSet nat_cmp) (things : Things) (goods_after : FinSet nat_cmp) (things_after : Things) → Type 0
 ThingsStayMarked goods things goods_after things_after = (n thing : ℕ) → is_thing_marked goods things n thing ≡ true → is_thing_marked goods_after things_after n thing ≡ true
 
