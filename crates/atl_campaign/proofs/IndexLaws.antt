@@ -25,7 +25,7 @@ use Rattle.atl_world.proofs.TrackLaws.{there_itself, remove_none}
 use Rattle.atl_campaign.specs.declared.index.IndexEntry.{IndexEntry}
 use Rattle.atl_campaign.specs.Index.{index_numbers, slots_of}
 
--- for first_apart and rest_none: Some is not None
+-- Some x is not None, so anything, P, follows if it is
 pub some_none : {X : Type 0} (x : X) {P : Type 0} → Some x ≡ None → P
 some_none x e = cc
 
