@@ -70,7 +70,7 @@ not_skill (pos zero) h = refl
 not_skill (pos (suc n)) h = absurd (grind arith)
 not_skill (negsuc n) h = refl
 
--- if `b || c` is true and b is false, c is true
+-- for item_amount: if `b || c` is true and b is false, c is true
 or_right : (b c : Bool) → b ≡ false → (b || c) ≡ true → c ≡ true
 or_right true c h e = absurd (false≢true (sym h))
 or_right false c h e = e
@@ -90,7 +90,7 @@ item_amount r h sort =
 amount_in_range : (n : ℕ) (r : StoredHas) → has_in_range r ≡ true → is_of n 0 r ≡ true → (1 ≤ amount_of r) × (amount_of r ≤ holding_limit)
 amount_in_range n r h of = item_amount r h (is_same (as_u32 r.sort) 0 (and_parts (as_u32 r.unit == n) (as_u32 r.sort == 0) of).1)
 
--- if Some a and Some b are equal, a and b are equal
+-- for AreAmounts-insert: if Some a and Some b are equal, a and b are equal
 some_same : (a b : ℕ) → Some a ≡ Some b → a ≡ b
 some_same a b e = cc
 
@@ -104,7 +104,8 @@ AreAmounts-insert m k v h old item amount e =
       | inr apart ↦ old item amount (sym (get_other m k item v apart) ∙ e)
     ]
 
--- a map's amounts still are from 1 to holding_limit (AreAmounts) once a row in range is put in, if of unit n's items
+-- a map's amounts still are from 1 to holding_limit (AreAmounts) once row r, which is in range, is put in if it is of
+-- unit n's items (b)
 chosen : (n : ℕ) (r : StoredHas) (m : FinMap nat_cmp ℕ) (b : Bool) → is_of n 0 r ≡ b → has_in_range r ≡ true → AreAmounts m → AreAmounts (cond b (insert m (thing_of r) (amount_of r)) m)
 chosen n r m true of h old = AreAmounts-insert m (thing_of r) (amount_of r) (amount_in_range n r h of) old
 chosen n r m false of h old = old
@@ -116,7 +117,7 @@ put_in_range n (r ∷ rows) m h old =
     let parts = and_parts (has_in_range r) (list_all has_in_range rows) h in
     subst AreAmounts (sym (taken_or_not thing_of amount_of (is_of n 0) r rows (is_of n 0 r) m refl)) (put_in_range n rows (cond (is_of n 0 r) (insert m (thing_of r) (amount_of r)) m) parts.1 (chosen n r m (is_of n 0 r) refl parts.0 old))
 
--- None is not Some
+-- for none_held: None is not Some of a number
 no_some : (x : ℕ) → None ≡ Some x → ⊥
 no_some x e = cc
 
@@ -130,7 +131,7 @@ AreAmounts-had n rows h = put_in_range n rows empty h none_held
 
 -- ---- texts
 
--- a text that has the bytes `some`, if these are UTF-8, has the bytes `bytes`, if both are equal and `bytes` are UTF-8
+-- if what an Ok result holds is `some` once `some` is UTF-8, it is `bytes`, which is UTF-8 and equal to `some`
 pub IfOk-text : {E : Type 0} (r : Result (List ℕ) E) (some bytes : List ℕ) → some ≡ bytes → IsUtf8 bytes → IfOk r (λ made. IsUtf8 some → made ≡ some) → IfOk r (λ made. made ≡ bytes)
 IfOk-text (Ok made) some bytes e h f = f (subst IsUtf8 (sym e) h) ∙ e
 IfOk-text (Err x) some bytes e h f = tt

@@ -79,7 +79,7 @@ marks-trans a b c one two = record { stay = stay-trans one.stay two.stay; covers
 
 -- ---- one change at a time
 
--- `b || true` is true, whatever b is
+-- for put_stays, both_stay and thing_stays: `b || true` is true, whatever b is
 or-true : (b : Bool) → (b || true) ≡ true
 or-true true = refl
 or-true false = refl
@@ -102,12 +102,12 @@ apart_by marks n k free same = absurd (true≢false (sym (put_there marks n k sa
 
 -- ---- things of units
 
--- if a implies b, and c implies d, `a or c` implies `b or d`
+-- for whole_stays and thing_stays: if a implies b, and c implies d, `a || c` implies `b || d`
 both_stay : (a b c d : Bool) → (a ≡ true → b ≡ true) → (c ≡ true → d ≡ true) → (a || c) ≡ true → (b || d) ≡ true
 both_stay true b c d one two h = ap (λ x. x || d) (one refl)
 both_stay false b c d one two h = ap (λ x. b || x) (two h) ∙ or-true b
 
--- if `a || b` is false, so are a and b
+-- for apart_by_whole and apart_by_thing: if `a || b` is false, so are a and b
 neither : (a b : Bool) → (a || b) ≡ false → (a ≡ false) × (b ≡ false)
 neither true b h = absurd (true≢false h)
 neither false b h = (refl, h)
@@ -127,12 +127,12 @@ module _ (goods : FinSet nat_cmp) (things : Things) (n thing : ℕ) where
       ap (λ (o : Option (FinMap nat_cmp (Prim.Unit {0}))). is_some (get (unwrap_or o map.empty) t)) (get-insert nat_cmp_total things n (map.insert (group_of things n) thing tt) k)
       ∙ by_unit (eq_by_cmp nat_cmp k n)
     where
-      -- where a mark is put in if b is true, and o is what was there, a mark is there if b is true or o has one
+      -- for by_unit: if b is true, a mark takes the place of o; so there is a mark then if b is true, or o was one
       by_thing : (b : Bool) (o : Option (Prim.Unit {0})) → is_some (cond b (Some tt) o) ≡ (b || is_some o)
       by_thing true o = refl
       by_thing false o = refl
 
-      -- if k is n (b), the things marked of k are those of n and the new one; else those of k are unchanged
+      -- for put_in: if k is n (b), the things marked of k are those of n and `thing`; else those of k are unchanged
       by_unit : (b : Bool) → is_some (get (unwrap_or (cond b (Some (map.insert (group_of things n) thing tt)) (get things k)) map.empty) t)
           ≡ cond b (eq_by_cmp nat_cmp t thing || is_some (get (group_of things n) t)) (is_some (get (group_of things k) t))
       by_unit true = ap is_some (get-insert nat_cmp_total (group_of things n) thing tt t) ∙ by_thing (eq_by_cmp nat_cmp t thing) (get (group_of things n) t)
@@ -142,7 +142,8 @@ module _ (goods : FinSet nat_cmp) (things : Things) (n thing : ℕ) where
   pub thing_stays : ThingsStayMarked goods things goods (with_thing things n thing)
   thing_stays k t = both_stay (contains goods k) (contains goods k) (is_some (get (group_of things k) t)) (is_some (get (group_of (with_thing things n thing) k) t)) (λ h. h) (λ h. put_in k t ∙ by_unit h (eq_by_cmp nat_cmp k n) refl)
     where
-      -- thing t of unit or region k, which had a mark of its own, still has one, whether k is n (b) or not
+      -- for thing_stays: thing t of unit or region k that had a mark of its own still has it once `thing` of n is
+      -- marked, whether k is n (b) or not
       by_unit : is_some (get (group_of things k) t) ≡ true → (b : Bool) → eq_by_cmp nat_cmp k n ≡ b → cond b (eq_by_cmp nat_cmp t thing || is_some (get (group_of things n) t)) (is_some (get (group_of things k) t)) ≡ true
       by_unit h true e = ap (λ q. eq_by_cmp nat_cmp t thing || is_some (get (group_of things q) t)) (sym (same_key k n e)) ∙ ap (λ b. eq_by_cmp nat_cmp t thing || b) h ∙ or-true (eq_by_cmp nat_cmp t thing)
       by_unit h false e = h
@@ -308,12 +309,14 @@ part_by_part a b stays tells = record {
 pub marks-refl : (a : MarkedCampaign) → MarksChanges a a
 marks-refl a = part_by_part a a (λ p k h. h) (λ p k free. refl)
 
--- P holds of the map with f applied to n's value, if any, and of the old value, if it does with and without one
+-- P holds of the map with f applied to n's value, and of that value as it was (None or Some), if it holds of the map as
+-- it is with None, and of the changed map with Some
 pub changed_there : {V : Type 0} (P : FinMap nat_cmp V → Option V → Type 0) (f : V → V) (values : FinMap nat_cmp V) (n : ℕ)
     → P values None → ((v : V) → get values n ≡ Some v → P (map.insert values n (f v)) (Some v)) → P (changed f values n) (get values n)
 changed_there {V} P f values n none some = by_value (get values n) refl
   where
-    -- P holds of the map with f applied to n's value, if any, and of the old value o, whether o is a value or None
+    -- for changed_there: P holds of the map with f applied to n's value, and of that value as it was, o, whether o is
+    -- None or Some
     by_value : (o : Option V) → get values n ≡ o → P (changed_at f values n o) o
     by_value None is = none
     by_value (Some v) is = some v is
@@ -328,11 +331,12 @@ marks-faction f c n =
     (λ p. elim p as (Stays c.marks next.marks) [ Factions ↦ put_stays c.marks.factions n | _ ↦ λ k h. h ])
     (λ p. elim p as (KeepsUnmarked next.marks c.value next.value) [ Factions ↦ λ k free. get-insert_other c.value.factions n k (f v) (apart_by c.marks.factions n k free) | _ ↦ λ k free. refl ]))
 
--- where `shows` gives the same of n's value v and of w, it gives the same of each number's value once w replaces v
+-- if `shows` gives the same of w as of n's value v, it gives the same of each number's value once w replaces v as
+-- before
 pub shown_still : {V X : Type 0} (shows : Option V → X) (values : FinMap nat_cmp V) (n k : ℕ) (v w : V) → get values n ≡ Some v → (k ≡ n → shows (Some w) ≡ shows (Some v)) → shows (get (map.insert values n w) k) ≡ shows (get values k)
 shown_still shows values n k v w is same = ap shows (get-insert nat_cmp_total values n w k) ∙ by_number (eq_by_cmp nat_cmp k n) refl
   where
-    -- `shows` gives the same of k's value as before w replaced n's value v, whether k is n (b) or not
+    -- for shown_still: `shows` gives the same of k's value as before w replaced n's value v, whether k is n (b) or not
     by_number : (b : Bool) → eq_by_cmp nat_cmp k n ≡ b → shows (cond b (Some w) (get values k)) ≡ shows (get values k)
     by_number true e = let here = same_key k n e in same here ∙ sym (ap shows (ap (get values) here ∙ is))
     by_number false e = refl
@@ -381,7 +385,8 @@ module _ (c : MarkedCampaign) (n item amount : ℕ) where
   set_again : (stocks : FinMap nat_cmp ℕ) (i : ℕ) → amount_of stocks item ≡ amount → amount_of (with_amount_of stocks item amount) i ≡ amount_of stocks i
   set_again stocks i was = set_amount stocks item amount i ∙ by_item (eq_by_cmp nat_cmp i item) refl
     where
-      -- if the stock of the item is the amount, replacing it by the amount changes the stock of no item i
+      -- for set_again: if the stock of `item` is `amount` already, setting it to that changes the stock of no item i,
+      -- whether i is `item` (b) or not
       by_item : (b : Bool) → eq_by_cmp nat_cmp i item ≡ b → cond b amount (amount_of stocks i) ≡ amount_of stocks i
       by_item true e = sym was ∙ ap (amount_of stocks) (sym (same_key i item e))
       by_item false e = refl
@@ -455,7 +460,8 @@ module _ (c : MarkedCampaign) (n item amount : ℕ) where
       equal : (a b : ℕ) → (a == b) ≡ true → a ≡ b
       equal a b same = grind (arith, nat_tests)
 
-      -- if the stock of the item in region n, which is v, passes the test of being the new amount, v has that amount
+      -- if the stock of the item in region n, which is v, passes the test of being `amount`, v has `amount` of the item
+      -- in stock
       was : (v : Region) → get c.value.regions n ≡ Some v → (stock_of c.value n item == amount) ≡ true → amount_of v.stocks item ≡ amount
       was v is same = sym (ap (in_stock item) is) ∙ equal (stock_of c.value n item) amount same
 

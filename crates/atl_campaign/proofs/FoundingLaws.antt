@@ -67,7 +67,7 @@ founding_booked things money people t =
     booked-after_booking (after_booking (no_amounts things) Founding Money (pos money)) Founding People (pos people) t
     ∙ ap (λ z. z +ℤ share_of t People (pos people)) (booked-after_booking (no_amounts things) Founding Money (pos money) t ∙ ap (λ z. z +ℤ share_of t Money (pos money)) (booked-no_amounts things t) ∙ from_nothing (share_of t Money (pos money)))
   where
-    -- 0 plus z is z
+    -- for founding_booked: 0 plus the integer z is z
     from_nothing : (z : ℤ) → pos 0 +ℤ z ≡ z
     from_nothing z = omega (arith, ints)
 

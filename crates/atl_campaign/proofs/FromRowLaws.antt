@@ -54,7 +54,7 @@ module _ {R V : Type 0} (number : R → ℕ) (value : R → V) where
   pub by_number-every : (P : ℕ → V → Type 0) (p : R → Bool) → ((r : R) → p r ≡ true → P (number r) (value r)) → (rows : List R) → list_all p rows ≡ true → Every P (by_number number value rows)
   by_number-every P p each rows all = put-every P p each rows empty all (every-empty P)
 
-  -- n or n + 1, whichever b picks, is at most n + 1
+  -- for put-len: n or n + 1, whichever b picks, is at most n + 1
   at_most : (b : Bool) (n : ℕ) → cond b n (n + 1) ≤ n + 1
   at_most true n = omega arith
   at_most false n = omega arith
@@ -72,11 +72,11 @@ module _ {R V : Type 0} (number : R → ℕ) (value : R → V) where
 
 -- ---- numbers
 
--- the minimum of two numbers that are at least `low` is at least `low`
+-- for in_range: the minimum of n and `most` is at least `low`, if both are
 min_low : (low n most : ℕ) → low ≤ n → low ≤ most → low ≤ min n most
 min_low low n most h k = grind arith
 
--- the minimum of a number that is at most `high`, and another, is at most `high`
+-- for in_range: the minimum of n and `most` is at most `high`, if n is
 min_high : (n high most : ℕ) → n ≤ high → min n most ≤ high
 min_high n high most h = grind arith
 

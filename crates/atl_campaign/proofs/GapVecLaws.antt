@@ -3,14 +3,16 @@ use Rattle.std.proofs.Common.{◌≡◌, ℕ, suc, ◌+◌, ◌-◌, ◌<◌, �
 use Rattle.std.proofs.lemmas.List.{drop_at, drop-drop, drop-take, drop-append-le, drop-set-add, drop_more, length-take-le, set_at}
 use Rattle.std.specs.List.{insert, remove, copy_within}
 
--- once a list's elements at `from` to `to` are copied to `at`, the list from `at` on is these, and then what it was
+-- once the elements of xs at index `from` to `to` are copied to `at`, xs from `at` on is these, and then what was
+-- behind their new place before
 copied : {A : Type 0} (xs : List A) (from to at : ℕ) → at ≤ length xs → drop at (copy_within xs from to at) ≡ take (to - from) (drop from xs) ++ drop (at + (to - from)) xs
 copied xs from to at l =
     ap (drop at) (append_assoc (take at xs) (take (to - from) (drop from xs)) (drop (at + (to - from)) xs))
     ∙ drop_at (take at xs) (take (to - from) (drop from xs) ++ drop (at + (to - from)) xs) at (length-take-le at xs l)
 
 module _ {A : Type 0} (xs : List A) (free place : ℕ) where
-  -- an index of the vector, less its free slots, is the index in the list after them
+  -- for closed and opened: index `free + place` of the vector, less its `free` free slots, is index `place` of the list
+  -- that follows them
   count : free + place - free ≡ place
   count = omega arith
 

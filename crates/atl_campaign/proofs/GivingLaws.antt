@@ -83,7 +83,8 @@ module _ {R V : Type 0} (owner : R → ℕ) (more : R → V → V) where
     put_each [] m l all = all
     put_each (t ∷ ts) m l all = put_each ts (insert m (number t) (before t)) (insert l (number t) (after t)) (put_one t m l all)
 
-    -- adding all rows to the map of values without their rows gives the map of values with their rows
+    -- adding all rows to the map that ts make by `before`, each value without its rows, gives the map by `after`, each
+    -- with them
     pub give_all : (ts : List T) → give owner more rows (by_number number before ts) ≡ by_number number after ts
     give_all ts =
         let none : Becomes empty empty = λ n. ap (option_map (given n rows)) (get-empty nat_cmp n) ∙ sym (get-empty nat_cmp n) in
@@ -99,7 +100,8 @@ thing_of r = as_u32 r.thing
 abbrev amount_of : StoredHas → ℕ
 amount_of r = as_u32 r.amount
 
--- choosing between a unit with new items, one with new days, and the old one is choosing its items and its days apart
+-- for unit_given: choosing between a unit with new items, one with new days, and the old one is choosing its items and
+-- its days apart
 picked : (r : StoredUnit) (items items' days days' : FinMap nat_cmp ℕ) (mine item skill : Bool) → (item ≡ true → skill ≡ false)
     → cond mine (cond item (unit_with r items' days) (cond skill (unit_with r items days') (unit_with r items days))) (unit_with r items days) ≡ unit_with r (cond (mine && item) items' items) (cond (mine && skill) days' days)
 picked r items items' days days' false item skill h = refl
@@ -137,7 +139,8 @@ item_of r = as_u32 r.item
 abbrev stock_of : StoredMarket → ℕ
 stock_of r = as_u32 r.stock
 
--- a choice between two regions that differ in their stocks is the region with the chosen stocks
+-- for region_given: choosing (`mine`) between two regions of one row that differ in their stocks is choosing between
+-- the stocks
 stocked : (r : StoredRegion) (stocks stocks' : FinMap nat_cmp ℕ) (mine : Bool) → cond mine (region_with r stocks') (region_with r stocks) ≡ region_with r (cond mine stocks' stocks)
 stocked r stocks stocks' true = refl
 stocked r stocks stocks' false = refl

@@ -87,7 +87,8 @@ module _ (c : CampaignValue) (n : ℕ) (x : Faction) (is : get c.factions n ≡ 
     posts = posted-there there old.posts;
   }
 
-  -- with faction n set gone, factions and structures stay numbered without a gap, and units below the next unit number
+  -- with faction n set gone, factions and structures stay numbered without a gap, and units have numbers below the next
+  -- unit number (AreNumbered)
   next_kept : AreNumbered c → AreNumbered left
   next_kept old = record {
     factions = record { first = none_kept 0 old.factions.first; count = old.factions.count ∙ ap (λ l. l + 1) (sym (same_len c.factions n x (as_gone x) is)); free = λ k l. none_kept k (old.factions.free k l) };

@@ -20,7 +20,7 @@ use Rattle.atl_records.proofs.EveryLaws.{every-empty, every-insert, there-new, t
 
 -- ---- mail and reports
 
--- mail and reports are still of factions that are there, if no faction is removed
+-- mail and reports of factions that are there (AreOfFactions) still are, if each faction that is there is there later
 pub posted-there : {factions later : FinMap nat_cmp Faction} {mail reports : FinMap nat_cmp (List ℕ)} → ((n : ℕ) → IsThere factions n → IsThere later n) → AreOfFactions factions mail reports → AreOfFactions later mail reports
 posted-there stays posts = record { mail = λ n text is. stays n (posts.mail n text is); reports = λ n text is. stays n (posts.reports n text is) }
 

@@ -44,7 +44,7 @@ module _ {R : Type 0} (test : R → Bool) where
   filter_apart e [] d = tt
   filter_apart e (r ∷ rows) d = either (filter_apart e rows d.1) (test r)
     where
-      -- if the filtered rows are distinct, they are so with r in front too, where r passes the test (b)
+      -- for filter_apart: if the filtered rows are distinct, they still are with r in front where r passes the test (b)
       either : IsDistinct e (filter test rows) → (b : Bool) → IsDistinct e (cond b (r ∷ filter test rows) (filter test rows))
       either rest true = (filter_each (λ s. e r s ≡ false) rows d.0, rest)
       either rest false = rest
@@ -54,13 +54,15 @@ module _ {R : Type 0} (test : R → Bool) where
   filter_both other [] = refl
   filter_both other (r ∷ rows) = either (filter_both other rows) (test r)
     where
-      -- filtering in turn and at once give the same also with r in front, whether r passes the first test (b) or not
+      -- for filter_both: if filtering `rows` in turn and at once gives the same, so it does with r in front, whether r
+      -- passes the first test (b) or not
       either : filter other (filter test rows) ≡ filter (λ r. test r && other r) rows → (b : Bool)
           → filter other (cond b (r ∷ filter test rows) (filter test rows)) ≡ cond (b && other r) (r ∷ filter (λ r. test r && other r) rows) (filter (λ r. test r && other r) rows)
       either rest true = ap (λ rs. cond (other r) (r ∷ rs) rs) rest
       either rest false = rest
 
--- putting the list of r, if b is true, or else the empty list before rows gives the rows with r in front, if b is true
+-- for filter_lines: putting the list of r alone, if b is true, or else the empty list in front of the rows puts r in
+-- front of them, if b is true
 single : {R : Type 0} (b : Bool) (r : R) (rows : List R) → cond b (r ∷ []) [] ++ rows ≡ cond b (r ∷ rows) rows
 single true r rows = refl
 single false r rows = refl
@@ -139,11 +141,11 @@ module _ {R U : Type 0} (group : R → ℕ) (number : U → ℕ) where
 -- ---- rows of a group with keys
 
 module _ {R K : Type 0} (key : R → K) (same : K → K → Bool) (itself : (k : K) → same k k ≡ true) (thing : R → ℕ) (mine : R → Bool) (P : R → Type 0) where
-  -- a row for which P holds and that passes the test `mine`, so it is of the group
+  -- a row of the group, which is what the test `mine` tells, for which P holds
   abbrev pub IsMine : R → Type 0
   IsMine r = P r × (mine r ≡ true)
 
-  -- if P holds of each row, each row that the test `mine` lets through is one of which P holds and that passes (IsMine)
+  -- if P holds of each row, the rows that the test `mine` lets through are rows of the group for which P holds (IsMine)
   pub all_mine : (rows : List R) → AllByRecursion P rows → AllByRecursion IsMine (filter mine rows)
   all_mine rows all = kept mine IsMine rows (each_so P (λ r. mine r ≡ true → IsMine r) (λ r one passes. (one, passes)) rows all)
 

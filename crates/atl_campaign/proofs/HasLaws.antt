@@ -54,18 +54,18 @@ IsWhole z = z ≡ pos (as_u32 z)
 
 -- a row of `has` whose unit, sort and thing are read as they are: they fit 32 bits
 pub record HasWholeKey (h : StoredHas) : Type 0 where
-  -- the row's unit number is read as it is
+  -- the row's unit number is read as it is: it fits 32 bits
   pub unit : IsWhole h.unit
-  -- the row's sort is read as it is
+  -- the row's sort is read as it is: it fits 32 bits
   pub sort : IsWhole h.sort
-  -- the number of the row's item or skill is read as it is
+  -- the number of the row's item or skill is read as it is: it fits 32 bits
   pub thing : IsWhole h.thing
 
 -- a row of `has` whose key and amount are read as they are, with an amount other than 0
 pub record IsExact (h : StoredHas) : Type 0 where
-  -- the row's unit, sort and thing are read as they are
+  -- the row's unit, sort and thing are read as they are: they fit 32 bits
   pub keys : HasWholeKey h
-  -- the row's amount is read as it is
+  -- the row's amount is read as it is: it fits 32 bits
   pub amount : IsWhole h.amount
   -- the row's amount is not 0
   pub some : is_zero h.amount ≡ false

@@ -105,7 +105,8 @@ module _ (w : WorldValue) (c : CampaignValue) (n : ℕ) (u : Unit) (h : HoldingV
     posts = old.posts;
   }
 
-  -- with h held by unit n, factions and structures stay numbered without a gap, and units below the next unit number
+  -- with h held by unit n, factions and structures stay numbered without a gap, and units have numbers below the next
+  -- unit number (AreNumbered)
   pub next_kept : AreNumbered c → AreNumbered supplied
   next_kept old = record {
     factions = old.factions;
@@ -178,7 +179,7 @@ module _ (w : WorldValue) (c : CampaignValue) (n : ℕ) (u : Unit) (h : HoldingV
     guarded = of_one_faction_kept guards may.guard old.guarded;
   }
 
-  -- an equation of two sums still holds with the same number r added on each side
+  -- for total-unit_amount: an equation of two sums still holds with the same number r added on each side
   regrouped : (r a b p q : ℕ) → a + p ≡ b + q → (a + r) + p ≡ (b + r) + q
   regrouped r a b p q e = omega arith
 

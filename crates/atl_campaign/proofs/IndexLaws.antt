@@ -25,7 +25,7 @@ use Rattle.atl_world.proofs.TrackLaws.{there_itself, remove_none}
 use Rattle.atl_campaign.specs.declared.index.IndexEntry.{IndexEntry}
 use Rattle.atl_campaign.specs.Index.{index_numbers, slots_of}
 
--- Some is not None
+-- Some x is not None, so anything, P, follows if it is
 pub some_none : {X : Type 0} (x : X) {P : Type 0} → Some x ≡ None → P
 some_none x e = cc
 
@@ -66,17 +66,17 @@ keys_are (p ∷ ps) = ap (λ ns. p.number ∷ ns) (keys_are ps)
 
 -- ---- an entry whose number is new, at any index of a list
 module _ {X : Type 0} where
-  -- if `cond b (Some x) o` is None, b is false
+  -- for find-insert: if `cond b (Some x) o` is None, b is false
   first_apart : (b : Bool) (x : X) (o : Option X) → cond b (Some x) o ≡ None → b ≡ false
   first_apart true x o h = some_none x h
   first_apart false x o h = refl
 
-  -- if `cond b (Some x) o` is None, o is None
+  -- for find-insert: if `cond b (Some x) o` is None, o is None
   rest_none : (b : Bool) (x : X) (o : Option X) → cond b (Some x) o ≡ None → o ≡ None
   rest_none true x o h = some_none x h
   rest_none false x o h = h
 
-  -- looking up q gives the same, whichever of two entries with different numbers comes first
+  -- for find-insert: looking up q gives the same, whichever of two entries with different numbers n and m comes first
   turned : (q n m : ℕ) (v w o : Option X) → eq_by_cmp nat_cmp n m ≡ false → cond (eq_by_cmp nat_cmp q m) w (cond (eq_by_cmp nat_cmp q n) v o) ≡ cond (eq_by_cmp nat_cmp q n) v (cond (eq_by_cmp nat_cmp q m) w o)
   turned q n m v w o apart =
       elim (eq_by_cmp nat_cmp q n) as (λ b. eq_by_cmp nat_cmp q n ≡ b → cond (eq_by_cmp nat_cmp q m) w (cond b v o) ≡ cond b v (cond (eq_by_cmp nat_cmp q m) w o)) [
@@ -84,7 +84,8 @@ module _ {X : Type 0} where
         | false ↦ λ _. refl
       ] refl
 
-  -- once an entry with a new number is inserted at any index, its number finds it, and another what it found before
+  -- once an entry with a new number n is inserted at any index, looking up n finds its value, and looking up another
+  -- number finds what it found before
   find-insert : (es : List (ℕ × X)) (i n : ℕ) (v : X) (q : ℕ) → find nat_cmp n es ≡ None → find nat_cmp q (insert es i (n, v)) ≡ cond (eq_by_cmp nat_cmp q n) (Some v) (find nat_cmp q es)
   find-insert es zero n v q h = refl
   find-insert [] (suc i) n v q h = refl
@@ -229,27 +230,27 @@ BelongsAt-above ps p n s is above =
       behind = λ k m w. absurd (omega (arith, size, m, w));
     }
   where
-    -- the numbers of the index entries
+    -- for BelongsAt-above: the numbers of the index entries ps
     ns : List ℕ
     ns = index_numbers ps
 
-    -- there are as many numbers as index entries
+    -- there are as many numbers `ns` as index entries ps
     size : length ns ≡ length ps
     size = length-map ps (λ (p : IndexEntry). p.number)
 
-    -- the last entry's index in the list of index entries
+    -- for BelongsAt-above: the index of the last of the index entries ps
     last : ℕ
     last = length ps - 1
 
-    -- the last entry's index is below the length of the list, so there is an entry
+    -- `last` is below the length of ps, so ps has an entry
     some : last < length ps
     some = slice_get_within ps last p is
 
-    -- the last number is that of entry p
+    -- the last of the numbers `ns` is that of entry p, which is the last of ps
     end : get_or ns last 0 ≡ p.number
     end = get_or-map (λ (p : IndexEntry). p.number) ps last p 0 some ∙ ap (λ (q : IndexEntry). q.number) (get_or_from_slice_get ps last p p is)
 
-    -- each number of the list is below n, whether it is the last or not
+    -- for BelongsAt-above: the number of `ns` at index k is below n, whether k is the last index or a lower one
     by_order : (k : ℕ) → (k ≡ last) ⊎ ((k < last) ⊎ (last < k)) → k < length ps → get_or ns k 0 < n
     by_order k (inl e) m = let same : get_or ns k 0 ≡ p.number = ap (λ i. get_or ns i 0) e ∙ end in omega (arith, same, above)
     by_order k (inr (inl before)) m =

@@ -41,7 +41,7 @@ use Rattle.atl_campaign.proofs.TotalLaws.{total-with_unit}
 
 -- ---- the books
 
--- if a total x is the sum b booked, and n is p + q, the total x + n is the sum b + p + q
+-- for joined-balances: if the total x is what is booked, b, and n more come, which are p + q, then x + n is b + p + q
 two : (x n : ℕ) (b p q : ℤ) → pos x ≡ b → pos n ≡ p +ℤ q → pos (x + n) ≡ (b +ℤ p) +ℤ q
 two x n b p q h g = omega (arith, ints)
 
@@ -82,7 +82,8 @@ joining_small w c sound =
 len_new : {V : Type 0} (m : FinMap nat_cmp V) (k : ℕ) (v : V) → get m k ≡ None → len (insert m k v) ≡ len m + 1
 len_new m k v h = len-insert nat_cmp_total m k v ∙ ap (λ o. cond (is_some o) (len m) (len m + 1)) h
 
--- if the test for a full campaign fails, there are fewer factions and units than the limits, and a unit number is left
+-- for room: if f factions, u units and the next unit number n fail the test for a full campaign, f and u are below
+-- their limits, and n is at most last_unit
 few : (f u n : ℕ) → ((nat_le last_faction f || nat_le most_units u) || nat_lt last_unit n) ≡ false → (f < last_faction) × (u < most_units) × (n ≤ last_unit)
 few f u n h = (grind (arith, nat_tests), grind (arith, nat_tests), grind (arith, nat_tests))
 
@@ -133,11 +134,11 @@ module _ (w : WorldValue) (name pass : List ℕ) (word : ℕ) (c : CampaignValue
   abbrev unit : Unit
   unit = first_unit w word c
 
-  -- the campaign's factions, and the one that joins
+  -- the campaign's factions, with the one that joins (`member`) under the next faction number
   abbrev factions : FinMap nat_cmp Faction
   factions = insert c.factions c.next_faction member
 
-  -- the campaign's units, and the first one of the faction that joins
+  -- the campaign's units, with the first one of the faction that joins (`unit`) under the next unit number
   abbrev units : FinMap nat_cmp Unit
   units = insert c.units c.next_unit unit
 
@@ -207,7 +208,8 @@ module _ (w : WorldValue) (name pass : List ℕ) (word : ℕ) (c : CampaignValue
         posts = posted-there (λ n. there-insert c.factions c.next_faction n member) old.posts;
       }
 
-  -- after a join, factions and structures are still numbered without a gap, and units below the next unit number
+  -- after a join, factions and structures are still numbered without a gap, and units have numbers below the next unit
+  -- number (AreNumbered)
   joined-next : AreNumbered c → AreNumbered (joined w name pass word c)
   unfolding joined
   joined-next old = record {

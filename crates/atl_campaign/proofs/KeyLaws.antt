@@ -27,7 +27,7 @@ rest_at keys i d h = rw add-one (drop-cons keys i d h)
 pub next_of : {K : Type 0} (keys : List K) (i : ℕ) (x : K) → i < length keys → x ≡ get_or keys i x → drop i keys ≡ x ∷ drop (i + 1) keys
 next_of keys i x h is = rest_at keys i x h ∙ ap (λ y. y ∷ drop (i + 1) keys) (sym is)
 
--- `c || b` is true if b is, and else what c is
+-- for seen_more: `c || b` is true if b is, and else what c is
 added : (b c : Bool) → cond b true c ≡ (c || (b || false))
 added true true = refl
 added true false = refl
@@ -102,7 +102,7 @@ module _ {K : Type 0} {R : K → K → Ordering} (o : IsTotalOrder R) where
   pub rises_more : (ks : List K) (i : ℕ) (x y : K) → 1 ≤ i → i < length ks → x ≡ get_or ks (i - 1) x → y ≡ get_or ks i y → R x y ≡ Less → RisesTo i ks → RisesTo (i + 1) ks
   rises_more ks i x y some within x_is y_is above steps d k l = by_order (cases_order (k + 1) i)
     where
-      -- the key at k is less than the one after it, if k + 1 is i
+      -- for rises_more: if k + 1 is i, key k is less than key k + 1, as key i - 1 (x) is less than key i (y)
       last : k + 1 ≡ i → R (get_or ks k d) (get_or ks (k + 1) d) ≡ Less
       last e =
           let before : i - 1 ≡ k = omega (arith, e) in
@@ -110,7 +110,7 @@ module _ {K : Type 0} {R : K → K → Ordering} (o : IsTotalOrder R) where
           let second : get_or ks (k + 1) d ≡ y = ap (λ n. get_or ks n d) e ∙ get_or_default ks i d y within ∙ sym y_is in
           rw (first, second) above
 
-      -- the key at k is less than the one after it, whether k + 1 is i or below i
+      -- for rises_more: key k is less than key k + 1, whether k + 1 is i or below i
       by_order : (k + 1 ≡ i) ⊎ ((k + 1 < i) ⊎ (i < k + 1)) → R (get_or ks k d) (get_or ks (k + 1) d) ≡ Less
       by_order (inl e) = last e
       by_order (inr (inl below)) = steps d k below

@@ -68,7 +68,7 @@ module _ (w : WorldValue) (c : CampaignValue) (n : ℕ) (u : Unit) (is : get c.u
     none_kept : (k : ℕ) → get c.structures k ≡ None → get structures k ≡ None
     none_kept k none = by_option (get structures k) refl
       where
-        -- the look-up o of a number without a structure among the new structures (AreReowned) is None
+        -- for none_kept: what `structures` (AreReowned) have under a number k without a structure, o, is None too
         by_option : (o : Option Structure) → get structures k ≡ o → o ≡ None
         by_option None e = refl
         by_option (Some x) e = let (y, p, was, same) = re.back k x e in none_some y (sym none ∙ was)
@@ -113,7 +113,8 @@ module _ (w : WorldValue) (c : CampaignValue) (n : ℕ) (u : Unit) (is : get c.u
           owner = λ some. let (v, here, inside) = (re.owned k x there).owned some in (v, here);
         }
 
-    -- once unit n is removed, factions and structures stay numbered without a gap, and units below the next unit number
+    -- once unit n is removed, factions and structures stay numbered without a gap, and units have numbers below the
+    -- next unit number (AreNumbered)
     next_left : AreNumbered c → AreNumbered after
     next_left old = record {
       factions = old.factions;
@@ -125,7 +126,7 @@ module _ (w : WorldValue) (c : CampaignValue) (n : ℕ) (u : Unit) (is : get c.u
         none_left : (k : ℕ) → get c.units k ≡ None → get left k ≡ None
         none_left k none = by_option (get left k) refl
           where
-            -- the look-up o of a number without a unit among the units left is None
+            -- for none_left: what the units left have under a number k without a unit, o, is None too
             by_option : (o : Option Unit) → get left k ≡ o → o ≡ None
             by_option None e = refl
             by_option (Some x) e = none_some x (sym none ∙ (still c.units n k x e).1)
@@ -196,7 +197,7 @@ module _ (w : WorldValue) (c : CampaignValue) (n : ℕ) (u : Unit) (is : get c.u
       owned = λ k x there. still_owned k x c.structures there (λ own. not_owner k x there own);
     }
       where
-        -- a structure whose owner is n does not fail the test is_owned_by n
+        -- for not_owner: if o is a structure x that n owns, the test is_owned_by of o and n is not false
         owner_test : (o : Option Structure) (x : Structure) → o ≡ Some x → x.owner ≡ n → is_owned_by o n ≡ false → ⊥
         owner_test None x e own f = none_some x e
         owner_test (Some y) x e own f =
@@ -204,7 +205,8 @@ module _ (w : WorldValue) (c : CampaignValue) (n : ℕ) (u : Unit) (is : get c.u
             let t : (y.owner == n) ≡ true = (let eq : y.owner ≡ n = same ∙ own in grind (arith, nat_tests)) in
             absurd (true≢false (sym t ∙ f))
           where
-            -- the owner of the structure in an option, or of another structure where the option is None
+            -- for owner_test: the owner of the structure in the option, or of the second argument where the option is
+            -- None, which it never is there
             owner_in : Option Structure → Structure → ℕ
             owner_in (Some z) d = z.owner
             owner_in None d = d.owner
@@ -227,16 +229,16 @@ module _ (w : WorldValue) (c : CampaignValue) (n : ℕ) (u : Unit) (is : get c.u
       abbrev among : List ℕ
       among = numbers_inside u.structure c.units
 
-      -- a number that passes the test of not being n is not n
+      -- for heir_owns: a number k that passes the test of not being n is not n
       is_other : (k : ℕ) → not (k == n) ≡ true → k ≢ n
       is_other k t same = let e : (k == n) ≡ true = grind (arith, nat_tests) in other_not (k == n) t e
         where
-          -- a test and its negation are not both true
+          -- for is_other: a test b and its negation are not both true
           other_not : (b : Bool) → not b ≡ true → b ≡ true → ⊥
           other_not true a b = cc
           other_not false a b = cc
 
-      -- a number that fails the test of not being n is n
+      -- for heir_owns: a number k that fails the test of not being n is n
       is_same : (k : ℕ) → not (k == n) ≡ false → k ≡ n
       is_same k t = let e : (k == n) ≡ true = not-false (k == n) t in grind (arith, nat_tests)
 
@@ -258,7 +260,8 @@ module _ (w : WorldValue) (c : CampaignValue) (n : ℕ) (u : Unit) (is : get c.u
                 apart (is_same k (first.1 none k (inside_is_listed u.structure c.units some_place k v at within)));
           }
 
-      -- once unit n's structure has its next owner, each structure is owned by a unit left inside, or 0 (AreReowned)
+      -- once unit n's structure has its next owner, each structure is owned by a unit left inside, or by nobody where
+      -- none is left (AreReowned)
       as_handed_on : AreReowned handed_on
       as_handed_on = record {
         count = same_len c.structures u.structure mine (owned_by next mine) here;
@@ -268,7 +271,7 @@ module _ (w : WorldValue) (c : CampaignValue) (n : ℕ) (u : Unit) (is : get c.u
             (λ k x apart there. still_owned k x handed_on there (λ own. apart (sym (owns_own k x there own))));
       }
         where
-          -- each structure of the campaign is among those handed on, with some owner
+          -- for as_handed_on: each of the campaign's structures is in `handed_on` under its number, with some owner
           new_owner : (k : ℕ) (y : Structure) → get c.structures k ≡ Some y → (o : ℕ) × (get handed_on k ≡ Some (owned_by o y))
           new_owner k y there =
               elim (nat_cmp k u.structure) as (λ o. nat_cmp k u.structure ≡ o → (p : ℕ) × (get handed_on k ≡ Some (owned_by p y))) [
@@ -295,11 +298,12 @@ module _ (w : WorldValue) (c : CampaignValue) (n : ℕ) (u : Unit) (is : get c.u
   steady_handed : IsSteady w c → IsSteady w (after_handover gone_from u.structure n (heir c u.structure n))
   steady_handed old = by_owner (get c.structures u.structure) refl
     where
-      -- all units have numbers from 1 on
+      -- for steady_handed: all units of a steady campaign have numbers from 1 on
       low : Every (λ k v. 1 ≤ k) c.units
       low k v there = (old.numbers.units k v there).0
 
-      -- without unit n the campaign stays steady, whether n owns the structure s that it is inside (b) or not
+      -- for steady_handed: without unit n the campaign stays steady, whether n owns the structure s that it is inside
+      -- (b) or not
       by_test : (s : Structure) → get c.structures u.structure ≡ Some s → (b : Bool) → is_owned_by (get c.structures u.structure) n ≡ b
           → IsSteady w (if b then with_owner gone_from u.structure (heir c u.structure n) else gone_from)
       by_test s here true t =
@@ -307,7 +311,8 @@ module _ (w : WorldValue) (c : CampaignValue) (n : ℕ) (u : Unit) (is : get c.u
           (steady_left (insert c.structures u.structure (owned_by (heir c u.structure n) s)) (as_handed_on old.owners low s here (is_no_zero c.structures c.next_structure old.next.structures u.structure s here)) old)
       by_test s here false t = steady_left c.structures (as_they_were old.owners low t) old
 
-      -- without unit n the campaign stays steady, whether the structure that n is inside is there (o) or not
+      -- for steady_handed: without unit n the campaign stays steady, whether the structure that n is inside is there
+      -- (o) or not
       by_owner : (o : Option Structure) → get c.structures u.structure ≡ o → IsSteady w (if is_owned_by o n then with_owner gone_from u.structure (heir c u.structure n) else gone_from)
       by_owner None here = steady_left c.structures (as_they_were old.owners low (ap (λ o. is_owned_by o n) here)) old
       by_owner (Some s) here = by_test s here (is_owned_by (Some s) n) (ap (λ o. is_owned_by o n) here)
@@ -322,35 +327,37 @@ module _ (w : WorldValue) (c : CampaignValue) (n : ℕ) (u : Unit) (is : get c.u
   total-without t =
       ap (λ (d : CampaignValue). total d t + unit_amount t u.holding) without-known ∙ by_test (is_owned_by (get c.structures u.structure) n)
     where
-      -- an equation of sums still holds with the same number added on each side
+      -- for total-without: an equation of sums still holds with the same number s added on each side
       regrouped : (a b s h : ℕ) → a + h ≡ b → (a + s) + h ≡ b + s
       regrouped a b s h e = omega arith
 
-      -- the total of a thing loses what unit n held of it, whether n's structure gets another owner or not
+      -- for total-without: the total of thing t loses what unit n held of it, whether n's structure gets another owner
+      -- (b) or not
       by_test : (b : Bool) → total (if b then with_owner gone_from u.structure (heir c u.structure n) else gone_from) t + unit_amount t u.holding ≡ total c t
       by_test true = regrouped _ _ _ _ (sum_over-remove c.units n (λ (x : Unit). unit_amount t x.holding) u is)
       by_test false = regrouped _ _ _ _ (sum_over-remove c.units n (λ (x : Unit). unit_amount t x.holding) u is)
 
   -- the campaign d has the units of c without n, and the factions, regions, books, month and reports of c
   pub record IsOnlyReduced (d : CampaignValue) : Type 0 where
-    -- the units of d are those of c without n
+    -- the campaign d has the units of c, but not unit n
     pub units : d.units ≡ remove c.units n
-    -- the factions of d are those of c
+    -- the campaign d has the factions of c, from which unit n was removed
     pub factions : d.factions ≡ c.factions
-    -- the regions of d are those of c
+    -- the campaign d has the regions of c, from which unit n was removed
     pub regions : d.regions ≡ c.regions
-    -- the books of d are those of c
+    -- the campaign d has the books of c, from which unit n was removed
     pub books : d.books ≡ c.books
-    -- the month of d is that of c
+    -- the campaign d has the month of c, from which unit n was removed
     pub month : d.month ≡ c.month
-    -- the reports of d are those of c
+    -- the campaign d has the reports of c, from which unit n was removed
     pub reports : d.reports ≡ c.reports
 
   -- removing unit n changes no faction, region, report or amount of the books, and not the month
   pub only_reduced : IsOnlyReduced (without_unit c n)
   only_reduced = subst IsOnlyReduced (sym without-known) (by_test (is_owned_by (get c.structures u.structure) n))
     where
-      -- only units and structures change when unit n is removed, whether n's structure gets another owner (b) or not
+      -- for only_reduced: only units and structures change when unit n is removed, whether n's structure gets another
+      -- owner (b) or not
       by_test : (b : Bool) → IsOnlyReduced (if b then with_owner gone_from u.structure (heir c u.structure n) else gone_from)
       by_test true = record { units = refl; factions = refl; regions = refl; books = refl; month = refl; reports = refl }
       by_test false = record { units = refl; factions = refl; regions = refl; books = refl; month = refl; reports = refl }

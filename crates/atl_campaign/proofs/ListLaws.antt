@@ -18,7 +18,7 @@ use Rattle.atl_records.specs.declared.records.Unit.{Unit}
 use Rattle.atl_campaign.proofs.OrderedLaws.{numbers_where-insert_new, numbers_where-lost, numbers_where-gained, taken_put}
 use Rattle.atl_records.proofs.EveryLaws.{same_number, other_number}
 
--- a number compares equal to itself
+-- for gone and others: a number compares equal to itself
 itself : (k : ℕ) → is_eq (nat_cmp k k) ≡ true
 itself k = elim (nat_cmp k k) as (λ o. nat_cmp k k ≡ o → is_eq o ≡ true) [
   | Less ↦ λ e. let l = ranked k k Less (sym e) in absurd (omega arith)
@@ -55,7 +55,8 @@ module _ (belongs_to : Unit → ℕ) where
   AreLists-kept units lists k u v is same old r =
       old r ∙ sym (numbers_where-insert_known (λ w. belongs_to w == r) units k u v is (ap (λ q. q == r) same))
 
-  -- lists with just the units of each key (AreLists), also u, have the others once u is taken out of its key's list
+  -- if lists have just the units of each key (AreLists), unit u among them, they have those without u once u is taken
+  -- out of the list of its key
   AreLists-undone : (units : FinMap nat_cmp Unit) (lists : FinMap nat_cmp (List ℕ)) (k : ℕ) (u : Unit) → get units k ≡ None → AreLists belongs_to (insert units k u) lists
       → AreLists belongs_to units (insert lists (belongs_to u) (take_number k (list_of lists (belongs_to u))))
   AreLists-undone units lists k u fresh old =
@@ -98,7 +99,8 @@ listed_else lists k xs r = by_key lists k xs (λ q ys. k ≢ q → ys ≡ list_o
 pub listed_there : (lists : FinMap nat_cmp (List ℕ)) (k : ℕ) (xs : List ℕ) → list_of (insert lists k xs) k ≡ xs
 listed_there lists k xs = ap (λ o. unwrap_or o []) (get-insert nat_cmp_total lists k xs k ∙ ap (λ b. cond b (Some xs) (get lists k)) (itself k))
 
--- lists that have just the units of each key (AreLists) have them again once a number is put into one and taken out
+-- lists that have just the units of each key (AreLists) have them again once a number is put into one list and taken
+-- out of it
 pub AreLists-undone_at : (belongs_to : Unit → ℕ) (units : FinMap nat_cmp Unit) (old mid new : FinMap nat_cmp (List ℕ)) (n key : ℕ) → mid ≡ insert old key (put_number n (list_of old key)) → SameLists new (insert mid key (take_number n (list_of mid key)))
     → AreLists belongs_to units old → AreLists belongs_to units new
 AreLists-undone_at belongs_to units old mid new n key put same is =
@@ -137,7 +139,7 @@ module _ (units : FinMap nat_cmp Unit) (lists : FinMap nat_cmp (List ℕ)) (are 
   outside : List ℕ
   outside = numbers_where (λ u. u.structure == 0) units
 
-  -- the lists by structure, with the units inside none under 0
+  -- the lists by structure, with the numbers of the units inside no structure (`outside`) under 0
   whole : FinMap nat_cmp (List ℕ)
   whole = insert lists 0 outside
 
@@ -146,7 +148,7 @@ module _ (units : FinMap nat_cmp Unit) (lists : FinMap nat_cmp (List ℕ)) (are 
   unfolding whole outside
   whole_listed = by_key lists 0 outside (λ r xs. xs ≡ numbers_where (λ u. u.structure == r) units) refl (λ r ne. rw (other_number r 0 (λ e. ne (sym e))) at (are r))
 
-  -- the lists by structure are those of `whole`, but with an empty list under 0
+  -- the lists by structure (`lists`) are those of `whole`, but under 0, where they have none (AreBare)
   whole_bare : AreBare lists whole
   unfolding whole
   whole_bare = by_key lists 0 outside (λ r xs. list_of lists r ≡ cond (r == 0) [] xs) (are 0) (λ r ne. rw (other_number r 0 (λ e. ne (sym e))) refl)
@@ -185,7 +187,7 @@ AreInsideLists-kept units lists n u v there same is =
 nobody_listed : (belongs_to : Unit → ℕ) → AreLists belongs_to empty empty
 nobody_listed belongs_to k = ap (λ o. unwrap_or o []) (get-empty nat_cmp k) ∙ sym (ap (λ es. map (λ e. e.0) (filter (λ e. belongs_to e.1 == k) es)) entries-empty)
 
--- an empty map of lists has the lists of an empty one, and an empty list under 0 (AreBare)
+-- for AreUnitLists-nobody: the empty map has the lists of the empty map, and none under 0 (AreBare)
 nobody_bare : AreBare empty empty
 nobody_bare k = elim (k == 0) as (λ b. list_of empty k ≡ cond b [] (list_of empty k)) [
   | true ↦ ap (λ o. unwrap_or o []) (get-empty nat_cmp k)
@@ -236,7 +238,8 @@ module _ (belongs_to : Unit → ℕ) where
       (λ _. ap (put_number k) (old to) ∙ sym (numbers_where-gained (λ w. belongs_to w == to) units k u v is (other_number from to apart) (same_number to)))
       (λ q ne2 ne3. old q ∙ sym (numbers_where-insert_known (λ w. belongs_to w == q) units k u v is (other_number from q ne3 ∙ sym (other_number to q ne2)))) r ne)
 
-  -- the lists have just the units of each key (AreLists) once a changed unit is moved, whether its keys differ or not
+  -- the lists have just the units of each key (AreLists) once a changed unit is moved to its new key's list, whether
+  -- that key differs from the old one or not
   relisted : (units : FinMap nat_cmp Unit) (lists : FinMap nat_cmp (List ℕ)) (k : ℕ) (u v : Unit) → get units k ≡ Some u → AreLists belongs_to units lists
       → AreLists belongs_to (insert units k v) (unlisted_apart (listed_apart lists k (belongs_to v) (belongs_to u)) k (belongs_to u) (belongs_to v))
   relisted units lists k u v is old =

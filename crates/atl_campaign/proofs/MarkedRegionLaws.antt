@@ -17,11 +17,11 @@ use Rattle.atl_campaign.proofs.UnitLaws.{within_both, within_more, within_things
 abbrev nothing_marked : ℕ → RoomySet
 nothing_marked room = record { numbers = set.empty; room = room }
 
--- the dirty set emptied, with the same room
+-- the given dirty set with no number left in it, and its room unchanged
 abbrev cleared : RoomySet → RoomySet
 cleared marks = record marks { numbers = set.empty }
 
--- the dirty set with region n added, if that region is there
+-- the given dirty set with region n added, if that region is there
 abbrev marking : FinMap nat_cmp Region → RoomySet → ℕ → RoomySet
 marking regions marks n = record marks { numbers = marked_with marks.numbers n (get regions n) }
 
@@ -29,7 +29,7 @@ marking regions marks n = record marks { numbers = marked_with marks.numbers n (
 within-none : AreStocksWithin set.empty set.empty empty
 within-none = record { stocks_within = λ q e. e; items_within = nothing }
   where
-    -- nothing is marked in an empty map of marks
+    -- for within-none: a number with marks in the empty map of marked things is in the empty set, as there is none
     nothing : (q : ℕ) → is_some (get {X = FinMap nat_cmp (Prim.Unit {0})} {R = nat_cmp} empty q) ≡ true → set.contains {R = nat_cmp} set.empty q ≡ true
     nothing q e = absurd (false≢true (sym (ap is_some (get-empty nat_cmp q)) ∙ e))
 

@@ -35,7 +35,7 @@ first_of q (n ∷ ns) low =
       | false ↦ λ t. (λ some. let found = rest.0 some in (inr found.0, found.1), λ none k h. passed t (rest.1 none) k h)
     ] refl
   where
-    -- if n does not pass, and no number of ns does, no number of the list with n in front does
+    -- for first_of: if n does not pass the test q, and no number of ns does, no number of n ∷ ns does
     passed : q n ≡ false → ((k : ℕ) → IsListed k ns → q k ≡ false) → (k : ℕ) → IsListed k (n ∷ ns) → q k ≡ false
     passed t others k (inl same) = ap q same ∙ t
     passed t others k (inr h) = others k h
@@ -45,12 +45,12 @@ module _ {V : Type 0} (p : V → Bool) where
   abbrev chosen : List (ℕ × V) → List ℕ
   chosen es = map (λ e. e.0) (filter (λ e. p e.1) es)
 
-  -- a number on a list is still on it when n is put in front, or not
+  -- for each_listed: a number k on the list ns is still on it, whether n is put in front (b) or not
   further : (n : ℕ) (ns : List ℕ) (b : Bool) (k : ℕ) → IsListed k ns → IsListed k (cond b (n ∷ ns) ns)
   further n ns true k h = inr h
   further n ns false k h = h
 
-  -- n is on a list in front of which n is put
+  -- for each_listed: where n is put in front of the list ns (b is true), n is on the list
   foremost : (n : ℕ) (ns : List ℕ) (b : Bool) → b ≡ true → IsListed n (cond b (n ∷ ns) ns)
   foremost n ns true h = inl refl
   foremost n ns false h = cc
@@ -60,7 +60,7 @@ module _ {V : Type 0} (p : V → Bool) where
   all_further ks ns more [] h = tt
   all_further ks ns more (e ∷ es) h = (λ t. more e.0 (h.0 t), all_further ks ns more es h.1)
 
-  -- the number of each entry whose value passes is among the chosen ones
+  -- the number of each entry whose value passes the test p is on the list of such numbers (`chosen`)
   each_listed : (es : List (ℕ × V)) → EachOf (λ n v. p v ≡ true → IsListed n (chosen es)) es
   each_listed [] = tt
   each_listed (e ∷ es) =
@@ -89,7 +89,7 @@ module _ {V : Type 0} (p : V → Bool) where
   none_listed [] h = refl
   none_listed (n ∷ ns) h = absurd (h n (inl refl))
 
-  -- a test is not both true and false
+  -- for nothing_listed: a test b is not both true and false
   true_not_false : {P : Type 0} (b : Bool) → b ≡ true → b ≡ false → P
   true_not_false b t f = cc
 

@@ -16,11 +16,11 @@ digit_ok d h k = grind (arith, nat_tests)
 
 -- bytes that may all be in a name, the last of which is a decimal digit
 record EndsInDigit (ds : List ℕ) : Type 0 where
-  -- the bytes before the last one
+  -- the bytes of `ds` before its last one
   front : List ℕ
-  -- the last byte
+  -- the last byte of `ds`, a decimal digit
   last : ℕ
-  -- the bytes are those before the last one, and then the last one
+  -- `ds` is the bytes before its last one, and then the last one
   is : ds ≡ front ++ last ∷ []
   -- each byte before the last one may be in a name
   digits : list_all is_name_byte front ≡ true
@@ -42,7 +42,7 @@ decimal_ends n h = decimal_by_steps (λ _ ds. EndsInDigit ds) one more n h
     one : (n : ℕ) → n < 10 → EndsInDigit ((48 + n) ∷ [])
     one n h = record { front = []; last = 48 + n; is = refl; digits = refl; least = omega arith; most = omega arith }
 
-    -- bytes that end in a digit still do with one digit more
+    -- for decimal_ends: bytes that end in a digit (EndsInDigit) still do with one digit more
     more : (n : ℕ) (ds : List ℕ) → 10 ≤ n → EndsInDigit ds → EndsInDigit (ds ++ (48 + n % 10) ∷ [])
     more n ds h e = record { front = ds; last = 48 + n % 10; is = refl; digits = all_digits ds e; least = omega arith; most = omega arith }
 

@@ -16,7 +16,7 @@ use Rattle.atl_records.proofs.EveryLaws.{is_true, none_some}
 
 -- ---- put_number and take_number as recursions
 
--- n is put in front of a first element x if n is at most x (t), and else into the rest of the list
+-- for put_number-cons: n is put in front of a first element x if n is at most x (t), and else into the rest of the list
 put_step : (t : Bool) (n x : ℕ) (xs : List ℕ) → take (cond (not t) (1 + first_not_below n xs) 0) (x ∷ xs) ++ n ∷ drop (cond (not t) (1 + first_not_below n xs) 0) (x ∷ xs) ≡ cond t (n ∷ x ∷ xs) (x ∷ put_number n xs)
 unfolding put_number
 put_step true n x xs = refl
@@ -32,7 +32,8 @@ pub put_number-nil : (n : ℕ) → put_number n [] ≡ n ∷ []
 unfolding put_number
 put_number-nil n = refl
 
--- taking n out removes a first element x if n is at most x (t), and else takes n out of the rest of the list
+-- for take_number-cons: taking n out removes a first element x if n is at most x (t), and else takes n out of the rest
+-- of the list
 take_step : (t : Bool) (n x : ℕ) (xs : List ℕ) → remove (x ∷ xs) (cond (not t) (1 + first_not_below n xs) 0) ≡ cond t xs (x ∷ take_number n xs)
 unfolding take_number
 take_step true n x xs = refl
@@ -48,7 +49,7 @@ pub take_number-nil : (n : ℕ) → take_number n [] ≡ []
 unfolding take_number
 take_number-nil n = refl
 
--- a number is at most itself
+-- for taken_first: a number is at most itself (nat_le)
 itself : (n : ℕ) → nat_le n n ≡ true
 itself n = grind (arith, nat_tests)
 
@@ -76,17 +77,18 @@ below k q h =
       | Greater ↦ λ e g. absurd (false≢true g)
     ] refl h
 
--- if n comes first once it is put into ys, it also does if x, which is greater, is in front of ys (where t is true)
+-- for put_first: if n comes first once it is put into ys, it also does if x, which is greater, is in front of ys (where
+-- t is true)
 first_holds : (n x : ℕ) (t : Bool) (xs ys : List ℕ) → n < x → put_number n ys ≡ n ∷ ys → put_number n (cond t (x ∷ ys) ys) ≡ n ∷ cond t (x ∷ ys) ys
 first_holds n x true xs ys l h = let e : nat_le n x ≡ true = grind (arith, nat_tests) in put_number-cons n x ys ∙ ap (λ b. cond b (n ∷ x ∷ ys) (x ∷ put_number n ys)) e
 first_holds n x false xs ys l h = h
 
--- putting n into a list leaves a lower number x in front, whether x is listed (t) or not
+-- for chosen-put_new: putting n into a list leaves a lower number x in front, whether x is listed (t) or not
 later_step : (n x : ℕ) (t : Bool) (ys zs : List ℕ) → x < n → zs ≡ put_number n ys → cond t (x ∷ zs) zs ≡ put_number n (cond t (x ∷ ys) ys)
 later_step n x true ys zs l h = let e : nat_le n x ≡ false = grind (arith, nat_tests) in ap (λ q. x ∷ q) h ∙ sym (put_number-cons n x ys ∙ ap (λ b. cond b (n ∷ x ∷ ys) (x ∷ put_number n ys)) e)
 later_step n x false ys zs l h = h
 
--- a number compares equal to itself
+-- for removed: a number compares equal to itself
 ties : (k : ℕ) → is_eq (nat_cmp k k) ≡ true
 ties k = elim (nat_cmp k k) as (λ o. nat_cmp k k ≡ o → is_eq o ≡ true) [
   | Less ↦ λ e. let l = ranked k k Less (sym e) in absurd (omega arith)
@@ -99,14 +101,15 @@ module _ {X : Type 0} (p : X → Bool) where
   abbrev chosen : List (ℕ × X) → List ℕ
   chosen es = map (λ e. e.0) (filter (λ e. p e.1) es)
 
-  -- a number below those of all entries comes first once it is put among the chosen numbers
+  -- a number k below those of all entries comes first once it is put among the numbers of those that pass (`chosen`)
   put_first : (k : ℕ) (es : List (ℕ × X)) → is_sorted nat_cmp es ≡ true → (e : ℕ × X) → k < e.0 → below_all nat_cmp e.0 es ≡ true → put_number k (chosen (e ∷ es)) ≡ k ∷ chosen (e ∷ es)
   put_first k [] s e l b = ap (put_number k) (chosen-cons p e []) ∙ first_holds k e.0 (p e.1) [] [] l (put_number-nil k) ∙ ap (λ ns. k ∷ ns) (sym (chosen-cons p e []))
   put_first k (f ∷ es) s e l b =
       let rest : put_number k (chosen (f ∷ es)) ≡ k ∷ chosen (f ∷ es) = put_first k es (and_parts _ _ s).1 f (omega (arith, below e.0 f.0 (and_parts _ _ b).0)) (and_parts _ _ s).0 in
       ap (put_number k) (chosen-cons p e (f ∷ es)) ∙ first_holds k e.0 (p e.1) [] (chosen (f ∷ es)) l rest ∙ ap (λ ns. k ∷ ns) (sym (chosen-cons p e (f ∷ es)))
 
-  -- putting a new entry that passes the test into sorted entries puts its number among the chosen numbers
+  -- putting a new entry that passes the test into sorted entries puts its number among the numbers of those that pass
+  -- (`chosen`)
   chosen-put_new : (k : ℕ) (v : X) → p v ≡ true → (es : List (ℕ × X)) → is_sorted nat_cmp es ≡ true → find nat_cmp k es ≡ None → chosen (put nat_cmp k v es) ≡ put_number k (chosen es)
   chosen-put_new k v h [] s g = chosen-cons p (k, v) [] ∙ ap (λ b. cond b (k ∷ []) []) h ∙ sym (put_number-nil k)
   chosen-put_new k v h (e ∷ es) s g =

@@ -19,7 +19,8 @@ taken_none c n none = sym (ap (λ m. without c n m (get c.value.units n)) (remov
 
 -- ---- what becomes of the campaign, but for its marks
 
--- choosing between two marked campaigns and taking the value is choosing between their values
+-- for after_handover-what: choosing between the marked campaigns c and d, and taking the value, is choosing between
+-- their values
 by_test : (b : Bool) (c d : MarkedCampaign) → (if b then d else c).value ≡ (if b then d.value else c.value)
 by_test true c d = refl
 by_test false c d = refl
@@ -28,7 +29,8 @@ by_test false c d = refl
 pub after_handover-what : (c : MarkedCampaign) (s from to : ℕ) → (handed_marked c s from to).value ≡ after_handover c.value s from to
 after_handover-what c s from to = by_test (is_owned_by (get c.value.structures s) from) c (record { value = with_owner c.value s to; marks = mark_structure c s })
 
--- handing on two structures with their marks does to the campaign's value what `after_handover` does twice
+-- handing structure s on from n to `next`, and then t from nobody to n, with their marks, does to the campaign's value
+-- what `after_handover` does twice
 twice : (c : MarkedCampaign) (s n next t : ℕ) → (handed_marked (handed_marked c s n next) t 0 n).value ≡ after_handover (after_handover c.value s n next) t 0 n
 twice c s n next t = after_handover-what (handed_marked c s n next) t 0 n ∙ ap (λ d. after_handover d t 0 n) (after_handover-what c s n next)
 
@@ -66,7 +68,8 @@ pub place_stays : (c : MarkedCampaign) (n r s : ℕ) (u : Unit) → get c.value.
 unfolding place_marked
 place_stays c n r s u is same = sym (ap (place_marked_at c n r s) is ∙ ap (λ b. if b then put_marked c n r s else handed_marked (handed_marked (put_marked c n r s) u.structure n (heir c.value u.structure n)) s 0 n) same)
 
--- moving a unit to another structure hands on the one that it leaves, and the one that it enters if nobody owns it
+-- moving a unit to another structure hands on the one that it leaves, if it owns that, and gives it the one that it
+-- enters, if nobody owns that
 pub place_leaves : (c : MarkedCampaign) (n r s : ℕ) (u : Unit) → get c.value.units n ≡ Some u → (u.structure == s) ≡ false → handed_marked (handed_marked (put_marked c n r s) u.structure n (heir c.value u.structure n)) s 0 n ≡ place_marked c n r s
 unfolding place_marked
 place_leaves c n r s u is same = sym (ap (place_marked_at c n r s) is ∙ ap (λ b. if b then put_marked c n r s else handed_marked (handed_marked (put_marked c n r s) u.structure n (heir c.value u.structure n)) s 0 n) same)

@@ -37,7 +37,7 @@ module _ (marks : FinSet nat_cmp) (mail : FinMap nat_cmp (List ℕ)) where
   all_stay : StaysMarked marks (union marks (from_list (keys mail)))
   all_stay k h = either k ∙ ap (λ b. b || contains_key mail k) h
 
-  -- if neither a holds nor b, and b says whether the mail o of a faction is there, there is no mail
+  -- for all_gone: if `a || b` is false, where b says whether a faction has mail, o, it has none
   none_there : (a b : Bool) (o : Option (List ℕ)) → b ≡ is_some o → (a || b) ≡ false → None ≡ o
   none_there true b o is free = absurd (true≢false free)
   none_there false b None is free = refl

@@ -99,7 +99,7 @@ module _ {V R : Type 0} (row : ℕ → V → R) where
   pub every_row : (P : R → Type 0) (m : FinMap nat_cmp V) → AllByRecursion P (rows_by row (entries m)) → Every (λ n v. P (row n v)) m
   every_row P m h = every-from_each (λ n v. P (row n v)) m (each_row P (entries m) h)
 
-  -- there are as many rows of entries as entries
+  -- for count_rows: entries have as many rows (rows_by) as there are entries
   count : (es : List (ℕ × V)) → length (rows_by row es) ≡ length es
   count [] = refl
   count (e ∷ es) = ap suc (count es)
@@ -146,11 +146,11 @@ is_equal Greater h = absurd (false≢true h)
 
 -- two keys have the same three numbers
 pub record SameKey (a b : Key) : Type 0 where
-  -- the keys have the same first number
+  -- the keys a and b have the same first number
   pub first : a.0 ≡ b.0
-  -- the keys have the same second number
+  -- the keys a and b have the same second number
   pub second : a.1 ≡ b.1
-  -- the keys have the same third number
+  -- the keys a and b have the same third number
   pub third : a.2 ≡ b.2
 
 -- keys that compare equal have the same three numbers
@@ -202,17 +202,19 @@ module _ {A : Type 0} (e : A → A → Bool) where
 
   -- lists f x joined, where rows of elements in order differ
   module _ {X : Type 0} (f : X → List A) (Before : X → X → Type 0) (Own : X → A → Type 0) (apart : (x y : X) (a b : A) → Before x y → Own x a → Own y b → e a b ≡ false) (own : (x : X) → AllByRecursion (Own x) (f x)) (one : (x : X) → IsDistinct e (f x)) where
-    -- e is false of a row that belongs to x and of each row that f makes of the elements after x
+    -- for all_against: e is false of row a, which belongs to x (Own), and of each row that f makes of the elements xs,
+    -- which come after x (Before)
     against : (x : X) (a : A) (xs : List X) → Own x a → AllByRecursion (Before x) xs → AllByRecursion (λ b. e a b ≡ false) (flat_map f xs)
     against x a [] mine h = tt
     against x a (y ∷ xs) mine h = append_each (λ b. e a b ≡ false) (f y) (flat_map f xs) (these (f y) (own y)) (against x a xs mine h.1)
       where
-        -- e is false of row a, which belongs to x, and of each of the rows bs, which belong to y, as x is before y
+        -- for against: e is false of row a and of each of the rows bs, which belong to y (Own), as x is before y
         these : (bs : List A) → AllByRecursion (Own y) bs → AllByRecursion (λ b. e a b ≡ false) bs
         these [] all = tt
         these (b ∷ bs) all = (apart x y a b h.0 mine all.0, these bs all.1)
 
-    -- e is false of each of some rows that belong to x and of each row that f makes of the elements after x
+    -- for flat_apart: e is false of each of `rows`, which belong to x (Own), and of each row that f makes of the
+    -- elements xs, which come after x (Before)
     all_against : (x : X) (xs : List X) (rows : List A) → AllByRecursion (Own x) rows → AllByRecursion (Before x) xs → AllByRecursion (λ a. AllByRecursion (λ b. e a b ≡ false) (flat_map f xs)) rows
     all_against x xs [] mine h = tt
     all_against x xs (a ∷ rows) mine h = (against x a xs mine.0 h, all_against x xs rows mine.1 h)
@@ -234,7 +236,7 @@ below_each : {V : Type 0} (k : ℕ) (es : List (ℕ × V)) → below_all nat_cmp
 below_each k [] h = tt
 below_each k (e ∷ es) h = (below k e.0 (and_parts _ _ h).0, below_each k es (and_parts _ _ h).1)
 
--- the numbers of sorted entries are strictly rising
+-- the numbers of entries that pass is_sorted are strictly rising (Rise)
 rise_sorted : {V : Type 0} (es : List (ℕ × V)) → is_sorted nat_cmp es ≡ true → Rise es
 rise_sorted [] h = tt
 rise_sorted (e ∷ es) h = (below_each e.0 es (and_parts _ _ h).0, rise_sorted es (and_parts _ _ h).1)
@@ -244,7 +246,8 @@ pub entries_rise : {V : Type 0} (m : FinMap nat_cmp V) → Rise (entries m)
 entries_rise m = rise_sorted (entries m) (sorted m)
 
 module _ {V R : Type 0} (row : ℕ → V → R) (e : R → R → Bool) (apart : (n k : ℕ) (v u : V) → n < k → e (row n v) (row k u) ≡ false) where
-  -- e is false of the row of number n and of the row of each entry with a higher number
+  -- for rows_apart: e is false of the row of number n with value v and of the row of each entry of es, whose numbers
+  -- are higher
   others : (n : ℕ) (v : V) (es : List (ℕ × V)) → AllByRecursion (λ f. n < f.0) es → AllByRecursion (λ r. e (row n v) r ≡ false) (rows_by row es)
   others n v [] h = tt
   others n v (f ∷ es) h = (apart n f.0 v f.1 h.0, others n v es h.1)

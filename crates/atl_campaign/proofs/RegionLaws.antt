@@ -127,7 +127,7 @@ module _ (f : Region → Region) (c : CampaignValue) (n : ℕ) (r : Region) (is 
       (every-insert (λ k q. IsRegion w k q) c.regions n (f r) within old.numbers.regions)
       (every-insert (λ k q. AreOfMarkets w k q.stocks) c.regions n (f r) marketed old.known.markets) old.numbers.books old)
 
-  -- an equation of two sums still holds with the same number u added on each side
+  -- for total-region: an equation of two sums still holds with the same number u added on each side
   regrouped : (u a b p q : ℕ) → a + p ≡ b + q → (u + a) + p ≡ (u + b) + q
   regrouped u a b p q h = omega arith
 

@@ -59,7 +59,8 @@ pub rows_under-none : (books : BooksValue) (entry : Entry) (n : ℕ) → amount_
 rows_under-none books entry n h =
     more_under books entry n ∙ ap (λ rows. rows_under books (accounts_under n entry) ++ rows) (rows_under_one books (entry, thing_at n) ∙ ap (λ z. cond (not (is_zero z)) (books_row entry (thing_at n) z ∷ []) []) h) ∙ append-nil (rows_under books (accounts_under n entry))
 
--- once the rows of the next entry are written, the rows of the books written and those to come are together still `all`
+-- if the rows of the books that are written and those of the entries to come are together `all`, they still are once
+-- the rows of the next entry are written
 pub entry_added : (books : BooksValue) (things : ℕ) (x : Entry) (now rest : List Entry) (before after all : List StoredBooks) → now ≡ x ∷ rest → after ≡ before ++ rows_under books (accounts_under things x)
     → before ++ rows_under books (flat_map (accounts_under things) now) ≡ all → after ++ rows_under books (flat_map (accounts_under things) rest) ≡ all
 entry_added books things x now rest before after all next is so_far =

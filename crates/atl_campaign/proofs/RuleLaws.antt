@@ -74,7 +74,7 @@ pub free_from : {V : Type 0} (m : FinMap nat_cmp V) (n : ℕ) → ¬ (IsThere m 
 free_from {V} m n none = elim (get m n) as (λ o. get m n ≡ o → o ≡ None) [ None ↦ λ _. refl | Some v ↦ λ is. absurd (none (v, is)) ] refl
 
 module _ {V : Type 0} (m : FinMap nat_cmp V) (next : ℕ) where
-  -- a number is from `least` to `next` - 1
+  -- a number n of the map is at least `least`, and below `next`; its value v does not matter
   abbrev Between : ℕ → ℕ → V → Type 0
   Between least n v = (least ≤ n) × (n < next)
 

@@ -43,7 +43,7 @@ module _ {V : Type 0} where
   find_entry_step n q None rest h = absurd (false≢true h)
   find_entry_step n q (Some v) rest h = refl
 
-  -- the value in the slot that is chosen (`through`) is the choice between the values in the two slots
+  -- for find_lodged: the value in slot k or that in slot o (`through`), as b chooses, is the value in the chosen slot
   through_cond : (b : Bool) (s : slab.Slab V) (k : ℕ) (o : Option ℕ) → cond b (slab.get s k) (through s o) ≡ through s (cond b (Some k) o)
   through_cond true s k o = refl
   through_cond false s k o = refl
@@ -70,7 +70,7 @@ module _ {V : Type 0} where
   pub value_under : (i : FinMap nat_cmp ℕ) (s : slab.Slab V) (m : FinMap nat_cmp V) (n : ℕ) (o : Option ℕ) → HaveOwnSlots i s → values_of i s ≡ m → o ≡ get i n → through s o ≡ get m n
   value_under i s m n o held is there = ap (through s) there ∙ sym (get_values i s held n) ∙ ap (λ v. get v n) is
 
-  -- a slot in use is not empty
+  -- for leads_nowhere: what a slot holds, o, is not both a value and None
   empty_slot : (o : Option V) → is_some o ≡ true → o ≡ None → ⊥
   empty_slot None h e = false≢true h
   empty_slot (Some x) h e = some_none x e
@@ -80,15 +80,15 @@ module _ {V : Type 0} where
   leads_nowhere i s n None e held h = refl
   leads_nowhere i s n (Some k) e held h = absurd (empty_slot (slab.get s k) (held.in_use n k e) h)
 
-  -- a number without a value leads to no slot
+  -- a number that has no value in the map of values leads to no slot
   pub unindexed : (i : FinMap nat_cmp ℕ) (s : slab.Slab V) (n : ℕ) → HaveOwnSlots i s → get (values_of i s) n ≡ None → get i n ≡ None
   unindexed i s n held h = leads_nowhere i s n (get i n) refl held (sym (get_values i s held n) ∙ h)
 
-  -- a slot in use is not a vacant one
+  -- slot j, which has a value, is not slot k, which has none
   vacant_slot : (s : slab.Slab V) (j k : ℕ) → j ≡ k → slab.get s k ≡ None → is_some (slab.get s j) ≡ true → ⊥
   vacant_slot s j k same vacant h = false≢true (sym (ap is_some (ap (slab.get s) same ∙ vacant)) ∙ h)
 
-  -- two slabs with the same values give the same numbers with values for the same index entries
+  -- two slabs with the same values give the same numbers with values (slot_entries) for the same index entries
   lodged_same : (es : List (ℕ × ℕ)) (s t : slab.Slab V) → slab.SameValues s t → slot_entries es t ≡ slot_entries es s
   lodged_same [] s t same = refl
   lodged_same (e ∷ es) s t same = ap (λ o. slot_entry_at e.0 o (slot_entries es t)) (same e.1) ∙ ap (slot_entry_at e.0 (slab.get s e.1)) (lodged_same es s t same)
@@ -244,8 +244,8 @@ module _ {V : Type 0} where
   pub IsArena-changed : (i : FinMap nat_cmp ℕ) (s : slab.Slab V) (k : ℕ) (w : V) → is_some (slab.get s k) ≡ true → IsArena i s → IsArena i (slab.with_value s k w)
   IsArena-changed i s k w used held = record { slots_used = HaveOwnSlots-changed i s (slab.with_value s k w) k w (written s k w used) held.slots_used; none_idle = len_written s k w used ∙ held.none_idle }
 
-  -- an index and a slab that are an arena (IsArena) are one too with another slab that has the same values, and as many
-  -- slots in use
+  -- an index and a slab s that are an arena (IsArena) stay one with slab t in place of s, if t has the same values, and
+  -- as many slots in use
   pub IsArena-same : (i : FinMap nat_cmp ℕ) (s t : slab.Slab V) → slab.SameValues s t → slab.slab_len t ≡ slab.slab_len s → IsArena i s → IsArena i t
   IsArena-same i s t same as_many held = record { slots_used = HaveOwnSlots-same i s t same held.slots_used; none_idle = as_many ∙ held.none_idle }
 
@@ -264,12 +264,12 @@ lent_same n F G h j = inl (n, λ w. h w j)
 
 -- ---- sorted by number
 
--- a number below all entries is less than each of their numbers
+-- a number that below_all finds below all entries is less than each of their numbers
 rise : {V : Type 0} (k : ℕ) (es : List (ℕ × V)) → below_all nat_cmp k es ≡ true → AllByRecursion (λ n. nat_cmp k n ≡ Less) (keys_of es)
 rise k [] h = tt
 rise k (e ∷ es) h = (is_less (nat_cmp k e.0) (and_parts _ _ h).0, rise k es (and_parts _ _ h).1)
 
--- the numbers of sorted entries are strictly sorted
+-- the numbers of entries that pass is_sorted rise strictly
 pub keys_rise : {V : Type 0} (es : List (ℕ × V)) → is_sorted nat_cmp es ≡ true → IsStrictlySortedBy nat_cmp (keys_of es)
 unfolding IsStrictlySortedBy
 keys_rise [] h = tt
@@ -281,12 +281,13 @@ module _ {V : Type 0} (s : slab.Slab V) where
   key_step n None rest h = absurd (false≢true h)
   key_step n (Some v) rest h = refl
 
-  -- the numbers of the entries with values are those of the entries with slots
+  -- the numbers of the entries with values (slot_entries) are those of the index entries es, if all their slots are in
+  -- use
   keys_lodged : (es : List (ℕ × ℕ)) → AreInUse es s → keys_of (slot_entries es s) ≡ keys_of es
   keys_lodged [] h = refl
   keys_lodged (e ∷ es) h = key_step e.0 (slab.get s e.1) (slot_entries es s) h.0 ∙ ap (λ ns. e.0 ∷ ns) (keys_lodged es h.1)
 
-  -- the entries of the map of values are those of the index, with values for slots
+  -- the entries of the map of values are those of the index, with values for slots (slot_entries)
   pub entries_values : (i : FinMap nat_cmp ℕ) → HaveOwnSlots i s → entries (values_of i s) ≡ slot_entries (entries i) s
   entries_values i held = entries_of (slot_entries (entries i) s) (rw (keys_lodged (entries i) (all_in_use i s held)) (keys_rise (entries i) (sorted i)))
 

@@ -37,7 +37,7 @@ put_least : (x n : ℕ) (xs : List ℕ) → x ≤ n → AllByRecursion (λ y. x 
 put_least x n [] le h = subst (AllByRecursion (λ y. x ≤ y)) (sym (put_number-nil n)) (le, tt)
 put_least x n (y ∷ xs) le h = subst (AllByRecursion (λ y. x ≤ y)) (sym (put_number-cons n y xs)) (either (put_least x n xs le h.1) (nat_le n y))
   where
-    -- x is at most each of a list into which n is put, whether n comes before or after y
+    -- for put_least: x is at most each number of y ∷ xs with n put in, whether n comes before y (b) or after it
     either : AllByRecursion (λ y. x ≤ y) (put_number n xs) → (b : Bool) → AllByRecursion (λ y. x ≤ y) (cond b (n ∷ y ∷ xs) (y ∷ put_number n xs))
     either rest true = (le, h)
     either rest false = (h.0, rest)
@@ -51,7 +51,7 @@ pub IsSorted-put : (n : ℕ) (xs : List ℕ) → IsSorted xs → IsSorted (put_n
 IsSorted-put n [] h = subst IsSorted (sym (put_number-nil n)) (tt, tt)
 IsSorted-put n (x ∷ xs) h = subst IsSorted (sym (put_number-cons n x xs)) (either (IsSorted-put n xs h.1) (nat_le n x) refl)
   where
-    -- a list into which n is put is sorted, whether n comes before or after x
+    -- for IsSorted-put: x ∷ xs with n put in is sorted, whether n comes before x (b) or after it
     either : IsSorted (put_number n xs) → (b : Bool) → nat_le n x ≡ b → IsSorted (cond b (n ∷ x ∷ xs) (x ∷ put_number n xs))
     either rest true e = let le : n ≤ x = grind (arith, nat_tests) in ((le, lower_all n x xs le h.0), h)
     either rest false e = let le : x ≤ n = grind (arith, nat_tests) in (put_least x n xs le h.0, rest)
@@ -63,7 +63,7 @@ take_least : (x n : ℕ) (xs : List ℕ) → AllByRecursion (λ y. x ≤ y) xs �
 take_least x n [] h = subst (AllByRecursion (λ y. x ≤ y)) (sym (take_number-nil n)) tt
 take_least x n (y ∷ xs) h = subst (AllByRecursion (λ y. x ≤ y)) (sym (take_number-cons n y xs)) (either (take_least x n xs h.1) (nat_le n y))
   where
-    -- x is at most each of a list, whether y or a later number is taken out
+    -- for take_least: x is at most each number of y ∷ xs with n taken out, whether that removes y (b) or a later number
     either : AllByRecursion (λ y. x ≤ y) (take_number n xs) → (b : Bool) → AllByRecursion (λ y. x ≤ y) (cond b xs (y ∷ take_number n xs))
     either rest true = h.1
     either rest false = (h.0, rest)
@@ -73,7 +73,7 @@ pub IsSorted-take : (n : ℕ) (xs : List ℕ) → IsSorted xs → IsSorted (take
 IsSorted-take n [] h = subst IsSorted (sym (take_number-nil n)) tt
 IsSorted-take n (x ∷ xs) h = subst IsSorted (sym (take_number-cons n x xs)) (either (IsSorted-take n xs h.1) (nat_le n x))
   where
-    -- a list is sorted, whether x or a later number is taken out
+    -- for IsSorted-take: x ∷ xs with n taken out is sorted, whether that removes x (b) or a later number
     either : IsSorted (take_number n xs) → (b : Bool) → IsSorted (cond b xs (x ∷ take_number n xs))
     either rest true = h.1
     either rest false = (take_least x n xs h.0, rest)

@@ -42,7 +42,7 @@ module _ (c : CampaignValue) (n item amount : ℕ) (r : Region) (is : get c.regi
   pub total-stock : total (with_stock c n item amount) (Item item) + amount_of r.stocks item ≡ total c (Item item) + amount
   total-stock = total-region (λ q. restocked q item amount) c n r is (Item item) ∙ ap (λ k. total c (Item item) + k) (set_same r.stocks item amount)
 
-  -- a and b are equal if they are with the same number k added to both
+  -- for total-stock_other: a and b are equal if they are with the same number k added to both
   alone : (a b k : ℕ) → a + k ≡ b + k → a ≡ b
   alone a b k e = omega (arith, e)
 

@@ -10,7 +10,7 @@ use Rattle.atl_campaign.specs.Campaign.{CampaignValue, with_unit}
 use Rattle.atl_records.specs.Amounts.{region_amount, unit_amount}
 use Rattle.atl_campaign.specs.Totals.{total}
 
--- a term added to the first part of a sum can be added to the whole sum
+-- for total-with_unit: a term added to the first part of a sum can be added to the whole sum
 later : (a b n : ℕ) → (a + n) + b ≡ (a + b) + n
 later a b n = omega arith
 

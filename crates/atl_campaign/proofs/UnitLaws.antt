@@ -16,31 +16,31 @@ use Rattle.atl_campaign.specs.Roster.{Roster}
 
 -- ---- what is marked
 
--- if c implies d, `b || c` implies `b || d`
+-- for within_both: if c implies d, `b || c` implies `b || d`
 either : (b c d : Bool) → (c ≡ true → d ≡ true) → (b || c) ≡ true → (b || d) ≡ true
 either true c d h e = refl
 either false c d h e = h e
 
--- if o being Some implies d, `cond b (Some v) o` being Some implies b or d
+-- for within_things: if o being Some implies d, `cond b (Some v) o` being Some implies `b || d`
 either_there : {V : Type 0} (b : Bool) (v : V) (o : Option V) (d : Bool) → (is_some o ≡ true → d ≡ true) → is_some (cond b (Some v) o) ≡ true → (b || d) ≡ true
 either_there true v o d h e = refl
 either_there false v o d h e = h e
 
--- `b || d` is true if d is
+-- for within_more: `b || d` is true if d is
 more : (b d : Bool) → d ≡ true → (b || d) ≡ true
 more true d e = refl
 more false d e = e
 
--- if a set is within another, it still is once n is added to both
+-- if each number of set g is in set r, each still is once n is added to both
 pub within_both : (g r : set.FinSet nat_cmp) (n : ℕ) → ((q : ℕ) → set.contains g q ≡ true → set.contains r q ≡ true) → (q : ℕ) → set.contains (set.insert g n) q ≡ true → set.contains (set.insert r n) q ≡ true
 within_both g r n h q e =
     set.contains-insert nat_cmp_total r n q ∙ either (eq_by_cmp nat_cmp q n) (set.contains g q) (set.contains r q) (h q) (sym (set.contains-insert nat_cmp_total g n q) ∙ e)
 
--- if all that `marked` is true of is in a set, it is in the set with n added
+-- if each number of which `marked` is true is in set r, each is also in r with n added
 pub within_more : (marked : ℕ → Bool) (r : set.FinSet nat_cmp) (n : ℕ) → ((q : ℕ) → marked q ≡ true → set.contains r q ≡ true) → (q : ℕ) → marked q ≡ true → set.contains (set.insert r n) q ≡ true
 within_more marked r n h q e = set.contains-insert nat_cmp_total r n q ∙ more (eq_by_cmp nat_cmp q n) (set.contains r q) (h q e)
 
--- if all units that a map has things of are in a set, they still are once one more unit is added to both
+-- if each number that has a value in map g is in set r, each still is once n is added to both
 pub within_things : {V : Type 0} (g : FinMap nat_cmp V) (r : set.FinSet nat_cmp) (n : ℕ) (v : V) → ((q : ℕ) → is_some (get g q) ≡ true → set.contains r q ≡ true) → (q : ℕ) → is_some (get (insert g n v) q) ≡ true → set.contains (set.insert r n) q ≡ true
 within_things g r n v h q e =
     set.contains-insert nat_cmp_total r n q ∙ either_there (eq_by_cmp nat_cmp q n) v (get g q) (set.contains r q) (h q) (sym (ap is_some (get-insert nat_cmp_total g n v q)) ∙ e)
@@ -49,7 +49,7 @@ within_things g r n v h q e =
 within-none : AreWithin set.empty set.empty set.empty empty empty
 within-none = record { rows_within = λ q e. e; goods_within = λ q e. e; items_within = nothing; skills_within = nothing }
   where
-    -- nothing is marked in an empty map of marks
+    -- for within-none: a number with marks in the empty map of marked things is in the empty set, as there is none
     nothing : (q : ℕ) → is_some (get {X = FinMap nat_cmp (Prim.Unit {0})} {R = nat_cmp} empty q) ≡ true → set.contains {R = nat_cmp} set.empty q ≡ true
     nothing q e = absurd (false≢true (sym (ap is_some (get-empty nat_cmp q)) ∙ e))
 
@@ -92,11 +92,11 @@ module _ (marks rows goods : set.FinSet nat_cmp) (items skills : Things) (n : �
 
 -- ---- units
 
--- the dirty set with number n added
+-- the given dirty set with number n added
 abbrev marking : RoomySet → ℕ → RoomySet
 marking marks n = record marks { numbers = set.insert marks.numbers n }
 
--- the dirty set emptied, with the same room
+-- the given dirty set with no number left in it, and its room unchanged
 abbrev cleared : RoomySet → RoomySet
 cleared marks = record marks { numbers = set.empty }
 
@@ -187,7 +187,7 @@ module _ (units : FinMap nat_cmp Unit) (marks rows goods : RoomySet) (items skil
 
 -- a dirty set with the same numbers as another, and room for one unit more
 pub record IsWider (units : FinMap nat_cmp Unit) (marks more : RoomySet) : Type 0 where
-  -- both sets have the same numbers
+  -- the set `more`, which has room for one unit more, has the same numbers as `marks`
   pub same : more.numbers ≡ marks.numbers
   -- the wider set has room for the numbers it has, for all units, and for one unit more
   pub room : set.len marks.numbers + (len units + 1) ≤ more.room

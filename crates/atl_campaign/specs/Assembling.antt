@@ -55,7 +55,8 @@ with_has_row r u =
 abbrev pub with_market_row : StoredMarket → Region → Region
 with_market_row r x = record x { stocks = insert x.stocks (as_u32 r.item) (as_u32 r.stock) }
 
--- the map changed row by row: a row changes the value under its `owner` (a number), if there is one, as `more` says
+-- the map changed row by row: each row changes, as `more` says, the value under the number that `owner` gives for the
+-- row, if there is one
 abbrev pub give : {R V : Type 0} → (R → ℕ) → (R → V → V) → List R → FinMap nat_cmp V → FinMap nat_cmp V
 give owner more [] m = m
 give owner more (r ∷ rows) m = give owner more rows (changed (more r) m (owner r))

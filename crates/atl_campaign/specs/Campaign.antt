@@ -136,63 +136,65 @@ unit_changed f c n = record c { units = changed f c.units n }
 abbrev pub structure_changed : (Structure → Structure) → CampaignValue → ℕ → CampaignValue
 structure_changed f c n = record c { structures = changed f c.structures n }
 
--- the campaign with the shown name of a faction changed
+-- the campaign in which faction n, if there is one, shows the name given last
 abbrev pub with_faction_name : CampaignValue → ℕ → List ℕ → CampaignValue
 with_faction_name c n name = faction_changed (λ f. record f { name = name }) c n
 
--- the campaign with a faction's flag `gone` set
+-- the campaign in which faction n, if there is one, has the flag `gone` set
 abbrev pub with_gone : CampaignValue → ℕ → CampaignValue
 with_gone c n = faction_changed (λ f. record f { gone = true }) c n
 
--- the campaign with another number of peasants in a region
+-- the campaign in which region n, if there is one, has the number of peasants given last
 abbrev pub with_peasants : CampaignValue → ℕ → ℕ → CampaignValue
 with_peasants c n peasants = region_changed (λ r. record r { peasants = peasants }) c n
 
--- the campaign with another amount of money in a region
+-- the campaign in which region n, if there is one, has the money given last
 abbrev pub with_region_money : CampaignValue → ℕ → ℕ → CampaignValue
 with_region_money c n money = region_changed (λ r. record r { money = money }) c n
 
--- the campaign with another stock of an item in a region; an item of which there is 0 isn't listed
+-- the campaign in which `region`, if it is there, has as much of `item` in stock as is given last; 0 of an item isn't
+-- listed
 abbrev pub with_stock : CampaignValue → (region item : ℕ) → ℕ → CampaignValue
 with_stock c n item amount = region_changed (λ r. record r { stocks = with_amount_of r.stocks item amount }) c n
 
--- the campaign with another name of a unit
+-- the campaign in which unit n, if there is one, has the name given last
 abbrev pub with_unit_name : CampaignValue → ℕ → List ℕ → CampaignValue
 with_unit_name c n name = unit_changed (λ u. record u { holding = record u.holding { name = name } }) c n
 
--- the campaign with another number of men in a unit
+-- the campaign in which unit n, if there is one, has the number of men given last
 abbrev pub with_men : CampaignValue → ℕ → ℕ → CampaignValue
 with_men c n men = unit_changed (λ u. record u { holding = record u.holding { men = men } }) c n
 
--- the campaign with another amount of a unit's money
+-- the campaign in which unit n, if there is one, has the money given last
 abbrev pub with_money : CampaignValue → ℕ → ℕ → CampaignValue
 with_money c n money = unit_changed (λ u. record u { holding = record u.holding { money = money } }) c n
 
--- the campaign with another amount of an item in a unit; an item of which there is 0 isn't listed
+-- the campaign in which `unit`, if it is there, has as much of `item` as is given last; 0 of an item isn't listed
 abbrev pub with_item : CampaignValue → (unit item : ℕ) → ℕ → CampaignValue
 with_item c n item amount = unit_changed (λ u. record u { holding = record u.holding { items = with_amount_of u.holding.items item amount } }) c n
 
--- the campaign with other days of a skill in a unit, over all its men; a skill with 0 days isn't listed
+-- the campaign in which `unit`, if it is there, has the days of `skill` given last, over all its men; 0 days aren't
+-- listed
 abbrev pub with_skill : CampaignValue → (unit skill : ℕ) → ℕ → CampaignValue
 with_skill c n skill days = unit_changed (λ u. record u { holding = record u.holding { days = with_amount_of u.holding.days skill days } }) c n
 
--- the campaign with a unit's guard flag set or cleared
+-- the campaign in which unit n, if there is one, has its guard flag set, or cleared, as is given last
 abbrev pub with_guard : CampaignValue → ℕ → Bool → CampaignValue
 with_guard c n guard = unit_changed (λ u. record u { holding = record u.holding { guard = guard } }) c n
 
--- the campaign with another number for how much of a structure is done
+-- the campaign in which as much of structure n, if there is one, is done as is given last
 abbrev pub with_done : CampaignValue → ℕ → ℕ → CampaignValue
 with_done c n done = structure_changed (λ s. record s { done = done }) c n
 
--- the campaign with another name of a structure
+-- the campaign in which structure n, if there is one, has the name given last
 abbrev pub with_structure_name : CampaignValue → ℕ → List ℕ → CampaignValue
 with_structure_name c n name = structure_changed (λ s. record s { name = name }) c n
 
--- the campaign with a structure in another region
+-- the campaign in which structure n, if there is one, is in the region given last
 abbrev pub with_structure_region : CampaignValue → ℕ → ℕ → CampaignValue
 with_structure_region c n region = structure_changed (λ s. record s { region = region }) c n
 
--- the campaign with another owner of a structure; 0 is nobody
+-- the campaign in which structure n, if there is one, has the owner given last: a unit's number, or 0 for nobody
 abbrev pub with_owner : CampaignValue → ℕ → ℕ → CampaignValue
 with_owner c n owner = structure_changed (λ s. record s { owner = owner }) c n
 

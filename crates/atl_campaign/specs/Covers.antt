@@ -34,7 +34,7 @@ abbrev pub days_under : Option Unit → FinMap nat_cmp ℕ
 days_under None = empty
 days_under (Some u) = u.holding.days
 
--- each unit has the same in both maps of each item, or of each skill (`under` picks which), that is not marked
+-- of each item, or each skill (`under` picks which), that is not marked, each unit has as much in both maps
 abbrev pub SameThings : FinSet nat_cmp → Things → (Option Unit → FinMap nat_cmp ℕ) → FinMap nat_cmp Unit → FinMap nat_cmp Unit → Type 0
 SameThings goods things under before after = (n thing : ℕ) → is_thing_marked goods things n thing ≡ false → get (under (get after n)) thing ≡ get (under (get before n)) thing
 
@@ -44,71 +44,76 @@ own_row c = (c.month, (c.pass, (c.next_faction, (c.next_unit, c.next_structure))
 
 -- all that is not marked in m is the same in the campaigns before and after
 pub record Covers (m : Marks) (before after : CampaignValue) : Type 0 where
-  -- a faction that is not marked is the same in both campaigns, or is in neither
+  -- a faction that is not marked is the same in the campaigns before and after, or is in neither
   pub factions : SameBut m.factions before.factions after.factions
-  -- A region whose row is not marked is the same in both campaigns but for its stocks, or is in neither.
+  -- A region whose row is not marked is the same in the campaigns before and after but for its stocks, or is in
+  -- neither.
   pub regions : (n : ℕ) → contains m.regions n ≡ false → option_map unstocked (get after.regions n) ≡ option_map unstocked (get before.regions n)
-  -- A stock that is not marked is the same in both campaigns.
+  -- A stock that is not marked is the same in the campaigns before and after.
   pub stocks : (n item : ℕ) → is_thing_marked m.stocks m.stock_items n item ≡ false → stock_of after n item ≡ stock_of before n item
-  -- a structure that is not marked is the same in both campaigns, or is in neither
+  -- a structure that is not marked is the same in the campaigns before and after, or is in neither
   pub structures : SameBut m.structures before.structures after.structures
-  -- the mail of a faction whose mail is not marked is the same in both campaigns, or is in neither
+  -- the mail of a faction whose mail is not marked is the same in the campaigns before and after, or is in neither
   pub mail : SameBut m.mail before.mail after.mail
-  -- the report of a faction whose report is not marked is the same in both campaigns, or is in neither
+  -- the report of a faction whose report is not marked is the same in the campaigns before and after, or is in neither
   pub reports : SameBut m.reports before.reports after.reports
-  -- A unit whose row is not marked is the same in both campaigns but for its goods, or is in neither.
+  -- A unit whose row is not marked is the same in the campaigns before and after but for its goods, or is in neither.
   pub units : (n : ℕ) → contains m.rows n ≡ false → option_map bare (get after.units n) ≡ option_map bare (get before.units n)
-  -- what a unit has of an item that is not marked is the same in both campaigns, or is in neither
+  -- what a unit has of an item that is not marked is the same in the campaigns before and after, or is in neither
   pub items : SameThings m.goods m.items items_under before.units after.units
-  -- the days that a unit has of a skill that is not marked are the same in both campaigns, or are in neither
+  -- the days that a unit has of a skill that is not marked are the same in the campaigns before and after, or are in
+  -- neither
   pub days : SameThings m.goods m.skills days_under before.units after.units
-  -- an amount of the books that is not marked is the same in both campaigns
+  -- an amount of the books that is not marked is the same in the campaigns before and after
   pub books : (e : Entry) (t : Thing) → contains m.books (amount_number e t) ≡ false → amount_in after.books e t ≡ amount_in before.books e t
-  -- the month, the pass text and the next numbers are the same in both campaigns if the campaign row is not marked
+  -- the month, the pass text and the next numbers are the same in the campaigns before and after if the campaign row is
+  -- not marked
   pub row : m.row ≡ false → own_row after ≡ own_row before
 
 -- each number in the first dirty set is in the second: what was marked before some changes is marked after them
 abbrev pub StaysMarked : FinSet nat_cmp → FinSet nat_cmp → Type 0
 StaysMarked before after = (n : ℕ) → contains before n ≡ true → contains after n ≡ true
 
--- each item, skill or stock that was marked, by itself or with all of its unit or region, is marked after
+-- each item, skill or stock that is marked before some changes, by itself or with all of its unit or region, is marked
+-- after them
 abbrev pub ThingsStayMarked : (goods : FinSet nat_cmp) (things : Things) (goods_after : FinSet nat_cmp) (things_after : Things) → Type 0
 ThingsStayMarked goods things goods_after things_after = (n thing : ℕ) → is_thing_marked goods things n thing ≡ true → is_thing_marked goods_after things_after n thing ≡ true
 
--- all that was marked before is marked after
+-- no mark is lost: all that is marked in `before`, the marks before some changes, is marked in `after`, those after
+-- them
 pub record StayMarked (before after : Marks) : Type 0 where
-  -- each faction that was marked is marked after
+  -- each faction that is marked before the changes is marked after them
   pub factions : StaysMarked before.factions after.factions
-  -- each region whose row was marked has its row marked after
+  -- each region whose row is marked before the changes has its row marked after them
   pub regions : StaysMarked before.regions after.regions
-  -- each region of which a stock was marked is still one of which a stock is marked (`markets`)
+  -- each region of which a stock is marked before the changes is one of which a stock is marked after them (`markets`)
   pub markets : StaysMarked before.markets after.markets
-  -- each stock that was marked, alone or with all of its region, is marked after
+  -- each stock that is marked before the changes, alone or with all of its region, is marked after them
   pub stocks : ThingsStayMarked before.stocks before.stock_items after.stocks after.stock_items
-  -- each structure that was marked is marked after
+  -- each structure that is marked before the changes is marked after them
   pub structures : StaysMarked before.structures after.structures
-  -- each faction whose mail was marked has its mail marked after
+  -- each faction whose mail is marked before the changes has its mail marked after them
   pub mail : StaysMarked before.mail after.mail
-  -- each faction whose report was marked has its report marked after
+  -- each faction whose report is marked before the changes has its report marked after them
   pub reports : StaysMarked before.reports after.reports
-  -- each unit of which something was marked is still one of which something is marked (`units`)
+  -- each unit of which something is marked before the changes is one of which something is marked after them (`units`)
   pub units : StaysMarked before.units after.units
-  -- each unit whose row was marked has its row marked after
+  -- each unit whose row is marked before the changes has its row marked after them
   pub rows : StaysMarked before.rows after.rows
-  -- each unit all of whose goods were marked has all of its goods marked after
+  -- each unit all of whose goods are marked before the changes has all of its goods marked after them
   pub goods : StaysMarked before.goods after.goods
-  -- each item of a unit that was marked, alone or with all goods of the unit, is marked after
+  -- each item of a unit that is marked before the changes, alone or with all goods of the unit, is marked after them
   pub items : ThingsStayMarked before.goods before.items after.goods after.items
-  -- each skill of a unit that was marked, alone or with all goods of the unit, is marked after
+  -- each skill of a unit that is marked before the changes, alone or with all goods of the unit, is marked after them
   pub skills : ThingsStayMarked before.goods before.skills after.goods after.skills
-  -- each amount of the books that was marked is marked after
+  -- each amount of the books that is marked before the changes is marked after them
   pub books : StaysMarked before.books after.books
-  -- the campaign row is marked after if it was marked before
+  -- the campaign row is marked after the changes if it is marked before them
   pub row : before.row ≡ true → after.row ≡ true
 
 -- from one marked campaign to another no mark is lost, and all that changed is marked
 pub record MarksChanges (before after : MarkedCampaign) : Type 0 where
-  -- all that was marked before is marked after
+  -- no mark is lost: all that is marked before the changes is marked after them
   pub stay : StayMarked before.marks after.marks
-  -- all that is not marked after is the same in both campaigns
+  -- all that is not marked after the changes is the same in the campaigns before and after them
   pub covers : Covers after.marks before.value after.value

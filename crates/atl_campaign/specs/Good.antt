@@ -66,7 +66,7 @@ pub record AreInRange (w : WorldValue) (c : CampaignValue) : Type 0 where
   pub next_unit_most : c.next_unit ≤ last_unit + 1
   -- each faction is stored under the number that the faction has itself
   pub factions : Every (λ n f. f.number ≡ n) c.factions
-  -- the people, the money and the stocks of each region are in their ranges
+  -- the peasants, the money and the stocks of each region are in their ranges
   pub regions : Every (λ n r. IsRegion w n r) c.regions
   -- the number of each unit is at least 1, and its men, money and items are within their limits
   pub units : Every (λ n u. (1 ≤ n) × IsHolding u.holding) c.units

@@ -28,7 +28,8 @@ is_full c = (nat_le last_faction (len c.factions) || nat_le most_units (len c.un
 abbrev pub home_of : WorldValue → ℕ → ℕ
 home_of w word = slice_index (land_of w) (word % length (land_of w))
 
--- a faction as it joins: not gone, and with the name that it joins under as the name that it shows
+-- a faction as it joins, with the given number, name and pass text: not gone, and shown under the name that it joins
+-- under
 abbrev pub new_faction : ℕ → List ℕ → List ℕ → Faction
 new_faction number name pass = record { number = number; joined_as = name; name = name; pass = pass; gone = false }
 
@@ -41,7 +42,8 @@ first_unit w word c = record {
   holding = record { name = codes "Unit " ++ decimal c.next_unit; men = 1; money = w.rules.start_money; guard = false; items = empty; days = empty };
 }
 
--- the campaign with a faction and its unit added under the next numbers, and what they bring booked
+-- the campaign with a faction of the given name and pass text, and its unit, added under the next numbers, and what
+-- they bring booked. The word of the dice, a number, picks where the unit is.
 unfoldable pub joined : WorldValue → List ℕ → List ℕ → ℕ → CampaignValue → CampaignValue
 joined w name pass word c = record c {
   next_faction = c.next_faction + 1;
@@ -51,14 +53,16 @@ joined w name pass word c = record c {
   books = after_booking (after_booking c.books Joining Money (pos w.rules.start_money)) Joining People (pos 1);
 }
 
--- what a join gives: the new campaign with the numbers of the faction and its unit, or its refusal
+-- what a join with a name, a pass text and a word of the dice gives: the new campaign with the numbers of the faction
+-- and its unit, or its refusal
 unfoldable pub join_of : WorldValue → List ℕ → List ℕ → ℕ → CampaignValue → Result (CampaignValue × (ℕ × ℕ)) JoinFault
 join_of w name pass word c =
     if name_taken c name then Err NameTaken
     else (if is_full c then Err Full
     else Ok (joined w name pass word c, (c.next_faction, c.next_unit)))
 
--- what `join` may answer, and which campaign it leaves: after a fault the old one
+-- what `join`, with a name, a pass text and a word of the dice, may answer for a campaign, and which campaign it
+-- leaves: after a fault the old one
 abbrev pub Joins : WorldValue → List ℕ → List ℕ → ℕ → CampaignValue → Result (ℕ × ℕ) JoinFault → CampaignValue → Type 0
 Joins w name pass word old (Ok numbers) new = join_of w name pass word old ≡ Ok (new, numbers)
 Joins w name pass word old (Err NameTaken) new = (join_of w name pass word old ≡ Err NameTaken) × (new ≡ old)

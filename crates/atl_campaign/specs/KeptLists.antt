@@ -73,16 +73,17 @@ KeepsAll old new = (units : FinMap nat_cmp Unit) → AreUnitLists units old → 
 abbrev pub RelistsUnit : ℕ → ListKeys → ListKeys → UnitLists → UnitLists → Type 0
 RelistsUnit n from to old new = (units : FinMap nat_cmp Unit) (u v : Unit) → list_keys_of u ≡ from → list_keys_of v ≡ to → get units n ≡ Some u → AreUnitLists units old → AreUnitLists (insert units n v) new
 
--- only amounts of the first `things` things are marked, and the dirty set has room for all amounts of these things
+-- only amounts of the books for the first `things` things are marked, and the dirty set has room for all of these
 pub record MarksAmounts (things : ℕ) (marks : RoomySet) : Type 0 where
   -- the dirty set of the books has room for the amounts of all 16 entries, for each of the things
   pub room : entry_count * things ≤ marks.room
-  -- only amounts of the first `things` things are marked
+  -- only amounts of the books for the first `things` things are marked
   pub numbers : AreOfThings things marks.numbers
 
--- the lists are those of the units, and only amounts of the first `things` things are marked, with room for each
+-- the lists are those of the units, and only amounts of the books for the first `things` things are marked, with room
+-- for all of these
 pub record AreKept (units : FinMap nat_cmp Unit) (lists : UnitLists) (things : ℕ) (marks : RoomySet) : Type 0 where
   -- the lists are those of the units by region, by faction and by structure
   pub unit_lists : AreUnitLists units lists
-  -- only amounts of the first `things` things are marked, and the dirty set has room for each of these
+  -- only amounts of the books for the first `things` things are marked, and the dirty set has room for all of these
   pub amounts : MarksAmounts things marks

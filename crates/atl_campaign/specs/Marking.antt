@@ -85,7 +85,8 @@ mark_stock c n item amount =
     let region = region_to_restock c.value.regions n item amount in
     record c.marks { markets = marked_with c.marks.markets n region; stock_items = thing_marked c.marks.stock_items n item region }
 
--- like `mark_stock`, where there is no memory for the stock's own mark: all stocks of its region are marked instead
+-- the marks after a stock was set without memory for a mark of its own: if its amount was another before, all stocks of
+-- its region are marked too
 abbrev pub mark_all_stocks : MarkedCampaign → (region item : ℕ) → ℕ → Marks
 mark_all_stocks c n item amount =
     let region = region_to_restock c.value.regions n item amount in

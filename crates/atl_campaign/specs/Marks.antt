@@ -92,7 +92,8 @@ marks_code =
     })
     (λ _. refl)
 
--- whether an item or skill of a unit, or a stock of a region, is marked: by itself, or with all of its unit or region
+-- whether an item or skill of unit n, or a stock of region n, is marked: by itself, in the given `Things`, or with all
+-- of n's, as n is in the given set
 abbrev pub is_thing_marked : FinSet nat_cmp → Things → ℕ → ℕ → Bool
 is_thing_marked goods things n thing = contains goods n || is_some (map.get (group_of things n) thing)
 

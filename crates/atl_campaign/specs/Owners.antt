@@ -14,11 +14,11 @@ first_or_zero (n ∷ ns) = n
 abbrev pub first_other : List ℕ → ℕ → ℕ
 first_other ns leaving = first_or_zero (filter (λ n. not (n == leaving)) ns)
 
--- the next owner of structure s when its owner leaves: the lowest-numbered other unit inside, or 0
+-- the next owner of structure s when its owner `leaving` leaves: the lowest-numbered other unit inside, or 0
 abbrev pub heir : CampaignValue → ℕ → ℕ → ℕ
 heir c s leaving = first_other (numbers_inside s c.units) leaving
 
--- the owner of structure s, which is given too, once unit `leaving` has left it; 0 if None is given, for no structure
+-- `owner_after` once structure s is looked up: its owner once unit `leaving` has left it; 0 if it is None
 abbrev pub owner_after_at : CampaignValue → ℕ → ℕ → Option Structure → ℕ
 owner_after_at c s leaving None = 0
 owner_after_at c s leaving (Some x) = if x.owner == leaving then heir c s leaving else x.owner

@@ -41,7 +41,7 @@ regions_code =
 abbrev pub unmarked_regions : map.FinMap nat_cmp Region → MarkedRegions
 unmarked_regions values = record { values = values; rows = set.empty; markets = set.empty; stocks = set.empty; items = map.empty }
 
--- the regions with f applied to region n and its row marked, if there is such a region; no stock is marked
+-- the regions with f applied to region n and its row marked, if there is such a region; stocks get no mark
 abbrev pub with_region_row : (Region → Region) → MarkedRegions → ℕ → MarkedRegions
 with_region_row f r n = record r { values = changed f r.values n; rows = marked_with r.rows n (map.get r.values n) }
 

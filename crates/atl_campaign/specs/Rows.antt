@@ -64,7 +64,7 @@ mail_row n text = record { faction = pos n; text = text }
 abbrev pub report_row : ℕ → List ℕ → StoredReport
 report_row n text = record { faction = pos n; text = text }
 
--- the row of `has` for unit n and one thing of a sort: 0 an item, 1 a skill
+-- the row of `has` for unit n, a sort (0 items, 1 skills), the number of a thing of that sort, and its amount
 abbrev pub has_row : ℕ → ℕ → ℕ → ℕ → StoredHas
 has_row n sort thing amount = record { unit = pos n; sort = pos sort; thing = pos thing; amount = pos amount }
 
@@ -72,7 +72,7 @@ has_row n sort thing amount = record { unit = pos n; sort = pos sort; thing = po
 abbrev pub books_row : Entry → Thing → ℤ → StoredBooks
 books_row entry thing amount = record { entry = pos (entry_index entry + 1); thing = pos (thing_index thing); amount = amount }
 
--- the row of `market` for the stock of an item in a region
+-- the row of `market` for a region, an item, and how much of it the region has in stock
 abbrev pub market_row : ℕ → ℕ → ℕ → StoredMarket
 market_row region item stock = record { region = pos region; item = pos item; stock = pos stock }
 
@@ -82,7 +82,7 @@ market_row region item stock = record { region = pos region; item = pos item; st
 abbrev pub rows_by : {V R : Type 0} → (ℕ → V → R) → List (ℕ × V) → List R
 rows_by row es = map (λ e. row e.0 e.1) es
 
--- a row for each of the given amounts that is not 0, in their order
+-- a row for each listed pair of a thing and its amount, in their order, but none that shows the amount 0
 abbrev pub amount_rows : {R : Type 0} → (R → ℤ) → (ℕ → ℕ → R) → List (ℕ × ℕ) → List R
 amount_rows amount row es = filter (λ r. not (is_zero (amount r))) (rows_by row es)
 

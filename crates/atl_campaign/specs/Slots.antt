@@ -20,7 +20,7 @@ module _ {V : Type 0} where
   abbrev pub values_of : FinMap nat_cmp ℕ → slab.Slab V → FinMap nat_cmp V
   values_of i s = from_entries (slot_entries (entries i) s)
 
-  -- each slot that one of the listed numbers leads to has a value
+  -- each slot of the listed pairs of a number and a slot has a value
   abbrev pub AreInUse : List (ℕ × ℕ) → slab.Slab V → Type 0
   AreInUse es s = EachOf (λ n k. is_some (slab.get s k) ≡ true) es
 

@@ -41,8 +41,8 @@ fn make_room<T: Copy + Drop>(items: &mut Vec<T>) -> Result<usize, AllocError>
     Ok(free)
 }
 
-/// Inserts an element at an index of the list, and moves the elements before it one place to the
-/// front, into the last unused place.
+/// Inserts `thing` at index `place` of the list behind `free` unused elements. Moves the elements
+/// before it one place to the front, into the last unused place.
 fn put_before<T: Copy + Drop>(items: &mut Vec<T>, free: usize, place: usize, thing: T)
     requires some { 0 < free }
     requires within { free + place ≤ length items.old.items }
@@ -55,8 +55,9 @@ fn put_before<T: Copy + Drop>(items: &mut Vec<T>, free: usize, place: usize, thi
     items[first + place] = thing;
 }
 
-/// Inserts an element at an index of the list, and returns how many elements are unused then. The
-/// elements on the nearer side move, or all if room is made. Without memory nothing changes.
+/// Inserts `thing` at index `place` of the list behind `free` unused elements, and returns how many
+/// are unused then. The elements on the nearer side move, or all if room is made. Without memory
+/// nothing changes.
 fn open<T: Copy + Drop>(
     items: &mut Vec<T>,
     free: usize,
@@ -79,8 +80,8 @@ fn open<T: Copy + Drop>(
     Ok(free - 1)
 }
 
-/// Removes the element at an index of the list, and returns how many elements are unused then. The
-/// elements on the nearer side move.
+/// Removes the element at index `place` of the list behind `free` unused elements, and returns how
+/// many are unused then. The elements on the nearer side move.
 fn close<T: Copy + Drop>(items: &mut Vec<T>, free: usize, place: usize) -> usize
     requires { free + place < length items.old.items }
     ensures part { drop result items.new.items ≡ remove (drop free items.old.items) place }
@@ -95,8 +96,8 @@ fn close<T: Copy + Drop>(items: &mut Vec<T>, free: usize, place: usize) -> usize
     free
 }
 
-/// Moves the list to the front of the vector if more than half of the elements are unused. Returns
-/// how many are unused then.
+/// Moves the list behind `free` unused elements to the front of the vector, if these are more than
+/// half of all. Returns how many are unused then.
 fn compact<T: Copy + Drop>(items: &mut Vec<T>, free: usize) -> usize
     requires { free ≤ length items.old.items }
     ensures part { drop result items.new.items ≡ drop free items.old.items }

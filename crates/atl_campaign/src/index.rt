@@ -88,7 +88,8 @@ impl Index {
         Ok(())
     }
 
-    /// Removes a number, and returns the slot that it led to, or None. It takes no memory.
+    /// Removes a number, and returns the slot that it led to, or None where it led to none. It
+    /// takes no memory.
     pub(crate) fn remove(&mut self, number: u32) -> Option<usize>
         ensures slot { result ≡ map.get self.old number }
         ensures taken { self.new ≡ map.remove self.old number }

@@ -15,7 +15,8 @@ loop-number-init c =
     let all : c.into_iter-number-iterator.result ≡ entries c.args.units.now.values = search rules in
     (empty, ap (λ es. es ++ c.into_iter-number-iterator.result) (entries-empty {X = Unit}) ∙ all, c.new-lists.ensures)
 
--- after each turn the lists by region, faction and structure are those of the units done, and all others are left
+-- after each turn the lists by region, faction and structure are those of the units done, and all other units are still
+-- to come
 pub loop-number-preserved : goal.loop-number-preserved
 loop-number-preserved c =
     let done = c.loop-number.invariant.0 in

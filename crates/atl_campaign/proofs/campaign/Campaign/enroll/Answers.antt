@@ -11,7 +11,8 @@ use Rattle.atl_campaign.specs.Joining.{joined}
 use Rattle.atl_campaign.proofs.JoinLaws.{joining_small}
 use Rattle.atl_campaign.proofs.campaign.Campaign.enroll.Goals as goal
 
--- enroll may call book_joining: the books have money and people, and what is booked of both under Joining is small
+-- enroll may call book_joining: the books have money and people, and what is booked of both under Joining is far from
+-- the ends of 64 bits (IsSmall)
 pub book_joining-requires : goal.book_joining-requires
 book_joining-requires c =
     let books : c.self-2.inside.books ≡ c.args.self.now.value.books = ap (λ (m : MarkedCampaign). m.value.books) c.self-2.view_is ∙ ap (λ (s : CampaignValue). s.books) c.in-Ok.ensures.ok ∙ ap (λ (m : MarkedCampaign). m.value.books) c.self.view_is in
@@ -65,7 +66,7 @@ invariant_of-self-3 c =
           (more_marked things (record marks { numbers = amount_marked marks.numbers Joining Money }) Joining People (omega (arith, rows)) (more_marked things marks Joining Money (omega (arith, rows)) c.self-2.invariant.amounts));
     }
 
--- enroll makes the campaign that joined defines
+-- enroll makes the campaign that the definition `joined` gives
 pub returns-clause-ok : goal.returns-clause-ok
 unfolding joined
 returns-clause-ok c =

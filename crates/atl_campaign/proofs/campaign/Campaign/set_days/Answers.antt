@@ -6,7 +6,7 @@ use Rattle.atl_campaign.specs.Roster.{Roster, skill_marked_at}
 use Rattle.atl_campaign.proofs.ListLaws.{AreUnitLists-set}
 use Rattle.atl_campaign.proofs.campaign.Campaign.set_days.Goals as goal
 
--- two rosters have the same units, if they are equal, or the second is the first with a skill of unit n marked
+-- for invariant_of-self: rosters r and s have the same units, if s is r, or is r with a skill of unit n marked
 same_values : (r s : Roster) (n skill : ℕ) → (s ≡ r) ⊎ (s ≡ skill_marked_at r n skill) → s.values ≡ r.values
 same_values r s n skill (inl e) = ap (λ (t : Roster). t.values) e
 same_values r s n skill (inr e) = ap (λ (t : Roster). t.values) e

@@ -6,7 +6,7 @@ use Rattle.atl_campaign.specs.Roster.{Roster, item_marked_at}
 use Rattle.atl_campaign.proofs.ListLaws.{AreUnitLists-set}
 use Rattle.atl_campaign.proofs.campaign.Campaign.set_item.Goals as goal
 
--- two rosters have the same units, if they are equal, or the second is the first with an item of unit n marked
+-- for invariant_of-self: rosters r and s have the same units, if s is r, or is r with an item of unit n marked
 same_values : (r s : Roster) (n item : ℕ) → (s ≡ r) ⊎ (s ≡ item_marked_at r n item) → s.values ≡ r.values
 same_values r s n item (inl e) = ap (λ (t : Roster). t.values) e
 same_values r s n item (inr e) = ap (λ (t : Roster). t.values) e

@@ -19,7 +19,7 @@ add-requires-3 c =
     fits-new c.self.inside.units c.self.inside.goods c.make_room-3.new.self c.args.number c.args.unit
     record { same = c.make_room-3.ensures.numbers; room = rw (← c.len-room.ensures.value) c.in_ok-make_room-3.ensures.room }
 
--- once the new unit is marked, there is room for all marks, and a unit of which a part is marked is marked
+-- once the new unit is marked, there is room for all marks, and a unit with a marked part is marked itself (AreUnits)
 pub invariant_of-self-2 : goal.invariant_of-self-2
 invariant_of-self-2 c =
     rw (c.in_ok-insert.ensures.ok, c.add.ensures, c.add-2.ensures, c.add-3.ensures)

@@ -20,13 +20,15 @@ add-requires-then-remove c = fits-marked c.self.inside.units c.self.inside.rows.
 pub add-requires-then-remove-2 : goal.add-requires-then-remove-2
 add-requires-then-remove-2 c = fits-marked c.self.inside.units c.self.inside.goods.numbers c.self.inside.goods.room c.args.number (sym c.if-remove.ensures.there) c.self.invariant.goods_fit
 
--- once the unit is removed and marked, there is room for all marks, and a unit of which a part is marked is marked
+-- once the unit is removed and marked, there is room for all marks, and a unit with a marked part is marked itself
+-- (AreUnits)
 pub invariant_of-self : goal.invariant_of-self
 invariant_of-self c =
     rw (c.if-remove.ensures.taken, c.add.ensures, c.add-then-remove.ensures, c.add-then-remove-2.ensures)
     (AreUnits-gone c.self.inside.units c.self.inside.marks c.self.inside.rows c.self.inside.goods c.self.inside.items c.self.inside.skills c.args.number (sym c.if-remove.ensures.there) c.self.invariant)
 
--- where no unit has the given number, there is still room for all marks, and a unit of which a part is marked is marked
+-- where no unit has the given number, there is still room for all marks, and a unit with a marked part is marked itself
+-- (AreUnits)
 pub invariant_of-self-else-remove : goal.invariant_of-self-else-remove
 invariant_of-self-else-remove c =
     let none = nothing (get c.self.inside.units c.args.number) (sym c.if-remove.ensures.there) in

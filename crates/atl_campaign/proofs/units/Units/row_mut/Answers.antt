@@ -12,6 +12,7 @@ add-requires c = fits-marked c.self.inside.units c.self.inside.marks.numbers c.s
 pub add-requires-2 : goal.add-requires-2
 add-requires-2 c = fits-marked c.self.inside.units c.self.inside.rows.numbers c.self.inside.rows.room c.args.number (ap is_some (sym c.in-Some.ensures)) c.self.invariant.rows_fit
 
--- whatever is written through the loan, there is room for all marks, and a unit of which a part is marked is marked
+-- whatever is written through the loan, there is room for all marks, and a unit with a marked part is marked itself
+-- (AreUnits)
 pub invariant_of-self-lent : goal.invariant_of-self-lent
 invariant_of-self-lent c w = rw (c.add.ensures, c.add-2.ensures) (AreUnits-row c.self.inside.units c.self.inside.marks c.self.inside.rows c.self.inside.goods c.self.inside.items c.self.inside.skills c.args.number c.in-Some-get_mut.unit.now w (sym c.in-Some-get_mut.ensures.value) c.self.invariant)

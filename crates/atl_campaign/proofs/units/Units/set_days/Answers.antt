@@ -12,8 +12,8 @@ use Rattle.atl_campaign.specs.Marks.{with_thing}
 use Rattle.atl_campaign.proofs.UnitLaws.{same_values, AreUnits-skill}
 use Rattle.atl_campaign.proofs.units.Units.set_days.Goals as goal
 
--- where there is no memory to mark the skill, there is still room for all marks, and a unit of which a part is marked
--- is marked
+-- where there is no memory to mark the skill, there is still room for all marks, and a unit with a marked part is
+-- marked itself (AreUnits)
 pub invariant_of-self-in_err-insert_under : goal.invariant_of-self-in_err-insert_under
 invariant_of-self-in_err-insert_under c =
     rw (put_same c.self.inside.units c.args.number c.in-Some.unit.now c.in-Some.unit.now (sym c.in-Some.ensures.value) refl, c.in_err-insert_under.ensures.err) c.self.invariant
@@ -28,7 +28,7 @@ returns-in_err-insert_under-clause-err c =
 pub add-requires : goal.add-requires
 add-requires c = fits-marked c.self.inside.units c.self.inside.marks.numbers c.self.inside.marks.room c.args.number (ap is_some (sym c.in-Some.ensures.value)) c.self.invariant.marks_fit
 
--- at the end of set_days there is room for all marks, and a unit of which a part is marked is marked
+-- at the end of set_days there is room for all marks, and a unit with a marked part is marked itself (AreUnits)
 pub invariant_of-self-2 : goal.invariant_of-self-2
 invariant_of-self-2 c =
     rw (c.in_ok-insert_under.ensures.ok, c.add.ensures)
