@@ -128,11 +128,11 @@ module _ (marks : FinSet nat_cmp) where
       → of_amounts marks (is_among (map entry_index all_entries)) (is_among (range_with_len 0 things)) r ≡ amount_marked marks r
   all_amounts things few r = accounts_same (λ e t. is_among (map entry_index all_entries) e && (is_among (range_with_len 0 things) t && marked e t)) (is_marked_amount marks) same r
     where
-      -- if an amount's number is below `entry_count * n`, its thing's index is below `n`
+      -- for `all_amounts`: if an amount's number is below `entry_count * n`, its thing's index is below `n`
       inside : (e t n : ℕ) → entry_count * t + e < entry_count * n → t < n
       inside e t n h = omega (arith, h)
 
-      -- an amount is of an entry, of one of these things, and marked exactly if it is marked (`is_marked_amount`)
+      -- for `all_amounts`: the test for an entry's index, one of the things and a mark is the test for a marked amount
       same : (e t : ℕ)
           → (is_among (map entry_index all_entries) e && (is_among (range_with_len 0 things) t && marked e t)) ≡ is_marked_amount marks e t
       same e t = elim (cases_Bool (marked e t)) [

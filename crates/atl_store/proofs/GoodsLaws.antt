@@ -173,7 +173,7 @@ module _ (units : FinMap nat_cmp Unit) where
       got None zero = absurd (some zero)
       got (Some x) same = ap Some (sym same)
 
-      -- the amount's row is there, whatever the look-up of the unit gave; without a unit the amount would be 0
+      -- for `of_had`: by the look-up `o` of the unit the amount's row is there; with no unit the amount would be 0
       there : (o : Option Unit) → get units n ≡ o → HasRowsOf units (has_row n (sort_number sort) thing amount)
       there None none = absurd (some (is ∙ amount_none n sort thing none))
       there (Some u) found = (n, u, found, sort, thing, amount, got (get (things_of sort u.holding) thing) (is ∙ amount_some n sort thing u found), some, refl)

@@ -123,11 +123,11 @@ PutsNewcomer n f m u after world = Both (PutsCampaignRow (campaign_row_of after)
 abbrev PutsReportAndAmounts : ℕ → List ℕ → CampaignValue → Database → Database → Type 0
 PutsReportAndAmounts n report after = Both (Puts report_table 1 (report_row n report)) (Both (WritesAmount after Joining Money) (WritesAmount after Joining People))
 
--- a table that the steps before and after leave alone changes as the step between changes it
+-- a table that the steps from `a` to `b` and `c` to `d` leave alone changes (by `F`) as the step from `b` to `c` does
 rows_moved : (t : Table) (F : List Row → Set) (a b c d : Database) → b.trees t.tree ≡ a.trees t.tree → d.trees t.tree ≡ c.trees t.tree → Is (rows_in t c.trees) (F (rows_in t b.trees)) → Is (rows_in t d.trees) (F (rows_in t a.trees))
 rows_moved t F a b c d first last is = subst (λ rows. Is rows (F (rows_in t a.trees))) (sym (ap (map (visible t)) last)) (subst (λ rows. Is (rows_in t c.trees) (F rows)) (ap (map (visible t)) first) is)
 
--- writing an amount to equal sets of rows gives equal sets
+-- if a table has the rows `S`, writing an amount into it makes them the rows `S` with this amount (`settled`)
 settled_on : (c : CampaignValue) (e : Entry) (t : Thing) (rows news : List Row) (S : Set) → Is rows S → Is news (settled c e t (Has rows)) → Is news (settled c e t S)
 settled_on c e t rows news S was is r = (
   λ there. elim ((is r).0 there) [ inl new ↦ inl new | inr kept ↦ inr ((was r).0 kept.0, kept.1) ],

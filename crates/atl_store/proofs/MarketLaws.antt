@@ -66,7 +66,7 @@ module _ (regions : FinMap nat_cmp Region) where
       got None zero = absurd (some zero)
       got (Some x) same = ap Some (sym same)
 
-      -- the stock's row is there, whatever the look-up of the region gave; without a region the stock would be 0
+      -- for `had_stock`: by the look-up `o` of the region the stock's row is there; with no region the stock would be 0
       there : (o : Option Region) → get regions n ≡ o → MarketRowsOf regions (market_row n item amount)
       there None none = absurd (some (is ∙ ap (in_stock item) none))
       there (Some region) found = (n, region, found, item, amount, got (get region.stocks item) (is ∙ ap (in_stock item) found), some, refl)

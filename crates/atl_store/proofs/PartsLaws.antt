@@ -53,7 +53,7 @@ use Rattle.atl_sql.proofs.PartLaws.{all_among, is_among, not_among}
 -- ---- rows of a table, rows that were read of it, and rows that are made of a campaign
 
 module _ {A : Type 0} (shown : A → Row) (rows : List Row) (read made : List A) (in_table : IsPermutation rows (map shown read)) (of_them : IsPermutation made read) where
-  -- the table's rows are, in some order, those that are made of the campaign, if these are what was read of it
+  -- if the rows made of the campaign (`made`) are those that were read of a table, its rows show them in some order
   rows_made : IsPermutation rows (map shown made)
   rows_made = IsPermutation-trans rows (map shown read) (map shown made) in_table (IsPermutation-sym (map shown made) (map shown read) (IsPermutation-map shown made read of_them))
 
@@ -70,7 +70,7 @@ module _ {A : Type 0} (shown : A → Row) (rows : List Row) (read made : List A)
 abbrev HasKeys : List Row → Type 0
 HasKeys rows = (shown : List Row) × IsPermutation rows shown × HaveKeys 0 shown
 
--- a table with one row for each entry of a map has exactly the map's rows, with different numbers
+-- if the rows read of a table are made of a map's entries, it has exactly the map's rows, with different numbers
 by_number : {A V : Type 0} {Q : Type 0} (shown : A → Row) (row : ℕ → V → A) (line : ℕ → V → Row) → ((n : ℕ) (v : V) → shown (row n v) ≡ line n v) → ((n : ℕ) (v : V) → column (line n v) 0 ≡ Int (pos n))
     → (rows : List Row) (read : List A) (m : FinMap nat_cmp V) → IsPermutation rows (map shown read) → IsPermutation (rows_by row (entries m)) read → Is rows (RowsOf line m) × (Q → HasKeys rows)
 by_number {A} {V} shown row line same numbered rows read m in_table of_them = (held, λ _. (lines, is, lines_keys line numbered m))

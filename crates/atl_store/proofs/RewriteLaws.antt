@@ -27,7 +27,7 @@ use Rattle.atl_store.proofs.WholeLaws.{inside_weaker}
 
 -- ---- one step after another
 
--- for one row: choosing by the test `p`, and then by `q`, is choosing by "`p` or `q`"
+-- for one row: if `N` is `W` or `M` by the test `p`, then `W` or `N` by `q` is `W` or `M` by "`p` or `q`" (`Chosen`)
 chosen_step : (p q : Bool) (W M N : Type 0) → N ↔ Chosen p W M → Chosen q W N ↔ Chosen (p || q) W M
 chosen_step true true W M N same = (λ h. h, λ h. h)
 chosen_step false true W M N same = (λ h. h, λ h. h)
@@ -43,7 +43,7 @@ pub record Remaining (table : Table) (Wanted : Set) (rest all : Row → Bool) (o
   pub others : (t : Table) → Has all_tables t → t.tree ≢ table.tree → now.trees t.tree ≡ old.trees t.tree
 
 module _ (table : Table) (Wanted : Set) where
-  -- before any step, all chosen rows are left to rewrite
+  -- before any step all rows that `all` chooses are left to rewrite: `rest` chooses the same rows
   pub none_nearer : (rest all : Row → Bool) → ((r : Row) → rest r ≡ all r) → (s : State) → Inside HasTables (Remaining table Wanted rest all) s s
   none_nearer rest all same s = (
     refl,
@@ -57,7 +57,7 @@ module _ (table : Table) (Wanted : Set) where
     },
   )
 
-  -- a step that rewrites some of the remaining rows leaves the others to rewrite
+  -- a step that rewrites some of the rows that `rest` chooses leaves those that `next` chooses to rewrite
   pub one_less_remaining : (step rest next all : Row → Bool) → ((r : Row) → rest r ≡ (step r || next r)) → (old mid new : State)
       → Inside HasTables (Remaining table Wanted rest all) old mid → Inside HasTables (Rewrites table step Wanted) mid new
       → Inside HasTables (Remaining table Wanted next all) old new
@@ -81,7 +81,7 @@ module _ (table : Table) (Wanted : Set) where
         },
   )
 
-  -- when no row is left to rewrite, all chosen rows are rewritten
+  -- once `rest` chooses no row any more, the rows that `goal` chooses, as `all` does, are rewritten (`Rewrites`)
   pub all_rewritten : (rest all goal : Row → Bool) → ((r : Row) → rest r ≡ false) → ((r : Row) → all r ≡ goal r) → (old new : State)
       → Inside HasTables (Remaining table Wanted rest all) old new → Inside HasTables (Rewrites table goal Wanted) old new
   all_rewritten rest all goal none is old new did = (
@@ -185,16 +185,16 @@ module _ (table : Table) (Wanted : Set) where
 
 -- A test `p` that finds exactly the rows of a key, and new rows that are exactly the wanted rows of the key.
 module _ (p : Row → Bool) (Key New Wanted : Set) (found : (r : Row) → p r ≡ true → Key r) (finds : (r : Row) → Key r → p r ≡ true) (news : (r : Row) → New r → Key r × Wanted r) (olds : (r : Row) → p r ≡ true → Wanted r → New r) where
-  -- for one row: replacing the rows of the key by the new ones is choosing between wanted and old rows by the test
+  -- for `rewrites_key`: a row is new, or old without the key, exactly if by the test `p` it is wanted or else old
   in_place : (Were : Type 0) (r : Row) → (New r ⊎ (Were × ¬ Key r)) ↔ Chosen (p r) (Wanted r) Were
   in_place Were r = (ahead, back (p r) refl)
     where
-      -- a new row, or an old row without the key, is wanted if the test finds it, and else old
+      -- for `in_place`: a row that is new, or old without the key, is wanted if `p` finds it, and old if not
       ahead : New r ⊎ (Were × ¬ Key r) → Chosen (p r) (Wanted r) Were
       ahead (inl new) = let is = news r new in subst (λ b. Chosen b (Wanted r) Were) (sym (finds r is.0)) is.1
       ahead (inr kept) = subst (λ b. Chosen b (Wanted r) Were) (sym (false_from_ne_true (p r) (λ is. kept.1 (found r is)))) kept.0
 
-      -- a row that is wanted if the test finds it, and else old, is new, or old without the key
+      -- for `in_place`: a row that is wanted if `p` finds it, and old if not, is new, or old without the key
       back : (b : Bool) → p r ≡ b → Chosen b (Wanted r) Were → New r ⊎ (Were × ¬ Key r)
       back true is wanted = inl (olds r is wanted)
       back false is was = inr (was, λ key. true≢false (sym (finds r key) ∙ is))

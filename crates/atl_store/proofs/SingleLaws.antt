@@ -64,7 +64,7 @@ module _ (table : Table) (Wanted : Set) (finds : (ℕ → ℕ → Bool) → Row 
   abbrev pub NearingSingles : (ℕ → ℕ → Bool) → (ℕ → ℕ → Bool) → Database → Database → Type 0
   NearingSingles rest all = Remaining table Wanted (λ r. finds rest r) (λ r. finds all r)
 
-  -- the rows that the test finds by these numbers become the wanted ones, and all others stay
+  -- the rows that `finds` finds by this test of their numbers become the wanted ones, and all others stay
   abbrev RewritesFound : (ℕ → ℕ → Bool) → Database → Database → Type 0
   RewritesFound found = Rewrites table (λ r. finds found r) Wanted
 
@@ -77,19 +77,19 @@ module _ (table : Table) (Wanted : Set) (finds : (ℕ → ℕ → Bool) → Row 
     finds_none : (f : ℕ → ℕ → Bool) → ((n t : ℕ) → f n t ≡ false) → (r : Row) → finds f r ≡ false
     finds_none f never r = finds_same f (λ n t. false) never r ∙ by_numbers.none r
 
-    -- a step that rewrites some of the remaining amounts leaves the others to rewrite
+    -- a step that rewrites some of the amounts that `rest` chooses leaves those that `next` chooses to rewrite
     nearer : (step rest next all : ℕ → ℕ → Bool) → ((n t : ℕ) → rest n t ≡ (step n t || next n t)) → (old mid new : State)
         → Inside HasTables (NearingSingles rest all) old mid → Inside HasTables (RewritesFound step) mid new → Inside HasTables (NearingSingles next all) old new
     nearer step rest next all parts = one_less_remaining table Wanted (λ r. finds step r) (λ r. finds rest r) (λ r. finds next r) (λ r. finds all r)
         (λ r. finds_same rest (λ n t. step n t || next n t) parts r ∙ by_numbers.either step next r)
 
-    -- when no amount is left to rewrite, all amounts that `goal` chooses are rewritten
+    -- once `rest` chooses no amount any more, the amounts that `goal` chooses, as `all` does, are rewritten
     none_remaining : (rest all goal : ℕ → ℕ → Bool) → ((n t : ℕ) → rest n t ≡ false) → ((n t : ℕ) → all n t ≡ goal n t) → (old new : State)
         → Inside HasTables (NearingSingles rest all) old new → Inside HasTables (RewritesFound goal) old new
     none_remaining rest all goal none same = all_rewritten table Wanted (λ r. finds rest r) (λ r. finds all r) (λ r. finds goal r) (finds_none rest none) (finds_same all goal same)
 
     module _ {V : Type 0} where
-      -- once the first amount of an owner that is left is rewritten, only the amounts `rest` after it are left
+      -- once the first of an owner's amounts that are left is rewritten, only the amounts `rest` after it are left
       pub single_nearer : (owner : ℕ) (x : ℕ × V) (now rest all : List (ℕ × V)) → now ≡ x ∷ rest → (old mid new : State)
           → Inside HasTables (NearingSingles (is_key owner now) (is_key owner all)) old mid → Inside HasTables (RewritesFound (is_thing owner x.0)) mid new
           → Inside HasTables (NearingSingles (is_key owner rest) (is_key owner all)) old new

@@ -82,7 +82,7 @@ leaves_spares old new Commits clean off survives idle settled = record {
 
 -- the fault of a creation that an error of the database ended
 module _ {S : Type 0} (g : Ghosts S) (text : List ℕ) (c : CampaignValue) (old new : Held S) (ready : IsReadyToCreate (state g old)) (fails : FailsToCreate g text c old new) where
-  -- a creation that an error broke off is refused by its fault, which is not NotEmpty (`RefusesToCreate`)
+  -- if `create` broke off with a fault that isn't NotEmpty, `RefusesToCreate` holds of that fault
   refused_by_fault : (fault : CreateFault) → fault ≢ create.NotEmpty → BreaksOffCreation g text c old new fault → RefusesToCreate g text c old new fault
   refused_by_fault create.NotEmpty other breaks = absurd (other refl)
   refused_by_fault create.Store other breaks = (fails, inr breaks)
@@ -97,12 +97,12 @@ module _ {S : Type 0} (g : Ghosts S) (text : List ℕ) (c : CampaignValue) (old 
       go true same = absurd cc
       go false same = absurd cc
 
-  -- a creation that an error ended is refused by that error's fault (`RefusesToCreate`)
+  -- if `create` ends with the fault of an error that the database gave, `RefusesToCreate` holds of that fault
   pub refused_with : (e : Error) (r : Result (Unit {0}) CreateFault) → IsErrAnd r (λ f. f ≡ create_fault e) → (HasCleanDisk (state g new) → Gives g (OfFounding text c) e old new) → IfErr r (RefusesToCreate g text c old new)
   refused_with e (Ok a) told gave = tt
   refused_with e (Err f) told gave = refused_by_fault f (λ none. never_not_empty e (sym told ∙ none)) (record { ready = ready; told = λ clean. (e, told, gave clean) })
 
--- the fault of a write is that of the error with which the database ended the write (`IsFaultOfError`)
+-- if a write ends with the fault of an error that the database gave, `IsFaultOfError` holds of that fault
 pub told_by : {S F A : Type 0} (g : Ghosts S) (own : Statements) (fault_of : Error → F) (old new : Held S) (e : Error) (r : Result A F) → IsErrAnd r (λ f. f ≡ fault_of e) → Gives g own e old new → IfErr r (IsFaultOfError g own fault_of old new)
 told_by g own fault_of old new e (Ok a) told gave = tt
 told_by g own fault_of old new e (Err f) told gave = (e, told, gave)

@@ -34,7 +34,7 @@ use Rattle.atl_store.specs.declared.fault.UpgradeFault.TheVariants as upgrade
 use Rattle.atl_store.proofs.BareWorldLaws.{good_either}
 use Rattle.atl_store.proofs.StayLaws.{commits_keeps, leaves_spares, may_found}
 
--- what is true of a fault is true of the error of a result that is this fault
+-- if a result is an error with this fault, what holds of the fault (`P`) holds of the result's error
 pub told_as : {A F : Type 0} (P : F → Type 0) (r : Result A F) (fault : F) → IsErrAnd r (λ f. f ≡ fault) → P fault → IfErr r P
 told_as P (Ok a) fault told p = tt
 told_as P (Err f) fault told p = subst P (sym told) p

@@ -44,7 +44,7 @@ module _ {S : Type 0} (g : Ghosts S) {own : Statements} {A : Type 0} {r : Result
       two_steps g (λ old mid new first second. inside_weaker HasTables (Both First Second) Does old new (λ has did. both old.now did.0 new.now did.1 did.2) (inside_then HasTables First Second old mid new first second)) one two
 
 module _ {S : Type 0} (g : Ghosts S) (old begun mid end : Held S) (begins : begun ≡ record old { in_transaction = true }) (Before : Database → Type 0) (Does : Database → Database → Type 0) where
-  -- BEGIN, the step and the end together do what `Survives` says, with only what the step made committed (`MayLeave`)
+  -- BEGIN, step and end together: on a clean disk a crash leaves what it could before, or the step done (`Survives`)
   pub crash_after : Survives (state g begun) (state g mid) (λ _. ⊥) → (HasCleanDisk (state g mid) → Inside Before Does (state g begun) (state g mid)) → Survives (state g mid) (state g end) (λ db. db ≡ (state g mid).now.trees)
       → Survives (state g old) (state g end) (MayLeave Before Does (state g old))
   crash_after one inside two =

@@ -30,7 +30,7 @@ abbrev pub campaign_row_after : Bool → CampaignValue → CampaignRowValue → 
 campaign_row_after true c before = campaign_row_of c
 campaign_row_after false c before = before
 
--- the campaign row after changes are written: the row before said `before`, and its world text is this one
+-- the campaign row once changes are written over a row that said `before` and has this world text
 abbrev pub own_after : MarkedCampaign → CampaignRowValue → List ℕ → Row
 own_after c before text = campaign_row (campaign_row_after c.marks.row c.value before) text
 

@@ -99,7 +99,7 @@ pub record AreOwnRow (f : Format) (rows : List Row) (h : StoredCampaignRow) (tex
   -- the world text of the campaign row reads as the world `w`
   pub world : world_by f text ≡ Ok w
 
--- the other one of the two formats
+-- the other one of the two formats: a single campaign row of it is OtherFormat, not Damaged
 abbrev pub other_format : Format → Format
 other_format First = Second
 other_format Second = First
@@ -110,7 +110,7 @@ IsOther f rows = (row : Row) × (rows ≡ row ∷ []) × (column row 1 ≡ int (
 
 -- ---- the other tables
 
--- the forms that the columns of each part's rows are read in
+-- the form that each column's value has to be of when a part's rows are read, in the order of the columns
 abbrev pub forms_of : Part → List Form
 forms_of Own = campaign_forms
 forms_of Factions = faction_forms
