@@ -80,7 +80,7 @@ module _ (w : WorldValue) where
   land_same : (n : ℕ) → is_land_at (without_markets w) n ≡ is_land_at w n
   land_same n = ap (λ o. option_map_or (is_land w.terrains) o false) (get-mapped without_market w.regions n) ∙ by_plan (get w.regions n)
     where
-      -- for `land_same`: the plan `o` of a region, if there is one, is one of land exactly if it is so without its market
+      -- for `land_same`: the plan `o` of a region, if there is one, is of land exactly if it is so without its market
       by_plan : (o : Option RegionPlan) → option_map_or (is_land w.terrains) (option_map without_market o) false ≡ option_map_or (is_land w.terrains) o false
       by_plan None = refl
       by_plan (Some p) = refl

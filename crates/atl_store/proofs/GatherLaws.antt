@@ -363,7 +363,7 @@ module _ {S : Type 0} (g : Ghosts S) where
       not_early : (part : Part) → Has second_format_parts part → ¬ Has (parts_in First) part
       not_early part there = not_among (parts_in First) part (no (is_among (parts_in First) part) (test_has (λ p. not (is_among (parts_in First) p)) second_format_parts part refl there))
 
-  -- a read that found all rows of the first format's parts is, with no row of other parts, one of that format (`AreOfFormat`)
+  -- a read that found all rows of the first format's parts, and no others, is a read of that format (`AreOfFormat`)
   pub reads_first : {A B : Type 0} (selects : List (List ℕ × List Form)) (some : A → ReadRows) (others : B → ReadRows) (old new : Held S) (one : Result (Option A) LoadFault) → ReadsSome g old selects (λ a. AreAllRows (state g old).now (some a)) one new
       → (a : Option A) → one ≡ Ok a → (b : B) → AreNone (others b) → ((a : A) → map (λ read. read.0) (some a) ≡ other_parts First) → map (λ read. read.0) (others b) ≡ second_format_parts
       → (o : Option (A × B)) → o ≡ option_zip a (Some b) → ReadsSome g old selects (λ x. AreOfFormat First (state g old).now (some x.0 ++ others x.1)) (Ok o) new
