@@ -49,7 +49,7 @@ accounts_none f never row = refl
 
 -- ---- tests of entries and of things
 
--- `p` and (`a` or `b`) and `c` hold exactly if `p` and `a` and `c` do, or `p` and `b` and `c`
+-- for `next_thing`: `p` and (`a` or `b`) and `c` hold exactly if `p` and `a` and `c` do, or `p` and `b` and `c`
 and_or : (p a b c : Bool) → (p && ((a || b) && c)) ≡ ((p && (a && c)) || (p && (b && c)))
 and_or p a b c = ap (λ q. p && q) (and-or_distrib_right a b c) ∙ and-or_distrib_left p (a && c) (b && c)
 
@@ -94,7 +94,7 @@ module _ (marks : FinSet nat_cmp) where
         ap (λ b. b || is_among (range_with_len (from + 1) count) i) later ∙ in_range (from + 1) count i (past from i least apart) (omega (arith, most))
   ]
     where
-      -- a number that is at least `m` and isn't `m` is at least `m + 1`
+      -- for `in_range`: a number that is at least `m` and isn't `m` is at least `m + 1`
       past : (m n : ℕ) → m ≤ n → n ≢ m → m + 1 ≤ n
       past m n least apart = grind (arith, least, apart)
 
@@ -111,11 +111,11 @@ module _ (marks : FinSet nat_cmp) where
     | inr past ↦ beyond 0 count e (omega (arith, past)) ∙ sym (uncounted past)
   ]
     where
-      -- an index below the count passes the test of the first `count` indexes
+      -- for `among_first`: an index `e` below `count` passes the test for that (`nat_le`)
       counted : e < count → nat_le (suc e) count ≡ true
       counted less = grind (arith, nat_tests, less)
 
-      -- an index that isn't below the count fails the test of the first `count` indexes
+      -- for `among_first`: an index `e` that isn't below `count` fails the test for that (`nat_le`)
       uncounted : count ≤ e → nat_le (suc e) count ≡ false
       uncounted past = grind (arith, nat_tests, past)
 
@@ -176,7 +176,7 @@ module _ (c : MarkedCampaign) (e : Entry) (t : Thing) where
       let two = and_parts _ _ one.1 in
       ap (λ k. books_key k thing) (next place (entry_index e) (tied place (entry_index e) one.0)) ∙ ap (books_key (entry_index e + 1)) (tied thing (thing_index t) two.0)
     where
-      -- for equal `a` and `b` the successor of `a` is `b + 1`: in a row an entry's number is its index plus 1
+      -- for `key_of`: if `a` is `b`, the successor of `a` is `b + 1`; a row of `books` has an entry's index plus 1
       next : (a b : ℕ) → a ≡ b → suc a ≡ b + 1
       next a b same = omega (arith, same)
   key_of row is = absurd (true≢false (sym is))

@@ -176,7 +176,7 @@ unmarked_held c old new changes text rest =
 pub covers_unmarked : (c : MarkedCampaign) (db : Trees) (text : List ℕ) (before : CampaignValue) → Covers c.marks before c.value → Holds db text before → HoldsUnmarked db text c
 covers_unmarked c db text before covers held = record { before = campaign_row_of before; campaign = held.rows Own; head = head_held c.marks.row before c.value covers.row; rest = rest }
   where
-    -- in each part's table the unmarked rows are those of the campaign after
+    -- for `covers_unmarked`: in each part's table the unmarked rows are those of the campaign after
     rest : (part : Part) → HasUnmarked (table_of part) (is_marked c.marks part) (rows_for (campaign_line text c.value) c.value part) db
     rest Own = λ r is. absurd (true≢false is)
     rest Factions = rest_same faction_line c.marks.factions (λ n v. refl) before.factions c.value.factions _ covers.factions (held.rows Factions)

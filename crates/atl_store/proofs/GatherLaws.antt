@@ -36,19 +36,19 @@ pub shown_open : (sql : List ℕ) (old new : State) (rows : List Row) → Shown 
 unfolding Shown
 shown_open sql old new rows h = shows_open old new sql h.0 _ rows h.0.returning h.2
 
--- the fault Store is not OtherType
+-- for `fails_one`: the fault Store is not OtherType
 not_store : read.Store ≢ read.OtherType
 not_store is = cc
 
--- the fault Refused is not OtherType
+-- for `fails_one`: the fault Refused is not OtherType
 not_refused : read.Refused ≢ read.OtherType
 not_refused is = cc
 
--- the fault Store is not Memory
+-- for `fails_one`: the fault Store is not Memory
 store_no_memory : read.Store ≢ read.Memory
 store_no_memory is = cc
 
--- the fault Refused is not Memory
+-- for `fails_one`: the fault Refused is not Memory
 refused_no_memory : read.Refused ≢ read.Memory
 refused_no_memory is = cc
 
@@ -322,7 +322,7 @@ module _ {S : Type 0} (g : Ghosts S) where
       leaves = leaves_then old mid new first.leaves second.leaves;
     }
       where
-        -- the disk was clean after the first stage, if it is clean after the second
+        -- for `reads_both`: the disk was clean after the first stage, if it is clean after the second
         clean_mid : HasCleanDisk (state g new) → HasCleanDisk (state g mid)
         clean_mid clean = omega (arith, second.leaves.survives.clean, clean)
 
@@ -350,16 +350,16 @@ module _ {S : Type 0} (g : Ghosts S) where
         (λ read there. inr (not_early read.0 (is_there others second_format_parts late read there), none read there));
   }
     where
-      -- the part of each read is in the list `parts`, if this lists the parts that were read
+      -- for `of_first`: the part of each read is in the list `parts`, if this lists the parts that were read
       is_there : (reads : ReadRows) (parts : List Part) → map (λ read. read.0) reads ≡ parts → (read : Part × List Row) → Has reads read → Has parts read.0
       is_there reads parts same read there = subst (λ l. Has l read.0) same (has_map (λ (read : Part × List Row). read.0) reads read there)
 
-      -- a truth value whose negation is true is false
+      -- for `not_early`: a truth value whose negation is true is false
       no : (b : Bool) → not b ≡ true → b ≡ false
       no true is = absurd (true≢false (sym is))
       no false is = refl
 
-      -- a part that only the second format has is none of the first
+      -- for `of_first`: a part that only the second format has is none of the first
       not_early : (part : Part) → Has second_format_parts part → ¬ Has (parts_in First) part
       not_early part there = not_among (parts_in First) part (no (is_among (parts_in First) part) (test_has (λ p. not (is_among (parts_in First) p)) second_format_parts part refl there))
 

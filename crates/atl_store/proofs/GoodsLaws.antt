@@ -35,7 +35,7 @@ pub optional_apart : (key : ℕ) (b : Bool) (row : Row) → DifferInKey key (if 
 optional_apart key true row = tt
 optional_apart key false row = (λ y none. absurd none, tt)
 
--- a number that fails the test for 0 is not 0
+-- for `amounts_have`: a number that fails the test for 0 is not 0
 not_zero : (a : ℕ) → (a == 0) ≡ false → a ≢ 0
 not_zero a differs same = grind (arith, nat_tests)
 
@@ -168,7 +168,7 @@ module _ (units : FinMap nat_cmp Unit) where
   pub of_had : (n : ℕ) (sort : ThingKind) (thing amount : ℕ) → amount ≡ amount_under units n sort thing → amount ≢ 0 → HasRowsOf units (has_row n (sort_number sort) thing amount)
   of_had n sort thing amount is some = there (get units n) refl
     where
-      -- an amount other than 0, which a look-up gives with 0 as its default, was found
+      -- for `of_had`: an amount other than 0, which a look-up gives with 0 as its default, was found
       got : (o : Option ℕ) → amount ≡ unwrap_or o 0 → o ≡ Some amount
       got None zero = absurd (some zero)
       got (Some x) same = ap Some (sym same)

@@ -28,7 +28,7 @@ use Rattle.atl_store.proofs.WholeLaws.{inside_then, inside_weaker}
 first_of : (more : ℕ) (a b : Row) → take (suc more) a ≡ take (suc more) b → take 1 a ≡ take 1 b
 first_of more a b same = sym (first a) ∙ ap (take 1) same ∙ first b
   where
-    -- the first of a row's first `more + 1` columns is the row's first column
+    -- for `first_of`: the first of a row's first `more + 1` columns is the row's first column
     first : (r : Row) → take 1 (take (suc more) r) ≡ take 1 r
     first [] = refl
     first (v ∷ row) = refl
@@ -78,7 +78,7 @@ module _ {V : Type 0} (lines : ℕ → V → List Row) (more : ℕ) (values : Fi
         (λ r is of. let line = lined_at r is of in subst (λ u. Has (lines n u) r) (same_Some line.0 v (sym line.1 ∙ there)) line.2)
         table old new rows (λ t listed other. did.others t listed other ∙ dropped.others t listed other)
       where
-        -- the table has the rows of the number's value, and the old rows that don't begin with the number
+        -- for `lines_rewrite`: the table has the rows of the number's value, and the old rows without the number
         rows : (r : Row) → Has (rows_in table new.trees) r ↔ (Has (lines n v) r ⊎ (Has (rows_in table old.trees) r × (take 1 r ≢ int n ∷ [])))
         rows r =
             let all = puts_has (suc more) (lines n v) (Has (rows_in table mid.trees)) (are.apart n v) (λ s was x here same. ((dropped.rows s).0 was).1 (first_of more s x same ∙ are.numbered n v x here)) r in (

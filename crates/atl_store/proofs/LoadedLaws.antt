@@ -72,7 +72,7 @@ has_own Second = inl refl
 read_of : (reads : ReadRows) → map (λ read. read.0) reads ≡ other_parts Second → (part : Part) → Has (other_parts Second) part → (read : Part × List Row) × Has reads read × (part ≡ read.0)
 read_of reads parts part there = map_has (λ (read : Part × List Row). read.0) reads part (subst (λ l. Has l part) (sym parts) there)
 
--- removing the rowids from no rows leaves no rows
+-- for `none_read`: removing the rowids from no rows leaves no rows
 nothing_unplaced : (part : Part) → without_ids part [] ≡ []
 nothing_unplaced part = elim (cases_Bool (shows_rowids part)) [
   | inl is ↦ cut_places part [] is
@@ -90,7 +90,7 @@ has_since : (f : Format) (schema : Schema) → HasTablesOf f schema → (part : 
 has_since First schema has part there = subst (λ since. HasTablesOf since schema) (sym (since_first part there)) has
 has_since Second schema has part there = under (listing_of part).since
   where
-    -- a schema with the tables of the second format has those of each format
+    -- for `has_since`: a schema with the tables of the second format has those of each format
     under : (since : Format) → HasTablesOf since schema
     under First = has_first Second schema has
     under Second = has

@@ -61,7 +61,7 @@ module _ (regions : FinMap nat_cmp Region) where
   pub had_stock : (n item amount : ℕ) → amount ≡ stock_in regions n item → amount ≢ 0 → MarketRowsOf regions (market_row n item amount)
   had_stock n item amount is some = there (get regions n) refl
     where
-      -- a stock other than 0, which a look-up gives with 0 as its default, was found
+      -- for `had_stock`: a stock other than 0, which a look-up gives with 0 as its default, was found
       got : (o : Option ℕ) → amount ≡ unwrap_or o 0 → o ≡ Some amount
       got None zero = absurd (some zero)
       got (Some x) same = ap Some (sym same)
@@ -77,12 +77,12 @@ module _ (regions : FinMap nat_cmp Region) where
 pub finds_stocks : FindsByNumbers of_stock
 finds_stocks = record { either = either; none = none }
   where
-    -- the test "`f` or `g`" finds a row exactly if `f` or `g` finds it
+    -- for `finds_stocks`: the test "`f` or `g`" finds a row of `market` exactly if `f` or `g` finds it
     either : (f g : ℕ → ℕ → Bool) (r : Row) → of_stock (λ n t. f n t || g n t) r ≡ (of_stock f r || of_stock g r)
     either f g (Int (pos region) ∷ Int (pos item) ∷ row) = refl
     either f g row = refl
 
-    -- a test that is always false finds no row
+    -- for `finds_stocks`: a test that is always false finds no row of `market`
     none : (r : Row) → of_stock (λ n t. false) r ≡ false
     none (Int (pos region) ∷ Int (pos item) ∷ row) = refl
     none row = refl

@@ -81,7 +81,7 @@ own_typed f rows h text w own row there =
       | inr none ↦ absurd none
     ]
 
-    -- a row whose first columns are a campaign row with a UTF-8 text has values of its columns' types
+    -- for `own_typed`: a row that begins as a campaign row with a UTF-8 text has values of its columns' types
     typed : (row : Row) → first_columns (length campaign_forms) row ≡ own_stored text h → IsTyped campaign_forms row
     typed row is =
         let at = λ (n : ℕ). ap (λ (r : Row). column r n) is in

@@ -33,7 +33,7 @@ module _ (c : MarkedCampaign) where
         others = puts.others;
       })
     where
-      -- each row of `campaign`, put or kept, is the campaign's row
+      -- for `head_put`: each row of `campaign`, put or kept, is the campaign's row
       only : (r : Row) → (r ≡ campaign_row (campaign_row_of c.value) text) ⊎ (Has (rows_in campaign_table old.trees) r × (take 1 r ≢ take 1 (campaign_row (campaign_row_of c.value) text))) → r ≡ campaign_row (campaign_row_of c.value) text
       only r (inl same) = same
       only r (inr kept) = absurd (kept.1 (ap (take 1) ((was r).0 kept.0)))

@@ -205,7 +205,7 @@ module _ (p : Row → Bool) (Key New Wanted : Set) (found : (r : Row) → p r �
       → ((t : Table) → Has all_tables t → t.tree ≢ table.tree → new.trees t.tree ≡ old.trees t.tree) → Rewrites table p Wanted old new
   rewrites_key table old new rows others = record { rows = λ r. let so = in_place (Has (rows_in table old.trees) r) r in (λ h. so.0 ((rows r).0 h), λ h. (rows r).1 (so.1 h)); others = others }
 
--- if the first of two cases is impossible, the second holds
+-- for tables after a deletion: since no row is new (the first case is impossible), the row was kept (the second holds)
 pub kept_only : {P : Type 0} → ⊥ ⊎ P → P
 kept_only (inl never) = absurd never
 kept_only (inr kept) = kept

@@ -25,7 +25,7 @@ listed_key : {V : Type 0} (es : List (ℕ × V)) (t : ℕ) → is_among (map (λ
 listed_key [] t = refl
 listed_key (e ∷ es) t = elim (eq_by_cmp nat_cmp t e.0) as (λ b. (b || is_among (map (λ x. x.0) es) t) ≡ is_some (cond b (Some e.1) (find nat_cmp t es))) [ true ↦ refl | false ↦ listed_key es t ]
 
--- a number that is less than another is not that number
+-- for `not_listed`: a number that is less than another is not that number
 differs : (k n : ℕ) → is_lt (nat_cmp k n) ≡ true → is_number n k ≡ false
 differs k n less = elim (nat_cmp k n) as (λ o. is_lt o ≡ true → is_eq o ≡ false) [
   | Less ↦ λ _. refl

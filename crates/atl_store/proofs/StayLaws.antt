@@ -92,7 +92,7 @@ module _ {S : Type 0} (g : Ghosts S) (text : List ℕ) (c : CampaignValue) (old 
   never_not_empty : (e : Error) → create_fault e ≢ create.NotEmpty
   never_not_empty e = go (is_memory e)
     where
-      -- neither Memory nor Store is NotEmpty
+      -- for `never_not_empty`: neither Memory nor Store is NotEmpty
       go : (b : Bool) → cond b create.Memory create.Store ≢ create.NotEmpty
       go true same = absurd cc
       go false same = absurd cc

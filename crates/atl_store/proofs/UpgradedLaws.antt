@@ -166,7 +166,7 @@ module _ {S : Type 0} (g : Ghosts S) (text : List ℕ) (old mid new : Held S) (w
     idle = over;
   }
     where
-      -- the database after the transaction
+      -- for `upgrades`: the database after the transaction
       new_now : Database
       new_now = (state g new).now
 

@@ -73,7 +73,7 @@ module _ {S : Type 0} (g : Ghosts S) (old begun mid end : Held S) (begins : begu
         is_open = shows.is_open;
       }
 
--- what holds anyway holds if a result is an error (`OnErr`)
+-- for `left_off`: what holds anyway holds if a result is an error (`OnErr`)
 given_err : {A E P : Type 0} (r : Result A E) → P → OnErr r P
 given_err (Ok a) p = tt
 given_err (Err e) p = p
