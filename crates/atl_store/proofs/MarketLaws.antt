@@ -117,7 +117,7 @@ module _ (region item : ℕ) where
     abbrev row : Row
     row = market_row region item stock
 
-    -- a row of the region and item that the campaign has is that of the stock, which isn't 0
+    -- a row of this region and item among the campaign's rows is that of the stock, which isn't 0
     wanted_here : (r : Row) → is_here r ≡ true → MarketRowsOf c.regions r → (stock ≢ 0) × (r ≡ row)
     wanted_here r here of =
         let had = stock_had c.regions r of in

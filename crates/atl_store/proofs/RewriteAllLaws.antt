@@ -60,7 +60,7 @@ module _ (c : MarkedCampaign) where
   pub own_rewritten : (old new : Database) → RewritesCampaignRow c old new → RewritesWithOwn c (Own ∷ []) old new
   own_rewritten old new did before text was = one_changed (Becomes c (own_after c before text)) Own _ old new (did before text was) (λ rows. rows)
 
-  -- rewriting the rows of a part other than the campaign row rewrites the part, whatever the campaign row is
+  -- rewriting a table's marked rows rewrites its part (`RewritesParts`), if its rows don't depend on the campaign row
   pub part_rewritten : (part : Part) → ((own : Row) (before after : List Row) → Becomes c [] part before after → Becomes c own part before after) → (old new : Database)
       → Rewrites (table_of part) (is_marked c.marks part) (rows_for [] c.value part) old new → RewritesParts c (part ∷ []) old new
   part_rewritten part any old new did own = one_changed (Becomes c own) part _ old new did (any own _ _)

@@ -21,7 +21,7 @@ use Rattle.atl_sql.specs.Rows.{RowsOf, HasRowsOf, BooksRowsOf, MarketRowsOf, row
 use Rattle.atl_sql.specs.Marked.{begins, accounts, of_kind, of_stock, begins_marked, goods_marked, stocks_marked, amount_marked, is_marked}
 use Rattle.atl_store.specs.Changing.{rows_after_rewrite, own_after}
 
--- one table is rewritten: its rows with a chosen key become the wanted ones; its other rows and all other tables stay
+-- in one table the rows that the test chooses become the set's rows that it chooses; all other rows and tables stay
 abbrev pub Rewrites : Table → (Row → Bool) → Set → Database → Database → Type 0
 Rewrites table is_chosen Wanted old new = Alters table (rows_after_rewrite is_chosen Wanted (Has (rows_in table old.trees))) old new
 
@@ -63,23 +63,23 @@ RewritesNumber table line values n old new = Rewrites table (begins (is_number n
 abbrev pub RewritesMarked : {V : Type 0} → Table → (ℕ → V → Row) → FinMap nat_cmp V → FinSet nat_cmp → Database → Database → Type 0
 RewritesMarked table line values marks old new = Rewrites table (begins_marked marks) (RowsOf line values) old new
 
--- the rows of one unit or region, whose key begins with its number, become the wanted ones
+-- in one table the rows of one unit or region, whose key begins with its number, become the set's; all others stay
 abbrev pub RewritesGroup : Table → Set → ℕ → Database → Database → Type 0
 RewritesGroup table Wanted n old new = Rewrites table (begins (is_number n)) Wanted old new
 
--- the rows of all marked units or regions, whose key begins with a marked number, become the wanted ones
+-- in one table the rows whose key begins with the number of a marked unit or region become the set's; all others stay
 abbrev pub RewritesGroups : Table → Set → FinSet nat_cmp → Database → Database → Type 0
 RewritesGroups table Wanted marks old new = Rewrites table (begins_marked marks) Wanted old new
 
--- the rows of `market` of the regions and items that `stocks` chooses become the campaign's
+-- the rows of `market` of the regions and items that `stocks` chooses become those that the campaign has
 abbrev pub RewritesChosenStocks : CampaignValue → (ℕ → ℕ → Bool) → Database → Database → Type 0
 RewritesChosenStocks c stocks old new = Rewrites market_table (of_stock stocks) (MarketRowsOf c.regions) old new
 
--- all marked rows of `market` become the campaign's
+-- all marked rows of `market` become those that the campaign has; all other rows and tables stay
 abbrev pub RewritesStocks : MarkedCampaign → Database → Database → Type 0
 RewritesStocks c old new = Rewrites market_table (stocks_marked c.marks) (MarketRowsOf c.value.regions) old new
 
--- the rows of `has` of this kind, and of the units and things that `things` chooses, become the campaign's
+-- the rows of `has` of this kind, and of the units and things that `things` chooses, become those of the campaign
 abbrev pub RewritesThings : CampaignValue → ThingKind → (ℕ → ℕ → Bool) → Database → Database → Type 0
 RewritesThings c sort things old new = Rewrites has_table (of_kind sort things) (HasRowsOf c.units) old new
 
@@ -88,15 +88,15 @@ abbrev pub marked_things : Marks → ThingKind → Things
 marked_things marks Item = marks.items
 marked_things marks Skill = marks.skills
 
--- all marked rows of `has` become the campaign's
+-- all marked rows of `has` become those that the campaign has; all other rows and tables stay
 abbrev pub RewritesGoods : MarkedCampaign → Database → Database → Type 0
 RewritesGoods c old new = Rewrites has_table (goods_marked c.marks) (HasRowsOf c.value.units) old new
 
--- the rows of the marked amounts of these entries and things become the campaign's
+-- the rows of `books` of the marked amounts of these entries and things become those that the campaign has
 abbrev pub RewritesAmounts : MarkedCampaign → (ℕ → Bool) → (ℕ → Bool) → Database → Database → Type 0
 RewritesAmounts c entries things old new = Rewrites books_table (of_amounts c.marks.books entries things) (BooksRowsOf c.value.books) old new
 
--- all marked rows of `books` become the campaign's
+-- all marked rows of `books` become those that the campaign has; all other rows and tables stay
 abbrev pub RewritesBooks : MarkedCampaign → Database → Database → Type 0
 RewritesBooks c old new = Rewrites books_table (amount_marked c.marks.books) (BooksRowsOf c.value.books) old new
 
