@@ -219,14 +219,14 @@ module _ (c : MarkedCampaign) where
   abbrev pub NearingEntries : (ℕ → Bool) → List Entry → List Entry → Database → Database → Type 0
   NearingEntries things rest all old new = Remaining books_table wanted (λ r. of_amounts c.marks.books (is_among (map entry_index rest)) things r) (λ r. of_amounts c.marks.books (is_among (map entry_index all)) things r) old new
 
-  -- once the marked amounts of the first entry that is left are rewritten, only the entries `rest` after it are left
+  -- once the marked amounts of the first entry left to rewrite are rewritten, only the entries `rest` after it are left
   pub entry_nearer : (things : ℕ → Bool) (x : Entry) (now rest all : List Entry) → now ≡ x ∷ rest → (old mid new : State)
       → Inside HasTables (NearingEntries things now all) old mid → Inside HasTables (RewritesAmounts c (is_number (entry_index x)) things) mid new
       → Inside HasTables (NearingEntries things rest all) old new
   entry_nearer things x now rest all is = one_less_remaining books_table wanted (λ r. of_amounts c.marks.books (is_number (entry_index x)) things r) (λ r. of_amounts c.marks.books (is_among (map entry_index now)) things r) (λ r. of_amounts c.marks.books (is_among (map entry_index rest)) things r) (λ r. of_amounts c.marks.books (is_among (map entry_index all)) things r)
       (λ r. ap (λ es. of_amounts c.marks.books (is_among (map entry_index es)) things r) is ∙ next_entry c.marks.books (entry_index x) (map entry_index rest) things r)
 
-  -- when no entry is left, the marked amounts of all entries of `all` are rewritten
+  -- when no entry is left to rewrite, the marked amounts of all entries of `all` are rewritten
   pub entries_rewritten : (things : ℕ → Bool) (rest all : List Entry) → rest ≡ [] → (old new : State)
       → Inside HasTables (NearingEntries things rest all) old new
       → Inside HasTables (RewritesAmounts c (is_among (map entry_index all)) things) old new
@@ -237,7 +237,7 @@ module _ (c : MarkedCampaign) where
   abbrev pub NearingThings : List ℕ → List ℕ → Database → Database → Type 0
   NearingThings rest all old new = Remaining books_table wanted (λ r. of_amounts c.marks.books (is_among (map entry_index all_entries)) (is_among rest) r) (λ r. of_amounts c.marks.books (is_among (map entry_index all_entries)) (is_among all) r) old new
 
-  -- once the marked amounts of the first thing that is left are rewritten, only the things `rest` after it are left
+  -- once the marked amounts of the first thing left to rewrite are rewritten, only the things `rest` after it are left
   pub thing_nearer : (t : ℕ) (now rest all : List ℕ) → now ≡ t ∷ rest → (old mid new : State) → Inside HasTables (NearingThings now all) old mid
       → Inside HasTables (RewritesAmounts c (is_among (map entry_index all_entries)) (is_number t)) mid new
       → Inside HasTables (NearingThings rest all) old new
@@ -245,7 +245,7 @@ module _ (c : MarkedCampaign) where
       (λ r. of_amounts c.marks.books (is_among (map entry_index all_entries)) (is_among rest) r) (λ r. of_amounts c.marks.books (is_among (map entry_index all_entries)) (is_among all) r)
       (λ r. ap (λ ts. of_amounts c.marks.books (is_among (map entry_index all_entries)) (is_among ts) r) is ∙ next_thing c.marks.books (is_among (map entry_index all_entries)) t rest r)
 
-  -- when no thing is left, all marked amounts of the books are rewritten
+  -- when no thing is left to rewrite, all marked amounts of the books are rewritten (`RewritesBooks`)
   pub things_rewritten : (rest : List ℕ) (count : ℕ) → AreOfThings count c.marks.books → rest ≡ [] → (old new : State)
       → Inside HasTables (NearingThings rest (range_with_len 0 count)) old new → Inside HasTables (RewritesBooks c) old new
   things_rewritten rest count few none = all_rewritten books_table wanted (λ r. of_amounts c.marks.books (is_among (map entry_index all_entries)) (is_among rest) r) (λ r. of_amounts c.marks.books (is_among (map entry_index all_entries)) (is_among (range_with_len 0 count)) r) (λ r. amount_marked c.marks.books r)

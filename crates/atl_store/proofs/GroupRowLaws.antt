@@ -70,7 +70,7 @@ module _ {V : Type 0} (lines : ℕ → V → List Row) (more : ℕ) (values : Fi
         let number : line.0 ≡ n = same_number line.0 n (sym (are.numbered line.0 line.1 r line.3) ∙ begins_key n r is) in
         (line.1, ap (get values) (sym number) ∙ line.2, subst (λ k. Has (lines k line.1) r) number line.3)
 
-    -- in the database, deleting the rows of a number and putting those of its value rewrites the rows of the number
+    -- for `lines_done`, of the databases alone: deleting a number's rows and putting those of its value rewrites them
     lines_rewrite : (old mid new : Database) → Drops table 1 (int n ∷ []) old mid → (v : V) → get values n ≡ Some v
         → PutsRows table (suc more) (lines n v) mid new → RewritesGroup table Wanted n old new
     lines_rewrite old mid new dropped v there did = rewrites_key (begins (is_number n)) (λ r. take 1 r ≡ int n ∷ []) (Has (lines n v)) Wanted (begins_key n) (key_begins n)
@@ -86,7 +86,7 @@ module _ {V : Type 0} (lines : ℕ → V → List Row) (more : ℕ) (values : Fi
               λ h. (did.rows r).1 (all.1 (elim h [ inl here ↦ inl here | inr kept ↦ inr ((dropped.rows r).1 kept) ])),
             )
 
-    -- in the database, deleting the rows of a number that the map lacks rewrites the rows of the number
+    -- for `bare_done`, of the databases alone: deleting the rows of a number that the map lacks rewrites them
     bare_rewrite : (old new : Database) → Drops table 1 (int n ∷ []) old new → get values n ≡ None → RewritesGroup table Wanted n old new
     bare_rewrite old new dropped none = rewrites_key (begins (is_number n)) (λ r. take 1 r ≡ int n ∷ []) (λ r. ⊥) Wanted (begins_key n) (key_begins n) (λ r never. absurd never)
         (λ r is of. let line = lined_at r is of in none-some line.0 (sym none ∙ line.1))

@@ -23,7 +23,7 @@ use Rattle.atl_store.proofs.WholeLaws.{inside_weaker}
 -- ---- the campaign's own row
 
 module _ (c : MarkedCampaign) where
-  -- in the database, putting the campaign row rewrites it (`RewritesCampaignRow`), if it is marked
+  -- for `head_done`, of the databases alone: putting the campaign row rewrites it, if it is marked
   head_put : (b : Bool) → c.marks.row ≡ b → b ≡ true → (old new : Database) → PutsCampaignRow (campaign_row_of c.value) [] old new → RewritesCampaignRow c old new
   head_put b is set old new did before text was =
       let puts = did.again before text was in

@@ -96,20 +96,20 @@ module _ (table : Table) (Wanted : Set) (finds : (ℕ → ℕ → Bool) → Row 
       single_nearer owner x now rest all is = nearer (is_thing owner x.0) (is_key owner now) (is_key owner rest) (is_key owner all)
           (λ n t. ap (λ es. is_key owner es n t) is ∙ and-or_distrib_left (is_number owner n) (is_number x.0 t) (is_among (map (λ e. e.0) rest) t))
 
-      -- when no amount is left, all listed amounts of the owner are rewritten
+      -- when no amount is left to rewrite, all listed amounts of the owner are rewritten
       pub singles_rewritten : (owner : ℕ) (numbers : FinMap nat_cmp V) (rest all : List (ℕ × V)) → rest ≡ [] → all ≡ entries numbers → (old new : State)
           → Inside HasTables (NearingSingles (is_key owner rest) (is_key owner all)) old new → Inside HasTables (RewritesFound (is_of owner numbers)) old new
       singles_rewritten owner numbers rest all none is = none_remaining (is_key owner rest) (is_key owner all) (is_of owner numbers)
           (λ n t. ap (λ es. is_key owner es n t) none ∙ and-false (is_number owner n))
           (λ n t. ap (λ es. is_key owner es n t) is ∙ ap (λ b. is_number owner n && b) (listed_key (entries numbers) t ∙ ap is_some (sym (get-entries numbers t))))
 
-      -- once the amounts of the first owner that is left are rewritten, only the owners `rest` after it are left
+      -- once the amounts of the first owner left to rewrite are rewritten, only the owners `rest` after it are left
       pub owner_nearer : (x : ℕ × FinMap nat_cmp V) (now rest all : List (ℕ × FinMap nat_cmp V)) → now ≡ x ∷ rest → (old mid new : State)
           → Inside HasTables (NearingSingles (is_listed now) (is_listed all)) old mid → Inside HasTables (RewritesFound (is_of x.0 x.1)) mid new
           → Inside HasTables (NearingSingles (is_listed rest) (is_listed all)) old new
       owner_nearer x now rest all is = nearer (is_of x.0 x.1) (is_listed now) (is_listed rest) (is_listed all) (λ n t. ap (λ es. is_listed es n t) is)
 
-    -- when no owner is left, all single marked amounts are rewritten
+    -- when no owner is left to rewrite, all single marked amounts are rewritten
     pub owners_rewritten : (things : Things) (rest all : List (ℕ × FinMap nat_cmp (Unit {0}))) → rest ≡ [] → all ≡ entries things → (old new : State)
         → Inside HasTables (NearingSingles (is_listed rest) (is_listed all)) old new → Inside HasTables (RewritesFound (has_thing things)) old new
     owners_rewritten things rest all none is = none_remaining (is_listed rest) (is_listed all) (has_thing things)

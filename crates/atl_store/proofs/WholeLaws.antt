@@ -17,7 +17,7 @@ use Rattle.atl_sql.proofs.CauseLaws.{gives, gives_after, gives_until, gives_begu
 use Rattle.atl_sql.proofs.CarryLaws.{carries_then}
 use Rattle.atl_sql.proofs.WriteLaws.{not_ok, HandsOn, weaker, two_steps}
 
--- a step inside a transaction and then another do both, one after the other
+-- if a step inside a transaction does `First` and the next one does `Second`, together they do both (`Both`)
 pub inside_then : (Before : Database → Type 0) (First Second : Database → Database → Type 0) (a b c : State) → Inside Before First a b → Inside HasTables Second b c → Inside Before (Both First Second) a c
 inside_then Before First Second a b c one two = (
   two.0 ∙ one.0,

@@ -104,7 +104,7 @@ abbrev pub other_format : Format → Format
 other_format First = Second
 other_format Second = First
 
--- `campaign` has just one row, and its format is the other one, whatever else the row says
+-- the rows of `campaign` are one row, whose format is not this one but the other of the two, whatever else it says
 abbrev pub IsOther : Format → List Row → Type 0
 IsOther f rows = (row : Row) × (rows ≡ row ∷ []) × (column row 1 ≡ int (format_number (other_format f)))
 
@@ -325,7 +325,7 @@ module _ (f : Format) {S : Type 0} (g : Ghosts S) (old : Held S) where
   abbrev pub MayReturnStore : Type 0
   MayReturnStore = (old.in_transaction ≡ true) ⊎ (RefusesToSelect g (selection campaign_table 1) old read.Store ⊎ (KeepsOneRow × (CannotRead ⊎ CannotConfirm)))
 
-  -- the SELECT of `campaign` shows one row, whose format is the other one
+  -- the SELECT of `campaign` shows one row, whose format is not `f` but the other of the two
   abbrev pub HasOtherFormat : Type 0
   HasOtherFormat = (rows : List Row) × Selects g (selection campaign_table 1) old rows × IsOther f rows
 

@@ -49,7 +49,7 @@ pub data OfFounding (text : List ℕ) (c : CampaignValue) : List ℕ → Row →
   founds_row : {sql : List ℕ} {params : Row} → OfRow c sql params → OfFounding text c sql params
 
 -- The statements of a change: put the campaign row or another row of the campaign, or delete rows.
--- Deleted is a key that no row of its part has, or all rows of one number in `has` or `market`.
+-- Deleted is the row of a key that the campaign lacks, or all rows of a unit in `has` or of a region in `market`.
 pub data OfChange (c : CampaignValue) : List ℕ → Row → Type 0 where
   -- the campaign row is put; a row that is there keeps its world text
   changes_head : OfChange c campaign_upsert (campaign_row_values (campaign_row_of c) [])

@@ -55,11 +55,11 @@ pub record FindsByNumbers (finds : (ℕ → ℕ → Bool) → Row → Bool) : Ty
   -- the test that is always false finds no row
   pub none : (r : Row) → finds (λ n t. false) r ≡ false
 
--- the row of one number becomes the campaign's, or is deleted if the campaign has no such row
+-- the row of one number becomes that of the campaign, or is deleted if the campaign has no row of the number
 abbrev pub RewritesNumber : {V : Type 0} → Table → (ℕ → V → Row) → FinMap nat_cmp V → ℕ → Database → Database → Type 0
 RewritesNumber table line values n old new = Rewrites table (begins (is_number n)) (RowsOf line values) old new
 
--- the row of each marked number becomes the campaign's, or is deleted if the campaign has no such row
+-- the row of each marked number becomes that of the campaign, or is deleted if the campaign has no row of the number
 abbrev pub RewritesMarked : {V : Type 0} → Table → (ℕ → V → Row) → FinMap nat_cmp V → FinSet nat_cmp → Database → Database → Type 0
 RewritesMarked table line values marks old new = Rewrites table (begins_marked marks) (RowsOf line values) old new
 
@@ -100,25 +100,27 @@ RewritesAmounts c entries things old new = Rewrites books_table (of_amounts c.ma
 abbrev pub RewritesBooks : MarkedCampaign → Database → Database → Type 0
 RewritesBooks c old new = Rewrites books_table (amount_marked c.marks.books) (BooksRowsOf c.value.books) old new
 
--- If the campaign row is marked it becomes the campaign's, else it says what it said before; its world text stays.
--- Every other table is as it was.
+-- If `campaign` held one row, this row then says what the campaign says if it is marked, else what it said before.
+-- Its world text stays, and every other table is as it was.
 abbrev pub RewritesCampaignRow : MarkedCampaign → Database → Database → Type 0
 RewritesCampaignRow c old new = (before : CampaignRowValue) (text : List ℕ) → Is (rows_in campaign_table old.trees) (λ r. r ≡ campaign_row before text) → Alters campaign_table (λ r. r ≡ own_after c before text) old new
 
 -- ---- one table after another
 
--- the part's marked rows become the campaign's, where `own` is its campaign row; the part's other rows stay
+-- the part's marked rows become those of the campaign, with `own` as its campaign row; the part's other rows stay
 abbrev pub Becomes : MarkedCampaign → Row → Part → List Row → List Row → Type 0
 Becomes c own part before after = Is after (rows_after_rewrite (is_marked c.marks part) (rows_for own c.value part) (Has before))
 
--- the marked rows of these parts, which don't include the campaign row, become the campaign's; all other rows stay
+-- The marked rows of these parts become those of the campaign; all other rows stay.
+-- The campaign row isn't among the parts.
 abbrev pub RewritesParts : MarkedCampaign → List Part → Database → Database → Type 0
 RewritesParts c parts old new = (own : Row) → Changes (Becomes c own) parts old new
 
--- the marked rows of one part, which isn't the campaign row, become the campaign's; all other rows stay
+-- the marked rows of one part, which isn't the campaign row, become those of the campaign; all other rows stay
 abbrev pub RewritesPart : MarkedCampaign → Part → Database → Database → Type 0
 RewritesPart c part = RewritesParts c (part ∷ [])
 
--- the marked rows of these parts, which include the campaign row, become the campaign's; all other rows stay
+-- If `campaign` held one row, the marked rows of these parts become those of the campaign; all other rows stay.
+-- The campaign row is among the parts.
 abbrev pub RewritesWithOwn : MarkedCampaign → List Part → Database → Database → Type 0
 RewritesWithOwn c parts old new = (before : CampaignRowValue) (text : List ℕ) → Is (rows_in campaign_table old.trees) (λ r. r ≡ campaign_row before text) → Changes (Becomes c (own_after c before text)) parts old new
