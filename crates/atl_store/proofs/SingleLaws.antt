@@ -64,7 +64,7 @@ module _ (table : Table) (Wanted : Set) (finds : (ℕ → ℕ → Bool) → Row 
   abbrev pub NearingSingles : (ℕ → ℕ → Bool) → (ℕ → ℕ → Bool) → Database → Database → Type 0
   NearingSingles rest all = Remaining table Wanted (λ r. finds rest r) (λ r. finds all r)
 
-  -- the rows that `finds` finds by this test of their numbers become the wanted ones, and all others stay
+  -- the rows that `finds` finds by this test of their numbers become those of `Wanted`; all others stay (`Rewrites`)
   abbrev RewritesFound : (ℕ → ℕ → Bool) → Database → Database → Type 0
   RewritesFound found = Rewrites table (λ r. finds found r) Wanted
 
