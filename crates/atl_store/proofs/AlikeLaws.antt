@@ -54,7 +54,7 @@ module _ {V : Type 0} (line : ℕ → V → Row) (rows : List Row) where
   same_values : (m k : FinMap nat_cmp V) → Determines line m k → Determines line k m → Is rows (RowsOf line m) → Is rows (RowsOf line k) → m ≡ k
   same_values m k there back a b = agree m k (one_way m k there a b) (one_way k m back b a)
 
--- two booleans are equal if a row shows them as equal flags
+-- for flags in rows, as `gone`: two booleans are equal if a row shows them as equal flags
 same_flag : (a b : Bool) → flag a ≡ flag b → a ≡ b
 same_flag true true is = refl
 same_flag true false is = cc
@@ -178,7 +178,7 @@ module _ (rows stocks : List Row) (m k : FinMap nat_cmp Region) (a : Is rows (Ro
 
 -- ---- books
 
--- an amount is 0 or not
+-- for `same_amount`: an amount is 0, or it isn't
 none_or_some : (z : ℤ) → (z ≡ pos 0) ⊎ (z ≢ pos 0)
 none_or_some (pos zero) = inl refl
 none_or_some (pos (suc n)) = inr (λ is. cc)

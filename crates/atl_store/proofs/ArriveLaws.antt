@@ -31,7 +31,7 @@ use Rattle.atl_sql.specs.Inside.{Puts, Drops}
 
 -- ---- one entry more in a map
 
--- if two numbers aren't equal, comparing them (`nat_cmp`) doesn't give Equal
+-- for `get_beside`: if two numbers aren't equal, comparing them (`nat_cmp`) doesn't give Equal
 other : (k n : ℕ) → k ≢ n → is_eq (nat_cmp k n) ≡ false
 other k n apart = elim (nat_cmp k n) as (λ o. nat_cmp k n ≡ o → is_eq o ≡ false) [
   | Less ↦ λ _. refl
@@ -40,11 +40,11 @@ other k n apart = elim (nat_cmp k n) as (λ o. nat_cmp k n ≡ o → is_eq o ≡
 ] refl
 
 module _ {V : Type 0} where
-  -- equal `Some`s have equal values
+  -- for `put_rows` and `no_goods`: equal `Some`s, as two look-ups of one number, have equal values
   some_is : (a b : V) → Some a ≡ Some b → a ≡ b
   some_is a b e = cc
 
-  -- None is not equal to the `Some` of a value
+  -- for `no_goods`: None, which a look-up gave, is not equal to the `Some` of a value
   nothing_is : (v : V) → None ≡ Some v → ⊥
   nothing_is v e = cc
 
@@ -125,14 +125,14 @@ module _ (c : CampaignValue) (e : Entry) (t : Thing) where
     ],
   )
     where
-      -- two amounts of the books with different keys differ in their entry or in their thing
+      -- for `settled_rows`: two amounts of the books with different keys differ in their entry or in their thing
       apart : (f : Entry) (u : Thing) → ◌≢◌ {A = Row} (books_key (entry_index f + 1) (thing_index u)) (books_key (entry_index e + 1) (thing_index t)) → (entry_index f ≢ entry_index e) ⊎ (thing_index u ≢ thing_index t)
       apart f u differs = elim (cases_eq (entry_index f) (entry_index e)) [
         | inl entries ↦ inr (λ things. differs (ap (λ k. books_key (k + 1) (thing_index u)) entries ∙ ap (books_key (entry_index e + 1)) things))
         | inr entries ↦ inl entries
       ]
 
-      -- the row in `B` of an amount of another entry or thing was in `S`, and has another key than the written amount
+      -- for `settled_rows`: a row in `B` of another entry or thing than the written one was in `S`, and has another key
       kept_row : (f : Entry) (u : Thing) → amount_in B f u ≢ pos 0 → r ≡ books_row (entry_index f + 1) (thing_index u) (amount_in B f u) → (entry_index f ≢ entry_index e) ⊎ (thing_index u ≢ thing_index t)
           → S r × (take 2 r ≢ books_key (entry_index e + 1) (thing_index t))
       kept_row f u some is far = (

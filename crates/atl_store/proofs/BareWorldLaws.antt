@@ -80,7 +80,7 @@ module _ (w : WorldValue) where
   land_same : (n : ℕ) → is_land_at (without_markets w) n ≡ is_land_at w n
   land_same n = ap (λ o. option_map_or (is_land w.terrains) o false) (get-mapped without_market w.regions n) ∙ by_plan (get w.regions n)
     where
-      -- a region is land exactly if it is land without the market of its plan; `o` is the plan, if there is one
+      -- for `land_same`: the plan `o` of a region, if there is one, is of land exactly if it is so without its market
       by_plan : (o : Option RegionPlan) → option_map_or (is_land w.terrains) (option_map without_market o) false ≡ option_map_or (is_land w.terrains) o false
       by_plan None = refl
       by_plan (Some p) = refl
@@ -93,7 +93,7 @@ module _ (w : WorldValue) where
   was_there : (n : ℕ) → IsThere (without_markets w).regions n → IsThere w.regions n
   was_there n (p, there) = by_plan (get w.regions n) refl (sym (get-mapped without_market w.regions n) ∙ there)
     where
-      -- a region is there, if its look-up, with the market taken out of the plan, gives a plan
+      -- for `was_there`: if the look-up `o` of region `n`, with the market taken out, gives a plan, the region is there
       by_plan : (o : Option RegionPlan) → get w.regions n ≡ o → option_map without_market o ≡ Some p → IsThere w.regions n
       by_plan None is e = absurd cc
       by_plan (Some q) is e = (q, is)

@@ -49,7 +49,7 @@ accounts_none f never row = refl
 
 -- ---- tests of entries and of things
 
--- `p` and (`a` or `b`) and `c` hold exactly if `p` and `a` and `c` do, or `p` and `b` and `c`
+-- for `next_thing`: `p` and (`a` or `b`) and `c` hold exactly if `p` and `a` and `c` do, or `p` and `b` and `c`
 and_or : (p a b c : Bool) → (p && ((a || b) && c)) ≡ ((p && (a && c)) || (p && (b && c)))
 and_or p a b c = ap (λ q. p && q) (and-or_distrib_right a b c) ∙ and-or_distrib_left p (a && c) (b && c)
 
@@ -94,7 +94,7 @@ module _ (marks : FinSet nat_cmp) where
         ap (λ b. b || is_among (range_with_len (from + 1) count) i) later ∙ in_range (from + 1) count i (past from i least apart) (omega (arith, most))
   ]
     where
-      -- a number that is at least `m` and isn't `m` is at least `m + 1`
+      -- for `in_range`: a number that is at least `m` and isn't `m` is at least `m + 1`
       past : (m n : ℕ) → m ≤ n → n ≢ m → m + 1 ≤ n
       past m n least apart = grind (arith, least, apart)
 
@@ -111,11 +111,11 @@ module _ (marks : FinSet nat_cmp) where
     | inr past ↦ beyond 0 count e (omega (arith, past)) ∙ sym (uncounted past)
   ]
     where
-      -- an index below the count passes the test of the first `count` indexes
+      -- for `among_first`: an index `e` below `count` passes the test for that (`nat_le`)
       counted : e < count → nat_le (suc e) count ≡ true
       counted less = grind (arith, nat_tests, less)
 
-      -- an index that isn't below the count fails the test of the first `count` indexes
+      -- for `among_first`: an index `e` that isn't below `count` fails the test for that (`nat_le`)
       uncounted : count ≤ e → nat_le (suc e) count ≡ false
       uncounted past = grind (arith, nat_tests, past)
 
@@ -128,11 +128,11 @@ module _ (marks : FinSet nat_cmp) where
       → of_amounts marks (is_among (map entry_index all_entries)) (is_among (range_with_len 0 things)) r ≡ amount_marked marks r
   all_amounts things few r = accounts_same (λ e t. is_among (map entry_index all_entries) e && (is_among (range_with_len 0 things) t && marked e t)) (is_marked_amount marks) same r
     where
-      -- if an amount's number is below `entry_count * n`, its thing's index is below `n`
+      -- for `all_amounts`: if an amount's number is below `entry_count * n`, its thing's index is below `n`
       inside : (e t n : ℕ) → entry_count * t + e < entry_count * n → t < n
       inside e t n h = omega (arith, h)
 
-      -- an amount is of an entry, of one of these things, and marked exactly if it is marked (`is_marked_amount`)
+      -- for `all_amounts`: the test for an entry's index, one of the things and a mark is the test for a marked amount
       same : (e t : ℕ)
           → (is_among (map entry_index all_entries) e && (is_among (range_with_len 0 things) t && marked e t)) ≡ is_marked_amount marks e t
       same e t = elim (cases_Bool (marked e t)) [
@@ -176,7 +176,7 @@ module _ (c : MarkedCampaign) (e : Entry) (t : Thing) where
       let two = and_parts _ _ one.1 in
       ap (λ k. books_key k thing) (next place (entry_index e) (tied place (entry_index e) one.0)) ∙ ap (books_key (entry_index e + 1)) (tied thing (thing_index t) two.0)
     where
-      -- for equal `a` and `b` the successor of `a` is `b + 1`: in a row an entry's number is its index plus 1
+      -- for `key_of`: if `a` is `b`, the successor of `a` is `b + 1`; a row of `books` has an entry's index plus 1
       next : (a b : ℕ) → a ≡ b → suc a ≡ b + 1
       next a b same = omega (arith, same)
   key_of row is = absurd (true≢false (sym is))
@@ -219,14 +219,14 @@ module _ (c : MarkedCampaign) where
   abbrev pub NearingEntries : (ℕ → Bool) → List Entry → List Entry → Database → Database → Type 0
   NearingEntries things rest all old new = Remaining books_table wanted (λ r. of_amounts c.marks.books (is_among (map entry_index rest)) things r) (λ r. of_amounts c.marks.books (is_among (map entry_index all)) things r) old new
 
-  -- once the marked amounts of the first entry that is left are rewritten, only the entries `rest` after it are left
+  -- once the marked amounts of the first entry left to rewrite are rewritten, only the entries `rest` after it are left
   pub entry_nearer : (things : ℕ → Bool) (x : Entry) (now rest all : List Entry) → now ≡ x ∷ rest → (old mid new : State)
       → Inside HasTables (NearingEntries things now all) old mid → Inside HasTables (RewritesAmounts c (is_number (entry_index x)) things) mid new
       → Inside HasTables (NearingEntries things rest all) old new
   entry_nearer things x now rest all is = one_less_remaining books_table wanted (λ r. of_amounts c.marks.books (is_number (entry_index x)) things r) (λ r. of_amounts c.marks.books (is_among (map entry_index now)) things r) (λ r. of_amounts c.marks.books (is_among (map entry_index rest)) things r) (λ r. of_amounts c.marks.books (is_among (map entry_index all)) things r)
       (λ r. ap (λ es. of_amounts c.marks.books (is_among (map entry_index es)) things r) is ∙ next_entry c.marks.books (entry_index x) (map entry_index rest) things r)
 
-  -- when no entry is left, the marked amounts of all entries of `all` are rewritten
+  -- when no entry is left to rewrite, the marked amounts of all entries of `all` are rewritten
   pub entries_rewritten : (things : ℕ → Bool) (rest all : List Entry) → rest ≡ [] → (old new : State)
       → Inside HasTables (NearingEntries things rest all) old new
       → Inside HasTables (RewritesAmounts c (is_among (map entry_index all)) things) old new
@@ -237,7 +237,7 @@ module _ (c : MarkedCampaign) where
   abbrev pub NearingThings : List ℕ → List ℕ → Database → Database → Type 0
   NearingThings rest all old new = Remaining books_table wanted (λ r. of_amounts c.marks.books (is_among (map entry_index all_entries)) (is_among rest) r) (λ r. of_amounts c.marks.books (is_among (map entry_index all_entries)) (is_among all) r) old new
 
-  -- once the marked amounts of the first thing that is left are rewritten, only the things `rest` after it are left
+  -- once the marked amounts of the first thing left to rewrite are rewritten, only the things `rest` after it are left
   pub thing_nearer : (t : ℕ) (now rest all : List ℕ) → now ≡ t ∷ rest → (old mid new : State) → Inside HasTables (NearingThings now all) old mid
       → Inside HasTables (RewritesAmounts c (is_among (map entry_index all_entries)) (is_number t)) mid new
       → Inside HasTables (NearingThings rest all) old new
@@ -245,7 +245,7 @@ module _ (c : MarkedCampaign) where
       (λ r. of_amounts c.marks.books (is_among (map entry_index all_entries)) (is_among rest) r) (λ r. of_amounts c.marks.books (is_among (map entry_index all_entries)) (is_among all) r)
       (λ r. ap (λ ts. of_amounts c.marks.books (is_among (map entry_index all_entries)) (is_among ts) r) is ∙ next_thing c.marks.books (is_among (map entry_index all_entries)) t rest r)
 
-  -- when no thing is left, all marked amounts of the books are rewritten
+  -- when no thing is left to rewrite, all marked amounts of the books are rewritten (`RewritesBooks`)
   pub things_rewritten : (rest : List ℕ) (count : ℕ) → AreOfThings count c.marks.books → rest ≡ [] → (old new : State)
       → Inside HasTables (NearingThings rest (range_with_len 0 count)) old new → Inside HasTables (RewritesBooks c) old new
   things_rewritten rest count few none = all_rewritten books_table wanted (λ r. of_amounts c.marks.books (is_among (map entry_index all_entries)) (is_among rest) r) (λ r. of_amounts c.marks.books (is_among (map entry_index all_entries)) (is_among (range_with_len 0 count)) r) (λ r. amount_marked c.marks.books r)

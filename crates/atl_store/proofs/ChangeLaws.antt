@@ -40,17 +40,17 @@ use Rattle.atl_store.proofs.MarketLaws.{stock_had, had_stock}
 all_held : (is_marked : Row → Bool) (After : Row → Type 0) (old new : List Row) → ((r : Row) → is_marked r ≡ false → Has old r ↔ After r) → Is new (rows_after_rewrite is_marked After (Has old)) → Is new After
 all_held is_marked After old new rest now r = (λ there. from (is_marked r) refl ((now r).0 there), λ of. (now r).1 (to (is_marked r) refl of))
   where
-    -- a row that the rewrite puts or keeps is a wanted row
+    -- for `all_held`: a row that the rewrite puts (it is marked) or keeps (it isn't) is a wanted row (`After`)
     from : (b : Bool) → is_marked r ≡ b → Chosen b (After r) (Has old r) → After r
     from true is h = h
     from false is h = (rest r is).0 h
 
-    -- a wanted row is one that the rewrite puts or keeps
+    -- for `all_held`: a wanted row (`After`) is one that the rewrite puts (if it is marked) or keeps (if not)
     to : (b : Bool) → is_marked r ≡ b → After r → Chosen b (After r) (Has old r)
     to true is of = of
     to false is of = (rest r is).1 of
 
--- a table with the rows `Before` has as unmarked rows those of `After`, if both have the same unmarked rows
+-- if `Before` and `After` have the same unmarked rows, a table with the rows `Before` has the unmarked rows of `After`
 rest_of : (is_marked : Row → Bool) (Before After : Row → Type 0) (old : List Row) → ((r : Row) → is_marked r ≡ false → Before r → After r) → ((r : Row) → is_marked r ≡ false → After r → Before r) → Is old Before
     → (r : Row) → is_marked r ≡ false → Has old r ↔ After r
 rest_of is_marked Before After old ahead back was r is = (λ there. ahead r is ((was r).0 there), λ of. (was r).1 (back r is of))
@@ -102,7 +102,7 @@ bare_same n o (Some w) v same there = (w, refl, let e : bare w ≡ bare v = (let
 
 -- ---- goods
 
--- a row of `has` is marked exactly if its unit's item or skill is
+-- the row of a unit's item or skill in `has` is marked exactly if the item or skill is
 goods_heads : (marks : Marks) (n : ℕ) (sort : ThingKind) (thing amount : ℕ) → goods_marked marks (has_row n (sort_number sort) thing amount) ≡ is_thing_marked marks.goods (marked_things marks sort) n thing
 goods_heads marks n Item thing amount = or-false (is_thing_marked marks.goods marks.items n thing)
 goods_heads marks n Skill thing amount = ap (λ b. b || has_thing marks.skills n thing) (or-false (contains marks.goods n))
@@ -131,16 +131,16 @@ stocks_follow one other marks r same not_marked of =
 
 -- ---- amounts
 
--- a row of `books` is marked exactly if its amount is
+-- the row of an entry and a thing in `books` is marked exactly if their amount is
 amount_heads : (marks : FinSet nat_cmp) (e : Entry) (t : Thing) (amount : ℤ) → amount_marked marks (books_row (entry_index e + 1) (thing_index t) amount) ≡ contains marks (amount_number e t)
 amount_heads marks e t amount =
     ap (λ number. amount_marked marks (books_row number (thing_index t) amount)) (next (entry_index e)) ∙ ap (λ (b : Bool). b && contains marks (amount_number e t)) (there (entry_index e) (entry_small e))
   where
-    -- a number plus 1 is its successor
+    -- for `amount_heads`: a number plus 1 is its successor
     next : (n : ℕ) → n + 1 ≡ suc n
     next n = omega arith
 
-    -- an index below the count of entries passes the test for an entry's index
+    -- for `amount_heads`: an index below the count of entries passes the test for an entry's index
     there : (n : ℕ) → n < entry_count → nat_le (suc n) entry_count ≡ true
     there n small = grind (arith, nat_tests, small)
 
@@ -176,7 +176,7 @@ unmarked_held c old new changes text rest =
 pub covers_unmarked : (c : MarkedCampaign) (db : Trees) (text : List ℕ) (before : CampaignValue) → Covers c.marks before c.value → Holds db text before → HoldsUnmarked db text c
 covers_unmarked c db text before covers held = record { before = campaign_row_of before; campaign = held.rows Own; head = head_held c.marks.row before c.value covers.row; rest = rest }
   where
-    -- in each part's table the unmarked rows are those of the campaign after
+    -- for `covers_unmarked`: in each part's table the unmarked rows are those of the campaign after
     rest : (part : Part) → HasUnmarked (table_of part) (is_marked c.marks part) (rows_for (campaign_line text c.value) c.value part) db
     rest Own = λ r is. absurd (true≢false is)
     rest Factions = rest_same faction_line c.marks.factions (λ n v. refl) before.factions c.value.factions _ covers.factions (held.rows Factions)

@@ -28,11 +28,11 @@ pub less_apart : (m n : ℕ) → is_lt (nat_cmp m n) ≡ true → m ≢ n
 less_apart m n less same = true≢false (sym less ∙ ap (λ k. is_lt (nat_cmp m k)) (sym same) ∙ not_less_itself m)
 
 module _ {V : Type 0} where
-  -- equal `Some`s have equal values
+  -- for `get_has`: equal `Some`s have equal values
   same_some : (a b : V) → Some a ≡ Some b → a ≡ b
   same_some a b e = cc
 
-  -- None is not equal to the `Some` of a value
+  -- for `get_has`: None, as a look-up in no entries gives, is not equal to the `Some` of a value
   nothing_there : (v : V) → None ≡ Some v → ⊥
   nothing_there v e = cc
 

@@ -36,19 +36,19 @@ pub shown_open : (sql : List ℕ) (old new : State) (rows : List Row) → Shown 
 unfolding Shown
 shown_open sql old new rows h = shows_open old new sql h.0 _ rows h.0.returning h.2
 
--- the fault Store is not OtherType
+-- for `fails_one`: the fault Store is not OtherType
 not_store : read.Store ≢ read.OtherType
 not_store is = cc
 
--- the fault Refused is not OtherType
+-- for `fails_one`: the fault Refused is not OtherType
 not_refused : read.Refused ≢ read.OtherType
 not_refused is = cc
 
--- the fault Store is not Memory
+-- for `fails_one`: the fault Store is not Memory
 store_no_memory : read.Store ≢ read.Memory
 store_no_memory is = cc
 
--- the fault Refused is not Memory
+-- for `fails_one`: the fault Refused is not Memory
 refused_no_memory : read.Refused ≢ read.Memory
 refused_no_memory is = cc
 
@@ -112,7 +112,7 @@ module _ {S : Type 0} (g : Ghosts S) where
     abbrev this_select : List (List ℕ × List Form)
     this_select = (sql, forms) ∷ []
 
-    -- a SELECT that showed rows on a connection with the tables of `old` shows the rows of these tables
+    -- the rows that a SELECT showed (`Selects`) are those that it shows of the tables of `old` (`SelectShows`)
     tells : (rows : List Row) → Selects g sql old rows → SelectShows g old sql rows
     tells rows told = record { before = told.0; during = told.1; same = told.2.same; shown = told.3 }
 
@@ -139,7 +139,7 @@ module _ {S : Type 0} (g : Ghosts S) where
     found_one (Err read.Store) reads gives clean = tt
     found_one (Err read.Refused) reads gives clean = tt
 
-    -- a connection that read one table was open
+    -- if the read of one table gave no fault, the connection was open before it
     open_one : {Z : Type 0} (r : Result (Vec A Z) ReadFault) → ReadsRows g sql old forms shown r new → HasCleanDisk (state g new) → IfOk (rows_or_none r) (λ _. IsTrue (state g old).is_open)
     open_one (Ok all) reads clean = let told = reads.rows clean in selects_open told.0 told.1
     open_one (Err read.OtherType) reads clean = let told = reads.other clean refl in selects_open told.0 told.1
@@ -251,7 +251,7 @@ module _ {S : Type 0} (g : Ghosts S) where
     fails_within Memory (inl refused) = inl (refuses_within read.Memory refused)
     fails_within Memory (inr answers) = inr (answers_within answers)
 
-    -- if `more` show rows, a value of another type that the SELECTs `few` show is one that `more` show
+    -- if `few` show a value of another type, so do `more`, which has all of them, if each of `more` shows rows
     other_within : AllSelectsShow g old more → HasOtherType g old few → HasOtherType g old more
     other_within all other = record { all = all; select = other.select; one = within other.select other.one; rows = other.rows; told = other.told; other = other.other }
 
@@ -278,7 +278,7 @@ module _ {S : Type 0} (g : Ghosts S) where
   reads_as : {A : Type 0} (selects : List (List ℕ × List Form)) (P Q : A → Type 0) (old new : Held S) (r : Result (Option A) LoadFault) → ((a : A) → P a → Q a) → ReadsSome g old selects P r new → ReadsSome g old selects Q r new
   reads_as {A} selects P Q old new r weaker reads = record { was_open = reads.was_open; found = λ clean. found r (reads.found clean); fails = reads.fails; leaves = reads.leaves }
     where
-      -- if `P` holds of what SELECTs found, `Q` holds of it
+      -- for `reads_as`: since `P` implies `Q`, `Q` holds too of what SELECTs found, if `P` does (`Found`)
       found : (r : Result (Option A) LoadFault) → IfOk r (Found g old selects P) → IfOk r (Found g old selects Q)
       found (Ok (Some a)) h = (h.0, weaker a h.1)
       found (Ok None) h = h
@@ -322,7 +322,7 @@ module _ {S : Type 0} (g : Ghosts S) where
       leaves = leaves_then old mid new first.leaves second.leaves;
     }
       where
-        -- the disk was clean after the first stage, if it is clean after the second
+        -- for `reads_both`: the disk was clean after the first stage, if it is clean after the second
         clean_mid : HasCleanDisk (state g new) → HasCleanDisk (state g mid)
         clean_mid clean = omega (arith, second.leaves.survives.clean, clean)
 
@@ -337,12 +337,12 @@ module _ {S : Type 0} (g : Ghosts S) where
 
   -- ---- by the format
 
-  -- what reading by some SELECTs found, paired with a given value, is found by the same SELECTs (`Found`)
+  -- if SELECTs found a value (with `P`), they found it paired with `b` too (with `Q`, which `P` implies) (`Found`)
   found_with : {A B : Type 0} (old : Held S) (selects : List (List ℕ × List Form)) (P : A → Type 0) (Q : A × B → Type 0) (b : B) → ((a : A) → P a → Q (a, b)) → (o : Option A) → Found g old selects P o → Found g old selects Q (option_zip o (Some b))
   found_with old selects P Q b weaker (Some a) found = (found.0, weaker a found.1)
   found_with old selects P Q b weaker None found = found
 
-  -- all rows of the first format's parts, and no row of the other parts, are the rows of this format (`AreOfFormat`)
+  -- if `some` has all rows of the first format's parts, and `others` no row of the other parts, both are of that format
   of_first : (db : Database) (some others : ReadRows) → AreAllRows db some → map (λ read. read.0) some ≡ other_parts First → AreNone others → map (λ read. read.0) others ≡ second_format_parts → AreOfFormat First db (some ++ others)
   of_first db some others are early none late = record {
     each =
@@ -350,20 +350,20 @@ module _ {S : Type 0} (g : Ghosts S) where
         (λ read there. inr (not_early read.0 (is_there others second_format_parts late read there), none read there));
   }
     where
-      -- the part of each read is in the list `parts`, if this lists the parts that were read
+      -- for `of_first`: the part of each read is in the list `parts`, if this lists the parts that were read
       is_there : (reads : ReadRows) (parts : List Part) → map (λ read. read.0) reads ≡ parts → (read : Part × List Row) → Has reads read → Has parts read.0
       is_there reads parts same read there = subst (λ l. Has l read.0) same (has_map (λ (read : Part × List Row). read.0) reads read there)
 
-      -- a truth value whose negation is true is false
+      -- for `not_early`: a truth value whose negation is true is false
       no : (b : Bool) → not b ≡ true → b ≡ false
       no true is = absurd (true≢false (sym is))
       no false is = refl
 
-      -- a part that only the second format has is none of the first
+      -- for `of_first`: a part that only the second format has is none of the first
       not_early : (part : Part) → Has second_format_parts part → ¬ Has (parts_in First) part
       not_early part there = not_among (parts_in First) part (no (is_among (parts_in First) part) (test_has (λ p. not (is_among (parts_in First) p)) second_format_parts part refl there))
 
-  -- a read of all rows of the first format's tables is, with no row of other parts, one of this format (`AreOfFormat`)
+  -- a read that found all rows of the first format's parts, and no others, is a read of that format (`AreOfFormat`)
   pub reads_first : {A B : Type 0} (selects : List (List ℕ × List Form)) (some : A → ReadRows) (others : B → ReadRows) (old new : Held S) (one : Result (Option A) LoadFault) → ReadsSome g old selects (λ a. AreAllRows (state g old).now (some a)) one new
       → (a : Option A) → one ≡ Ok a → (b : B) → AreNone (others b) → ((a : A) → map (λ read. read.0) (some a) ≡ other_parts First) → map (λ read. read.0) (others b) ≡ second_format_parts
       → (o : Option (A × B)) → o ≡ option_zip a (Some b) → ReadsSome g old selects (λ x. AreOfFormat First (state g old).now (some x.0 ++ others x.1)) (Ok o) new
@@ -377,11 +377,11 @@ module _ {S : Type 0} (g : Ghosts S) where
     leaves = first.leaves;
   }
 
-  -- a read of all rows of all tables is a read of the second format (`AreOfFormat`)
+  -- a read that found all rows of the parts read is one of the second format, which has each part (`AreOfFormat`)
   pub reads_second : {A : Type 0} (selects : List (List ℕ × List Form)) (rows : A → ReadRows) (old new : Held S) (r : Result (Option A) LoadFault) → ReadsSome g old selects (λ a. AreAllRows (state g old).now (rows a)) r new → ReadsSome g old selects (λ a. AreOfFormat Second (state g old).now (rows a)) r new
   reads_second selects rows old new r reads = reads_as selects _ _ old new r (λ a are. record { each = λ read there. inl (every_part read.0, are read there) }) reads
 
-  -- a read that hands on the fault of reading some tables is a read by the same SELECTs (`ReadsSome`)
+  -- if a read by `selects` ended with a fault, each result with this fault is one of reading by them (`ReadsSome`)
   pub fails_as : {A B : Type 0} (selects : List (List ℕ × List Form)) (P : A → Type 0) (Q : B → Type 0) (old new : Held S) (fault : LoadFault) (one : Result (Option A) LoadFault) (r : Result (Option B) LoadFault)
       → ReadsSome g old selects P one new → one ≡ Err fault → IsErrAnd r (λ told. told ≡ fault) → ReadsSome g old selects Q r new
   fails_as selects P Q old new fault one (Ok o) first was told = absurd told

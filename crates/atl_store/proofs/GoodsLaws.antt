@@ -35,7 +35,7 @@ pub optional_apart : (key : ℕ) (b : Bool) (row : Row) → DifferInKey key (if 
 optional_apart key true row = tt
 optional_apart key false row = (λ y none. absurd none, tt)
 
--- a number that fails the test for 0 is not 0
+-- for `amounts_have`: a number that fails the test for 0 is not 0
 not_zero : (a : ℕ) → (a == 0) ≡ false → a ≢ 0
 not_zero a differs same = grind (arith, nat_tests)
 
@@ -168,12 +168,12 @@ module _ (units : FinMap nat_cmp Unit) where
   pub of_had : (n : ℕ) (sort : ThingKind) (thing amount : ℕ) → amount ≡ amount_under units n sort thing → amount ≢ 0 → HasRowsOf units (has_row n (sort_number sort) thing amount)
   of_had n sort thing amount is some = there (get units n) refl
     where
-      -- an amount other than 0, which a look-up gives with 0 as its default, was found
+      -- for `of_had`: an amount other than 0, which a look-up gives with 0 as its default, was found
       got : (o : Option ℕ) → amount ≡ unwrap_or o 0 → o ≡ Some amount
       got None zero = absurd (some zero)
       got (Some x) same = ap Some (sym same)
 
-      -- the amount's row is there, whatever the look-up of the unit gave; without a unit the amount would be 0
+      -- for `of_had`: by the look-up `o` of the unit the amount's row is there; with no unit the amount would be 0
       there : (o : Option Unit) → get units n ≡ o → HasRowsOf units (has_row n (sort_number sort) thing amount)
       there None none = absurd (some (is ∙ amount_none n sort thing none))
       there (Some u) found = (n, u, found, sort, thing, amount, got (get (things_of sort u.holding) thing) (is ∙ amount_some n sort thing u found), some, refl)

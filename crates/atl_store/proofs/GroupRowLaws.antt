@@ -28,7 +28,7 @@ use Rattle.atl_store.proofs.WholeLaws.{inside_then, inside_weaker}
 first_of : (more : ℕ) (a b : Row) → take (suc more) a ≡ take (suc more) b → take 1 a ≡ take 1 b
 first_of more a b same = sym (first a) ∙ ap (take 1) same ∙ first b
   where
-    -- the first of a row's first `more + 1` columns is the row's first column
+    -- for `first_of`: the first of a row's first `more + 1` columns is the row's first column
     first : (r : Row) → take 1 (take (suc more) r) ≡ take 1 r
     first [] = refl
     first (v ∷ row) = refl
@@ -70,7 +70,7 @@ module _ {V : Type 0} (lines : ℕ → V → List Row) (more : ℕ) (values : Fi
         let number : line.0 ≡ n = same_number line.0 n (sym (are.numbered line.0 line.1 r line.3) ∙ begins_key n r is) in
         (line.1, ap (get values) (sym number) ∙ line.2, subst (λ k. Has (lines k line.1) r) number line.3)
 
-    -- in the database, deleting the rows of a number and putting those of its value rewrites the rows of the number
+    -- for `lines_done`, of the databases alone: deleting a number's rows and putting those of its value rewrites them
     lines_rewrite : (old mid new : Database) → Drops table 1 (int n ∷ []) old mid → (v : V) → get values n ≡ Some v
         → PutsRows table (suc more) (lines n v) mid new → RewritesGroup table Wanted n old new
     lines_rewrite old mid new dropped v there did = rewrites_key (begins (is_number n)) (λ r. take 1 r ≡ int n ∷ []) (Has (lines n v)) Wanted (begins_key n) (key_begins n)
@@ -78,7 +78,7 @@ module _ {V : Type 0} (lines : ℕ → V → List Row) (more : ℕ) (values : Fi
         (λ r is of. let line = lined_at r is of in subst (λ u. Has (lines n u) r) (same_Some line.0 v (sym line.1 ∙ there)) line.2)
         table old new rows (λ t listed other. did.others t listed other ∙ dropped.others t listed other)
       where
-        -- the table has the rows of the number's value, and the old rows that don't begin with the number
+        -- for `lines_rewrite`: the table has the rows of the number's value, and the old rows without the number
         rows : (r : Row) → Has (rows_in table new.trees) r ↔ (Has (lines n v) r ⊎ (Has (rows_in table old.trees) r × (take 1 r ≢ int n ∷ [])))
         rows r =
             let all = puts_has (suc more) (lines n v) (Has (rows_in table mid.trees)) (are.apart n v) (λ s was x here same. ((dropped.rows s).0 was).1 (first_of more s x same ∙ are.numbered n v x here)) r in (
@@ -86,7 +86,7 @@ module _ {V : Type 0} (lines : ℕ → V → List Row) (more : ℕ) (values : Fi
               λ h. (did.rows r).1 (all.1 (elim h [ inl here ↦ inl here | inr kept ↦ inr ((dropped.rows r).1 kept) ])),
             )
 
-    -- in the database, deleting the rows of a number that the map lacks rewrites the rows of the number
+    -- for `bare_done`, of the databases alone: deleting the rows of a number that the map lacks rewrites them
     bare_rewrite : (old new : Database) → Drops table 1 (int n ∷ []) old new → get values n ≡ None → RewritesGroup table Wanted n old new
     bare_rewrite old new dropped none = rewrites_key (begins (is_number n)) (λ r. take 1 r ≡ int n ∷ []) (λ r. ⊥) Wanted (begins_key n) (key_begins n) (λ r never. absurd never)
         (λ r is of. let line = lined_at r is of in none-some line.0 (sym none ∙ line.1))

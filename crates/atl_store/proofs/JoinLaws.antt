@@ -101,7 +101,7 @@ arrives n f m u report before after found joining =
       second = λ e t far. ap (λ (b : BooksValue). amount_in b e t) books ∙ beside_booked half Joining People (pos 1) e t far;
     }
   where
-    -- the first unit of a faction has no items and no skills
+    -- for `arrives`: the first unit of a faction has no items and no skills
     nothing : (sort : ThingKind) → things_of sort (first_unit joining.0 joining.3 before).holding ≡ empty
     nothing Item = refl
     nothing Skill = refl
@@ -123,11 +123,11 @@ PutsNewcomer n f m u after world = Both (PutsCampaignRow (campaign_row_of after)
 abbrev PutsReportAndAmounts : ℕ → List ℕ → CampaignValue → Database → Database → Type 0
 PutsReportAndAmounts n report after = Both (Puts report_table 1 (report_row n report)) (Both (WritesAmount after Joining Money) (WritesAmount after Joining People))
 
--- a table that the steps before and after leave alone changes as the step between changes it
+-- a table that the steps from `a` to `b` and `c` to `d` leave alone changes (by `F`) as the step from `b` to `c` does
 rows_moved : (t : Table) (F : List Row → Set) (a b c d : Database) → b.trees t.tree ≡ a.trees t.tree → d.trees t.tree ≡ c.trees t.tree → Is (rows_in t c.trees) (F (rows_in t b.trees)) → Is (rows_in t d.trees) (F (rows_in t a.trees))
 rows_moved t F a b c d first last is = subst (λ rows. Is rows (F (rows_in t a.trees))) (sym (ap (map (visible t)) last)) (subst (λ rows. Is (rows_in t c.trees) (F rows)) (ap (map (visible t)) first) is)
 
--- writing an amount to equal sets of rows gives equal sets
+-- if a table has the rows `S`, writing an amount into it makes them the rows `S` with this amount (`settled`)
 settled_on : (c : CampaignValue) (e : Entry) (t : Thing) (rows news : List Row) (S : Set) → Is rows S → Is news (settled c e t (Has rows)) → Is news (settled c e t S)
 settled_on c e t rows news S was is r = (
   λ there. elim ((is r).0 there) [ inl new ↦ inl new | inr kept ↦ inr ((was r).0 kept.0, kept.1) ],
@@ -182,19 +182,19 @@ module _ (n : ℕ) (f : Faction) (m : ℕ) (u : Unit) (report : List ℕ) (after
   unfolding joined
   join_held a d did text before joining holds = record { rows = rows }
     where
-      -- how the campaign after the join differs from the one before
+      -- for `join_held`: how the campaign after the join differs from the one before
       arrival : IsArrival n f m u report before after
       arrival = arrives n f m u report before after found joining
 
-      -- what the join wrote into the tables
+      -- for `join_held`: what the join wrote into the tables
       enters : AddsJoin n after text a d
       enters = did (campaign_row_of before) text (holds.rows Own)
 
-      -- a part that no statement of a join writes has the rows that it had
+      -- for `join_held`: a part that no statement of a join writes has the rows that it had
       stays : (part : Part) → is_among (Own ∷ Factions ∷ Units ∷ Reports ∷ Books ∷ []) part ≡ false → Is (rows_in (table_of part) d.trees) (rows_for (campaign_line text before) before part)
       stays part free = stays_is (table_of part) (rows_for (campaign_line text before) before part) a d (enters.others part (not_among (Own ∷ Factions ∷ Units ∷ Reports ∷ Books ∷ []) part free)) (holds.rows part)
 
-      -- each part's table has the rows of the campaign after the join
+      -- for `join_held`: each part's table has the rows of the campaign after the join
       rows : (part : Part) → Is (rows_in (table_of part) d.trees) (rows_for (campaign_line text after) after part)
       rows Own = enters.campaign
       rows Factions = subst (λ (x : FinMap nat_cmp Faction). Is (rows_in faction_table d.trees) (RowsOf faction_line x)) (sym arrival.factions) (put_rows faction_line (λ k v. refl) (rows_in faction_table a.trees) (rows_in faction_table d.trees) before.factions n f (holds.rows Factions) (enters.member f found.faction_is))
@@ -237,7 +237,7 @@ joining_done n f m u report after world start one two found first second =
 pub mail_held : (faction : ℕ) (mail : List ℕ) (a b : Database) → WritesMail faction mail a b → (text : List ℕ) (before : CampaignValue) → Holds a.trees text before → Holds b.trees text (with_mail before faction mail)
 mail_held faction mail a b did text before holds = record { rows = rows }
   where
-    -- each part's table has the rows of the campaign with the mailing
+    -- for `mail_held`: each part's table has the rows of the campaign with the mailing
     rows : (part : Part) → Is (rows_in (table_of part) b.trees) (rows_for (campaign_line text before) (with_mail before faction mail) part)
     rows Mail = put_rows mail_row (λ k v. refl) (rows_in mail_table a.trees) (rows_in mail_table b.trees) before.mail faction mail (holds.rows Mail) did.rows
     rows part = stays_is (table_of part) (rows_for (campaign_line text before) before part) a b (did.others (table_of part) (listed part) (λ e. absurd (omega (arith, e)))) (holds.rows part)

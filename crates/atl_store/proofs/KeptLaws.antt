@@ -39,7 +39,7 @@ chosen_as : (b : Bool) (P Q W : Type 0) → (P ↔ Q) → Chosen b P W ↔ Chose
 chosen_as true P Q W same = same
 chosen_as false P Q W same = (λ h. h, λ h. h)
 
--- rows rewritten by one test and wanted set are rewritten by an equal test and an equivalent set
+-- rows rewritten by test `one` and wanted set `P` are those rewritten by an equal test `other` and equivalent set `Q`
 rewritten_as : (one other : Row → Bool) (P Q : Set) → ((r : Row) → one r ≡ other r) → ((r : Row) → P r ↔ Q r) → (after before : List Row) → Is after (rows_after_rewrite one P (Has before)) → Is after (rows_after_rewrite other Q (Has before))
 rewritten_as one other P Q same are after before is r =
     let turned = subst (λ b. Chosen (one r) (P r) (Has before r) ↔ Chosen b (Q r) (Has before r)) (same r) (chosen_as (one r) (P r) (Q r) (Has before r) (are r)) in

@@ -72,7 +72,7 @@ module _ {A : Type 0} (shown : A → Row) (number : A → ℤ) (at : ℕ) (is : 
 
 -- ---- rows of the entries of a map, with the numbers in the first column
 
--- two different numbers fail the test for equal integers (`int_eq`)
+-- for `entries_apart`: two different numbers fail the test for equal integers (`int_eq`)
 differ : (m n : ℕ) → m ≢ n → int_eq (pos m) (pos n) ≡ false
 differ m n apart = elim (cases_Bool (int_eq (pos m) (pos n))) [ inl same ↦ absurd (apart (grind (ints, arith))) | inr differs ↦ differs ]
 
@@ -117,7 +117,7 @@ row_place : (part : Part) (r : Row) → column (placed_row part r) (width part) 
 row_place Own r = refl
 row_place part r = refl
 
--- A part's listing shows all rows with their rowids, or, if the key is the first column, without.
+-- A part's listing shows all rows with their rowids or, where the first column is the rowid, without them.
 shown_by : (part : Part) → ((shows_rowids part ≡ true) × ((db : Trees) → (listing_of part).in_table db ≡ map (placed_row part) (db (table_of part).tree)))
     ⊎ ((shows_rowids part ≡ false) × ((db : Trees) → (listing_of part).in_table db ≡ rows_in (table_of part) db) × ((r : Row) → column (visible (table_of part) r) 0 ≡ rowid r))
 shown_by Goods = inl (refl, λ db. refl)
@@ -216,14 +216,14 @@ pub record IsMadeAs (p : Parts) (read : Part × List Row) : Type 0 where
   -- if the part is shown with rowids, these are integers, no two alike
   pub apart : shows_rowids read.0 ≡ true → HaveKeys (width read.0) read.1
 
--- a part that is read without rowids has for the check the rows as they were read (`IsMadeAs`)
+-- if `p` has a part's rows as they were read, and these show no rowids, they are its rows to be checked (`IsMadeAs`)
 pub made_whole : {p : Parts} {rows : List Row} (part : Part) → shows_rowids part ≡ false → ((text : List ℕ) → rows_read text p part ≡ rows) → IsMadeAs p (part, rows)
 made_whole {p} {rows} part free are = record {
   rows = λ text. are text ∙ sym (cut_nothing part rows free);
   apart = λ placed. absurd (true≢false (sym placed ∙ free));
 }
 
--- a part that is read with rowids has for the check its rows without them, if the rowids differ (`IsMadeAs`)
+-- if `p` has a part's rows without the rowids read, and these differ, they are its rows to be checked (`IsMadeAs`)
 pub made_placed : {p : Parts} {A : Type 0} {part : Part} {stored : RowWithId A → Row} {values : A → Row} → IsPlacedAs part stored values → shows_rowids part ≡ true → (placed : List (RowWithId A))
     → ((text : List ℕ) → rows_read text p part ≡ map values (map (λ s. s.row) placed)) → AreApart placed → IsMadeAs p (part, map stored placed)
 made_placed {p} {A} {part} {stored} {values} is has placed are apart = record {
@@ -246,7 +246,7 @@ pub lacks_all : {A B : Type 0} {part : Part} {stored : RowWithId A → Row} {val
 lacks_all is has placed reads there fault lacks (Ok b) told = tt
 lacks_all {A} {B} {part} {stored} is has placed reads there fault lacks (Err f) told = subst (FailsWithout (AreAllApart reads)) (sym told) (all fault lacks)
   where
-    -- each fault of testing the rowids of this part is one of testing those of all parts
+    -- for `lacks_all`: each fault of testing the rowids of this part is one of testing those of all parts
     all : (fault : LoadFault) → FailsWithout (AreApart placed) fault → FailsWithout (AreAllApart reads) fault
     all Store lacks = λ apart. lacks (placed_apart is placed (apart.each (part, map stored placed) there has))
     all (Damaged rule) lacks = lacks

@@ -25,7 +25,7 @@ use Rattle.atl_store.proofs.GoodsLaws.{optional_has, has_optional, optional_apar
 
 -- ---- entries by their indexes
 
--- the element at an index of a list is in the list
+-- for `every_entry`: the element at an index of a list is in the list
 has_at : {X : Type 0} (xs : List X) (k : ℕ) (x : X) → slice_get xs k ≡ Some x → Has xs x
 has_at [] k x is = absurd (none-some x is)
 has_at (y ∷ ys) zero x is = inl (sym (same_Some y x is))

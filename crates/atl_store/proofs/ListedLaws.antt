@@ -97,7 +97,7 @@ one_index tables apart row a b one two =
 
 -- ---- views
 
--- rows that list no views list no other list of views
+-- if rows of the schema table list no views, each list of views that they list is empty
 no_views : (rows : List Row) (none views : List View) → none ≡ [] → AllZip IsViewRow rows none → AllZip IsViewRow rows views → views ≡ []
 no_views [] none [] is one two = refl
 no_views [] none (v ∷ views) is one two = absurd two

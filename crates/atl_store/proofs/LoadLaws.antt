@@ -38,7 +38,7 @@ ascending_from (r ∷ rows) apart = (apart.0, ascending_from rows apart.1)
 flips : (at : ℕ) (a b : Row) → is_eq (value_cmp (column a at) (column b at)) ≡ is_eq (value_cmp (column b at) (column a at))
 flips at a b = ap is_eq (value_cmp_total.antisymm (column a at) (column b at)) ∙ reversed (value_cmp (column b at) (column a at))
   where
-    -- the reverse of a comparison's result is Equal exactly if the result is
+    -- for `flips`: the reverse of a comparison's result is Equal exactly if the result is
     reversed : (o : Ordering) → is_eq (ordering_reverse o) ≡ is_eq o
     reversed Less = refl
     reversed Equal = refl

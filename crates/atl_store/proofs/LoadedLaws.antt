@@ -72,7 +72,7 @@ has_own Second = inl refl
 read_of : (reads : ReadRows) → map (λ read. read.0) reads ≡ other_parts Second → (part : Part) → Has (other_parts Second) part → (read : Part × List Row) × Has reads read × (part ≡ read.0)
 read_of reads parts part there = map_has (λ (read : Part × List Row). read.0) reads part (subst (λ l. Has l part) (sym parts) there)
 
--- removing the rowids from no rows leaves no rows
+-- for `none_read`: removing the rowids from no rows leaves no rows
 nothing_unplaced : (part : Part) → without_ids part [] ≡ []
 nothing_unplaced part = elim (cases_Bool (shows_rowids part)) [
   | inl is ↦ cut_places part [] is
@@ -90,7 +90,7 @@ has_since : (f : Format) (schema : Schema) → HasTablesOf f schema → (part : 
 has_since First schema has part there = subst (λ since. HasTablesOf since schema) (sym (since_first part there)) has
 has_since Second schema has part there = under (listing_of part).since
   where
-    -- a schema with the tables of the second format has those of each format
+    -- for `has_since`: a schema with the tables of the second format has those of each format
     under : (since : Format) → HasTablesOf since schema
     under First = has_first Second schema has
     under Second = has
@@ -137,7 +137,7 @@ module _ (f : Format) {S : Type 0} (g : Ghosts S) (old : Held S) (reads : ReadRo
           ]
     ]
 
-    -- if the schema is the format's, and `campaign` has just the row `head`, each part's table has its rows in `p`
+    -- if the schema is the format's, and `campaign` has just the row `head`, a part's table has the part's rows in `p`
     rows_of_part : (text : List ℕ) → HasTablesOf f old.schema → IsPermutation (rows_in campaign_table db) (own_stored text head ∷ []) → (part : Part) → Has (parts_in f) part → IsPermutation (rows_in (table_of part) db) (rows_read text p part)
     rows_of_part text begins own part there = elim (every_part part) [
       | inl is ↦ subst (λ q. IsPermutation (rows_in (table_of q) db) (rows_read text p q)) (sym is) (subst (λ rows. IsPermutation (rows_in campaign_table db) (map (own_stored text) rows)) (sym made.campaign) own)
@@ -200,7 +200,7 @@ module _ (f : Format) {S : Type 0} (g : Ghosts S) where
   pub unread_refuses : (old mid : Held S) → old.in_transaction ≡ false → KeepsOneRow f g old → AfterReads g old mid → (fault : LoadFault) → FailsToRead g mid (other_selects f) fault → RefusesToLoadIn f g old fault
   unread_refuses old mid idle kept first fault fails = refused fault (fails_then g old mid first (other_selects f) fault fails)
     where
-      -- each fault that reading the tables but `campaign` may return refuses the load
+      -- for `unread_refuses`: each fault that reading the tables but `campaign` may return refuses the load
       refused : (fault : LoadFault) → FailsToRead g old (other_selects f) fault → RefusesToLoadIn f g old fault
       refused Store fails = inr (inr (kept, inl fails))
       refused (Damaged rule) fails = absurd fails
@@ -229,7 +229,7 @@ module _ (f : Format) {S : Type 0} (g : Ghosts S) where
       | inr shut ↦ inr (inl (shut_failed shut))
     ]
 
-    -- a fault of confirming the tables refuses the load
+    -- a fault that testing the schema after the reads may give (`FailsToConfirm`) refuses the load
     pub unconfirmed_refuses : old.in_transaction ≡ false → AllSelectsShowTyped g old (other_selects f) → (fault : LoadFault) → FailsToConfirm g mid f fault → RefusesToLoadIn f g old fault
     unconfirmed_refuses idle typed Store (inl other) = inr (inr (kept, inr (typed, other_schema other)))
     unconfirmed_refuses idle typed Store (inr again) =
@@ -242,11 +242,11 @@ module _ (f : Format) {S : Type 0} (g : Ghosts S) where
 -- what was read of the other tables after the campaign row was read
 module _ (f : Format) {S : Type 0} (g : Ghosts S) {A : Type 0} (rows : A → ReadRows) (old mid new : Held S) (own : StoredCampaign) (w : WorldValue) (row : OwnRead g old f own w) (before : AfterReads g old mid) (r : Result (Option A) LoadFault)
     (reads : ReadsSome g mid (other_selects f) (λ a. AreOfFormat f (state g mid).now (rows a)) r new) (o : Option A) (was : r ≡ Ok o) (clean : HasCleanDisk (state g new)) where
-  -- what was read of the other tables their SELECTs also find in the tables before `campaign` was read (`Found`)
+  -- what was read of all tables but `campaign` was in them already before `campaign` was read (`Found`)
   found : (told : Option A) → o ≡ told → Found g old (other_selects f) (λ a. AreOfFormat f (state g old).now (rows a)) told
   found told is = subst (Found g old (other_selects f) (λ a. AreOfFormat f (state g old).now (rows a))) is (format_before g f rows old mid new before (other_selects f) r reads o was clean)
 
-  -- the rows put together of what was read are gathered (`Gathered`)
+  -- if `p` is put together of what was read (`IsMadeOf`), all tables were read into it (`Gathered`)
   pub gathered_with : (a : A) → o ≡ Some a → (p : Parts) (head : StoredCampaignRow) → head ≡ own.head → IsMadeOf head (rows a) p → Gathered f g old w p
   gathered_with a is p head same made = let all = found (Some a) is in gathered_of f g old own w (rows a) p row all.0 all.1 head same made
 
@@ -254,11 +254,11 @@ module _ (f : Format) {S : Type 0} (g : Ghosts S) {A : Type 0} (rows : A → Rea
   pub mistyped_refuses : o ≡ None → RefusesToLoadIn f g old (Damaged Ranges)
   mistyped_refuses is = inl (own_kept f g old own w row, found None is)
 
-  -- a fault of putting the rows together refuses the load
+  -- a fault of putting the rows together, which tests that rowids differ (`AreAllApart`), refuses the load
   pub unmade_refuses : old.in_transaction ≡ false → (a : A) → o ≡ Some a → (fault : LoadFault) → FailsWithout (AreAllApart (rows a)) fault → RefusesToLoadIn f g old fault
   unmade_refuses idle a is fault = refused fault
     where
-      -- each fault of testing the rowids refuses the load
+      -- for `unmade_refuses`: each fault of testing the rowids refuses the load
       refused : (fault : LoadFault) → FailsWithout (AreAllApart (rows a)) fault → RefusesToLoadIn f g old fault
       refused Store lacks = let all = found (Some a) is in inr (inr (own_kept f g old own w row, inr (all.0, inl (λ made. lacks (all_apart f g old (rows a) all.1 made)))))
       refused (Damaged rule) lacks = absurd lacks
@@ -267,7 +267,7 @@ module _ (f : Format) {S : Type 0} (g : Ghosts S) {A : Type 0} (rows : A → Rea
       refused Memory lacks = wants_memory f g old idle (own_kept f g old own w row)
 
 module _ {S : Type 0} (g : Ghosts S) where
-  -- what is true of a fault is true of the error of a result that is this fault
+  -- if a result is an error with this fault, what holds of the fault (`P`) holds of the result's error
   pub told_as : {A : Type 0} (P : LoadFault → Type 0) (fault : LoadFault) (r : Result A LoadFault) → IsErrAnd r (λ told. told ≡ fault) → P fault → IfErr r P
   told_as P fault (Ok a) told p = tt
   told_as P fault (Err f) told p = subst P (sym told) p

@@ -61,12 +61,12 @@ module _ (regions : FinMap nat_cmp Region) where
   pub had_stock : (n item amount : ℕ) → amount ≡ stock_in regions n item → amount ≢ 0 → MarketRowsOf regions (market_row n item amount)
   had_stock n item amount is some = there (get regions n) refl
     where
-      -- a stock other than 0, which a look-up gives with 0 as its default, was found
+      -- for `had_stock`: a stock other than 0, which a look-up gives with 0 as its default, was found
       got : (o : Option ℕ) → amount ≡ unwrap_or o 0 → o ≡ Some amount
       got None zero = absurd (some zero)
       got (Some x) same = ap Some (sym same)
 
-      -- the stock's row is there, whatever the look-up of the region gave; without a region the stock would be 0
+      -- for `had_stock`: by the look-up `o` of the region the stock's row is there; with no region the stock would be 0
       there : (o : Option Region) → get regions n ≡ o → MarketRowsOf regions (market_row n item amount)
       there None none = absurd (some (is ∙ ap (in_stock item) none))
       there (Some region) found = (n, region, found, item, amount, got (get region.stocks item) (is ∙ ap (in_stock item) found), some, refl)
@@ -77,12 +77,12 @@ module _ (regions : FinMap nat_cmp Region) where
 pub finds_stocks : FindsByNumbers of_stock
 finds_stocks = record { either = either; none = none }
   where
-    -- the test "`f` or `g`" finds a row exactly if `f` or `g` finds it
+    -- for `finds_stocks`: the test "`f` or `g`" finds a row of `market` exactly if `f` or `g` finds it
     either : (f g : ℕ → ℕ → Bool) (r : Row) → of_stock (λ n t. f n t || g n t) r ≡ (of_stock f r || of_stock g r)
     either f g (Int (pos region) ∷ Int (pos item) ∷ row) = refl
     either f g row = refl
 
-    -- a test that is always false finds no row
+    -- for `finds_stocks`: a test that is always false finds no row of `market`
     none : (r : Row) → of_stock (λ n t. false) r ≡ false
     none (Int (pos region) ∷ Int (pos item) ∷ row) = refl
     none row = refl
@@ -117,7 +117,7 @@ module _ (region item : ℕ) where
     abbrev row : Row
     row = market_row region item stock
 
-    -- a row of the region and item that the campaign has is that of the stock, which isn't 0
+    -- a row of this region and item among the campaign's rows is that of the stock, which isn't 0
     wanted_here : (r : Row) → is_here r ≡ true → MarketRowsOf c.regions r → (stock ≢ 0) × (r ≡ row)
     wanted_here r here of =
         let had = stock_had c.regions r of in

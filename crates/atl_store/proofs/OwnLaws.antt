@@ -36,19 +36,19 @@ one_mapped f (x ∷ z ∷ xs) y is = absurd (let k = is in cc)
 
 -- a row as it was read equals a row with this world text
 module _ (own : StoredCampaign) (h : StoredCampaignRow) (text : List ℕ) (is : campaign_stored own ≡ own_stored text h) where
-  -- the campaign row as it was read, and the row that it equals, have equal values in each column
+  -- the row `own`, as it was read, has in each column the value of the row that shows `h` and this world text
   at : (n : ℕ) → column (campaign_stored own) n ≡ column (own_stored text h) n
   at n = ap (λ r. column r n) is
 
-  -- the campaign row as it was read has the id of the row that it equals
+  -- the row `own`, as it was read, has the id of `h`, since both are shown as equal rows
   pub same_id : own.head.id ≡ h.id
   same_id = let e = at 0 in cc
 
-  -- the campaign row as it was read has the format of the row that it equals
+  -- the row `own`, as it was read, has the format of `h`, since both are shown as equal rows
   pub same_format : own.head.format ≡ h.format
   same_format = let e = at 1 in cc
 
-  -- the campaign row as it was read has the world text of the row that it equals
+  -- the row `own`, as it was read, has the world text `text`, since it is shown as a row with this text
   pub same_text : string_bytes own.world ≡ text
   same_text = let e = at 7 in cc
 
@@ -73,7 +73,7 @@ own_typed f rows h text w own row there =
     let one = one_mapped (first_columns (length campaign_forms)) rows (own_stored text h) own.is in
     typed row (found row there one.0 one.1 ∙ one.2)
   where
-    -- each row of a list with one row has the first columns of this row
+    -- for `own_typed`: a row of a list that has only the row `r` has the first columns of `r`
     found : (row : Row) → Has rows row → (r : Row) → rows ≡ r ∷ []
         → first_columns (length campaign_forms) row ≡ first_columns (length campaign_forms) r
     found row there r is = elim (subst (λ l. Has l row) is there) [
@@ -81,7 +81,7 @@ own_typed f rows h text w own row there =
       | inr none ↦ absurd none
     ]
 
-    -- a row whose first columns are a campaign row with a UTF-8 text has values of its columns' types
+    -- for `own_typed`: a row that begins as a campaign row with a UTF-8 text has values of its columns' types
     typed : (row : Row) → first_columns (length campaign_forms) row ≡ own_stored text h → IsTyped campaign_forms row
     typed row is =
         let at = λ (n : ℕ). ap (λ (r : Row). column r n) is in

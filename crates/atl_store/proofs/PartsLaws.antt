@@ -53,7 +53,7 @@ use Rattle.atl_sql.proofs.PartLaws.{all_among, is_among, not_among}
 -- ---- rows of a table, rows that were read of it, and rows that are made of a campaign
 
 module _ {A : Type 0} (shown : A → Row) (rows : List Row) (read made : List A) (in_table : IsPermutation rows (map shown read)) (of_them : IsPermutation made read) where
-  -- the table's rows are, in some order, those that are made of the campaign, if these are what was read of it
+  -- if the rows made of the campaign (`made`) are those that were read of a table, its rows show them in some order
   rows_made : IsPermutation rows (map shown made)
   rows_made = IsPermutation-trans rows (map shown read) (map shown made) in_table (IsPermutation-sym (map shown made) (map shown read) (IsPermutation-map shown made read of_them))
 
@@ -70,20 +70,20 @@ module _ {A : Type 0} (shown : A → Row) (rows : List Row) (read made : List A)
 abbrev HasKeys : List Row → Type 0
 HasKeys rows = (shown : List Row) × IsPermutation rows shown × HaveKeys 0 shown
 
--- a table with one row for each entry of a map has exactly the map's rows, with different numbers
+-- if the rows read of a table are made of a map's entries, it has exactly the map's rows, with different numbers
 by_number : {A V : Type 0} {Q : Type 0} (shown : A → Row) (row : ℕ → V → A) (line : ℕ → V → Row) → ((n : ℕ) (v : V) → shown (row n v) ≡ line n v) → ((n : ℕ) (v : V) → column (line n v) 0 ≡ Int (pos n))
     → (rows : List Row) (read : List A) (m : FinMap nat_cmp V) → IsPermutation rows (map shown read) → IsPermutation (rows_by row (entries m)) read → Is rows (RowsOf line m) × (Q → HasKeys rows)
 by_number {A} {V} shown row line same numbered rows read m in_table of_them = (held, λ _. (lines, is, lines_keys line numbered m))
   where
-    -- the campaign's rows for the entries of the map
+    -- for `by_number`: the campaign's rows for the entries of the map
     lines : List Row
     lines = lines_of line (entries m)
 
-    -- the table's rows are the campaign's rows for the entries, in some order
+    -- for `by_number`: the table's rows are the campaign's rows for the entries, in some order
     is : IsPermutation rows lines
     is = subst (IsPermutation rows) (mapped_twice (λ (e : ℕ × V). row e.0 e.1) shown (λ (e : ℕ × V). line e.0 e.1) (λ e. same e.0 e.1) (entries m)) (rows_made shown rows read (rows_by row (entries m)) in_table of_them)
 
-    -- the table has exactly the map's rows
+    -- for `by_number`: the table has exactly the map's rows
     held : Is rows (RowsOf line m)
     held r = (
       λ there. let e = map_has (λ (e : ℕ × V). line e.0 e.1) (entries m) r (has_permuted rows lines r is there) in (e.0.0, e.0.1, entry_got m e.0.0 e.0.1 e.1, e.2),
@@ -203,13 +203,13 @@ stocks_held rows read regions in_table of_them r =
 
 -- ---- the books
 
--- what is true of each element of a list is true of an element that the list has
+-- for `books_held`: what is true of each element of a list is true of an element that the list has
 each_of : {A : Type 0} (P : A → Type 0) (xs : List A) (x : A) → AllByRecursion P xs → Has xs x → P x
 each_of P [] x all there = absurd there
 each_of P (y ∷ xs) x all (inl same) = subst P (sym same) all.0
 each_of P (y ∷ xs) x all (inr later) = each_of P xs x all.1 later
 
--- if each element of `ys` is in `xs`, then all of `ys` are, in the form of `AllByRecursion`
+-- for `books_held`: if each element of `ys` is in `xs`, then all of `ys` are, in the form of `AllByRecursion`
 all_has : {A : Type 0} (xs ys : List A) → ((x : A) → Has ys x → Has xs x) → AllByRecursion (Has xs) ys
 all_has xs [] within = tt
 all_has xs (y ∷ ys) within = (within y (inl refl), all_has xs ys (λ x there. within x (inr there)))
@@ -292,7 +292,7 @@ one_head Second h rows id format is = rw (is, id, format) refl
 no_markets : (f : Format) (p : Parts) → ((text : List ℕ) (part : Part) → ¬ Has (parts_in f) part → rows_read text p part ≡ []) → IsTrue (are_of_format f p.markets)
 no_markets First p none = nothing p.markets (none [] Markets (not_among (parts_in First) Markets refl))
   where
-    -- if the list of stocks shows no row it is empty, as the first format requires
+    -- for `no_markets`: if the list of stocks shows no row it is empty, as the first format requires
     nothing : (rows : List StoredMarket) → map market_values rows ≡ [] → IsTrue (are_of_format First rows)
     nothing [] is = refl
     nothing (row ∷ rows) is = absurd (let k = is in cc)

@@ -23,7 +23,7 @@ use Rattle.atl_store.proofs.WholeLaws.{inside_weaker}
 -- ---- the campaign's own row
 
 module _ (c : MarkedCampaign) where
-  -- in the database, putting the campaign row rewrites it (`RewritesCampaignRow`), if it is marked
+  -- for `head_done`, of the databases alone: putting the campaign row rewrites it, if it is marked
   head_put : (b : Bool) → c.marks.row ≡ b → b ≡ true → (old new : Database) → PutsCampaignRow (campaign_row_of c.value) [] old new → RewritesCampaignRow c old new
   head_put b is set old new did before text was =
       let puts = did.again before text was in
@@ -33,7 +33,7 @@ module _ (c : MarkedCampaign) where
         others = puts.others;
       })
     where
-      -- each row of `campaign`, put or kept, is the campaign's row
+      -- for `head_put`: each row of `campaign`, put or kept, is the campaign's row
       only : (r : Row) → (r ≡ campaign_row (campaign_row_of c.value) text) ⊎ (Has (rows_in campaign_table old.trees) r × (take 1 r ≢ take 1 (campaign_row (campaign_row_of c.value) text))) → r ≡ campaign_row (campaign_row_of c.value) text
       only r (inl same) = same
       only r (inr kept) = absurd (kept.1 (ap (take 1) ((was r).0 kept.0)))
@@ -60,7 +60,7 @@ module _ (c : MarkedCampaign) where
   pub own_rewritten : (old new : Database) → RewritesCampaignRow c old new → RewritesWithOwn c (Own ∷ []) old new
   own_rewritten old new did before text was = one_changed (Becomes c (own_after c before text)) Own _ old new (did before text was) (λ rows. rows)
 
-  -- rewriting the rows of a part other than the campaign row rewrites the part, whatever the campaign row is
+  -- rewriting a table's marked rows rewrites its part (`RewritesParts`), if its rows don't depend on the campaign row
   pub part_rewritten : (part : Part) → ((own : Row) (before after : List Row) → Becomes c [] part before after → Becomes c own part before after) → (old new : Database)
       → Rewrites (table_of part) (is_marked c.marks part) (rows_for [] c.value part) old new → RewritesParts c (part ∷ []) old new
   part_rewritten part any old new did own = one_changed (Becomes c own) part _ old new did (any own _ _)

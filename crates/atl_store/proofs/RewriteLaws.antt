@@ -27,7 +27,7 @@ use Rattle.atl_store.proofs.WholeLaws.{inside_weaker}
 
 -- ---- one step after another
 
--- for one row: choosing by the test `p`, and then by `q`, is choosing by "`p` or `q`"
+-- for one row: if `N` is `W` or `M` by the test `p`, then `W` or `N` by `q` is `W` or `M` by "`p` or `q`" (`Chosen`)
 chosen_step : (p q : Bool) (W M N : Type 0) → N ↔ Chosen p W M → Chosen q W N ↔ Chosen (p || q) W M
 chosen_step true true W M N same = (λ h. h, λ h. h)
 chosen_step false true W M N same = (λ h. h, λ h. h)
@@ -43,7 +43,7 @@ pub record Remaining (table : Table) (Wanted : Set) (rest all : Row → Bool) (o
   pub others : (t : Table) → Has all_tables t → t.tree ≢ table.tree → now.trees t.tree ≡ old.trees t.tree
 
 module _ (table : Table) (Wanted : Set) where
-  -- before any step, all chosen rows are left to rewrite
+  -- before any step all rows that `all` chooses are left to rewrite: `rest` chooses the same rows
   pub none_nearer : (rest all : Row → Bool) → ((r : Row) → rest r ≡ all r) → (s : State) → Inside HasTables (Remaining table Wanted rest all) s s
   none_nearer rest all same s = (
     refl,
@@ -57,7 +57,7 @@ module _ (table : Table) (Wanted : Set) where
     },
   )
 
-  -- a step that rewrites some of the remaining rows leaves the others to rewrite
+  -- a step that rewrites some of the rows that `rest` chooses leaves those that `next` chooses to rewrite
   pub one_less_remaining : (step rest next all : Row → Bool) → ((r : Row) → rest r ≡ (step r || next r)) → (old mid new : State)
       → Inside HasTables (Remaining table Wanted rest all) old mid → Inside HasTables (Rewrites table step Wanted) mid new
       → Inside HasTables (Remaining table Wanted next all) old new
@@ -81,7 +81,7 @@ module _ (table : Table) (Wanted : Set) where
         },
   )
 
-  -- when no row is left to rewrite, all chosen rows are rewritten
+  -- once `rest` chooses no row any more, the rows that `goal` chooses, as `all` does, are rewritten (`Rewrites`)
   pub all_rewritten : (rest all goal : Row → Bool) → ((r : Row) → rest r ≡ false) → ((r : Row) → all r ≡ goal r) → (old new : State)
       → Inside HasTables (Remaining table Wanted rest all) old new → Inside HasTables (Rewrites table goal Wanted) old new
   all_rewritten rest all goal none is old new did = (
@@ -171,12 +171,12 @@ module _ (table : Table) (Wanted : Set) where
   abbrev pub NearingNumbers : List ℕ → List ℕ → Database → Database → Type 0
   NearingNumbers rest all = Remaining table Wanted (λ r. begins (is_among rest) r) (λ r. begins (is_among all) r)
 
-  -- once the rows of the first number that is left are rewritten, only the numbers `rest` after it are left
+  -- once the rows of the first number left to rewrite are rewritten, only the numbers `rest` after it are left
   pub number_nearer : (n : ℕ) (now rest all : List ℕ) → now ≡ n ∷ rest → (old mid new : State) → Inside HasTables (NearingNumbers now all) old mid
       → Inside HasTables (Rewrites table (begins (is_number n)) Wanted) mid new → Inside HasTables (NearingNumbers rest all) old new
   number_nearer n now rest all is = one_less_remaining table Wanted (λ r. begins (is_number n) r) (λ r. begins (is_among now) r) (λ r. begins (is_among rest) r) (λ r. begins (is_among all) r) (λ r. ap (λ ns. begins (is_among ns) r) is ∙ next_number n rest r)
 
-  -- when no number is left, the rows of all numbers of the set are rewritten
+  -- when no number is left to rewrite, the rows of all numbers of the set are rewritten (`Rewrites`)
   pub numbers_rewritten : (marks : FinSet nat_cmp) (rest all : List ℕ) → rest ≡ [] → from_list all ≡ marks → (old new : State)
       → Inside HasTables (NearingNumbers rest all) old new → Inside HasTables (Rewrites table (begins_marked marks) Wanted) old new
   numbers_rewritten marks rest all none is = all_rewritten table Wanted (λ r. begins (is_among rest) r) (λ r. begins (is_among all) r) (λ r. begins_marked marks r) (no_number rest none) (of_set marks all is)
@@ -185,16 +185,16 @@ module _ (table : Table) (Wanted : Set) where
 
 -- A test `p` that finds exactly the rows of a key, and new rows that are exactly the wanted rows of the key.
 module _ (p : Row → Bool) (Key New Wanted : Set) (found : (r : Row) → p r ≡ true → Key r) (finds : (r : Row) → Key r → p r ≡ true) (news : (r : Row) → New r → Key r × Wanted r) (olds : (r : Row) → p r ≡ true → Wanted r → New r) where
-  -- for one row: replacing the rows of the key by the new ones is choosing between wanted and old rows by the test
+  -- for `rewrites_key`: a row is new, or old without the key, exactly if by the test `p` it is wanted or else old
   in_place : (Were : Type 0) (r : Row) → (New r ⊎ (Were × ¬ Key r)) ↔ Chosen (p r) (Wanted r) Were
   in_place Were r = (ahead, back (p r) refl)
     where
-      -- a new row, or an old row without the key, is wanted if the test finds it, and else old
+      -- for `in_place`: a row that is new, or old without the key, is wanted if `p` finds it, and old if not
       ahead : New r ⊎ (Were × ¬ Key r) → Chosen (p r) (Wanted r) Were
       ahead (inl new) = let is = news r new in subst (λ b. Chosen b (Wanted r) Were) (sym (finds r is.0)) is.1
       ahead (inr kept) = subst (λ b. Chosen b (Wanted r) Were) (sym (false_from_ne_true (p r) (λ is. kept.1 (found r is)))) kept.0
 
-      -- a row that is wanted if the test finds it, and else old, is new, or old without the key
+      -- for `in_place`: a row that is wanted if `p` finds it, and old if not, is new, or old without the key
       back : (b : Bool) → p r ≡ b → Chosen b (Wanted r) Were → New r ⊎ (Were × ¬ Key r)
       back true is wanted = inl (olds r is wanted)
       back false is was = inr (was, λ key. true≢false (sym (finds r key) ∙ is))
@@ -205,7 +205,7 @@ module _ (p : Row → Bool) (Key New Wanted : Set) (found : (r : Row) → p r �
       → ((t : Table) → Has all_tables t → t.tree ≢ table.tree → new.trees t.tree ≡ old.trees t.tree) → Rewrites table p Wanted old new
   rewrites_key table old new rows others = record { rows = λ r. let so = in_place (Has (rows_in table old.trees) r) r in (λ h. so.0 ((rows r).0 h), λ h. (rows r).1 (so.1 h)); others = others }
 
--- if the first of two cases is impossible, the second holds
+-- for tables after a deletion: since no row is new (the first case is impossible), the row was kept (the second holds)
 pub kept_only : {P : Type 0} → ⊥ ⊎ P → P
 kept_only (inl never) = absurd never
 kept_only (inr kept) = kept
@@ -219,7 +219,7 @@ module _ {V : Type 0} (table : Table) (line : ℕ → V → Row) (numbered : (n 
       let number : of.0 ≡ n = same_number of.0 n (sym (numbered of.0 of.1) ∙ ap (take 1) (sym of.3) ∙ begins_key n r is) in
       (of.1, ap (get values) (sym number) ∙ of.2, of.3 ∙ ap (λ k. line k of.1) number)
 
-  -- putting the row of a number that the map has rewrites its row in the database
+  -- for `put_done`, of the databases alone: putting the row of a number that the map has rewrites its row
   put_rewrites : (old new : Database) (v : V) → get values n ≡ Some v → Puts table 1 (line n v) old new → RewritesNumber table line values n old new
   put_rewrites old new v there did = rewrites_key (begins (is_number n)) (λ r. take 1 r ≡ take 1 (line n v)) (λ r. r ≡ line n v) (RowsOf line values)
       (λ r is. begins_key n r is ∙ sym (numbered n v))
@@ -228,7 +228,7 @@ module _ {V : Type 0} (table : Table) (line : ℕ → V → Row) (numbered : (n 
       (λ r is of. let w = wanted_at r is of in w.2 ∙ ap (line n) (same_Some w.0 v (sym w.1 ∙ there)))
       table old new did.rows did.others
 
-  -- deleting the row of a number that the map lacks rewrites its row in the database
+  -- for `drop_done`, of the databases alone: deleting the row of a number that the map lacks rewrites its row
   drop_rewrites : (old new : Database) → get values n ≡ None → Drops table 1 (int n ∷ []) old new → RewritesNumber table line values n old new
   drop_rewrites old new none did = rewrites_key (begins (is_number n)) (λ r. take 1 r ≡ int n ∷ []) (λ r. ⊥) (RowsOf line values) (begins_key n) (key_begins n) (λ r never. absurd never)
       (λ r is of. let w = wanted_at r is of in none-some w.0 (sym none ∙ w.1))

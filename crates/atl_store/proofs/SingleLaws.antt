@@ -25,7 +25,7 @@ listed_key : {V : Type 0} (es : List (ℕ × V)) (t : ℕ) → is_among (map (λ
 listed_key [] t = refl
 listed_key (e ∷ es) t = elim (eq_by_cmp nat_cmp t e.0) as (λ b. (b || is_among (map (λ x. x.0) es) t) ≡ is_some (cond b (Some e.1) (find nat_cmp t es))) [ true ↦ refl | false ↦ listed_key es t ]
 
--- a number that is less than another is not that number
+-- for `not_listed`: a number that is less than another is not that number
 differs : (k n : ℕ) → is_lt (nat_cmp k n) ≡ true → is_number n k ≡ false
 differs k n less = elim (nat_cmp k n) as (λ o. is_lt o ≡ true → is_eq o ≡ false) [
   | Less ↦ λ _. refl
@@ -64,7 +64,7 @@ module _ (table : Table) (Wanted : Set) (finds : (ℕ → ℕ → Bool) → Row 
   abbrev pub NearingSingles : (ℕ → ℕ → Bool) → (ℕ → ℕ → Bool) → Database → Database → Type 0
   NearingSingles rest all = Remaining table Wanted (λ r. finds rest r) (λ r. finds all r)
 
-  -- the rows that the test finds by these numbers become the wanted ones, and all others stay
+  -- the rows that `finds` finds by this test of their numbers become those of `Wanted`; all others stay (`Rewrites`)
   abbrev RewritesFound : (ℕ → ℕ → Bool) → Database → Database → Type 0
   RewritesFound found = Rewrites table (λ r. finds found r) Wanted
 
@@ -77,39 +77,39 @@ module _ (table : Table) (Wanted : Set) (finds : (ℕ → ℕ → Bool) → Row 
     finds_none : (f : ℕ → ℕ → Bool) → ((n t : ℕ) → f n t ≡ false) → (r : Row) → finds f r ≡ false
     finds_none f never r = finds_same f (λ n t. false) never r ∙ by_numbers.none r
 
-    -- a step that rewrites some of the remaining amounts leaves the others to rewrite
+    -- a step that rewrites some of the amounts that `rest` chooses leaves those that `next` chooses to rewrite
     nearer : (step rest next all : ℕ → ℕ → Bool) → ((n t : ℕ) → rest n t ≡ (step n t || next n t)) → (old mid new : State)
         → Inside HasTables (NearingSingles rest all) old mid → Inside HasTables (RewritesFound step) mid new → Inside HasTables (NearingSingles next all) old new
     nearer step rest next all parts = one_less_remaining table Wanted (λ r. finds step r) (λ r. finds rest r) (λ r. finds next r) (λ r. finds all r)
         (λ r. finds_same rest (λ n t. step n t || next n t) parts r ∙ by_numbers.either step next r)
 
-    -- when no amount is left to rewrite, all amounts that `goal` chooses are rewritten
+    -- once `rest` chooses no amount any more, the amounts that `goal` chooses, as `all` does, are rewritten
     none_remaining : (rest all goal : ℕ → ℕ → Bool) → ((n t : ℕ) → rest n t ≡ false) → ((n t : ℕ) → all n t ≡ goal n t) → (old new : State)
         → Inside HasTables (NearingSingles rest all) old new → Inside HasTables (RewritesFound goal) old new
     none_remaining rest all goal none same = all_rewritten table Wanted (λ r. finds rest r) (λ r. finds all r) (λ r. finds goal r) (finds_none rest none) (finds_same all goal same)
 
     module _ {V : Type 0} where
-      -- once the first amount of an owner that is left is rewritten, only the amounts `rest` after it are left
+      -- once the first of an owner's amounts that are left is rewritten, only the amounts `rest` after it are left
       pub single_nearer : (owner : ℕ) (x : ℕ × V) (now rest all : List (ℕ × V)) → now ≡ x ∷ rest → (old mid new : State)
           → Inside HasTables (NearingSingles (is_key owner now) (is_key owner all)) old mid → Inside HasTables (RewritesFound (is_thing owner x.0)) mid new
           → Inside HasTables (NearingSingles (is_key owner rest) (is_key owner all)) old new
       single_nearer owner x now rest all is = nearer (is_thing owner x.0) (is_key owner now) (is_key owner rest) (is_key owner all)
           (λ n t. ap (λ es. is_key owner es n t) is ∙ and-or_distrib_left (is_number owner n) (is_number x.0 t) (is_among (map (λ e. e.0) rest) t))
 
-      -- when no amount is left, all listed amounts of the owner are rewritten
+      -- when no amount is left to rewrite, all listed amounts of the owner are rewritten
       pub singles_rewritten : (owner : ℕ) (numbers : FinMap nat_cmp V) (rest all : List (ℕ × V)) → rest ≡ [] → all ≡ entries numbers → (old new : State)
           → Inside HasTables (NearingSingles (is_key owner rest) (is_key owner all)) old new → Inside HasTables (RewritesFound (is_of owner numbers)) old new
       singles_rewritten owner numbers rest all none is = none_remaining (is_key owner rest) (is_key owner all) (is_of owner numbers)
           (λ n t. ap (λ es. is_key owner es n t) none ∙ and-false (is_number owner n))
           (λ n t. ap (λ es. is_key owner es n t) is ∙ ap (λ b. is_number owner n && b) (listed_key (entries numbers) t ∙ ap is_some (sym (get-entries numbers t))))
 
-      -- once the amounts of the first owner that is left are rewritten, only the owners `rest` after it are left
+      -- once the amounts of the first owner left to rewrite are rewritten, only the owners `rest` after it are left
       pub owner_nearer : (x : ℕ × FinMap nat_cmp V) (now rest all : List (ℕ × FinMap nat_cmp V)) → now ≡ x ∷ rest → (old mid new : State)
           → Inside HasTables (NearingSingles (is_listed now) (is_listed all)) old mid → Inside HasTables (RewritesFound (is_of x.0 x.1)) mid new
           → Inside HasTables (NearingSingles (is_listed rest) (is_listed all)) old new
       owner_nearer x now rest all is = nearer (is_of x.0 x.1) (is_listed now) (is_listed rest) (is_listed all) (λ n t. ap (λ es. is_listed es n t) is)
 
-    -- when no owner is left, all single marked amounts are rewritten
+    -- when no owner is left to rewrite, all single marked amounts are rewritten
     pub owners_rewritten : (things : Things) (rest all : List (ℕ × FinMap nat_cmp (Unit {0}))) → rest ≡ [] → all ≡ entries things → (old new : State)
         → Inside HasTables (NearingSingles (is_listed rest) (is_listed all)) old new → Inside HasTables (RewritesFound (has_thing things)) old new
     owners_rewritten things rest all none is = none_remaining (is_listed rest) (is_listed all) (has_thing things)

@@ -40,7 +40,7 @@ module _ (old new : State) (text : List ℕ) (settled : (db : Trees) → IsTrue 
         crash = λ db may. subst (λ t. Stores t text after) (sym (settled db done.is_open may ∙ ap (λ (d : Database). d.trees) done.committed)) (stored new.now text after did.tables rows);
       }
 
-  -- if the disk is clean, a transaction that failed leaves the campaign before, and a crash the one before or after
+  -- after a failed transaction the campaign before is kept, and a crash leaves that or the one after, on a clean disk
   pub leaves_stops : (Does : Database → Database → Type 0) (before after : CampaignValue) → HasCleanDisk new → LeavesOff old new → Survives old new (MayLeave HasTables Does old) → Keeps old text before
       → ((db : Database) → Does old.now db → Holds db.trees text after) → LeavesAfterFault old.faults new text before after
   leaves_stops Does before after clean off survives keeps holds = record {
@@ -82,7 +82,7 @@ leaves_spares old new Commits clean off survives idle settled = record {
 
 -- the fault of a creation that an error of the database ended
 module _ {S : Type 0} (g : Ghosts S) (text : List ℕ) (c : CampaignValue) (old new : Held S) (ready : IsReadyToCreate (state g old)) (fails : FailsToCreate g text c old new) where
-  -- a creation that an error broke off is refused by its fault, which is not NotEmpty (`RefusesToCreate`)
+  -- if `create` broke off with a fault that isn't NotEmpty, `RefusesToCreate` holds of that fault
   refused_by_fault : (fault : CreateFault) → fault ≢ create.NotEmpty → BreaksOffCreation g text c old new fault → RefusesToCreate g text c old new fault
   refused_by_fault create.NotEmpty other breaks = absurd (other refl)
   refused_by_fault create.Store other breaks = (fails, inr breaks)
@@ -92,17 +92,17 @@ module _ {S : Type 0} (g : Ghosts S) (text : List ℕ) (c : CampaignValue) (old 
   never_not_empty : (e : Error) → create_fault e ≢ create.NotEmpty
   never_not_empty e = go (is_memory e)
     where
-      -- neither Memory nor Store is NotEmpty
+      -- for `never_not_empty`: neither Memory nor Store is NotEmpty
       go : (b : Bool) → cond b create.Memory create.Store ≢ create.NotEmpty
       go true same = absurd cc
       go false same = absurd cc
 
-  -- a creation that an error ended is refused by that error's fault (`RefusesToCreate`)
+  -- if `create` ends with the fault of an error that the database gave, `RefusesToCreate` holds of that fault
   pub refused_with : (e : Error) (r : Result (Unit {0}) CreateFault) → IsErrAnd r (λ f. f ≡ create_fault e) → (HasCleanDisk (state g new) → Gives g (OfFounding text c) e old new) → IfErr r (RefusesToCreate g text c old new)
   refused_with e (Ok a) told gave = tt
   refused_with e (Err f) told gave = refused_by_fault f (λ none. never_not_empty e (sym told ∙ none)) (record { ready = ready; told = λ clean. (e, told, gave clean) })
 
--- the fault of a write is that of the error with which the database ended the write (`IsFaultOfError`)
+-- if a write ends with the fault of an error that the database gave, `IsFaultOfError` holds of that fault
 pub told_by : {S F A : Type 0} (g : Ghosts S) (own : Statements) (fault_of : Error → F) (old new : Held S) (e : Error) (r : Result A F) → IsErrAnd r (λ f. f ≡ fault_of e) → Gives g own e old new → IfErr r (IsFaultOfError g own fault_of old new)
 told_by g own fault_of old new e (Ok a) told gave = tt
 told_by g own fault_of old new e (Err f) told gave = (e, told, gave)
@@ -115,7 +115,7 @@ not_there g conn schema found shown is none = ap has_campaign (sym shown) ∙ sy
 pub spares_itself : (s : State) → ChangesNothing s s
 spares_itself s = record { same = λ up. (refl, refl, refl); shuts = λ up. inl up }
 
--- after a call (`Survives`) no doubt or failure of the disk is forgotten, and tested reads stay tested (`IsLater`)
+-- after a call (`Survives`) a clean disk was so before, no failure is forgotten, and tested reads stay so (`IsLater`)
 pub later : (old new : State) (Commits : Trees → Type 0) → Survives old new Commits → IsLater old new
 later old new Commits survives = record { clean = λ clean. omega (arith, survives.clean); counts = survives.counts; shield = survives.shield }
 

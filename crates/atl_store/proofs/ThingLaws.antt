@@ -24,12 +24,12 @@ use Rattle.atl_store.proofs.WholeLaws.{inside_weaker}
 pub finds_things : (sort : ThingKind) → FindsByNumbers (of_kind sort)
 finds_things sort = record { either = either; none = none }
   where
-    -- the test "`f` or `g`" finds a row exactly if `f` or `g` finds it
+    -- for `finds_things`: the test "`f` or `g`" finds a row of `has` exactly if `f` or `g` finds it
     either : (f g : ℕ → ℕ → Bool) (r : Row) → of_kind sort (λ n t. f n t || g n t) r ≡ (of_kind sort f r || of_kind sort g r)
     either f g (Int (pos unit) ∷ Int (pos number) ∷ Int (pos thing) ∷ row) = and-or_distrib_left (number == sort_number sort) (f unit thing) (g unit thing)
     either f g row = refl
 
-    -- a test that is always false finds no row
+    -- for `finds_things`: a test that is always false finds no row of `has`
     none : (r : Row) → of_kind sort (λ n t. false) r ≡ false
     none (Int (pos unit) ∷ Int (pos number) ∷ Int (pos thing) ∷ row) = and-false (number == sort_number sort)
     none row = refl
@@ -53,7 +53,7 @@ module _ (unit : ℕ) (sort : ThingKind) (thing : ℕ) where
       let two = and_parts _ _ one.1 in
       ap (λ k. has_key k number t) (tied n unit two.0) ∙ ap (λ k. has_key unit k t) (equals number (sort_number sort) one.0) ∙ ap (has_key unit (sort_number sort)) (tied t thing two.1)
     where
-      -- two numbers that pass the test for equality are equal
+      -- for `key_of`: two numbers that pass the test for equality are equal
       equals : (a b : ℕ) → (a == b) ≡ true → a ≡ b
       equals a b is = grind (arith, nat_tests)
   key_of row is = absurd (true≢false (sym is))
@@ -70,7 +70,7 @@ module _ (unit : ℕ) (sort : ThingKind) (thing : ℕ) where
       ap (λ x. is_here (x ∷ v ∷ w ∷ row)) first ∙ ap (λ x. is_here (int unit ∷ x ∷ w ∷ row)) second ∙ ap (λ x. is_here (int unit ∷ int (sort_number sort) ∷ x ∷ row)) third
       ∙ and_from _ _ (itself (sort_number sort)) (and_from _ _ (is_itself unit) (is_itself thing))
     where
-      -- each number passes the test for equality with itself
+      -- for `of_key`: each number passes the test for equality with itself
       itself : (a : ℕ) → (a == a) ≡ true
       itself a = grind (arith, nat_tests)
 

@@ -43,11 +43,11 @@ module _ (Becomes : Part → List Row → List Row → Type 0) where
 
 -- ---- each of some parts, one after another
 
--- doing `Does` for one part is doing it in turn for the list of this part alone
+-- if `Does` is done for one part, it is done in turn (`InTurn`) for the list of this part alone
 pub in_turn_one : (Does : Part → Database → Database → Type 0) (part : Part) (old new : Database) → Does part old new → InTurn Does (part ∷ []) old new
 in_turn_one Does part old new did = (new, did, refl)
 
--- parts done in turn, and then others, are all done in turn
+-- if `Does` is done in turn for the parts `ps` (`InTurn`), and then for `qs`, it is done in turn for `ps ++ qs`
 pub in_turn_then : (Does : Part → Database → Database → Type 0) (ps qs : List Part) (old mid new : Database) → InTurn Does ps old mid → InTurn Does qs mid new → InTurn Does (ps ++ qs) old new
 in_turn_then Does [] qs old mid new none rest = subst (λ db. InTurn Does qs db new) none rest
 in_turn_then Does (p ∷ ps) qs old mid new first rest = (first.0, first.1, in_turn_then Does ps qs first.0 mid new first.2 rest)
@@ -59,7 +59,7 @@ are_distinct (part ∷ parts) = are_apart (part ∷ []) parts && are_distinct pa
 
 -- what rows become, part by part
 module _ {X : Type 0} (Becomes : X → Part → List Row → List Row → Type 0) where
-  -- The rows of one part become what `Becomes` says, for each `x` of the type `X`, and all other tables stay.
+  -- The rows of one part become what `Becomes x` says, whatever `x` is (as the campaign row); all other tables stay.
   abbrev pub Turn : Part → Database → Database → Type 0
   Turn part old new = (x : X) → Changes (Becomes x) (part ∷ []) old new
 

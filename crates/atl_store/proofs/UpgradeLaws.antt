@@ -119,7 +119,7 @@ module _ (text : List ℕ) (c : CampaignValue) (old mid new : Database) (first :
   pub upgrade_held : Holds new.trees text c
   upgrade_held = record { rows = rows }
     where
-      -- each part's table has the campaign's rows of the second format
+      -- for `upgrade_held`: each part's table has the campaign's rows of the second format
       rows : (part : Part) → Is (rows_in (table_of part) new.trees) (rows_for (campaign_line text c) c part)
       rows Own = own_row _ _ (campaign_row_in First (campaign_row_of c) before) (campaign_line text c) refl (was Own (inl refl)) did.rows
       rows Markets = λ r. (λ there. absurd (subst (λ l. Has l r) (rest Markets (λ e. absurd cc) ∙ ap (map (visible market_table)) first.empty) there), λ of. absurd (no_stocks c bare r of))

@@ -34,7 +34,7 @@ use Rattle.atl_store.specs.declared.fault.UpgradeFault.TheVariants as upgrade
 use Rattle.atl_store.proofs.BareWorldLaws.{good_either}
 use Rattle.atl_store.proofs.StayLaws.{commits_keeps, leaves_spares, may_found}
 
--- what is true of a fault is true of the error of a result that is this fault
+-- if a result is an error with this fault, what holds of the fault (`P`) holds of the result's error
 pub told_as : {A F : Type 0} (P : F → Type 0) (r : Result A F) (fault : F) → IsErrAnd r (λ f. f ≡ fault) → P fault → IfErr r P
 told_as P (Ok a) fault told p = tt
 told_as P (Err f) fault told p = subst P (sym told) p
@@ -97,7 +97,7 @@ module _ {S : Type 0} (g : Ghosts S) (text : List ℕ) (old mid : Held S) (alone
         more = λ just. more (ap (λ (d : Database). d.schema) same.0 ∙ just);
       }
 
--- after two calls (`Survives`) no doubt or failure of the disk is forgotten, and tested reads stay tested (`IsLater`)
+-- after two calls a clean disk was so before, no failure is forgotten, and tested reads stay so (`Survives`, `IsLater`)
 pub later_both : (old mid new : State) (FirstMayLeave SecondMayLeave : Trees → Type 0) → Survives old mid FirstMayLeave → Survives mid new SecondMayLeave → IsLater old new
 later_both old mid new FirstMayLeave SecondMayLeave one two = record { clean = λ clean. omega (arith, one.clean, two.clean, clean); counts = omega (arith, one.counts, two.counts); shield = λ shielded. two.shield (one.shield shielded) }
 
@@ -166,7 +166,7 @@ module _ {S : Type 0} (g : Ghosts S) (text : List ℕ) (old mid new : Held S) (w
     idle = over;
   }
     where
-      -- the database after the transaction
+      -- for `upgrades`: the database after the transaction
       new_now : Database
       new_now = (state g new).now
 

@@ -17,7 +17,7 @@ use Rattle.atl_sql.proofs.CauseLaws.{gives, gives_after, gives_until, gives_begu
 use Rattle.atl_sql.proofs.CarryLaws.{carries_then}
 use Rattle.atl_sql.proofs.WriteLaws.{not_ok, HandsOn, weaker, two_steps}
 
--- a step inside a transaction and then another do both, one after the other
+-- if a step inside a transaction does `First` and the next one does `Second`, together they do both (`Both`)
 pub inside_then : (Before : Database → Type 0) (First Second : Database → Database → Type 0) (a b c : State) → Inside Before First a b → Inside HasTables Second b c → Inside Before (Both First Second) a c
 inside_then Before First Second a b c one two = (
   two.0 ∙ one.0,
@@ -44,7 +44,7 @@ module _ {S : Type 0} (g : Ghosts S) {own : Statements} {A : Type 0} {r : Result
       two_steps g (λ old mid new first second. inside_weaker HasTables (Both First Second) Does old new (λ has did. both old.now did.0 new.now did.1 did.2) (inside_then HasTables First Second old mid new first second)) one two
 
 module _ {S : Type 0} (g : Ghosts S) (old begun mid end : Held S) (begins : begun ≡ record old { in_transaction = true }) (Before : Database → Type 0) (Does : Database → Database → Type 0) where
-  -- BEGIN, the step and the end together do what `Survives` says, with only what the step made committed (`MayLeave`)
+  -- BEGIN, step and end together: on a clean disk a crash leaves what it could before, or the step done (`Survives`)
   pub crash_after : Survives (state g begun) (state g mid) (λ _. ⊥) → (HasCleanDisk (state g mid) → Inside Before Does (state g begun) (state g mid)) → Survives (state g mid) (state g end) (λ db. db ≡ (state g mid).now.trees)
       → Survives (state g old) (state g end) (MayLeave Before Does (state g old))
   crash_after one inside two =
@@ -73,7 +73,7 @@ module _ {S : Type 0} (g : Ghosts S) (old begun mid end : Held S) (begins : begu
         is_open = shows.is_open;
       }
 
--- what holds anyway holds if a result is an error (`OnErr`)
+-- for `left_off`: what holds anyway holds if a result is an error (`OnErr`)
 given_err : {A E P : Type 0} (r : Result A E) → P → OnErr r P
 given_err (Ok a) p = tt
 given_err (Err e) p = p

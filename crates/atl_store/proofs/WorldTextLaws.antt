@@ -23,7 +23,7 @@ has_own Second = inl refl
 text_held : (f : Format) (s : State) (text : List ℕ) (c : CampaignValue) → Is (rows_in campaign_table s.now.trees) (λ r. r ≡ campaign_row_in f (campaign_row_of c) text) → world_text s ≡ text
 text_held f s text c holds = of (rows_in campaign_table s.now.trees) holds
   where
-    -- if a list of rows has just the campaign row with this text, the world text in the list is this one
+    -- for `text_held`: if a list of rows has only the campaign row with this text, its world text is this one
     of : (rows : List Row) → Is rows (λ r. r ≡ campaign_row_in f (campaign_row_of c) text) → world_in rows ≡ text
     of [] is = absurd ((is (campaign_row_in f (campaign_row_of c) text)).1 refl)
     of (r ∷ rows) is = ap (λ (x : Row). world_in (x ∷ [])) ((is r).0 (inl refl))

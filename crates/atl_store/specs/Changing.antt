@@ -30,14 +30,14 @@ abbrev pub campaign_row_after : Bool → CampaignValue → CampaignRowValue → 
 campaign_row_after true c before = campaign_row_of c
 campaign_row_after false c before = before
 
--- the campaign row after changes are written: the row before said `before`, and its world text is this one
+-- the campaign row once changes are written over a row that said `before` and has this world text
 abbrev pub own_after : MarkedCampaign → CampaignRowValue → List ℕ → Row
 own_after c before text = campaign_row (campaign_row_after c.marks.row c.value before) text
 
--- In each table the rows with a marked key become the campaign's, and all others stay.
+-- In each table the rows with a marked key become those that the campaign has, and all others stay.
 -- The campaign row said `before`; it keeps this world text.
 pub record WritesMarked (c : MarkedCampaign) (before : CampaignRowValue) (text : List ℕ) (old new : Database) : Type 0 where
-  -- in each part's table the marked rows become the campaign's, and the others stay (`AreRewritten`)
+  -- in each part's table the marked rows become those that the campaign has, and the others stay (`AreRewritten`)
   pub rows : (part : Part) → AreRewritten (table_of part) (is_marked c.marks part) (rows_for (own_after c before text) c.value part) old new
 
 -- If the table `campaign` held one row, all that is marked is written (`WritesMarked`), whatever that row said.

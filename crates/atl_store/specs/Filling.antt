@@ -12,15 +12,18 @@ use Rattle.atl_sql.specs.Rows.{campaign_line, rows_for, Holds}
 abbrev pub Fills : CampaignValue → Row → Part → List Row → List Row → Type 0
 Fills c own part before after = before ≡ [] → Is after (rows_for own c part)
 
--- the tables of these parts, which don't include the campaign row, are filled if they were empty; all other tables stay
+-- The table of each of these parts, if it was empty, gets exactly the campaign's rows.
+-- The campaign row isn't among the parts; the tables of all other parts stay.
 abbrev pub FillsParts : CampaignValue → List Part → Database → Database → Type 0
 FillsParts c parts old new = (own : Row) → Changes (Fills c own) parts old new
 
--- the table of one part, which isn't the campaign row, is filled if it was empty; all other tables stay
+-- The table of this part, if it was empty, gets exactly the campaign's rows; the tables of all other parts stay.
+-- The part isn't the campaign row.
 abbrev pub FillsPart : CampaignValue → Part → Database → Database → Type 0
 FillsPart c part = FillsParts c (part ∷ [])
 
--- the tables of these parts, which include the campaign row, are filled, if there was no campaign row
+-- If `campaign` was empty, the table of each of these parts, if it was empty, gets exactly the campaign's rows.
+-- The campaign row, with this world text, is among the parts; the tables of all other parts stay.
 abbrev pub FillsWithOwn : List ℕ → CampaignValue → List Part → Database → Database → Type 0
 FillsWithOwn text c parts old new = rows_in campaign_table old.trees ≡ [] → Changes (Fills c (campaign_line text c)) parts old new
 

@@ -46,14 +46,16 @@ IsSettled s = HasCleanDisk s → IsTrue s.is_open → s.now ≡ s.committed
 
 -- ---- which fault is returned
 
--- the fault of loading for a fault of reading `campaign`: Refused is NotACampaign, OtherType breaks the first rule
+-- The fault of loading for a fault of reading `campaign`: Refused becomes NotACampaign, and OtherType becomes
+-- Damaged by the first rule; Store and Memory stay.
 abbrev pub own_fault : ReadFault → LoadFault
 own_fault read.Store = Store
 own_fault read.Refused = NotACampaign
 own_fault read.Memory = Memory
 own_fault read.OtherType = Damaged OneRow
 
--- what reading another table gives: its rows, None if a value is of another type, or the fault that ends the loading
+-- What reading a table other than `campaign` gives: its rows, or None if a value is of another type than its column.
+-- Else the fault that ends the loading: Memory if memory ran out, Store for every other.
 abbrev pub rows_or_none : {A Z : Type 0} → Result (Vec A Z) ReadFault → Result (Option (Vec A Z)) LoadFault
 rows_or_none (Ok rows) = Ok (Some rows)
 rows_or_none (Err read.Store) = Err Store
@@ -89,7 +91,8 @@ pub record IsOwn (f : Format) (rows : List StoredCampaign) (own : StoredCampaign
   -- the world text of the campaign row reads as the world `w`
   pub world : world_by f (string_bytes own.world) ≡ Ok w
 
--- a judged result: Ok of a value for which `Is` holds; Damaged by the first rule, where `Nothing` holds; or Memory
+-- A judged result is Ok of a value for which the first condition (`Is`) holds, or Damaged by the first rule where
+-- the second (`Nothing`) holds, or Memory; it is no other fault.
 abbrev pub Judges : {A : Type 0} → (A → Type 0) → Type 0 → Result A LoadFault → Type 0
 Judges Is Nothing (Ok a) = Is a
 Judges Is Nothing (Err Memory) = ⊤

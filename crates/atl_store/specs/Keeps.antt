@@ -124,8 +124,8 @@ pub record BreaksOffCreation {S : Type 0} (g : Ghosts S) (text : List ℕ) (c : 
   -- the fault is that of an error of a statement of `create`, or of its commit
   pub told : HasCleanDisk (state g new) → IsFaultOfError g (OfFounding text c) create_fault old new fault
 
--- When `create` may return each fault.
--- If there is a table `campaign` (NotEmpty), or the database isn't ready (Store), nothing at all is changed.
+-- When `create` may return each fault: NotEmpty if there is a table `campaign`, and Store if the database isn't ready;
+-- then nothing at all is changed. Store and Memory also come if it broke off, and leave what `FailsToCreate` says.
 abbrev pub RefusesToCreate : {S : Type 0} → Ghosts S → List ℕ → CampaignValue → Held S → Held S → CreateFault → Type 0
 RefusesToCreate g text c old new NotEmpty = IsTrue (has_campaign old.schema) × (new ≡ old)
 RefusesToCreate g text c old new Store = FailsToCreate g text c old new × (((¬ IsReadyToCreate (state g old)) × (new ≡ old)) ⊎ BreaksOffCreation g text c old new Store)

@@ -30,7 +30,7 @@ abbrev pub groups_of : {V : Type 0} → (ℕ → V → List Row) → List (ℕ �
 groups_of lines entries = flat_map (λ e. lines e.0 e.1) entries
 
 -- `lines` gives the rows of each value of the map: they begin with its number and differ in their key.
--- The rows of all values together are those that are wanted.
+-- The rows of all values together are exactly those of the set `Wanted`.
 pub record AreGroups {V : Type 0} (lines : ℕ → V → List Row) (key : ℕ) (values : FinMap nat_cmp V) (Wanted : Set) : Type 0 where
   -- the rows that `lines` gives for a value begin with the value's number
   pub numbered : (n : ℕ) (v : V) (r : Row) → Has (lines n v) r → take 1 r ≡ int n ∷ []
@@ -57,25 +57,25 @@ amount_rows row amounts = flat_map (λ e. thing_rows row e.0 e.1) amounts
 abbrev pub kind_lines : ℕ → ThingKind → List (ℕ × ℕ) → List Row
 kind_lines unit sort things = amount_rows (has_row unit (sort_number sort)) things
 
--- the rows of `has` for a unit's items, and then for its skills
+-- the rows of `has` for what a unit holds, its items and then its skills, whose amount isn't 0
 abbrev pub goods_lines : ℕ → HoldingValue → List Row
 goods_lines unit held = kind_lines unit Item (entries held.items) ++ kind_lines unit Skill (entries held.days)
 
--- the rows of `has` for the items and skills of one unit that aren't 0
+-- the rows of `has` for one unit: of its items and then of its skills, whose amount isn't 0
 abbrev pub unit_lines : ℕ → Unit → List Row
 unit_lines n unit = goods_lines n unit.holding
 
--- the rows of `has` for the items and skills of all units, one unit after another
+-- the rows of `has` for all amounts of items and skills that aren't 0, one unit after another
 abbrev pub all_goods_lines : List (ℕ × Unit) → List Row
 all_goods_lines units = groups_of unit_lines units
 
 -- ---- the stocks of markets
 
--- the rows of `market` for the stocks of one region that aren't 0
+-- the rows of `market` for the stocks of one region, one for each item whose stock isn't 0
 abbrev pub region_lines : ℕ → Region → List Row
 region_lines n region = amount_rows (market_row n) (entries region.stocks)
 
--- the rows of `market` for the stocks of all regions, one region after another
+-- the rows of `market` for all stocks that aren't 0, one region after another
 abbrev pub all_stocks_lines : List (ℕ × Region) → List Row
 all_stocks_lines regions = groups_of region_lines regions
 

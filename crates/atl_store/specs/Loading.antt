@@ -99,18 +99,18 @@ pub record AreOwnRow (f : Format) (rows : List Row) (h : StoredCampaignRow) (tex
   -- the world text of the campaign row reads as the world `w`
   pub world : world_by f text ≡ Ok w
 
--- the other one of the two formats
+-- the other one of the two formats: a single campaign row of it is OtherFormat, not Damaged
 abbrev pub other_format : Format → Format
 other_format First = Second
 other_format Second = First
 
--- `campaign` has just one row, and its format is the other one, whatever else the row says
+-- the rows of `campaign` are one row, whose format is not this one but the other of the two, whatever else it says
 abbrev pub IsOther : Format → List Row → Type 0
 IsOther f rows = (row : Row) × (rows ≡ row ∷ []) × (column row 1 ≡ int (format_number (other_format f)))
 
 -- ---- the other tables
 
--- the forms that the columns of each part's rows are read in
+-- the form that each column's value has to be of when a part's rows are read, in the order of the columns
 abbrev pub forms_of : Part → List Form
 forms_of Own = campaign_forms
 forms_of Factions = faction_forms
@@ -325,7 +325,7 @@ module _ (f : Format) {S : Type 0} (g : Ghosts S) (old : Held S) where
   abbrev pub MayReturnStore : Type 0
   MayReturnStore = (old.in_transaction ≡ true) ⊎ (RefusesToSelect g (selection campaign_table 1) old read.Store ⊎ (KeepsOneRow × (CannotRead ⊎ CannotConfirm)))
 
-  -- the SELECT of `campaign` shows one row, whose format is the other one
+  -- the SELECT of `campaign` shows one row, whose format is not `f` but the other of the two
   abbrev pub HasOtherFormat : Type 0
   HasOtherFormat = (rows : List Row) × Selects g (selection campaign_table 1) old rows × IsOther f rows
 

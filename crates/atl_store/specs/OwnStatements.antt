@@ -45,19 +45,19 @@ pub data OfFounding (text : List ℕ) (c : CampaignValue) : List ℕ → Row →
   founds_tables : {sql : List ℕ} {params : Row} → Creations sql params → OfFounding text c sql params
   -- the campaign row is put, with the world text
   founds_head : OfFounding text c campaign_upsert (campaign_row_values (campaign_row_of c) text)
-  -- another row of the campaign is put
+  -- a row of the campaign other than the campaign row is put
   founds_row : {sql : List ℕ} {params : Row} → OfRow c sql params → OfFounding text c sql params
 
 -- The statements of a change: put the campaign row or another row of the campaign, or delete rows.
--- Deleted is a key that no row of its part has, or all rows of one number in `has` or `market`.
+-- Deleted is the row of a key that the campaign lacks, or all rows of a unit in `has` or of a region in `market`.
 pub data OfChange (c : CampaignValue) : List ℕ → Row → Type 0 where
   -- the campaign row is put; a row that is there keeps its world text
   changes_head : OfChange c campaign_upsert (campaign_row_values (campaign_row_of c) [])
-  -- another row of the campaign is put
+  -- a row of the campaign other than the campaign row is put
   changes_row : {sql : List ℕ} {params : Row} → OfRow c sql params → OfChange c sql params
-  -- the row with a key that no row of the part has is deleted
+  -- the row with this key is deleted from the part's table: the campaign has no row with the key (`HasNoRow`)
   drops_row : (part : Part) {key : Row} → HasNoRow c part key → OfChange c (deletion (table_of part) (key_of part)) key
-  -- all rows of one number are deleted from `has` or `market`
+  -- all rows of one unit are deleted from `has`, or all rows of one region from `market`
   drops_group : (part : Part) {n : ℕ} → IsGroupedPart part → OfChange c (deletion (table_of part) 1) (int n ∷ [])
 
 -- the statements of an upgrade: make the table `market`, and set the format and the world text of the campaign row

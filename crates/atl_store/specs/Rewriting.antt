@@ -21,7 +21,7 @@ use Rattle.atl_sql.specs.Rows.{RowsOf, HasRowsOf, BooksRowsOf, MarketRowsOf, row
 use Rattle.atl_sql.specs.Marked.{begins, accounts, of_kind, of_stock, begins_marked, goods_marked, stocks_marked, amount_marked, is_marked}
 use Rattle.atl_store.specs.Changing.{rows_after_rewrite, own_after}
 
--- one table is rewritten: its rows with a chosen key become the wanted ones; its other rows and all other tables stay
+-- in one table the rows that the test chooses become the set's rows that it chooses; all other rows and tables stay
 abbrev pub Rewrites : Table → (Row → Bool) → Set → Database → Database → Type 0
 Rewrites table is_chosen Wanted old new = Alters table (rows_after_rewrite is_chosen Wanted (Has (rows_in table old.trees))) old new
 
@@ -55,31 +55,31 @@ pub record FindsByNumbers (finds : (ℕ → ℕ → Bool) → Row → Bool) : Ty
   -- the test that is always false finds no row
   pub none : (r : Row) → finds (λ n t. false) r ≡ false
 
--- the row of one number becomes the campaign's, or is deleted if the campaign has no such row
+-- the row of one number becomes that of the campaign, or is deleted if the campaign has no row of the number
 abbrev pub RewritesNumber : {V : Type 0} → Table → (ℕ → V → Row) → FinMap nat_cmp V → ℕ → Database → Database → Type 0
 RewritesNumber table line values n old new = Rewrites table (begins (is_number n)) (RowsOf line values) old new
 
--- the row of each marked number becomes the campaign's, or is deleted if the campaign has no such row
+-- the row of each marked number becomes that of the campaign, or is deleted if the campaign has no row of the number
 abbrev pub RewritesMarked : {V : Type 0} → Table → (ℕ → V → Row) → FinMap nat_cmp V → FinSet nat_cmp → Database → Database → Type 0
 RewritesMarked table line values marks old new = Rewrites table (begins_marked marks) (RowsOf line values) old new
 
--- the rows of one unit or region, whose key begins with its number, become the wanted ones
+-- in one table the rows of one unit or region, whose key begins with its number, become the set's; all others stay
 abbrev pub RewritesGroup : Table → Set → ℕ → Database → Database → Type 0
 RewritesGroup table Wanted n old new = Rewrites table (begins (is_number n)) Wanted old new
 
--- the rows of all marked units or regions, whose key begins with a marked number, become the wanted ones
+-- in one table the rows whose key begins with the number of a marked unit or region become the set's; all others stay
 abbrev pub RewritesGroups : Table → Set → FinSet nat_cmp → Database → Database → Type 0
 RewritesGroups table Wanted marks old new = Rewrites table (begins_marked marks) Wanted old new
 
--- the rows of `market` of the regions and items that `stocks` chooses become the campaign's
+-- the rows of `market` of the regions and items that `stocks` chooses become those that the campaign has
 abbrev pub RewritesChosenStocks : CampaignValue → (ℕ → ℕ → Bool) → Database → Database → Type 0
 RewritesChosenStocks c stocks old new = Rewrites market_table (of_stock stocks) (MarketRowsOf c.regions) old new
 
--- all marked rows of `market` become the campaign's
+-- all marked rows of `market` become those that the campaign has; all other rows and tables stay
 abbrev pub RewritesStocks : MarkedCampaign → Database → Database → Type 0
 RewritesStocks c old new = Rewrites market_table (stocks_marked c.marks) (MarketRowsOf c.value.regions) old new
 
--- the rows of `has` of this kind, and of the units and things that `things` chooses, become the campaign's
+-- the rows of `has` of this kind, and of the units and things that `things` chooses, become those of the campaign
 abbrev pub RewritesThings : CampaignValue → ThingKind → (ℕ → ℕ → Bool) → Database → Database → Type 0
 RewritesThings c sort things old new = Rewrites has_table (of_kind sort things) (HasRowsOf c.units) old new
 
@@ -88,37 +88,39 @@ abbrev pub marked_things : Marks → ThingKind → Things
 marked_things marks Item = marks.items
 marked_things marks Skill = marks.skills
 
--- all marked rows of `has` become the campaign's
+-- all marked rows of `has` become those that the campaign has; all other rows and tables stay
 abbrev pub RewritesGoods : MarkedCampaign → Database → Database → Type 0
 RewritesGoods c old new = Rewrites has_table (goods_marked c.marks) (HasRowsOf c.value.units) old new
 
--- the rows of the marked amounts of these entries and things become the campaign's
+-- the rows of `books` of the marked amounts of these entries and things become those that the campaign has
 abbrev pub RewritesAmounts : MarkedCampaign → (ℕ → Bool) → (ℕ → Bool) → Database → Database → Type 0
 RewritesAmounts c entries things old new = Rewrites books_table (of_amounts c.marks.books entries things) (BooksRowsOf c.value.books) old new
 
--- all marked rows of `books` become the campaign's
+-- all marked rows of `books` become those that the campaign has; all other rows and tables stay
 abbrev pub RewritesBooks : MarkedCampaign → Database → Database → Type 0
 RewritesBooks c old new = Rewrites books_table (amount_marked c.marks.books) (BooksRowsOf c.value.books) old new
 
--- If the campaign row is marked it becomes the campaign's, else it says what it said before; its world text stays.
--- Every other table is as it was.
+-- If `campaign` held one row, this row then says what the campaign says if it is marked, else what it said before.
+-- Its world text stays, and every other table is as it was.
 abbrev pub RewritesCampaignRow : MarkedCampaign → Database → Database → Type 0
 RewritesCampaignRow c old new = (before : CampaignRowValue) (text : List ℕ) → Is (rows_in campaign_table old.trees) (λ r. r ≡ campaign_row before text) → Alters campaign_table (λ r. r ≡ own_after c before text) old new
 
 -- ---- one table after another
 
--- the part's marked rows become the campaign's, where `own` is its campaign row; the part's other rows stay
+-- the part's marked rows become those of the campaign, with `own` as its campaign row; the part's other rows stay
 abbrev pub Becomes : MarkedCampaign → Row → Part → List Row → List Row → Type 0
 Becomes c own part before after = Is after (rows_after_rewrite (is_marked c.marks part) (rows_for own c.value part) (Has before))
 
--- the marked rows of these parts, which don't include the campaign row, become the campaign's; all other rows stay
+-- The marked rows of these parts become those of the campaign; all other rows stay.
+-- The campaign row isn't among the parts.
 abbrev pub RewritesParts : MarkedCampaign → List Part → Database → Database → Type 0
 RewritesParts c parts old new = (own : Row) → Changes (Becomes c own) parts old new
 
--- the marked rows of one part, which isn't the campaign row, become the campaign's; all other rows stay
+-- the marked rows of one part, which isn't the campaign row, become those of the campaign; all other rows stay
 abbrev pub RewritesPart : MarkedCampaign → Part → Database → Database → Type 0
 RewritesPart c part = RewritesParts c (part ∷ [])
 
--- the marked rows of these parts, which include the campaign row, become the campaign's; all other rows stay
+-- If `campaign` held one row, the marked rows of these parts become those of the campaign; all other rows stay.
+-- The campaign row is among the parts.
 abbrev pub RewritesWithOwn : MarkedCampaign → List Part → Database → Database → Type 0
 RewritesWithOwn c parts old new = (before : CampaignRowValue) (text : List ℕ) → Is (rows_in campaign_table old.trees) (λ r. r ≡ campaign_row before text) → Changes (Becomes c (own_after c before text)) parts old new

@@ -58,7 +58,7 @@ pub(crate) fn upgrade_campaign_row<S: Alter>(
     put_upgraded(tx, &row, world)
 }
 
-/// Writes the campaign row, without its world text, if it is marked.
+/// If the campaign row is marked, puts it; the world text that is in the table stays.
 pub(crate) fn rewrite_campaign_row<S: Alter>(
     tx: &mut Transaction<'_, S>,
     campaign: &Campaign,

@@ -95,7 +95,7 @@ impl<V: Mapped + Drop> WrittenPart for Numbered<V> {
         put_each(tx, V::all(campaign))
     }
 
-    /// Puts the row of each marked number that a thing has, else deletes the number's row.
+    /// For each marked number puts the row of what has it, or deletes the row if nothing has it.
     fn rewrite<S: Alter>(tx: &mut Transaction<'_, S>, campaign: &Campaign) -> Result<(), Error> {
         rewrite_marked::<V, S>(tx, campaign)
     }

@@ -41,7 +41,7 @@ pub(crate) trait AllRows: Drop + Sized {
         ensures { ReadsSome S.Store conn.old selects
             (λ all. AreAllRows (state S.Store conn.old).now (rows all)) result conn.new };
 
-    /// No rows of any of the tables.
+    /// No rows of any of the tables, as for tables that a format doesn't have.
     fn none(alloc: Global) -> Self
         ensures { AreNone (rows result) };
 
@@ -80,7 +80,7 @@ impl<A: HasSelect> AllRows for Vec<A> {
         kept(A::read(alloc, conn))
     }
 
-    /// An empty list of rows.
+    /// No rows of the table: an empty list.
     fn none(alloc: Global) -> Vec<A> {
         Vec::new(alloc)
     }

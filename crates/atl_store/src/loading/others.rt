@@ -57,8 +57,8 @@ pub(crate) fn read_others<S: Alter>(
     read_by(alloc, conn, format)
 }
 
-/// The rows of all tables, put together; the fault Store if two rows of a table have the same
-/// rowid, or Memory if memory runs out.
+/// Puts the campaign row and the rows read of all other tables together. The fault is Store if two
+/// rows of `has`, `books` or `market` have the same rowid, or Memory if memory runs out.
 pub(crate) fn parts_with(
     alloc: Global,
     head: StoredCampaignRow,

@@ -101,7 +101,7 @@ fn own_of(alloc: Global, rows: &[Row], format: Format) -> Result<(StoredCampaign
     }
 }
 
-/// The other one of the two formats.
+/// The other one of the two formats: a single campaign row of it is OtherFormat, not Damaged.
 fn other(format: Format) -> Format
     ensures { result ≡ other_format format }
 {

@@ -7,7 +7,7 @@ use Rattle.atl_store.proofs.WholeLaws.{done_as, then_done}
 use Rattle.atl_sql.proofs.WriteLaws.{stops}
 use Rattle.atl_store.proofs.changing.rewrite_all.Goals as goal
 
--- the campaign row and then all other parts, rewritten, are all changes of the campaign (`WritesChanges`)
+-- rewriting the campaign row and then all other parts writes the changes of the campaign (`WritesChanges`)
 pub returns : goal.returns
 returns g c =
     let campaign = c.args.campaign.now in

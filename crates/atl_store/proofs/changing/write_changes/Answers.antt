@@ -16,7 +16,7 @@ returns-clause-ok g c clean text before keeps covers =
     commits_keeps old new text (λ db up. g.met.S.Store.settled c.write_marked.new.conn.store db up) HasTables (WritesChanges campaign) campaign.value (c.in_ok-write_marked.ensures.ok clean) keeps.tables
     (λ did. changes_held campaign old.now new.now did text before covers keeps.rows)
 
--- a fault leaves the campaign before, and a crash then the one before or the one after (`LeavesAfterFault`)
+-- after a fault the connection keeps the campaign before; a crash leaves that or the one after (`LeavesAfterFault`)
 pub returns-in_err-write_marked-clause-err : goal.returns-in_err-write_marked-clause-err
 returns-in_err-write_marked-clause-err g c clean = on_err c.from_residual.result _ (λ text before keeps covers.
     let old = state g.S.Store c.args.conn.now in
@@ -37,11 +37,11 @@ returns-clause-others g c clean = commits_spares (state g.S.Store c.args.conn.no
 pub returns-in_err-write_marked-clause-others : goal.returns-in_err-write_marked-clause-others
 returns-in_err-write_marked-clause-others g c clean = leaves_others (state g.S.Store c.args.conn.now) (state g.S.Store c.write_marked.new.conn) (c.in_err-write_marked.ensures.err clean)
 
--- after Ok no doubt or failure of the disk is forgotten, and tested reads stay tested (`IsLater`)
+-- after Ok a disk that is clean was clean before, no failure is forgotten, and tested reads stay so (`IsLater`)
 pub returns-clause-later : goal.returns-clause-later
 returns-clause-later g c = later (state g.S.Store c.args.conn.now) (state g.S.Store c.write_marked.new.conn) _ c.write_marked.ensures.crash
 
--- after a fault no doubt or failure of the disk is forgotten, and tested reads stay tested (`IsLater`)
+-- after a fault a disk that is clean was clean before, no failure is forgotten, and tested reads stay so (`IsLater`)
 pub returns-in_err-write_marked-clause-later : goal.returns-in_err-write_marked-clause-later
 returns-in_err-write_marked-clause-later g c = later (state g.S.Store c.args.conn.now) (state g.S.Store c.write_marked.new.conn) _ c.write_marked.ensures.crash
 
@@ -58,7 +58,7 @@ returns-clause-unmarked g c clean text tables rest =
 pub returns-in_err-write_marked-clause-told : goal.returns-in_err-write_marked-clause-told
 returns-in_err-write_marked-clause-told g c clean = told_by g.S.Store (OfChange c.args.campaign.now.value) write_fault c.args.conn.now c.write_marked.new.conn _ c.from_residual.result c.from_residual.ensures.1 (c.in_err-write_marked.ensures.told clean)
 
--- after a fault nothing was done, whatever the tables held (`LeavesOff`)
+-- after a fault the tables are again those of the last commit, whatever they held (`LeavesOff`)
 pub returns-in_err-write_marked-clause-left : goal.returns-in_err-write_marked-clause-left
 returns-in_err-write_marked-clause-left g c clean = on_err c.from_residual.result _ (c.in_err-write_marked.ensures.err clean)
 

@@ -8,7 +8,7 @@ use Rattle.atl_store.proofs.WholeLaws.{done_as, then_done}
 use Rattle.atl_sql.proofs.WriteLaws.{among, among_only, two_steps, stops, stops_second}
 use Rattle.atl_store.proofs.founding.put_founding.Goals as goal
 
--- the tables made, the campaign row put, and all other parts filled are a founding (`WritesFounding`)
+-- making the tables, putting the campaign row and filling all other parts writes the founding (`WritesFounding`)
 pub returns : goal.returns
 returns g c =
     let campaign = c.args.campaign.now.value in

@@ -14,7 +14,7 @@ loop-number-preserved g c =
     let goods = goods_lines c.in-Some.number c.in-Some.unit.now.holding in
     putting_more g.S.Store has_table 3 goods (all_goods_lines c.next.new.self) _ _ (ap all_goods_lines c.in-Some.ensures.steps) c.loop-number.invariant c.in_ok-put_goods.ensures
 
--- if a unit's rows can't be put, the write of all rows ends with this error
+-- if a unit's rows can't be put, the write of all units' rows ends with this error
 pub returns-in_err-put_goods : goal.returns-in_err-put_goods
 returns-in_err-put_goods g c =
     let goods = goods_lines c.in-Some.number c.in-Some.unit.now.holding in

@@ -3,6 +3,6 @@ use Rattle.atl_store.specs.Lines.{all_goods_lines}
 use Rattle.atl_sql.proofs.PuttingLaws.{Putting}
 use Rattle.atl_store.proofs.goods.put_all_goods.Given as goal
 
--- at each turn all rows are put but those of the units that are left (`Putting`)
+-- at each turn the rows of all units' items and skills are put, but those of the units that are left (`Putting`)
 abbrev pub invariant-loop-number : goal.invariant-loop-number
 invariant-loop-number g l = Putting g.S.Store has_table 3 (all_goods_lines l.number-iterator) (all_goods_lines l.fn.units) l.fn.tx.conn l.tx.conn

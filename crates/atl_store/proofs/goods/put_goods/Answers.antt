@@ -6,7 +6,7 @@ use Rattle.atl_store.specs.Lines.{kind_lines}
 use Rattle.atl_sql.proofs.PuttingLaws.{same_written, both_written, first_failed}
 use Rattle.atl_store.proofs.goods.put_goods.Goals as goal
 
--- the rows of a unit's items and then of its skills, put, are all rows of the unit in `has`
+-- putting the rows of a unit's items and then of its skills puts all rows of the unit in `has`
 pub returns : goal.returns
 returns g c =
     let items = kind_lines c.args.unit Item in

@@ -21,7 +21,7 @@ rewrite_singles-requires g c = finds_things Item
 pub rewrite_singles-requires-2 : goal.rewrite_singles-requires-2
 rewrite_singles-requires-2 g c = finds_things Skill
 
--- marked units, then marked items and marked skills, rewritten, are all marked rows of `has` (`RewritesGoods`)
+-- rewriting marked units, then marked items and then marked skills rewrites all marked rows of `has` (`RewritesGoods`)
 pub returns : goal.returns
 returns g c =
     let marks = c.args.campaign.now.marks in

@@ -3,7 +3,7 @@ use Rattle.atl_store.proofs.JoinLaws.{joining_done}
 use Rattle.atl_sql.proofs.WriteLaws.{two_steps, stops}
 use Rattle.atl_store.proofs.joining.put_joining.Goals as goal
 
--- the rows of the newcomer, and then the report and the amounts, are the write of a join (`WritesJoin`)
+-- putting the rows of the newcomer, and then writing report and amounts, writes the join (`WritesJoin`)
 pub returns : goal.returns
 returns g c = two_steps g.S.Store (λ old mid new. joining_done c.args.arrival.now.number c.args.arrival.now.faction.now c.args.arrival.now.place c.args.arrival.now.unit.now c.args.arrival.now.report.now c.args.campaign.now.value [] old mid new c.requires)
     c.in_ok-put_newcomer.ensures c.put_report_and_amounts.ensures

@@ -3,7 +3,7 @@ use Rattle.atl_store.proofs.JoinLaws.{reporting_done}
 use Rattle.atl_sql.proofs.WriteLaws.{among, among_only, three_steps, stops, stops_second}
 use Rattle.atl_store.proofs.joining.put_report_and_amounts.Goals as goal
 
--- the report's row and the amounts of money and of people, written in turn, are all written
+-- writing the report's row and the amounts of money and people one after another writes report and amounts (`Both`)
 pub returns : goal.returns
 returns g c = three_steps g.S.Store (reporting_done c.args.arrival.now.number c.args.arrival.now.report.now c.args.campaign.now.value)
     (among_only g.S.Store _ _ (joins_report c.requires.report_is) c.in_ok-put.ensures) (among g.S.Store (λ _ _. joins_money) c.in_ok-settle_amount.ensures) (among g.S.Store (λ _ _. joins_people) c.settle_amount-2.ensures)

@@ -20,7 +20,7 @@ returns-clause-ok g c clean text before keeps joining =
     commits_keeps old new text (λ db up. g.met.S.Store.settled c.write_joining.new.conn.store db up) HasTables (WritesJoin c.arrival_of-arrival.result.number after) after (c.in_ok-write_joining.ensures.ok clean) keeps.tables
     (λ did. join_held _ _ _ _ _ after c.arrival_of-arrival.ensures.found old.now new.now did text before joins keeps.rows)
 
--- a fault leaves the campaign before, and a crash then the one before or the one after (`LeavesAfterFault`)
+-- after a fault the connection keeps the campaign before; a crash leaves that or the one after (`LeavesAfterFault`)
 pub returns-in_err-write_joining-clause-err : goal.returns-in_err-write_joining-clause-err
 returns-in_err-write_joining-clause-err g c clean = on_err c.from_residual.result _ (λ text before keeps joining.
     let old = state g.S.Store c.args.conn.now in
@@ -38,11 +38,11 @@ returns-clause-others g c clean = commits_spares (state g.S.Store c.args.conn.no
 pub returns-in_err-write_joining-clause-others : goal.returns-in_err-write_joining-clause-others
 returns-in_err-write_joining-clause-others g c clean = leaves_others (state g.S.Store c.args.conn.now) (state g.S.Store c.write_joining.new.conn) (c.in_err-write_joining.ensures.err clean)
 
--- after Ok no doubt or failure of the disk is forgotten, and tested reads stay tested (`IsLater`)
+-- after Ok a disk that is clean was clean before, no failure is forgotten, and tested reads stay so (`IsLater`)
 pub returns-clause-later : goal.returns-clause-later
 returns-clause-later g c = later (state g.S.Store c.args.conn.now) (state g.S.Store c.write_joining.new.conn) _ c.write_joining.ensures.crash
 
--- after a fault no doubt or failure of the disk is forgotten, and tested reads stay tested (`IsLater`)
+-- after a fault a disk that is clean was clean before, no failure is forgotten, and tested reads stay so (`IsLater`)
 pub returns-in_err-write_joining-clause-later : goal.returns-in_err-write_joining-clause-later
 returns-in_err-write_joining-clause-later g c = later (state g.S.Store c.args.conn.now) (state g.S.Store c.write_joining.new.conn) _ c.write_joining.ensures.crash
 
@@ -62,6 +62,6 @@ returns-in_err-write_joining-clause-told g c clean =
     subst (λ n. IfErr c.from_residual.result (IsFaultOfError g.S.Store (OfJoining n after) write_fault old new)) c.arrival_of-arrival.ensures.number
     (told_by g.S.Store (OfJoining c.arrival_of-arrival.result.number after) write_fault old new _ c.from_residual.result c.from_residual.ensures.1 (c.in_err-write_joining.ensures.told clean))
 
--- after a fault nothing was done, whatever the tables held (`LeavesOff`)
+-- after a fault the tables are again those of the last commit, whatever they held (`LeavesOff`)
 pub returns-in_err-write_joining-clause-left : goal.returns-in_err-write_joining-clause-left
 returns-in_err-write_joining-clause-left g c clean = on_err c.from_residual.result _ (c.in_err-write_joining.ensures.err clean)

@@ -5,7 +5,7 @@ use Rattle.atl_store.specs.Lines.{entries_lines}
 use Rattle.atl_sql.proofs.PuttingLaws.{putting_begins, putting_more, putting_failed, putting_ends}
 use Rattle.atl_store.proofs.ledger.put_entries.Goals as goal
 
--- before the first entry the rows of all these entries are still to put (`Putting`)
+-- before the first entry the thing's rows under all these entries are still to put (`Putting`)
 pub loop-entry-init : goal.loop-entry-init
 loop-entry-init g c = putting_begins g.S.Store books_table 2 _ _ refl
 

@@ -7,6 +7,6 @@ use Rattle.atl_store.proofs.BooksRewriteLaws.{NearingEntries}
 use Rattle.atl_sql.proofs.WriteLaws.{SoFar}
 use Rattle.atl_store.proofs.ledger.rewrite_entries.Given as goal
 
--- at each turn all marked amounts of the thing are rewritten but those of the entries that are left
+-- at each turn the thing's marked amounts are rewritten, but those under the entries that are left
 abbrev pub invariant-loop-entry : goal.invariant-loop-entry
 invariant-loop-entry g l = SoFar g.S.Store (OfChange l.fn.campaign.value) (Inside HasTables (NearingEntries l.fn.campaign (is_number (thing_index l.fn.thing)) (drop l.entry-index l.entries) l.entries)) l.fn.tx.conn l.tx.conn

@@ -6,7 +6,7 @@ use Rattle.atl_store.proofs.GatherLaws.{leaves_then}
 use Rattle.atl_store.proofs.LoadedLaws.{unconfirmed_refuses, judged_damaged, told_as, confirmed_before}
 use Rattle.atl_store.proofs.loading.load_idle.Goals as goal
 
--- a fault of confirming the tables refuses the load (`RefusesToLoadIn`)
+-- a fault of testing the schema after the reads refuses the load (`RefusesToLoadIn`)
 pub returns-in_err-confirm-clause-err : goal.returns-in_err-confirm-clause-err
 returns-in_err-confirm-clause-err g c clean =
     let f = c.args.format in
@@ -29,7 +29,7 @@ returns-in_err-campaign-clause-err g c clean =
     (judged_damaged f g.S.Store old c.requires.idle c.in_ok-world.world c.in_ok-world.parts (c.in_ok-world.ensures.ok gathered) (confirmed_before g.S.Store f old mid new c.gather.ensures.leaves c.confirm.ensures.leaves gathered clean (c.in_ok-confirm.ensures.ok clean)).begins
     c.in_err-campaign.field-0.0 c.in_err-campaign.ensures.rules)
 
--- rows that were gathered, confirmed and checked make a loaded campaign (`IsLoaded`)
+-- if the rows of all tables were read, confirmed and checked, the campaign made of them is loaded (`IsLoaded`)
 pub returns-clause-ok : goal.returns-clause-ok
 returns-clause-ok g c =
     let f = c.args.format in

@@ -16,7 +16,7 @@ returns-clause-ok g c clean text before keeps =
     commits_keeps old new text (λ db up. g.met.S.Store.settled c.write_mailing.new.conn.store db up) HasTables (WritesMail c.args.faction c.args.text.now) (with_mail before c.args.faction c.args.text.now) (c.in_ok-write_mailing.ensures.ok clean) keeps.tables
     (λ did. mail_held c.args.faction c.args.text.now old.now new.now did text before keeps.rows)
 
--- a fault leaves the campaign before, and a crash then the one before or the one with the mail (`LeavesAfterFault`)
+-- after a fault the connection keeps the campaign before; a crash leaves that or the one with mail (`LeavesAfterFault`)
 pub returns-in_err-write_mailing-clause-err : goal.returns-in_err-write_mailing-clause-err
 returns-in_err-write_mailing-clause-err g c clean = on_err c.from_residual.result _ (λ text before keeps.
     let old = state g.S.Store c.args.conn.now in
@@ -32,11 +32,11 @@ returns-clause-others g c clean = commits_spares (state g.S.Store c.args.conn.no
 pub returns-in_err-write_mailing-clause-others : goal.returns-in_err-write_mailing-clause-others
 returns-in_err-write_mailing-clause-others g c clean = leaves_others (state g.S.Store c.args.conn.now) (state g.S.Store c.write_mailing.new.conn) (c.in_err-write_mailing.ensures.err clean)
 
--- after Ok no doubt or failure of the disk is forgotten, and tested reads stay tested (`IsLater`)
+-- after Ok a disk that is clean was clean before, no failure is forgotten, and tested reads stay so (`IsLater`)
 pub returns-clause-later : goal.returns-clause-later
 returns-clause-later g c = later (state g.S.Store c.args.conn.now) (state g.S.Store c.write_mailing.new.conn) _ c.write_mailing.ensures.crash
 
--- after a fault no doubt or failure of the disk is forgotten, and tested reads stay tested (`IsLater`)
+-- after a fault a disk that is clean was clean before, no failure is forgotten, and tested reads stay so (`IsLater`)
 pub returns-in_err-write_mailing-clause-later : goal.returns-in_err-write_mailing-clause-later
 returns-in_err-write_mailing-clause-later g c = later (state g.S.Store c.args.conn.now) (state g.S.Store c.write_mailing.new.conn) _ c.write_mailing.ensures.crash
 
@@ -48,6 +48,6 @@ returns-clause-own g c clean tables = ((c.in_ok-write_mailing.ensures.ok clean).
 pub returns-in_err-write_mailing-clause-told : goal.returns-in_err-write_mailing-clause-told
 returns-in_err-write_mailing-clause-told g c clean = told_by g.S.Store (OfMail c.args.faction c.args.text.now) write_fault c.args.conn.now c.write_mailing.new.conn _ c.from_residual.result c.from_residual.ensures.1 (c.in_err-write_mailing.ensures.told clean)
 
--- after a fault nothing was done, whatever the tables held (`LeavesOff`)
+-- after a fault the tables are again those of the last commit, whatever they held (`LeavesOff`)
 pub returns-in_err-write_mailing-clause-left : goal.returns-in_err-write_mailing-clause-left
 returns-in_err-write_mailing-clause-left g c clean = on_err c.from_residual.result _ (c.in_err-write_mailing.ensures.err clean)

@@ -14,7 +14,7 @@ loop-number-preserved g c =
     let stocks = region_lines c.in-Some.number c.in-Some.region.now in
     putting_more g.S.Store market_table 2 stocks (all_stocks_lines c.next.new.self) _ _ (ap all_stocks_lines c.in-Some.ensures.steps) c.loop-number.invariant c.in_ok-put_stocks.ensures
 
--- if a region's rows can't be put, the write of all rows ends with this error
+-- if a region's rows can't be put, the write of all regions' rows ends with this error
 pub returns-in_err-put_stocks : goal.returns-in_err-put_stocks
 returns-in_err-put_stocks g c =
     let stocks = region_lines c.in-Some.number c.in-Some.region.now in

@@ -15,7 +15,7 @@ rewrite_marked_groups-requires g c = stocks_grouped c.args.campaign.now.value.re
 pub rewrite_singles-requires : goal.rewrite_singles-requires
 rewrite_singles-requires g c = finds_stocks
 
--- marked regions, and then marked single stocks, rewritten, are all marked rows of `market` (`RewritesStocks`)
+-- rewriting marked regions and then marked single stocks rewrites all marked rows of `market` (`RewritesStocks`)
 pub returns : goal.returns
 returns g c =
     let marks = c.args.campaign.now.marks in

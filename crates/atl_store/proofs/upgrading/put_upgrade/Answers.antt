@@ -3,7 +3,7 @@ use Rattle.atl_store.proofs.UpgradeLaws.{adds_markets, upgrade_done}
 use Rattle.atl_sql.proofs.WriteLaws.{weaker, among_only, two_steps, stops}
 use Rattle.atl_store.proofs.upgrading.put_upgrade.Goals as goal
 
--- the table `market` made, and then the campaign row changed, are the write of an upgrade (`WritesUpgrade`)
+-- making the table `market` and then changing the campaign row writes the upgrade (`WritesUpgrade`)
 pub returns : goal.returns
 returns g c =
     two_steps g.S.Store (upgrade_done c.args.text.now c.args.campaign.now.value)

@@ -14,7 +14,7 @@ pub returns-in_err-others : goal.returns-in_err-others
 returns-in_err-others g c =
     second_fails g.S.Store g.X.AllRows.selects g.Y.AllRows.selects _ _ c.args.conn.now c.read_all.new.conn c.read_all-2.new.conn c.read_all.result c.read_all-2.result c.read_all.ensures c.read_all-2.ensures c.in_ok-some.some c.in_ok-some.was _ c.in_err-others.field-0.0 _ c.in_err-others.was c.from_residual-in_err-others.ensures.1
 
--- all rows of the tables of `X`, and then of `Y`, are all rows of the tables of both (`ReadsSome`)
+-- reading all rows of the tables of `X`, and then of `Y`, reads all rows of the tables of both (`ReadsSome`)
 pub returns : goal.returns
 returns g c =
     both_read g.S.Store g.X.AllRows.selects g.Y.AllRows.selects g.X.AllRows.rows g.Y.AllRows.rows c.args.conn.now c.read_all.new.conn c.read_all-2.new.conn c.read_all.result c.read_all-2.result c.read_all.ensures c.read_all-2.ensures c.in_ok-some.some c.in_ok-some.was c.in_ok-others.others c.in_ok-others.was c.zip.result c.zip.ensures
