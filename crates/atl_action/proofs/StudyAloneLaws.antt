@@ -129,7 +129,7 @@ module _ (w : WorldValue) (taught : TaughtMen) (n : ℕ) (u : Unit) where
         one_apart : IsOther t
         one_apart unit faction = both_own order t all.0 studies others.0 (for_unit ∙ sym unit) (own ∙ sym faction)
 
-    -- the effect of the unit's own order
+    -- what unit n's own order of STUDY makes of a campaign and its unit n
     abbrev deed : OrderEffect
     deed = study w (taught n) n skill
 

@@ -100,7 +100,7 @@ module _ (trade : Trade) (items : FinMap nat_cmp ℕ) (w : WorldValue) (units : 
   abbrev IsTraded : ℕ → Region → Type 0
   IsTraded r q = HasNewStocks q (stock_after trade) (drawn_here r) (get (after_trade trade items w d e).regions r)
 
-  -- what a unit with a share of 0 draws from a pot is 0, whether it may draw from it (`b`) or not
+  -- for `without_market`: what a unit with a share of 0 draws from a pot is 0, whether it may draw from it (`b`) or not
   none_drawn : (b : Bool) (share : ℕ) → share ≡ 0 → cond b share 0 ≡ 0
   none_drawn true share none = none
   none_drawn false share none = refl
@@ -247,7 +247,7 @@ module _ (trade : Trade) (w : WorldValue) (c : CampaignValue) (os : List Task) w
   abbrev given : FinMap nat_cmp ℕ
   given = given_by (trade_pots trade) w c os
 
-  -- a share that is at most 0 is 0
+  -- for `without_share`: a share that is at most 0 is 0
   none_left : (share : ℕ) → share ≤ 0 → share ≡ 0
   none_left share low = omega (arith, low)
 

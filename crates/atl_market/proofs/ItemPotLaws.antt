@@ -23,7 +23,7 @@ use Rattle.atl_market.specs.Puts.{with_each}
 use Rattle.atl_shares.specs.Share.{shares}
 use Rattle.atl_market.proofs.PotLaws.{AgreeWith, Entries, IsApart, IsRisen, agreeing_put, each_flat, each_found, each_region, found_among, found_is, found_other, found_put, given_apart, given_is, given_takes, pots_give, somewhere, takers_risen}
 
--- a choice between two equal options is that option
+-- for the shares of listed units: a choice between two equal options is that option
 either : (b : Bool) (o : Option ℕ) → cond b o o ≡ o
 either true o = refl
 either false o = refl
@@ -104,7 +104,7 @@ module _ (item_of : ℕ → Option ℕ) (wants : FinMap nat_cmp ℕ) where
   wants_the_same : (i n : ℕ) → is_some (get (mine i) n) ≡ true → want_of wants n ≡ want_of (mine i) n
   wants_the_same i n some = by_test (is_for i (item_of n)) refl
     where
-      -- the unit has the same want in both maps, since it asks for item `i` (the test `b`)
+      -- for `wants_the_same`: the unit has the same want in both maps, since it asks for item `i` (the test `b`)
       by_test : (b : Bool) → is_for i (item_of n) ≡ b → want_of wants n ≡ want_of (mine i) n
       by_test true is = sym (ap (λ o. unwrap_or o 0) (mine_at i n ∙ ap (λ b. cond b (get wants n) None) is))
       by_test false is = absurd (false≢true (sym (ap is_some (mine_at i n ∙ ap (λ b. cond b (get wants n) None) is)) ∙ some))
@@ -146,12 +146,14 @@ module _ (item_of : ℕ → Option ℕ) (wants : FinMap nat_cmp ℕ) where
     | Some want ↦ ap (λ ks. n ∷ ks) (pair_keys i ns)
   ]
 
--- if `f` and `g` are equal for each number that passes a test, they map the listed numbers that pass alike
+-- if `f n` is `g n` for each number `n` that passes test `p`, mapping the listed numbers that pass gives the same by
+-- both
 filtered_map : (p : ℕ → Bool) (f g : ℕ → ℕ) → ((n : ℕ) → p n ≡ true → f n ≡ g n) → (ns : List ℕ) → map f (filter p ns) ≡ map g (filter p ns)
 filtered_map p f g same [] = refl
 filtered_map p f g same (n ∷ ns) = by_test (p n) refl (filtered_map p f g same ns)
   where
-    -- the two mapped lists are still equal with number `n` in front, whether `n` passes the test or not
+    -- for `filtered_map`: `f` and `g` map those of `n ∷ ns` that pass the test alike, if they do so for `ns`, whether
+    -- `n` passes (`b`) or not
     by_test : (b : Bool) → p n ≡ b → map f (filter p ns) ≡ map g (filter p ns) → map f (cond b (n ∷ filter p ns) (filter p ns)) ≡ map g (cond b (n ∷ filter p ns) (filter p ns))
     by_test true is rest = λ i. same n is i ∷ rest i
     by_test false is rest = rest
@@ -319,7 +321,7 @@ module _ (item_of : ℕ → Option ℕ) (pot_of : (item region : ℕ) → ℕ) (
   pub nothing_put : (r : ℕ) → takers_in wants c.units r ≡ [] → region_shares item_of pot_of wants c r ≡ []
   nothing_put r nobody = ap (λ (gs : Groups). flat_map (item_shares_in pot_of wants r) (entries gs)) (unwanted empty (numbers_in r c.units) nobody) ∙ ap (flat_map (item_shares_in pot_of wants r)) (no_entries nat_cmp)
     where
-      -- a unit without a want changes no group
+      -- for `nothing_put`: a unit without a want changes no group
       skipped : (groups : Groups) (n : ℕ) (i v : Option ℕ) → is_some v ≡ false → with_item_want groups n i v ≡ groups
       skipped groups n None v h = refl
       skipped groups n (Some i) None h = refl

@@ -21,7 +21,7 @@ use Rattle.atl_market.proofs.DrawLaws.{all_pairs}
 use Rattle.atl_market.proofs.PotLaws.{put_in_turn}
 use Rattle.atl_market.proofs.WantLaws.{GivesToWants, any_then, carries_out}
 
--- if the disjunction of two tests is false, both are false
+-- for `unwanted`: if the disjunction of two tests is false, both are false
 neither : (a b : Bool) → (a || b) ≡ false → (a ≡ false) × (b ≡ false)
 neither true b h = absurd (false≢true (sym h))
 neither false b h = (refl, h)
@@ -37,7 +37,8 @@ module _ (p : PotMeaning) (w : WorldValue) (c : CampaignValue) (n : ℕ) (u : Un
   no_order : (o : Task) → o.unit ≡ n → (u.faction == o.faction) ≡ true → own o ≡ false → ⊥
   no_order o unit faction is = false≢true (sym (clash o.unit n o.faction u.faction unit faction is))
     where
-      -- the test `own` holds of an order with the number and the faction of the unit
+      -- for `no_order`: test `own` can't be false of an order with the number (`a`, `b`) and the faction (`f`, `g`) of
+      -- the unit
       clash : (a b f g : ℕ) → a ≡ b → (g == f) ≡ true → (a == b && f == g) ≡ false → true ≡ false
       clash a b f g same one none = grind (arith, nat_tests)
 

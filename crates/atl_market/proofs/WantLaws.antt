@@ -57,7 +57,7 @@ every-with_each P m (e ∷ es) each old = every-with_each P (insert m e.0 e.1) e
 pub one_want : (m : FinMap nat_cmp ℕ) (n want : ℕ) → want ≤ most_amount → AreWants m → AreWants (insert m n want)
 one_want m n want low old = every-insert (λ number want. want ≤ most_amount) m n want low old
 
--- a number isn't equal to one above it
+-- for `others`: a number isn't equal to one above it
 differs : (k n : ℕ) → k < n → eq_by_cmp nat_cmp k n ≡ false
 differs k n l = sym (unsigned_ties k n) ∙ (let t : (k == n) ≡ false = grind (arith, nat_tests) in t)
 
@@ -67,7 +67,7 @@ unfolding IsDistinct
 rise_apart [] h = tt
 rise_apart (e ∷ es) h = (others e.0 es h.0, rise_apart es h.1)
   where
-    -- a number below those of all entries is equal to none of them
+    -- for `rise_apart`: a number below those of all entries is equal to none of them
     others : (k : ℕ) (es : List (ℕ × ℕ)) → AllByRecursion (λ f. k < f.0) es → AllByRecursion (λ n. eq_by_cmp nat_cmp k n ≡ false) (keys_of es)
     others k [] h = tt
     others k (f ∷ es) h = (differs k f.0 h.0, others k es h.1)

@@ -65,7 +65,7 @@ module _ (w : WorldValue) (left men : ℕ) (fewer : left ≤ men) where
   part : (days : ℕ) → days ≤ most_days * men → days * left / men ≤ most_days * left
   part days most = div-le_of_le-mul men (subst (λ n. days * left ≤ n) turned (mul-le-mul_right left most))
     where
-      -- the factors of a product can be taken in another order
+      -- for `part`: the factors of a product can be taken in another order
       turned : (most_days * men) * left ≡ men * (most_days * left)
       turned = grind arith
 
@@ -81,7 +81,7 @@ module _ (w : WorldValue) (h : HoldingValue) (left : ℕ) (fewer : left ≤ h.me
       let (some, said) = each_said (going_of left h) (keys h.days) k d is in
       by_option (get h.days k) refl some said
     where
-      -- of 0 days 0 stay
+      -- for `studied_left`: of 0 days 0 stay
       nothing : 0 * left / h.men ≡ 0
       nothing = ap (λ n. n / h.men) (zero-mul left) ∙ zero-div h.men
 
@@ -391,7 +391,7 @@ days_set left h listed =
     stays : ℕ → ℕ → ℕ
     stays k d = d * left / h.men
 
-    -- of 0 days 0 stay
+    -- for `days_set`: of 0 days 0 stay
     none : (k : ℕ) → stays k 0 ≡ 0
     none k = ap (λ d. d / h.men) (zero-mul left) ∙ zero-div h.men
 
@@ -403,7 +403,7 @@ days_set left h listed =
     not_listed : (k : ℕ) → list_any (eq_by_cmp nat_cmp k) (keys h.days) ≡ false → amount_of h.days k ≡ 0
     not_listed k other = by_option (get h.days k) (contains_key-keys h.days k ∙ other)
       where
-        -- a look-up that finds no value counts as 0
+        -- for `not_listed`: a look-up that finds no value counts as 0
         by_option : (o : Option ℕ) → is_some o ≡ false → unwrap_or o 0 ≡ 0
         by_option None is = refl
         by_option (Some d) is = cc

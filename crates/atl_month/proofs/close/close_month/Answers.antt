@@ -26,7 +26,8 @@ returns-clause-factions c = factions_stay c.args.world.now c.args.campaign.value
 pub returns-clause-books : goal.returns-clause-books
 returns-clause-books c = books_near c.args.world.now c.args.campaign.value c.in_ok-campaign.campaign.value c.in_ok-campaign.ensures.leaves
 
--- what each phase of the month leaves alone over itself is left alone (`month_keeps`)
+-- each phase of the month left alone what its specification says, over the campaigns before and after it
+-- (`month_keeps`)
 pub returns-clause-keeps : goal.returns-clause-keeps
 returns-clause-keeps c =
     let is : c.new-month.result ≡ new_month (by_faction (map reading_of c.args.mailings.items)) c.args.words.now = search rules in
