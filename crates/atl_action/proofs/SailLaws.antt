@@ -309,7 +309,7 @@ module _ (w : WorldValue) (c : CampaignValue) (ship to : ℕ) (steady : IsSteady
   pub sailed_inside : (k : ℕ) → inside (after_sailing c ship to) k ≡ inside c k
   sailed_inside k = ap (λ d. inside d k) sailed_is ∙ ap structure_in (units_at k) ∙ by_unit (get c.units k)
     where
-      -- unit k is inside the same structure as before, whether it is there or not
+      -- for `sailed_inside`: unit k is inside the structure that it was inside before, whether it is there (`o`) or not
       by_unit : (o : Option Unit) → structure_in (option_map (f k) o) ≡ structure_in o
       by_unit None = refl
       by_unit (Some v) = (carried k v).structure
@@ -318,7 +318,7 @@ module _ (w : WorldValue) (c : CampaignValue) (ship to : ℕ) (steady : IsSteady
   sailed_same : (k : ℕ) → inside c k ≢ ship → get (after_sailing c ship to).units k ≡ get c.units k
   sailed_same k apart = ap (λ d. get d.units k) sailed_is ∙ units_at k ∙ by_unit (get c.units k) apart
     where
-      -- unit k is as it was if it isn't inside the ship, whether it is there or not
+      -- for `sailed_same`: unit k, if it isn't inside the ship, stays as it was, whether it is there (`o`) or not
       by_unit : (o : Option Unit) → structure_in o ≢ ship → option_map (f k) o ≡ o
       by_unit None apart = refl
       by_unit (Some v) apart = ap (λ b. Some (gone_if ship to b v)) (other_number v.structure ship apart)
@@ -488,14 +488,12 @@ module _ (w : WorldValue) (begun : CampaignValue) (number faction : ℕ) where
         by_faction u here true = same_outcome n u direction here
         by_faction u here false = refl
 
-        -- for `same_faction_outcome`: SAIL has one outcome in `c` and at the start, whether its unit `o` is there or
-        -- not
+        -- for `same_faction_outcome`: SAIL has one outcome in `c` and at the start, be its unit there (`o`) or not
         by_unit : (o : Option Unit) → structure_in o ≡ s → (effect_on (sail w n direction) c (of_faction f o)).1 ≡ (effect_on (sail w n direction) begun (of_faction f o)).1
         by_unit None here = refl
         by_unit (Some u) here = by_faction u here (u.faction == f)
 
-    -- if `c` is as begun (`IsAsBegun`), so is the campaign after a ship sailed that isn't the structure of unit
-    -- `number`
+    -- if `c` is as begun (`IsAsBegun`), so is the campaign after another ship than unit `number`'s structure sailed
     sailed_else : (ship to : ℕ) (x : Structure) → get c.structures ship ≡ Some x → is_ship w x ≡ true → x.done ≡ size_of w x.kind → IsThere w.regions to → s ≢ ship → IsAsBegun (after_sailing c ship to)
     sailed_else ship to x at floats whole there apart = record {
       steady = (sailed_well w c ship to same.steady x at floats whole ((same.steady.known.regions to).1 there)).holds_still;

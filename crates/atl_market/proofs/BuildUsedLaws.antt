@@ -79,8 +79,7 @@ only_used item amount e t = by_number (amount_number e t == amount_number Used (
     at true false f g = cc
     at false d f g = cc
 
-    -- for `only_used`: if two amounts of the books have the same number, they are of the same thing and under the same
-    -- entry
+    -- for `only_used`: two amounts of the books with the same number are of the same thing and under the same entry
     places : (i j p q : ℕ) → entry_count * i + p ≡ entry_count * j + q → p < entry_count → q < entry_count → (i ≡ j) × (p ≡ q)
     places i j p q e l m = (omega (arith, e, l, m), omega (arith, e, l, m))
 

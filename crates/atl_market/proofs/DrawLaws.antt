@@ -152,8 +152,7 @@ module _ {K : Type 0} (pots : DrawnPots K) where
     pub first_draws : (k : K) (q : Region) → get d.regions (pots.pot_region k) ≡ Some q → pots.draws k e.0 ≡ true → e.1 ≤ pots.left k q
     first_draws k q around mine = at_least (pots.left k q) (subst (λ b. cond b e.1 0 + drawn (pots.draws k) es ≤ pots.left k q) mine (enough k q around))
       where
-        -- for `first_draws`: a share is at most the pot if the share and what later units draw are together at most the
-        -- pot
+        -- for `first_draws`: a share is at most the pot if it and what later units draw are together at most the pot
         at_least : (all : ℕ) → e.1 + drawn (pots.draws k) es ≤ all → e.1 ≤ all
         at_least all h = omega (arith, h)
 

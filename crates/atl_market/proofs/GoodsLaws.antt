@@ -34,7 +34,7 @@ use Rattle.atl_market.specs.Goods.{with_made, with_used}
 use Rattle.atl_market.specs.Making.{CanMake, CanUse}
 use Rattle.atl_market.proofs.ThereLaws.{by_unit, unit_there}
 
--- for `total_of`: if `a` takes the place of `l` in a total `t`, and `a` is `l` plus `z`, the new total `x` is `t` plus
+-- for `total_of`: if `a` takes the place of `l` in total `t`, and `a` is `l` plus `z`, the new total `x` is `t` plus
 -- `z`
 moved : (x y t k a l : ℕ) (z : ℤ) → x ≡ y → y + k ≡ t + a → k ≡ l → pos a ≡ pos l +ℤ z → pos x ≡ pos t +ℤ z
 moved x y t k a l z e f g h = omega (arith, ints, e, f, g, h)
@@ -90,8 +90,7 @@ module _ (w : WorldValue) (c : CampaignValue) (n : ℕ) (u : Unit) (i amount : �
           let other : (2 + j == 2 + i) ≡ false = grind (arith, nat_tests) in
           unmoved x y t (amount_of u.holding.items j) a b ∙ sym (ap (λ p. pos t +ℤ cond p z (pos 0)) other)
 
-      -- the total of each thing changes by what is booked of it, given what setting the item and the booking change of
-      -- it
+      -- a thing's total changes by what is booked of it, given what setting the item and the booking change of it
       total_of : (t : Thing) → total after t ≡ total with_set t → total with_set t + unit_amount t u.holding ≡ total c t + unit_amount t more → pos (total after t) ≡ pos (total c t) +ℤ share_of t (Item i) z
       total_of Money a b =
           let other : (0 == 2 + i) ≡ false = grind (arith, nat_tests) in

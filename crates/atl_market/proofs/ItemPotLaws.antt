@@ -23,7 +23,7 @@ use Rattle.atl_market.specs.Puts.{with_each}
 use Rattle.atl_shares.specs.Share.{shares}
 use Rattle.atl_market.proofs.PotLaws.{AgreeWith, Entries, IsApart, IsRisen, agreeing_put, each_flat, each_found, each_region, found_among, found_is, found_other, found_put, given_apart, given_is, given_takes, pots_give, somewhere, takers_risen}
 
--- for the shares of listed units: a choice between two equal options is that option
+-- for `found_listed` and `shares_at`: a choice between two equal options is that option
 either : (b : Bool) (o : Option ℕ) → cond b o o ≡ o
 either true o = refl
 either false o = refl
@@ -146,8 +146,7 @@ module _ (item_of : ℕ → Option ℕ) (wants : FinMap nat_cmp ℕ) where
     | Some want ↦ ap (λ ks. n ∷ ks) (pair_keys i ns)
   ]
 
--- if `f n` is `g n` for each number `n` that passes test `p`, mapping the listed numbers that pass gives the same by
--- both
+-- if `f n` is `g n` for each number `n` that passes test `p`, both map the listed numbers that pass to the same list
 filtered_map : (p : ℕ → Bool) (f g : ℕ → ℕ) → ((n : ℕ) → p n ≡ true → f n ≡ g n) → (ns : List ℕ) → map f (filter p ns) ≡ map g (filter p ns)
 filtered_map p f g same [] = refl
 filtered_map p f g same (n ∷ ns) = by_test (p n) refl (filtered_map p f g same ns)
@@ -226,7 +225,7 @@ module _ (item_of : ℕ → Option ℕ) (pot_of : (item region : ℕ) → ℕ) (
         subst (λ (es : Entries). is_some (find nat_cmp n es) ≡ true) (sym region_is)
         (found_among of_item n (keys groups) i (sym (contains_key-keys groups i) ∙ by_group (get groups i) refl) (ap is_some is))
       where
-        -- an item of which some unit of the region has a share has a group
+        -- for `region_whole`: an item of which some unit of the region has a share has a group (`o`)
         by_group : (o : Option (FinMap nat_cmp ℕ)) → get groups i ≡ o → is_some o ≡ true
         by_group (Some group) at = refl
         by_group None at =

@@ -175,8 +175,7 @@ last_put {V} m (e ∷ es) n = last_put (insert m e.0 e.1) es n ∙ by_find (find
     by_find None is =
         get-insert nat_cmp_total m e.0 e.1 n ∙ by_test (is_eq (nat_cmp n e.0)) ∙ ap (λ o. or_else o (get m n)) (sym (found_later n (reverse es) (e ∷ []) is))
       where
-        -- a map into which entry `e` was put has under `n` the entry's value if its number is `n` (`b`), else what it
-        -- had
+        -- the map with entry `e` put in has under `n` the entry's value if its number is `n` (`b`), else what it had
         by_test : (b : Bool) → cond b (Some e.1) (get m n) ≡ or_else (cond b (Some e.1) None) (get m n)
         by_test true = refl
         by_test false = refl
@@ -288,8 +287,7 @@ module _ {X : Type 0} (p : X → Bool) where
   kept_in_order R [] h = tt
   kept_in_order R (x ∷ xs) h = either (kept_in_order R xs h.1) (p x)
     where
-      -- for `kept_in_order`: the elements that pass are in order, with `x` in front if it passes (`b`), and without it
-      -- if not
+      -- for `kept_in_order`: the elements that pass are in order, with `x` in front if it passes (`b`), else without it
       either : InOrder R (filter p xs) → (b : Bool) → InOrder R (cond b (x ∷ filter p xs) (filter p xs))
       either rest true = (filter_each p (R x) xs h.0, rest)
       either rest false = rest
@@ -443,8 +441,7 @@ module _ (wants : FinMap nat_cmp ℕ) (c : CampaignValue) where
   pub none_asked : (r : ℕ) → is_some (get (regions_with_wants wants c) r) ≡ false → takers_in wants c.units r ≡ []
   none_asked r free = by_takers (takers_in wants c.units r) (takers_each wants c.units r)
     where
-      -- for `none_asked`: a list of units that each have a want in region `r` is empty, as `r` isn't among the regions
-      -- with wants
+      -- for `none_asked`: a list of units with a want in region `r` is empty, as `r` isn't among the regions with wants
       by_takers : (ns : List ℕ) → AllByRecursion (IsTaker wants c.units r) ns → ns ≡ []
       by_takers [] all = refl
       by_takers (n ∷ ns) all =

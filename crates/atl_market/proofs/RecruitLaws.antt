@@ -200,13 +200,11 @@ module _ (w : WorldValue) (c : CampaignValue) where
     abbrev shares : List (ℕ × ℕ)
     shares = entries (given_by recruit_pots w c os)
 
-    -- a unit with `men` men has room for a share of at most its want: the least of `count`, `payable` and its room for
-    -- men
+    -- a unit with `men` men has room for a share of at most its want: the least of `count`, `payable` and its room
     wanted_fits : (count payable men share : ℕ) → men ≤ men_limit → share ≤ min count (min payable (men_limit - men)) → men + share ≤ men_limit
     wanted_fits count payable men share fits low = omega (arith, fits, low)
 
-    -- a unit with this money can pay for a share of at most its want: the least of `count`, what it can pay for, and
-    -- `most`
+    -- a unit with this money can pay for a share of at most its want: the least of `count`, what it can pay, and `most`
     wanted_payable : (count money price most share : ℕ) → share ≤ min count (min (money / price) most) → share * price ≤ money
     wanted_payable count money price most share low =
         let few : share ≤ money / price = omega (arith, low) in

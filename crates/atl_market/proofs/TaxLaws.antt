@@ -178,8 +178,7 @@ module _ (w : WorldValue) (c : CampaignValue) where
     abbrev shares : List (ℕ × ℕ)
     shares = entries (given_by tax_pots w c os)
 
-    -- a unit with this money has room for a share of at most its want: the lesser of what its men take (`men`) and its
-    -- room
+    -- a unit has room for a share of at most its want: the lesser of what its men take (`men`) and its room
     wanted_fits : (money men share : ℕ) → money ≤ holding_limit → share ≤ min men (holding_limit - money) → money + share ≤ holding_limit
     wanted_fits money men share fits low = omega (arith, fits, low)
 

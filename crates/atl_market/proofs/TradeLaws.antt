@@ -377,8 +377,7 @@ module _ (h : HoldingValue) (m : Market) (told share : ℕ) (holds : IsHolding h
   times : (money price : ℕ) → share ≤ money / price → share * price ≤ money
   times money price few = omega (arith, mul-le-mul_right price few, mul-div-le money price, mul_comm (money / price) price)
 
-  -- for `wanted_fits`: if `k` is at most the room that `a` leaves under a limit, `a` and `k` together are within the
-  -- limit
+  -- for `wanted_fits`: if `k` is at most the room that `a` leaves under a limit, `a` and `k` are within it together
   room_for : (a k limit : ℕ) → a ≤ limit → k ≤ limit - a → a + k ≤ limit
   room_for a k limit fits few = omega (arith, fits, few)
 
@@ -418,8 +417,7 @@ module _ (trade : Trade) (items : FinMap nat_cmp ℕ) (w : WorldValue) (world : 
   has_pot : (limit stock share : ℕ) (m : Market) → limit ≡ m.limit → stock ≤ m.limit → share ≤ pot_by trade limit stock → HasPot trade stock share (Some m)
   has_pot limit stock share m same low few = by_trade trade few
     where
-      -- for `has_pot`: the market has room for the share (SELL) or has it in stock (BUY), if the share is at most the
-      -- pot
+      -- for `has_pot`: if the share is at most the pot, the market has room for it (SELL) or has it in stock (BUY)
       by_trade : (t : Trade) → share ≤ pot_by t limit stock → HasPot t stock share (Some m)
       by_trade Sell few = omega (arith, same, low, few)
       by_trade Buy few = few

@@ -124,8 +124,7 @@ none_listed : (n f : ℕ) (ts : List Task) → AllByRecursion (λ t. t.faction �
 none_listed n f [] h = refl
 none_listed n f (t ∷ ts) h = neither (t.unit == n) (t.faction == f) _ (other_number t.faction f h.0) (none_listed n f ts h.1)
   where
-    -- for `none_listed`: no order is found if the first is from another faction (`b` is false) and none among the later
-    -- (`d`)
+    -- for `none_listed`: no order is found if the first is from another faction (`b`) and none among the later (`d`)
     neither : (a b d : Bool) → b ≡ false → d ≡ false → (a && b || d) ≡ false
     neither true b d e g = rw (e, g) refl
     neither false b d e g = g

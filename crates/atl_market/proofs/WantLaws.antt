@@ -96,17 +96,19 @@ module _ (p : PotMeaning) (w : WorldValue) (c : CampaignValue) where
   unfolding unit_for
   carries_out t u is = by_unit (get c.units t.unit) refl is
     where
-      -- a unit `v` of the order's faction carries the order out if the phase finds no fault `f`
+      -- for `carries_out`: a unit `v` of the order's faction carries the order out if the phase finds no fault (`f`)
       by_fault : (v : Unit) → get c.units t.unit ≡ Some v → (v.faction == t.faction) ≡ true → (f : Option EventFault) → p.fault w v t ≡ f → option_map_or Err f (Ok v) ≡ Ok u → CarriesOut t u
       by_fault v at own (Some f) fault h = none_some u (ap result_ok h)
       by_fault v at own None fault h = subst (CarriesOut t) (same_Some _ _ (ap result_ok h)) (record { there = at; own = own; fine = fault })
 
-      -- a unit `v` that is there carries the order out if it is of the order's faction (`b`) and has no fault
+      -- for `carries_out`: a unit `v` that is there carries the order out if it is of its faction (`b`) and there is no
+      -- fault
       by_test : (v : Unit) → get c.units t.unit ≡ Some v → (b : Bool) → (v.faction == t.faction) ≡ b → unless_fault t (cond b (Some v) None) ≡ Ok u → CarriesOut t u
       by_test v at true own h = by_fault v at own (p.fault w v t) refl h
       by_test v at false own h = none_some u (ap result_ok h)
 
-      -- the unit `o` under the order's number, if there is one, carries the order out where it is returned
+      -- for `carries_out`: a unit `u` that `unless_fault` returns for the unit under the order's number (`o`) carries
+      -- it out
       by_unit : (o : Option Unit) → get c.units t.unit ≡ o → unless_fault t (of_faction t.faction o) ≡ Ok u → CarriesOut t u
       by_unit None at h = none_some u (ap result_ok h)
       by_unit (Some v) at h = by_test v at (v.faction == t.faction) refl h

@@ -56,7 +56,7 @@ module _ {K X : Type 0} (R : K → K → Ordering) (exact : IsAntisymmetric R) (
         | Greater ↦ λ _. (all.0, keyed-put x es all.1)
       ] refl
 
-  -- the entries of a map from values by their keys are under the keys of their values
+  -- in the map of some values, each put in under its key, each entry is under the key of its value (`AreKeyed`)
   keyed-listed : IsTotalOrder R → (xs : List X) → AreKeyed (entries (from_entries {R = R} (map (λ x. (key x, x)) xs)))
   keyed-listed o [] = subst AreKeyed (sym (no_entries R)) tt
   keyed-listed o (x ∷ xs) =
@@ -81,7 +81,7 @@ module _ {K X : Type 0} (R : K → K → Ordering) (exact : IsAntisymmetric R) (
   listed_apart [] up all = tt
   listed_apart (e ∷ es) up all = let parts = and_parts _ _ up in (others e.1 e.0 es all.0 parts.0 all.1, listed_apart es parts.1 all.1)
 
-  -- the values of a map from their keys differ in their keys
+  -- no two values of the map of some values, each put in under its key, have the same key
   values_apart : IsTotalOrder R → (xs : List X) → IsDistinct (λ x y. eq_by_cmp R (key x) (key y)) (values (from_entries {R = R} (map (λ x. (key x, x)) xs)))
   values_apart o xs = let m = from_entries {R = R} (map (λ x. (key x, x)) xs) in listed_apart (entries m) (is_so _ (entries_sorted m)) (keyed-listed o xs)
 

@@ -53,7 +53,7 @@ module _ (w : WorldValue) (c d : CampaignValue) (moving : BookBound) (little : M
   abbrev same : IsSameMonth c d
   same = well.same_month
 
-  -- an amount within a bound is, after a month moved it, within a bound that is greater by 2*10^14
+  -- an amount within a bound (`more`) is, after a month moved it, within one (`most`) that is greater by 2*10^14
   near_within : (a b : ℤ) (m more most : ℕ) → m ≤ 200000000000000 → more + 200000000000000 ≤ most → IsNear m a b → IsWithin more a → IsWithin most b
   near_within a b m more most l fits near within = record { most = omega (arith, ints, near.above, within.most); least = omega (arith, ints, near.below, within.least) }
 

@@ -194,7 +194,8 @@ passed_item_is c to item amount v is = rw is refl
 
 -- ---- room
 
--- books that moved within one bound have room under another bound, if they had room under both together
+-- the books of `d`, moved within bound `j` from those of `c`, have room under bound `k`, if those of `c` had room under
+-- `j` and `k` together
 pub near_leaves_room : (j k : BookBound) (c d : CampaignValue) → ((e : Entry) (t : Thing) → IsNear (j e t) (amount_in c.books e t) (amount_in d.books e t))
     → HaveRoom (both_move j k) c → HaveRoom k d
 near_leaves_room j k c d near room e t = near_room (j e t) (k e t) (amount_in c.books e t) (amount_in d.books e t) (near e t) (room e t)

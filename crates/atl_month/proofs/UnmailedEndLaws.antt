@@ -109,8 +109,7 @@ upkeep_leaves = record {
     sums : (w : WorldValue) (c : CampaignValue) (m : MonthValue) (n : ℕ) → starved_in (upkeep_meaning w c m).1.events n ≡ starved_in m.events n + all w c n
     sums w c m n = sum_by-append (by_event n) m.events (map starved_event (filter starves (upkeep_results w c))) ∙ ap (λ x. starved_in m.events n + x) (starved_are_reported (upkeep_results w c) n)
 
-    -- for `upkeep_leaves`: how many men starve by upkeep (`y`) is the sum of all who starved (`z`) less those before
-    -- (`x`)
+    -- for `upkeep_leaves`: the men who starve by upkeep (`y`) are all who starved (`z`) less those before (`x`)
     less : (x y z : ℕ) → z ≡ x + y → y ≡ z - x
     less x y z is = omega (arith, is)
 

@@ -128,7 +128,7 @@ module _ (w : WorldValue) (c : CampaignValue) (s : UpkeepResult) (u : Unit) (is 
   abbrev now : HoldingValue
   now = after_upkeep s old
 
-  -- how many men the unit has left
+  -- how many men the unit has left after its upkeep
   abbrev left : ℕ
   left = old.men - s.starved
 
@@ -259,7 +259,7 @@ pub other_unit : (c : CampaignValue) (s : UpkeepResult) (n : ℕ) → n ≢ s.un
 unfolding upkeep_at
 other_unit c s n apart = by_unit (get c.units s.unit)
   where
-    -- unit `n` stays as it is, whether the unit whose upkeep is taken is there or not
+    -- for `other_unit`: unit `n`, which isn't the one that pays, stays as it is, whether that one is there (`o`) or not
     by_unit : (o : Option Unit) → get (upkeep_in c s o).units n ≡ get c.units n
     by_unit None = refl
     by_unit (Some u) = get-insert_other c.units s.unit n (record u { holding = after_upkeep s u.holding }) apart

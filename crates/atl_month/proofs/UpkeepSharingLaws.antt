@@ -61,14 +61,12 @@ pub each_account : (P : ℕ → ℕ → Account → Type 0) (m : FactionAccounts
     → (s g : ℕ) → P s g (account_at (with_account m p.region p.faction a) s g)
 each_account P m p a here others s g = by_test (is_input_of s g p) refl
   where
-    -- for `each_account`: the account of faction `g` in region `s` is the new one if the unit is of both (`test`), else
-    -- the old one
+    -- for `each_account`: the account of faction `g` in region `s` is new if the unit is of both (`test`), else the old
     at : (test : Bool) → is_input_of s g p ≡ test
         → account_at (with_account m p.region p.faction a) s g ≡ unwrap_or (cond test (Some a) (get (group_of m s) g)) no_account
     at test is = ap (λ o. unwrap_or o no_account) (get-grouped m p.region p.faction a s g ∙ ap (λ b. cond b (Some a) (get (group_of m s) g)) is)
 
-    -- for `each_account`: P holds of the account of faction `g` in region `s`, whether the unit is of both (`test`) or
-    -- not
+    -- for `each_account`: P holds of the account of faction `g` in region `s`, be the unit of both (`test`) or not
     by_test : (test : Bool) → is_input_of s g p ≡ test → P s g (account_at (with_account m p.region p.faction a) s g)
     by_test true is =
         let region : p.region ≡ s = grind (arith, nat_tests) in
@@ -163,8 +161,7 @@ lower_first (p ∷ ps) (suc i) d order l =
 next_dealt : (before want amount : ℕ) → min before amount + min (amount - min before amount) want ≡ min (before + want) amount
 next_dealt before want amount = omega arith
 
--- for `settled_is`: what a unit gives or gets in turn is what all gave or got up to and with it, less what those before
--- it did
+-- for `settled_is`: what a unit gives or gets in turn is what all did up to and with it, less what those before it did
 is_dealt : (before want amount : ℕ) → min (amount - min before amount) want ≡ min (before + want) amount - min before amount
 is_dealt before want amount = omega arith
 
@@ -228,7 +225,7 @@ module _ (m : ℕ) (all before : List UpkeepInput) (p : UpkeepInput) (accounts :
 
 -- ---- a unit pays no more than it has
 
--- if at most what some men cost is missing, at most these men starve
+-- if the money missing (`short`) is at most what `men` men cost, at `m` each, at most `men` men starve
 few_starve : (m men short : ℕ) → 1 ≤ m → short ≤ m * men → starved_of m short ≤ men
 few_starve m men short some most =
     let rounded : short + (m - 1) < (men + 1) * m = omega (arith, mul_comm m men) in
@@ -246,7 +243,6 @@ can_spare m some peers p =
       starved = few_starve m p.men short some (omega arith);
     }
   where
-    -- for `can_spare`: what a unit pays for itself, of what is due, and what it gives in turn are together at most its
-    -- money
+    -- for `can_spare`: what a unit pays for itself and what it gives in turn are together at most its money
     within : (given before money due : ℕ) → min money due + amount_in_turn given before (money - min money due) ≤ money
     within given before money due = omega arith
