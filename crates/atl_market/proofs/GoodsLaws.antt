@@ -34,8 +34,7 @@ use Rattle.atl_market.specs.Goods.{with_made, with_used}
 use Rattle.atl_market.specs.Making.{CanMake, CanUse}
 use Rattle.atl_market.proofs.ThereLaws.{by_unit, unit_there}
 
--- for `total_of`: if `a` takes the place of `l` in total `t`, and `a` is `l` plus `z`, the new total `x` is `t` plus
--- `z`
+-- for `total_of`: if `a`, which is `l` plus `z`, takes the place of `l` in total `t`, the new total `x` is `t` plus `z`
 moved : (x y t k a l : ℕ) (z : ℤ) → x ≡ y → y + k ≡ t + a → k ≡ l → pos a ≡ pos l +ℤ z → pos x ≡ pos t +ℤ z
 moved x y t k a l z e f g h = omega (arith, ints, e, f, g, h)
 

@@ -101,13 +101,13 @@ module _ (p : PotMeaning) (w : WorldValue) (c : CampaignValue) where
       by_fault v at own (Some f) fault h = none_some u (ap result_ok h)
       by_fault v at own None fault h = subst (CarriesOut t) (same_Some _ _ (ap result_ok h)) (record { there = at; own = own; fine = fault })
 
-      -- for `carries_out`: a unit `v` that is there carries the order out if it is of its faction (`b`) and there is no
+      -- for `carries_out`: a unit `v` that is there carries the order out, if it is of its faction (`b`) without a
       -- fault
       by_test : (v : Unit) → get c.units t.unit ≡ Some v → (b : Bool) → (v.faction == t.faction) ≡ b → unless_fault t (cond b (Some v) None) ≡ Ok u → CarriesOut t u
       by_test v at true own h = by_fault v at own (p.fault w v t) refl h
       by_test v at false own h = none_some u (ap result_ok h)
 
-      -- for `carries_out`: a unit `u` that `unless_fault` returns for the unit under the order's number (`o`) carries
+      -- for `carries_out`: unit `u`, if `unless_fault` returns it for the unit with the order's number (`o`), carries
       -- it out
       by_unit : (o : Option Unit) → get c.units t.unit ≡ o → unless_fault t (of_faction t.faction o) ≡ Ok u → CarriesOut t u
       by_unit None at h = none_some u (ap result_ok h)

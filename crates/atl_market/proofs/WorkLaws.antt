@@ -78,8 +78,7 @@ module _ (w : WorldValue) (c : CampaignValue) (n : ℕ) (u : Unit) (money : ℕ)
           ap pos (same (total wages_paid (Item i)) (total given (Item i)) (total c (Item i)) (amount_of u.holding.items i) a b)
           ∙ sym (ap (λ q. pos (total c (Item i)) +ℤ cond q (pos money) (pos 0)) other ∙ zero_more (total c (Item i)))
         where
-          -- for `total_of`: an item's total stays the same (`x` is `z`), as the unit holds as much of it as before
-          -- (`k`)
+          -- for `total_of`: an item's total stays the same (`x` is `z`), as the unit holds the same of it (`k`)
           same : (x y z k : ℕ) → x ≡ y → y + k ≡ z + k → x ≡ z
           same x y z k a b = omega arith
 

@@ -126,13 +126,12 @@ module _ (c : CampaignValue) (n : ℕ) where
       → ((f : Faction) → get c.factions n ≡ Some f → numbers_of n c.units ≡ [] → P (with_gone c n)) → P (after_sweeping_faction c n)
   by_gone P stays gone = by_units (numbers_of n c.units) refl
     where
-      -- The property P holds after faction `n`, which has no units, was set to gone, whether the faction is there or
-      -- not.
+      -- for `by_gone`: the property P holds after faction `n`, without units, was set to gone, be it there (`o`) or not
       by_faction : numbers_of n c.units ≡ [] → (o : Option Faction) → get c.factions n ≡ o → P (with_gone c n)
       by_faction none None is = subst P (sym (none-gone c n is)) (stays (λ f there. none_some f (sym is ∙ there)))
       by_faction none (Some f) is = gone f is none
 
-      -- the property P holds after faction `n` was swept, whether the faction has no units or some
+      -- for `by_gone`: the property P holds after faction `n` was swept, whether it has no units or some (`ns`)
       by_units : (ns : List ℕ) → numbers_of n c.units ≡ ns → P (if is_empty ns then with_gone c n else c)
       by_units [] is = by_faction is (get c.factions n) refl
       by_units (k ∷ ns) is = stays (λ f there none. let one : k ∷ ns ≡ [] = sym is ∙ none in cc)
