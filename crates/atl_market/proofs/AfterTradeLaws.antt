@@ -169,7 +169,7 @@ module _ (trade : Trade) (items : FinMap nat_cmp ℕ) (w : WorldValue) (units : 
               ∙ undrawn r i (amount_of q.stocks i) (mine i ∙ other_number m.item i (λ one. apart (sym one)))
         ]
 
-    -- the trade leaves the stocks of each other region as they were
+    -- the trade leaves the stocks of each region but the unit's own as they were (`IsTraded`)
     elsewhere : (r : ℕ) (q : Region) → r ≢ u.region → get d.regions r ≡ Some q → IsTraded r q
     elsewhere r q apart around = record {
       stocks = q.stocks;

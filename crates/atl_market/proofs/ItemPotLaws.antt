@@ -205,7 +205,7 @@ module _ (item_of : ℕ → Option ℕ) (pot_of : (item region : ℕ) → ℕ) (
         let one : item_shares_in pot_of wants r e ≡ of_item e.0 = ap (λ g. item_shares_in pot_of wants r (e.0, g)) (sym group) ∙ item_is e.0 in
         ap (λ (fs : Entries). fs ++ flat_map (item_shares_in pot_of wants r) es) one ∙ ap (λ (fs : Entries). of_item e.0 ++ fs) (items_are es h.1)
 
-    -- the region's shares are those of its items, one item after the other
+    -- the shares that the code puts in for the region are those of its items (`of_item`), one item after the other
     region_is : region_shares item_of pot_of wants c r ≡ flat_map of_item (keys groups)
     region_is = items_are (entries groups) (each-from_every (λ i group. get groups i ≡ Some group) groups (λ i group is. is))
 
@@ -261,7 +261,7 @@ module _ (item_of : ℕ → Option ℕ) (pot_of : (item region : ℕ) → ℕ) (
     | inr apart ↦ other apart (gets e.0) ∙ found_listed es n ∙ sym (ap (λ o. cond (is_some o) (gets n) None) (found_other e es n apart))
   ]
     where
-      -- the unit of the first entry is found with its share `o`, if it has one
+      -- for `found_listed`: the unit of the first entry is found with its share `o`, if it has one
       here : n ≡ e.0 → (o : Option ℕ) → gets e.0 ≡ o → find nat_cmp n (of_wants es) ≡ cond (is_some (find nat_cmp n es)) (gets n) None → find nat_cmp n (cons_option (share_at e.0 o) (of_wants es)) ≡ o
       here same None is rest = rest ∙ ap (λ o. cond (is_some (find nat_cmp n es)) o None) (ap gets same ∙ is) ∙ either (is_some (find nat_cmp n es)) None
       here same (Some s) is rest = ap (λ k. find nat_cmp k ((e.0, s) ∷ of_wants es)) same ∙ first (e.0, s) (of_wants es)

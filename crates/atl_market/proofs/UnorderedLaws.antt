@@ -33,7 +33,7 @@ module _ (p : PotMeaning) (w : WorldValue) (c : CampaignValue) (n : ℕ) (u : Un
   abbrev own : Task → Bool
   own o = o.unit == n && o.faction == u.faction
 
-  -- an order for unit `n` from the unit's faction is one of its own
+  -- an order for unit `n` from the unit's faction can't fail the test `own`
   no_order : (o : Task) → o.unit ≡ n → (u.faction == o.faction) ≡ true → own o ≡ false → ⊥
   no_order o unit faction is = false≢true (sym (clash o.unit n o.faction u.faction unit faction is))
     where

@@ -13,7 +13,7 @@ use Rattle.atl_month.proofs.sweep.SweepPhasePhase.run.Goals as goal
 pub receivers_of-requires : goal.receivers_of-requires
 receivers_of-requires c n u is = (c.requires.needs.numbers.units n u is).0
 
--- the books have room for what the units without men may lose
+-- the sweep may call sweep_units: the books have room for what the units without men may lose
 pub sweep_units-requires-clause-room : goal.sweep_units-requires-clause-room
 sweep_units-requires-clause-room c =
     let w = c.args.world.now in
