@@ -177,7 +177,8 @@ module _ (w : WorldValue) (c : CampaignValue) (ship to : ℕ) (steady : IsSteady
   abbrev behind : CampaignValue
   behind = travelled w c units structures f g
 
-  -- `after_sailing` makes the campaign `behind`
+  -- the definition `after_sailing` makes the campaign `behind`, in which the ship and the units inside are in region
+  -- `to`
   sailed_is : after_sailing c ship to ≡ behind
   unfolding after_sailing
   sailed_is = ap (λ d. with_structure_region d ship to) (all_is ship to c ns (all_listed (IsInside ship to c.units) ns (listed_is_inside ship c.units)))

@@ -59,7 +59,7 @@ module _ (w : WorldValue) (c : CampaignValue) (n : ℕ) (u : Unit) (s cost days 
   abbrev paid : CampaignValue
   paid = with_held c n learned (Some u)
 
-  -- the campaign after the unit studied, with the booking
+  -- the campaign after the unit studied: it paid and has its days, and the cost is booked
   abbrev behind : CampaignValue
   behind = after_study c n u s cost days
 

@@ -239,7 +239,7 @@ module _ (trade : Trade) (items : FinMap nat_cmp ℕ) (w : WorldValue) where
         }
 
 module _ (trade : Trade) (w : WorldValue) (c : CampaignValue) (os : List Task) where
-  -- the item that each unit's order names
+  -- the item that each unit's order of SELL or BUY names, by unit
   abbrev named : FinMap nat_cmp ℕ
   named = items_by (trade_pots trade) w c os
 

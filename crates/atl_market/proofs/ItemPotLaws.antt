@@ -305,7 +305,7 @@ module _ (item_of : ℕ → Option ℕ) (pot_of : (item region : ℕ) → ℕ) (
           let (r, among, found) = somewhere (of_item_in i) n s (keys c.regions) (sym (found_is (pot_of i) (mine item_of wants i) c n) ∙ is) in
           found_among (region_shares item_of pot_of wants c) n (keys c.regions) r among (region_whole r i n s found)
         where
-          -- the shares of item `i` in region `r`, by unit
+          -- the units of region `r` that want item `i`, each with its share of the region's pot of the item
           of_item_in : ℕ → ℕ → Entries
           of_item_in i r = shares_in (pot_of i) (mine item_of wants i) c.units r
 

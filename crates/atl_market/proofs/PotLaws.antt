@@ -347,7 +347,7 @@ module _ (wants : FinMap nat_cmp ℕ) (units : FinMap nat_cmp Unit) where
 -- ---- shares of all regions
 
 module _ (pot_of : ℕ → ℕ) (wants : FinMap nat_cmp ℕ) (units : FinMap nat_cmp Unit) where
-  -- the shares of region `r`, by unit
+  -- the units of region `r` that have a want, each with its share of the region's pot
   abbrev given_in : ℕ → Entries
   given_in r = shares_in pot_of wants units r
 
@@ -379,7 +379,7 @@ each_region P c h = by_entries (entries c.regions) (each-from_every (λ r q. get
     by_entries (e ∷ es) all = (h e.0 (e.1, all.0), by_entries es all.1)
 
 module _ (pot_of : ℕ → ℕ) (wants : FinMap nat_cmp ℕ) (c : CampaignValue) where
-  -- the share of a unit is the one found among those of all regions
+  -- the share of a unit (`share_of`) is the one found under its number among the shares of all regions
   pub found_is : (n : ℕ) → share_of pot_of wants c n ≡ find nat_cmp n (flat_map (shares_in pot_of wants c.units) (keys c.regions))
   unfolding pot_shares
   found_is n = get-from_entries nat_cmp_total (flat_map (shares_in pot_of wants c.units) (keys c.regions)) n

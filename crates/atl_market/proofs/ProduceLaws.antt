@@ -219,7 +219,7 @@ needs_item w h fine = by_men (h.men == 0) fine
     by_men false never = none_some NoSkill (sym never)
 
 module _ (w : WorldValue) (c : CampaignValue) (os : List Task) where
-  -- the item that each unit's order names
+  -- the item that each unit's order of PRODUCE names, by unit
   abbrev items : FinMap nat_cmp ℕ
   items = items_by produce_pots w c os
 
@@ -227,7 +227,7 @@ module _ (w : WorldValue) (c : CampaignValue) (os : List Task) where
   abbrev Makes : ℕ × ℕ → Type 0
   Makes e = (u : Unit) × (get c.units e.0 ≡ Some u) × (e.1 ≤ most_makeable w u.holding (get items e.0))
 
-  -- each unit makes at most what it can make
+  -- each unit that makes something is there, and makes at most what it can make of its order's item
   pub given_can : Every (λ n made. Makes (n, made)) (given_by produce_pots w c os)
   given_can n made is =
       let (u, t, there, own, low, fine, named) = given_is_named produce_pots w c (makes_give w c) os n made is in
@@ -306,7 +306,7 @@ module _ (w : WorldValue) (c : CampaignValue) (world : IsWorld w) (steady : IsSt
   abbrev shares : List (ℕ × ℕ)
   shares = entries (given_by produce_pots w c os)
 
-  -- the item that each unit's order names
+  -- the item that each unit's order of PRODUCE names, by unit
   abbrev named : FinMap nat_cmp ℕ
   named = items_by produce_pots w c os
 

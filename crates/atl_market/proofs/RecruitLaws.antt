@@ -48,7 +48,7 @@ peasants_of q = q.peasants
 
 -- ---- one unit gets its recruits
 
--- a region `r` with the peasants of `q` less the recruits
+-- region `r` with the peasants that region `q` has, less the recruits
 abbrev pub with_fewer_peasants : Region → ℕ → Region → Region
 with_fewer_peasants q recruits r = record r { peasants = q.peasants - recruits }
 
@@ -110,7 +110,7 @@ module _ (w : WorldValue) (c : CampaignValue) (n : ℕ) (u : Unit) (q : Region) 
 -- ---- one step
 
 module _ (w : WorldValue) (c : CampaignValue) (e : ℕ × ℕ) where
-  -- what the recruits of a share cost
+  -- what the recruits of the share `e` cost together
   abbrev price : ℕ
   price = e.1 * w.rules.recruit_price
 
@@ -210,7 +210,7 @@ module _ (w : WorldValue) (c : CampaignValue) where
         let few : share ≤ money / price = omega (arith, low) in
         omega (arith, mul-le-mul_right price few, mul-div-le money price, mul_comm (money / price) price)
 
-    -- each unit has room for its recruits and can pay for them
+    -- each unit that gets recruits is there, has room for them, and can pay for them
     each_fits : Every (λ n share. CanHave (n, share)) (given_by recruit_pots w c os)
     each_fits n share is =
         let (u, o, there, own, low) = given_is_wanted recruit_pots w c (λ items. pots_give (recruits_at w c) c) os n share is in

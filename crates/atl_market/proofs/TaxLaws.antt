@@ -46,7 +46,7 @@ money_of q = q.money
 
 -- ---- one unit takes its share
 
--- a region `r` with the money of `q` less a share
+-- region `r` with the money that region `q` has, less a share
 abbrev pub drain : Region → ℕ → Region → Region
 drain q share r = record r { money = q.money - share }
 
@@ -182,7 +182,7 @@ module _ (w : WorldValue) (c : CampaignValue) where
     wanted_fits : (money men share : ℕ) → money ≤ holding_limit → share ≤ min men (holding_limit - money) → money + share ≤ holding_limit
     wanted_fits money men share fits low = omega (arith, fits, low)
 
-    -- each unit has room for its share
+    -- each unit that gets tax is there and has room for its share
     each_fits : Every (λ n share. HasRoomFor (n, share)) (given_by tax_pots w c os)
     each_fits n share is =
         let (u, o, there, own, low) = given_is_wanted tax_pots w c (λ items. pots_give (money_at c) c) os n share is in

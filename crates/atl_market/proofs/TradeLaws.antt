@@ -458,7 +458,7 @@ module _ (trade : Trade) (items : FinMap nat_cmp ℕ) (w : WorldValue) (world : 
       )
 
 module _ (trade : Trade) (w : WorldValue) (world : IsWorld w) (c : CampaignValue) (early : IsEarly w c) (os : List Task) (room : HaveRoom (trade_moves trade most_moved) c) where
-  -- the item that each unit's order names
+  -- the item that each unit's order of SELL or BUY names, by unit
   abbrev named : FinMap nat_cmp ℕ
   named = items_by (trade_pots trade) w c os
 
@@ -482,7 +482,7 @@ module _ (trade : Trade) (w : WorldValue) (world : IsWorld w) (c : CampaignValue
   abbrev MayTrade : ℕ × ℕ → Type 0
   MayTrade = CanHave trade named w world c
 
-  -- each unit can afford its share
+  -- each unit that gets to trade is there and can afford its share (`MayTrade`)
   each_fits : Every (λ n share. MayTrade (n, share)) given
   each_fits n share is =
       let (u, t, there, own, low, fine, told) = given_is_named (trade_pots trade) w c (trades_give trade w c) os n share is in

@@ -114,11 +114,11 @@ module _ (p : PotMeaning) (w : WorldValue) (c : CampaignValue) where
       by_unit (Some v) at h = by_test v at (v.faction == t.faction) refl h
 
   module _ (m items : FinMap nat_cmp ℕ) (t : Task) where
-    -- the entry with what the unit of an order wants, if there is one
+    -- the unit of order `t` with what it wants by the order, as an entry; None where the order has a fault
     abbrev wanting : Result Unit EventFault → Option (ℕ × ℕ)
     wanting r = option_map (λ u. (t.unit, p.want w u t)) (result_ok r)
 
-    -- the entry with the item that the order names, if it names one
+    -- the unit of order `t` with the item that the order names, as an entry; None where it names none
     abbrev named : Option ℕ → Option (ℕ × ℕ)
     named s = option_map (λ i. (t.unit, i)) s
 

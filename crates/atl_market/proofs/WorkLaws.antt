@@ -181,7 +181,7 @@ module _ (w : WorldValue) where
     abbrev shares : List (ℕ × ℕ)
     shares = entries (given_by work_pots w c os)
 
-    -- each unit has room for its wages
+    -- each unit that gets work places is there and has room for their wages
     each_fits : Every (λ n places. HasRoomFor w c (n, places)) (given_by work_pots w c os)
     each_fits n places is =
         let (u, o, there, own, low) = given_is_wanted work_pots w c (λ items. pots_give (places_at w) c) os n places is in

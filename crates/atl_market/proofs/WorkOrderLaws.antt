@@ -157,7 +157,7 @@ module _ (c : CampaignValue) where
     each_idle : AllByRecursion IsIdle (all_idle c os)
     each_idle = idle_each (entries c.units) (each-from_every (λ n u. get c.units n ≡ Some u) c.units (λ n u is. is))
 
-    -- the work that the code adds for a unit is for that unit
+    -- the order of WORK that the code adds for a unit, if it adds one, is for that unit
     of_unit : (e : ℕ × Unit) → AllByRecursion (λ o. o.unit ≡ e.0) (idle_by writers e)
     of_unit (n, u) = elim (nat_lt 0 u.holding.men && not (is_some (get writers n))) as (λ b. AllByRecursion (λ (o : Task). o.unit ≡ n) (cond b (idle_task n u.faction ∷ []) [])) [ true ↦ (refl, tt) | false ↦ tt ]
 

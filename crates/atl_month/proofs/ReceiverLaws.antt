@@ -57,7 +57,7 @@ module _ {V : Type 0} (p : V → Bool) where
       by_test true least above (inr rest) = let l = above rest in omega arith
       by_test false least above rest = least rest
 
-  -- number `k` of a map is there and its value passes the test
+  -- a map has the number `k`, and its value there passes the test `p`
   abbrev PassesIn : FinMap nat_cmp V → ℕ → Type 0
   PassesIn m k = (v : V) × (get m k ≡ Some v) × (p v ≡ true)
 

@@ -201,7 +201,7 @@ module _ (w : WorldValue) (c : CampaignValue) (s : UpkeepResult) (u : Unit) (is 
       total_of People a b g = omega (arith, ints, a, b, g, with_less.0, spare.starved)
       total_of (Item i) a b g = let items = ap (λ m. amount_of m i) with_less.4 in grind (arith, ints, nat_tests, a, b, g, items)
 
-  -- the books after the money was booked
+  -- the books after what the unit paid was booked, and before those who starved are
   abbrev one_booked : BooksValue
   one_booked = after_booking c.books Upkeep Money (neg_ℤ (pos s.paid))
 
@@ -423,7 +423,7 @@ starved_supplied s h some fewer listed =
 abbrev pub unit_after_upkeep : UpkeepResult → Unit → Unit
 unit_after_upkeep s u = record u { holding = after_upkeep s u.holding }
 
--- upkeep of a unit that is there leaves it what its result says
+-- upkeep leaves a unit that is there what its result says (`unit_after_upkeep`)
 pub own_unit : (c : CampaignValue) (s : UpkeepResult) (u : Unit) → get c.units s.unit ≡ Some u → get (upkeep_at c s).units s.unit ≡ Some (unit_after_upkeep s u)
 own_unit c s u is = ap (λ (d : CampaignValue). get d.units s.unit) (upkeep_at_is c s u is) ∙ get-insert_same c.units s.unit (unit_after_upkeep s u)
 
