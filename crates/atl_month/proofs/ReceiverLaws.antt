@@ -28,8 +28,8 @@ use Rattle.atl_world.proofs.GeneralLaws.{is_equal}
 -- ---- the first number whose value passes a test
 
 module _ {V : Type 0} (p : V → Bool) where
-  -- What follows if `k` is `n`, and also if `k` is listed in `ns`, follows if `k` is listed in `ns` with `n` in front
-  -- (if `b`) or without: the two cases for a list with a unit that may receive in front.
+  -- for `below_listed`: what follows if `k` is `n`, and also if `k` is listed in `ns`, follows if `k` is listed in `ns`
+  -- with `n` in front (if `b`) or without
   either_listed : {P : Type 0} (b : Bool) (n k : ℕ) (ns : List ℕ) → (k ≡ n → P) → (IsListed k ns → P) → IsListed k (cond b (n ∷ ns) ns) → P
   either_listed true n k ns here rest (inl same) = here same
   either_listed true n k ns here rest (inr h) = rest h
