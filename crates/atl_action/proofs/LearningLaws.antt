@@ -30,7 +30,7 @@ module _ (w : WorldValue) (c : CampaignValue) where
   learner_cases : (Q : Learning → Type 0) (t : Task) (learning : Learning) → Q learning → IfLearns (λ n s. Q (insert learning n s)) t → Q (with_learner w c learning t)
   learner_cases Q t learning same added = by_skill (skill_of t.order_value.operands) refl
     where
-      -- Q holds of the map after an order of STUDY, whether the order names a skill or not
+      -- for `learner_cases`: Q holds of the map after an order of STUDY, whether the order names a skill or not
       by_skill : (o : Option ℕ) → skill_of t.order_value.operands ≡ o → Q (with_skill learning t o)
       by_skill None says = same
       by_skill (Some s) says = cond_both (learns w s t.faction (get c.units t.unit)) (insert learning t.unit s) learning Q (added s says) (λ _. same)

@@ -46,7 +46,7 @@ held_same u v same Money = same.money
 held_same u v same People = same.men
 held_same u v same (Item i) = ap (λ items. amount_of items i) same.items
 
--- if a + p is b + q, and q is p, a is b
+-- for `changed_by`: if a + p is b + q, and q is p, a is b
 cancelled : (a b p q : ℕ) → a + p ≡ b + q → q ≡ p → a ≡ b
 cancelled a b p q e f = omega arith
 

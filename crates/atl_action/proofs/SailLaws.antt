@@ -118,7 +118,7 @@ module _ (ship to : ℕ) where
   still_inside : (m : FinMap nat_cmp Unit) (n k : ℕ) → IsInside m k → IsInside (elsewhere ship to m n) k
   still_inside m n k (v, there, here) = (gone_if ship to (k == n) v, get-changed (gone ship to) m n k ∙ ap (option_map (gone_if ship to (k == n))) there, by_test (k == n))
     where
-      -- unit k is inside the ship, whether it is the unit that went along or not
+      -- for `still_inside`: unit k is inside the ship, whether it is the unit that went along or not
       by_test : (b : Bool) → (gone_if ship to b v).structure ≡ ship
       by_test true = refl
       by_test false = here
@@ -177,7 +177,8 @@ module _ (w : WorldValue) (c : CampaignValue) (ship to : ℕ) (steady : IsSteady
   abbrev behind : CampaignValue
   behind = travelled w c units structures f g
 
-  -- `after_sailing` makes the campaign `behind`
+  -- the definition `after_sailing` makes the campaign `behind`, in which the ship and the units inside are in region
+  -- `to`
   sailed_is : after_sailing c ship to ≡ behind
   unfolding after_sailing
   sailed_is = ap (λ d. with_structure_region d ship to) (all_is ship to c ns (all_listed (IsInside ship to c.units) ns (listed_is_inside ship c.units)))
@@ -210,7 +211,7 @@ module _ (w : WorldValue) (c : CampaignValue) (ship to : ℕ) (steady : IsSteady
   carried : (k : ℕ) (v : Unit) → IsAtMostMoved v (f k v)
   carried k v = cond_both (v.structure == ship) (gone ship to v) v (IsAtMostMoved v) (λ t. along (is_equal v.structure ship t)) (λ _. carried_same v)
     where
-      -- a unit inside the ship at most goes with its structure as it goes along
+      -- for `carried`: a unit inside the ship at most goes with its structure as it goes along
       along : v.structure ≡ ship → IsAtMostMoved v (gone ship to v)
       along here = record {
         faction = refl;
@@ -309,7 +310,7 @@ module _ (w : WorldValue) (c : CampaignValue) (ship to : ℕ) (steady : IsSteady
   pub sailed_inside : (k : ℕ) → inside (after_sailing c ship to) k ≡ inside c k
   sailed_inside k = ap (λ d. inside d k) sailed_is ∙ ap structure_in (units_at k) ∙ by_unit (get c.units k)
     where
-      -- unit k is inside the same structure as before, whether it is there or not
+      -- for `sailed_inside`: unit k is inside the structure that it was inside before, whether it is there (`o`) or not
       by_unit : (o : Option Unit) → structure_in (option_map (f k) o) ≡ structure_in o
       by_unit None = refl
       by_unit (Some v) = (carried k v).structure
@@ -318,7 +319,7 @@ module _ (w : WorldValue) (c : CampaignValue) (ship to : ℕ) (steady : IsSteady
   sailed_same : (k : ℕ) → inside c k ≢ ship → get (after_sailing c ship to).units k ≡ get c.units k
   sailed_same k apart = ap (λ d. get d.units k) sailed_is ∙ units_at k ∙ by_unit (get c.units k) apart
     where
-      -- unit k is as it was if it isn't inside the ship, whether it is there or not
+      -- for `sailed_same`: unit k, if it isn't inside the ship, stays as it was, whether it is there (`o`) or not
       by_unit : (o : Option Unit) → structure_in o ≢ ship → option_map (f k) o ≡ o
       by_unit None apart = refl
       by_unit (Some v) apart = ap (λ b. Some (gone_if ship to b v)) (other_number v.structure ship apart)
@@ -382,14 +383,14 @@ unfolding sail
 sail_cases P w c n u direction same gone_off =
     by_fault (neighbour w u.region direction) (sail_fault w c n u (get c.structures u.structure) (neighbour w u.region direction)) refl
   where
-    -- P holds after sailing, if the unit is inside a complete ship, and there is a way to the region
+    -- for `sail_cases`: P holds after sailing, if the unit is inside a complete ship, and there is a way to the region
     by_ship : (to : Option ℕ) (o : Option Structure) → get c.structures u.structure ≡ o → not (is_complete_ship w o) ≡ false → not (is_way w u.region to) ≡ false → P (after_sailing c u.structure (unwrap_or to 0), Done 0)
     by_ship to None at whole way = false_true (sym whole)
     by_ship to (Some x) at whole way =
         let parts = and_parts (is_ship w x) (x.done == size_of w x.kind) (not-false (is_complete_ship w (Some x)) whole) in
         gone_off (unwrap_or to 0) x at parts.0 (is_equal x.done (size_of w x.kind) parts.1) (way_there w u.region to way)
 
-    -- P holds of the result of an order of SAIL, whether it has a fault or not
+    -- for `sail_cases`: P holds of the result of an order of SAIL, whether it has a fault or not
     by_fault : (to : Option ℕ) (o : Option EventFault) → sail_fault w c n u (get c.structures u.structure) to ≡ o → P (unless c o (after_sailing c u.structure (unwrap_or to 0), Done 0))
     by_fault to (Some fault) e = same (Fault (event_fault_number fault))
     by_fault to None e =
@@ -453,7 +454,7 @@ module _ (w : WorldValue) (begun : CampaignValue) (number faction : ℕ) where
     pub list : numbers_inside s c.units ≡ numbers_inside s begun.units
 
   module _ (c : CampaignValue) (same : IsAsBegun c) where
-    -- the sum of `f` over all units inside the structure of unit `number` is as it was when the phase began
+    -- if `c` is as begun (`IsAsBegun`), the sum of `f` over the units in unit `number`'s structure is as at the start
     sum_inside_same : (f : HoldingValue → ℕ) → sum_inside f c s ≡ sum_inside f begun s
     sum_inside_same f =
         ap (sum_by (λ n. of_unit f (get c.units n))) same.list
@@ -463,11 +464,13 @@ module _ (w : WorldValue) (begun : CampaignValue) (number faction : ℕ) where
         is_in : (k : ℕ) → IsListed k (numbers_inside s begun.units) → inside begun k ≡ s
         is_in k listed = let (v, there, here) = listed_is_inside s begun.units k listed in ap structure_in there ∙ here
 
-    -- an order of SAIL for a unit inside the structure of unit `number` has the same fault as when the phase began
+    -- if `c` is as begun (`IsAsBegun`), an order of SAIL for a unit in unit `number`'s structure has the fault, or
+    -- none, that it would have had at the start
     fault_same : (n : ℕ) (u : Unit) (to : Option ℕ) → u.structure ≡ s → sail_fault w c n u (get c.structures u.structure) to ≡ sail_fault w begun n u (get begun.structures u.structure) to
     fault_same n u to here = rw (here, same.structure, sum_inside_same (crew_of w), sum_inside_same (load_of w)) refl
 
-    -- an order of SAIL for a unit inside the structure of unit `number` has the same outcome as when the phase began
+    -- if `c` is as begun (`IsAsBegun`), SAIL for a unit in unit `number`'s structure has the outcome that it would have
+    -- had at the start
     same_outcome : (n : ℕ) (u : Unit) (direction : Direction) → u.structure ≡ s → (sail w n direction c u).1 ≡ (sail w n direction begun u).1
     unfolding sail
     same_outcome n u direction here =
@@ -475,21 +478,23 @@ module _ (w : WorldValue) (begun : CampaignValue) (number faction : ℕ) where
         ap (λ o. (unless c o (after_sailing c u.structure (unwrap_or to 0), Done 0)).1) (fault_same n u to here)
         ∙ same_outcome_unless c begun (after_sailing c u.structure (unwrap_or to 0)) (after_sailing begun u.structure (unwrap_or to 0)) (sail_fault w begun n u (get begun.structures u.structure) to)
 
-    -- a faction's order for a unit inside the structure of unit `number` has the same outcome as when the phase began
+    -- if `c` is as begun (`IsAsBegun`), faction f's SAIL for unit n, inside unit `number`'s structure, has the outcome
+    -- that it would have had at the start
     same_faction_outcome : (f n : ℕ) (direction : Direction) → inside begun n ≡ s → (faction_effect (sail w n direction) c f n).1 ≡ (faction_effect (sail w n direction) begun f n).1
     same_faction_outcome f n direction here = ap (λ o. (effect_on (sail w n direction) c (of_faction f o)).1) (same.units n here) ∙ by_unit (get begun.units n) here
       where
-        -- an order of SAIL has the same outcome as when the phase began, whether unit u is of faction f or not
+        -- for `same_faction_outcome`: SAIL has one outcome in `c` and at the start, whether unit u is of the faction
+        -- (`b`) or not
         by_faction : (u : Unit) → u.structure ≡ s → (b : Bool) → (effect_on (sail w n direction) c (if b then Some u else None)).1 ≡ (effect_on (sail w n direction) begun (if b then Some u else None)).1
         by_faction u here true = same_outcome n u direction here
         by_faction u here false = refl
 
-        -- an order of SAIL has the same outcome as when the phase began, whether its unit is there or not
+        -- for `same_faction_outcome`: SAIL has one outcome in `c` and at the start, be its unit there (`o`) or not
         by_unit : (o : Option Unit) → structure_in o ≡ s → (effect_on (sail w n direction) c (of_faction f o)).1 ≡ (effect_on (sail w n direction) begun (of_faction f o)).1
         by_unit None here = refl
         by_unit (Some u) here = by_faction u here (u.faction == f)
 
-    -- the structure of unit `number` and all inside stay as the phase began if another ship sails (`IsAsBegun`)
+    -- if `c` is as begun (`IsAsBegun`), so is the campaign after another ship than unit `number`'s structure sailed
     sailed_else : (ship to : ℕ) (x : Structure) → get c.structures ship ≡ Some x → is_ship w x ≡ true → x.done ≡ size_of w x.kind → IsThere w.regions to → s ≢ ship → IsAsBegun (after_sailing c ship to)
     sailed_else ship to x at floats whole there apart = record {
       steady = (sailed_well w c ship to same.steady x at floats whole ((same.steady.known.regions to).1 there)).holds_still;
@@ -499,7 +504,8 @@ module _ (w : WorldValue) (begun : CampaignValue) (number faction : ℕ) where
       list = sailed_list w c ship to same.steady x at s ∙ same.list;
     }
 
-    -- the structure of unit `number` and all inside stay as the phase began, if by the operands `o` it doesn't sail
+    -- if `c` is as begun (`IsAsBegun`), so is the campaign after an order of SAIL with operands `o` for unit n of
+    -- faction f, if by it the structure of unit `number` wouldn't have sailed at the start
     order_stays : (f n : ℕ) (o : OperandsValue) → (inside begun n ≡ s → (order_result (by_direction (sail w n) o) begun f n).1 ≡ Some (Done 0) → ⊥) → IsAsBegun (order_result (by_direction (sail w n) o) c f n).0
     order_stays f n (operands.Direction direction) apart =
         carried_cases (λ p. (inside begun n ≡ s → p.1 ≡ Done 0 → ⊥) → IsAsBegun p.0) (sail w n direction) c f n (λ apart. same)
@@ -508,11 +514,12 @@ module _ (w : WorldValue) (begun : CampaignValue) (number faction : ℕ) where
         (λ in_it done. apart in_it (ap (λ outcome. Some outcome) (sym (same_faction_outcome f n direction in_it) ∙ done)))
     order_stays f n other apart = same
 
-    -- the structure of unit `number` and all inside stay as the phase began after an order by which it doesn't sail
+    -- if `c` is as begun (`IsAsBegun`), so is the campaign after order t, if by it the structure of unit `number`
+    -- doesn't sail (`SailsWith`)
     task_stays : (m : MonthValue) (t : Task) → (SailsWith w begun t number faction → ⊥) → IsAsBegun (one_order sail_step w (c, m) t).0
     task_stays m t apart = order_stays t.faction t.unit t.order_value.operands (λ in_it done. apart (record { together = in_it; done = done }))
 
-  -- the structure of unit `number` and all inside stay as the phase began after orders by none of which it sails
+  -- a campaign as begun (`IsAsBegun`) is so after orders by none of which unit `number`'s structure sails (`SailsWith`)
   tasks_stay : (c : CampaignValue) (m : MonthValue) (ts : List Task) → IsAsBegun c → AllByRecursion (λ t. SailsWith w begun t number faction → ⊥) ts → IsAsBegun (fold (one_order sail_step w) (c, m) ts).0
   tasks_stay c m [] same others = same
   tasks_stay c m (t ∷ ts) same others =

@@ -60,7 +60,7 @@ module _ (w : WorldValue) (taught n s : ℕ) (c d : CampaignValue) (u : Unit) (i
   unfolding study
   study_alike = by_fault (study_fault u.holding cost) (Done (days_in d - amount_of u.holding.days s)) (Done (days_in c - amount_of u.holding.days s))
     where
-      -- the order changes unit n alike in both campaigns, whether it has a fault or not
+      -- for `study_alike`: the order changes unit n alike in campaigns `c` and `d`, whether it has a fault (`o`) or not
       by_fault : (o : Option EventFault) (x y : Outcome) → get (unless d o (after_study d n u s cost (days_in d), x)).0.units n ≡ get (unless c o (after_study c n u s cost (days_in c), y)).0.units n
       by_fault (Some fault) x y = in_d ∙ sym in_c
       by_fault None x y =
@@ -129,7 +129,7 @@ module _ (w : WorldValue) (taught : TaughtMen) (n : ℕ) (u : Unit) where
         one_apart : IsOther t
         one_apart unit faction = both_own order t all.0 studies others.0 (for_unit ∙ sym unit) (own ∙ sym faction)
 
-    -- the effect of the unit's own order
+    -- what unit n's own order of STUDY makes of a campaign and its unit n
     abbrev deed : OrderEffect
     deed = study w (taught n) n skill
 

@@ -59,7 +59,7 @@ module _ (w : WorldValue) (c : CampaignValue) (n : ℕ) (u : Unit) (s cost days 
   abbrev paid : CampaignValue
   paid = with_held c n learned (Some u)
 
-  -- the campaign after the unit studied, with the booking
+  -- the campaign after the unit studied: it paid and has its days, and the cost is booked
   abbrev behind : CampaignValue
   behind = after_study c n u s cost days
 
@@ -102,7 +102,8 @@ module _ (w : WorldValue) (c : CampaignValue) (n : ℕ) (u : Unit) (s cost days 
       let money = λ (x : Unit). x.holding.money in
       sum (sum_over money behind.units) (sum_over money c.units) u.holding.money (sum_over-insert_known money c.units n u (record u { holding = learned }) is) payable
     where
-      -- the total a after the payment is the total b before it less the cost, where m is the unit's money before it
+      -- for `less`: the total a after the payment is the total b before it less the cost, where m is the unit's money
+      -- before it
       sum : (a b m : ℕ) → a + m ≡ b + (m - cost) → cost ≤ m → a + cost ≡ b
       sum a b m e l = omega (arith, e, l)
 
@@ -153,7 +154,7 @@ study_cases P w taught c n s u same learned =
     let helped = is_helpful w s (get c.structures u.structure) in
     by_fault (days_after u.holding.men old taught helped) (days_after u.holding.men old taught helped - old) (days_most u.holding.men old taught helped) (study_fault u.holding (fee_of w s * u.holding.men)) refl
   where
-    -- P holds of the campaign after an order of STUDY, whether the order has a fault or not
+    -- for `study_cases`: P holds of the campaign after an order of STUDY, whether the order has a fault or not
     by_fault : (days done : ℕ) → days ≤ most_days * u.holding.men → (o : Option EventFault) → study_fault u.holding (fee_of w s * u.holding.men) ≡ o
         → P (unless c o (after_study c n u s (fee_of w s * u.holding.men) days, Done done)).0
     by_fault days done most (Some fault) e = same

@@ -13,11 +13,11 @@ use Rattle.atl_action.specs.Teach.{TaughtMen, first_mentions, taught_in_lesson, 
 
 -- ---- lists of units
 
--- number y isn't n, by the test `nat_eq`
+-- the second number isn't the first, by the test `nat_eq`
 abbrev IsOther : ℕ → ℕ → Type 0
 IsOther n y = nat_eq n y ≡ false
 
--- no number of the list is n
+-- no number of the list is the given number
 abbrev pub AreOthers : ℕ → List ℕ → Type 0
 AreOthers n = AllByRecursion (IsOther n)
 

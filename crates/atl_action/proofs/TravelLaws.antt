@@ -56,19 +56,19 @@ module _ (w : WorldValue) (c : CampaignValue) (units : FinMap nat_cmp Unit) (str
   -- Each unit is in a region that is there and in a structure of this region, each structure has its right owner,
   -- and units that still guard are as they were.
   pub record AreTravelled : Type 0 where
-    -- each unit is what f makes of the unit in c
+    -- each unit of `units` is what `f` makes of the unit of that number in campaign c
     pub units_at : (k : ℕ) → get units k ≡ option_map (f k) (get c.units k)
-    -- each structure is what g makes of the structure in c
+    -- each structure of `structures` is what `g` makes of the structure of that number in campaign c
     pub structures_at : (k : ℕ) → get structures k ≡ option_map (g k) (get c.structures k)
-    -- there are as many units as in c
+    -- `units` are as many as the units of campaign c
     pub unit_count : len units ≡ len c.units
-    -- there are as many structures as in c
+    -- `structures` are as many as the structures of campaign c
     pub structure_count : len structures ≡ len c.structures
-    -- each faction has the units that it has in c, by number
+    -- each faction has in `units` the unit numbers that it has in campaign c
     pub of_factions : (m : ℕ) → numbers_of m units ≡ numbers_of m c.units
-    -- f changes only region, structure and guard flag of a unit
+    -- of each unit of campaign c, `f` changes only region, structure and guard flag (`IsSameUnit`)
     pub same_units : Every (λ k u. IsSameUnit u (f k u)) c.units
-    -- g changes only region and owner of a structure
+    -- of each structure of campaign c, `g` changes only region and owner (`IsSameStructure`)
     pub same_structures : Every (λ k y. IsSameStructure y (g k y)) c.structures
     -- each unit is in a region that is there, and inside a structure of this region or none (`IsPut`)
     pub put : Every (λ k u. IsPut (f k u)) c.units
@@ -80,17 +80,17 @@ module _ (w : WorldValue) (c : CampaignValue) (units : FinMap nat_cmp Unit) (str
     pub aboard : Every (λ k u. is_land_at w (f k u).region ≡ false → IsAboard w travelled (f k u)) c.units
     -- each structure on water is a complete ship
     pub afloat : Every (λ k y. is_land_at w (g k y).region ≡ false → (is_ship w y ≡ true) × (y.done ≡ size_of w y.kind)) c.structures
-    -- a unit that guards is as it was in c
+    -- a unit that guards once `f` changed it is as it was in campaign c
     pub guarding : Every (λ k u. guards (f k u) ≡ true → f k u ≡ u) c.units
 
   module _ (are : AreTravelled) where
-    -- P holds of each unit of the travelled campaign, if it holds of f of each unit of c
+    -- P holds of each unit of the travelled campaign, if it holds of what `f` makes of each unit of c
     every_unit : (P : ℕ → Unit → Type 0) → Every (λ k u. P k (f k u)) c.units → Every P units
     every_unit P h k x there =
         let (u, was, same) = under (f k) (get c.units k) x (sym (are.units_at k) ∙ there) in
         subst (P k) same (h k u was)
 
-    -- P holds of each structure of the travelled campaign, if it holds of g of each structure of c
+    -- P holds of each structure of the travelled campaign, if it holds of what `g` makes of each structure of c
     every_structure : (P : ℕ → Structure → Type 0) → Every (λ k y. P k (g k y)) c.structures → Every P structures
     every_structure P h k x there =
         let (y, was, same) = under (g k) (get c.structures k) x (sym (are.structures_at k) ∙ there) in

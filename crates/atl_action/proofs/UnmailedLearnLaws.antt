@@ -24,9 +24,9 @@ use Rattle.atl_action.specs.Teach.{TaughtMen, after_lessons, is_teaching, teach,
 
 -- Month `after` has the readings and aliases of month `before`, and its events report as many starved men of each unit.
 pub record AddsNoStarved (before after : MonthValue) : Type 0 where
-  -- the readings of the mailings are the same
+  -- month `after` has the readings of mailings that month `before` has
   pub readings : after.readings ≡ before.readings
-  -- the aliases are the same
+  -- month `after` has the aliases that month `before` has
   pub aliases : after.aliases ≡ before.aliases
   -- the events of `after` report as many starved men of each unit as those of `before`
   pub starved : (n : ℕ) → starved_in after.events n ≡ starved_in before.events n

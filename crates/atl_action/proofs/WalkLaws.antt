@@ -258,7 +258,7 @@ walk_cases : (P : CampaignValue → Type 0) (w : WorldValue) (c : CampaignValue)
 unfolding walk
 walk_cases P w c n u direction same gone = by_fault (neighbour w u.region direction) (walk_fault w u (neighbour w u.region direction)) refl
   where
-    -- P holds of the campaign after an order of MOVE, whether the order has a fault or not
+    -- for `walk_cases`: P holds of the campaign after an order of MOVE, whether the order has a fault or not
     by_fault : (to : Option ℕ) (o : Option EventFault) → walk_fault w u to ≡ o → P (unless c o (with_unit_moved 0 (unwrap_or to 0) c n, Done 0)).0
     by_fault to (Some fault) e = same
     by_fault to None e =

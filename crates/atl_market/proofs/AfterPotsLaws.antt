@@ -30,11 +30,11 @@ use Rattle.atl_market.proofs.WantLaws.{given_is_wanted}
 use Rattle.atl_market.proofs.ThereLaws.{by_option, by_unit}
 use Rattle.atl_market.proofs.WorkLaws.{wages_leave_others, worked_is}
 
--- an amount less 0 is the amount
+-- for `tax_pays` and `recruit_pays`: an amount less 0 is the amount
 less_none : (a : ℕ) → a - 0 ≡ a
 less_none a = omega arith
 
--- taking `s` and then `t` from an amount is taking both together
+-- for `tax_pays` and `recruit_pays`: taking `s` and then `t` from an amount is taking both together
 less_both : (a s t : ℕ) → a - s - t ≡ a - (s + t)
 less_both a s t = omega arith
 

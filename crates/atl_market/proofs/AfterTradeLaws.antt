@@ -100,7 +100,7 @@ module _ (trade : Trade) (items : FinMap nat_cmp ℕ) (w : WorldValue) (units : 
   abbrev IsTraded : ℕ → Region → Type 0
   IsTraded r q = HasNewStocks q (stock_after trade) (drawn_here r) (get (after_trade trade items w d e).regions r)
 
-  -- what a unit with a share of 0 draws from a pot is 0, whether it may draw from it (`b`) or not
+  -- for `without_market`: what a unit with a share of 0 draws from a pot is 0, whether it may draw from it (`b`) or not
   none_drawn : (b : Bool) (share : ℕ) → share ≡ 0 → cond b share 0 ≡ 0
   none_drawn true share none = none
   none_drawn false share none = refl
@@ -169,7 +169,7 @@ module _ (trade : Trade) (items : FinMap nat_cmp ℕ) (w : WorldValue) (units : 
               ∙ undrawn r i (amount_of q.stocks i) (mine i ∙ other_number m.item i (λ one. apart (sym one)))
         ]
 
-    -- the trade leaves the stocks of each other region as they were
+    -- the trade leaves the stocks of each region but the unit's own as they were (`IsTraded`)
     elsewhere : (r : ℕ) (q : Region) → r ≢ u.region → get d.regions r ≡ Some q → IsTraded r q
     elsewhere r q apart around = record {
       stocks = q.stocks;
@@ -239,7 +239,7 @@ module _ (trade : Trade) (items : FinMap nat_cmp ℕ) (w : WorldValue) where
         }
 
 module _ (trade : Trade) (w : WorldValue) (c : CampaignValue) (os : List Task) where
-  -- the item that each unit's order names
+  -- the item that each unit's order of SELL or BUY names, by unit
   abbrev named : FinMap nat_cmp ℕ
   named = items_by (trade_pots trade) w c os
 
@@ -247,7 +247,7 @@ module _ (trade : Trade) (w : WorldValue) (c : CampaignValue) (os : List Task) w
   abbrev given : FinMap nat_cmp ℕ
   given = given_by (trade_pots trade) w c os
 
-  -- a share that is at most 0 is 0
+  -- for `without_share`: a share that is at most 0 is 0
   none_left : (share : ℕ) → share ≤ 0 → share ≡ 0
   none_left share low = omega (arith, low)
 

@@ -19,7 +19,7 @@ use Rattle.atl_market.specs.PotPhase.{PotMeaning, after_sharing, given_by, items
 use Rattle.atl_market.proofs.DrawLaws.{AreUntouched, Drawers, all_pairs, drawn, still, untouched, draws_region}
 use Rattle.atl_market.proofs.PotLaws.{found_other}
 
--- 0 plus a number is the number
+-- for `regions_drained` and `drawn_is`: 0 plus a number is the number
 no_more : (a : ℕ) → 0 + a ≡ a
 no_more a = omega arith
 

@@ -72,7 +72,7 @@ next_within c numbered room = omega (arith, numbered.count, room)
 pub limit_by_next : (c : CampaignValue) → IsNumbered c.structures c.next_structure → nat_lt most_structures c.next_structure ≡ is_structure_limit c
 limit_by_next c numbered = rw numbered.count (by_count most_structures (len c.structures))
   where
-    -- `most` is less than `count + 1` exactly if it is at most `count`
+    -- for `limit_by_next`: `most` is less than `count + 1` exactly if it is at most `count`
     by_count : (most count : ℕ) → nat_lt most (count + 1) ≡ nat_le most count
     by_count most count = grind (arith, nat_tests)
 
@@ -140,19 +140,19 @@ can_go_on u s k is =
 
 -- ---- the size that is added
 
--- the least of three numbers from 1 on is at least 1
+-- for `size_some`: the least of three numbers from 1 on is at least 1
 least_of : (x y z : ℕ) → 1 ≤ x → 1 ≤ y → 1 ≤ z → 1 ≤ min (min x y) z
 least_of x y z a b c = omega (arith, a, b, c)
 
--- the least of three numbers is at most the second
+-- for `size_held`: the least of three numbers is at most the second
 within_of : (x y z : ℕ) → min (min x y) z ≤ y
 within_of x y z = omega arith
 
--- the least of three numbers is at most the third
+-- for `size_missing`: the least of three numbers is at most the third
 missing_of : (x y z : ℕ) → min (min x y) z ≤ z
 missing_of x y z = omega arith
 
--- the product of two numbers from 1 on is at least 1
+-- for `size_some`: the product of two numbers from 1 on is at least 1
 product : (a b : ℕ) → 1 ≤ a → 1 ≤ b → 1 ≤ a * b
 product a b l m = let h : a * 1 ≤ a * b = mul-le-mul_left a m in omega (arith, l, h)
 
@@ -276,7 +276,7 @@ module _ (w : WorldValue) (c : CampaignValue) (n : ℕ) (u : Unit) (s : Structur
     most : s.done + added ≤ size_of w s.kind
     most = subst (λ x. s.done + added ≤ x) (sym (kind_size w s.kind k kind_is)) (up added s.done k.size (size_missing k u.holding s.done) fit.missing)
       where
-        -- what is done of a size, and an addition of at most what is missing, are together at most the size
+        -- for `most`: what is done of a size, and an addition of at most what is missing, are together at most the size
         up : (a d m : ℕ) → a ≤ m - d → d < m → d + a ≤ m
         up a d m l h = omega (arith, l, h)
 
@@ -295,7 +295,7 @@ begin_cases : (P : CampaignValue → Type 0) (w : WorldValue) (c : CampaignValue
 unfolding begin
 begin_cases P w c n kind k u same go = by_fault (begin_fault w c u k) refl
   where
-    -- `P` holds after `BUILD kind`, whether the order has a fault `o` or not
+    -- for `begin_cases`: `P` holds after `BUILD kind`, whether the order has a fault `o` or not
     by_fault : (o : Option EventFault) → begin_fault w c u k ≡ o → P (unless c o (after_start c n kind k u.region (size_added k u.holding 0), Done (size_added k u.holding 0))).0
     by_fault (Some fault) e = same
     by_fault None e = go (can_begin w c u k e)
@@ -307,23 +307,23 @@ go_on_cases : (P : CampaignValue → Type 0) (w : WorldValue) (c : CampaignValue
 unfolding go_on
 go_on_cases P w c n u same go = by_structure (get c.structures u.structure) refl
   where
-    -- `P` holds after `BUILD` inside structure `s`, whether the order has a fault `o` or not
+    -- for `go_on_cases`: `P` holds after `BUILD` inside structure `s`, whether the order has a fault `o` or not
     by_fault : (s : Structure) (k : Kind) → get c.structures u.structure ≡ Some s → slice_get w.kinds s.kind ≡ Some k → (o : Option EventFault) → inside_fault u s k ≡ o
         → P (unless c o (after_building_on c n k.material (size_added k u.holding s.done) u.structure (s.done + size_added k u.holding s.done), Done (size_added k u.holding s.done))).0
     by_fault s k there kind_is (Some fault) e = same
     by_fault s k there kind_is None e = go s k there kind_is (can_go_on u s k e)
 
-    -- `P` holds after `BUILD` by a unit outside any structure, which has a fault: NoMen or NotInside
+    -- for `go_on_cases`: `P` holds after `BUILD` by a unit outside any structure, which has a fault: NoMen or NotInside
     outside : (b : Bool) → P (unless c (if b then Some NoMen else Some NotInside) (c, Done 0)).0
     outside true = same
     outside false = same
 
-    -- `P` holds after `BUILD` inside structure `s`, whether the world has its kind or not
+    -- for `go_on_cases`: `P` holds after `BUILD` inside structure `s`, whether the world has its kind or not
     by_kind : (s : Structure) → get c.structures u.structure ≡ Some s → (o : Option Kind) → slice_get w.kinds s.kind ≡ o → P (go_on_at c n u (option_map (λ k. (s, k)) o)).0
     by_kind s there None kind_is = outside (u.holding.men == 0)
     by_kind s there (Some k) kind_is = by_fault s k there kind_is (inside_fault u s k) refl
 
-    -- `P` holds after `BUILD`, whether the unit is inside a structure or not
+    -- for `go_on_cases`: `P` holds after `BUILD`, whether the unit is inside a structure or not
     by_structure : (o : Option Structure) → get c.structures u.structure ≡ o → P (go_on_at c n u (option_and_then (with_kind w) o)).0
     by_structure None there = outside (u.holding.men == 0)
     by_structure (Some s) there = by_kind s there (slice_get w.kinds s.kind) refl
@@ -355,15 +355,15 @@ reserve_within w c can e t = by_thing t
     all_within : (f : HoldingValue → ℕ) (most : ℕ) → ((h : HoldingValue) → IsHolding h → f h ≤ most) → sum_over (λ (u : Unit). f u.holding) c.units ≤ length (entries c.units) * most
     all_within f most each = sum_within (λ (u : Unit). f u.holding) most (entries c.units) (each-from_every (λ n u. f u.holding ≤ most) c.units (λ n u is. each u.holding (can.steady.numbers.units n u is).1))
 
-    -- a holding's limit for each of at most 100,000 units is together at most `most_moved`
+    -- for `reserve_within`: a holding's limit for each of at most 100,000 units is together at most `most_moved`
     few : (s n : ℕ) → s ≤ n * holding_limit → n ≤ most_units → s ≤ most_moved
     few s n l m = omega (arith, l, m)
 
-    -- a sum that is at most 0 for each unit is at most 0
+    -- for `reserve_within`: a sum that is at most 0 for each unit is at most 0
     nothing : (s n : ℕ) → s ≤ n * 0 → s ≤ 0
     nothing s n l = omega (arith, l)
 
-    -- the sum of 0 over all units is at most 0
+    -- for `reserve_within`: the sum of 0 over all units is at most 0
     none : sum_over (λ (u : Unit). 0) c.units ≤ 0
     none = nothing (sum_over (λ (u : Unit). 0) c.units) (length (entries c.units)) (all_within (λ h. 0) 0 (λ h is. omega arith))
 
@@ -464,6 +464,7 @@ go_on_done w c d f n u s k size told is there kind_is none first told_is size_is
 pub done_small : (u : Unit) (s : Structure) (k : Kind) → inside_fault u s k ≡ None → k.size ≤ most_size → s.done + size_added k u.holding s.done ≤ most_size
 done_small u s k none small = up (size_added k u.holding s.done) s.done k.size (size_missing k u.holding s.done) (can_go_on u s k none).missing small
   where
-    -- what is done of a size, and an addition of at most what is missing, are at most the greatest size of a kind
+    -- for `done_small`: what is done of a size, and an addition of at most what is missing, are at most the greatest
+    -- size of a kind
     up : (a d m : ℕ) → a ≤ m - d → d < m → m ≤ most_size → d + a ≤ most_size
     up a d m l h small = omega (arith, l, h, small)

@@ -17,7 +17,7 @@ use Rattle.atl_phase.proofs.PlacingLaws.{behind, place_is, placed_steady, placed
 use Rattle.atl_market.specs.Bounds.{CanBuild, build_reserve, still_bookable}
 use Rattle.atl_market.proofs.BuildBegunLaws.{still_well}
 
--- if `a + h` is `b + g`, and `g` is `h`, then `a` is `b`
+-- for `reserve_stays`: if `a + h` is `b + g`, and `g` is `h`, then `a` is `b`
 cancelled : (a b h g : ℕ) → a + h ≡ b + g → g ≡ h → a ≡ b
 cancelled a b h g e f = omega (arith, e, f)
 

@@ -44,7 +44,7 @@ item_less : (h : HoldingValue) (item amount j : ℕ) → amount ≤ amount_of h.
 item_less h item amount j enough =
     by_test (eq_by_cmp nat_cmp j item) refl ∙ ap (λ x. x + cond (eq_by_cmp nat_cmp j item) amount 0) (sym (set_amount h.items item (amount_of h.items item - amount) j))
   where
-    -- an amount is what is left of it when `n` is taken, plus `n`
+    -- for `item_less`: an amount is what is left of it when `n` is taken, plus `n`
     here : (x a n : ℕ) → n ≤ a → x ≡ a → x ≡ (a - n) + n
     here x a n l e = omega (arith, l, e)
 
@@ -73,13 +73,13 @@ usable_less h item amount enough e (Item j) = by_entry (entry_index e == entry_i
 only_used : (item amount : ℕ) (e : Entry) (t : Thing) → moves_only amount Used (Item item) e t ≤ used_of item amount e t
 only_used item amount e t = by_number (amount_number e t == amount_number Used (Item item)) refl
   where
-    -- `used_of` gives at least `amount` where both of its tests hold, for the entry and for the item
+    -- for `only_used`: `used_of` gives at least `amount` where both of its tests hold, for the entry and for the item
     at : (b d : Bool) → b ≡ true → d ≡ true → amount ≤ (if b then cond d amount 0 else 0)
     at true true f g = omega arith
     at true false f g = cc
     at false d f g = cc
 
-    -- if two amounts of the books have the same number, they are of the same thing and under the same entry
+    -- for `only_used`: two amounts of the books with the same number are of the same thing and under the same entry
     places : (i j p q : ℕ) → entry_count * i + p ≡ entry_count * j + q → p < entry_count → q < entry_count → (i ≡ j) × (p ≡ q)
     places i j p q e l m = (omega (arith, e, l, m), omega (arith, e, l, m))
 
@@ -101,7 +101,7 @@ only_used item amount e t = by_number (amount_number e t == amount_number Used (
 
 -- ---- the campaign
 
--- a sum in which one term is less by `x` is less by `x`
+-- for `drawn`: a sum in which one term is less by `x` is less by `x`
 shrunk : (s t f g x : ℕ) → s + f ≡ t + g → f ≡ g + x → s + x ≡ t
 shrunk s t f g x e h = omega (arith, e, h)
 
@@ -163,6 +163,6 @@ used_room c n item amount u is enough room =
     less_room amount (build_reserve c Used (Item item)) (amount_in c.books Used (Item item))
     (within amount (amount_of u.holding.items item) (sum_over f (remove c.units n)) (build_reserve c Used (Item item)) enough (sum_over-remove c.units n f u is)) (room Used (Item item))
   where
-    -- an amount that is at most one term of a sum is at most the sum
+    -- for `used_room`: an amount that is at most one term of a sum is at most the sum
     within : (a b s r : ℕ) → a ≤ b → s + b ≡ r → a ≤ r
     within a b s r l e = omega (arith, l, e)

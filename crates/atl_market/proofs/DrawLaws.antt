@@ -20,17 +20,18 @@ use Rattle.atl_market.specs.Pots.{amount_given, pot_shares, takers_in, wants_in}
 use Rattle.atl_market.proofs.PotLaws.{IsRisen, gives_each_pot, only_takers_get, taker_listed, takers_risen}
 use Rattle.atl_campaign.proofs.NumberListLaws.{IsListed}
 
--- if each element of a list is above `n` (`AllByRecursion`), each number on the list (`IsListed`) is above `n`
+-- for `with_first`: if each element of a list is above `n` (`AllByRecursion`), each number on the list (`IsListed`) is
+-- above `n`
 risen_above : (n : ℕ) (ns : List ℕ) → AllByRecursion (λ k. n < k) ns → (k : ℕ) → IsListed k ns → n < k
 risen_above n [] h k is = absurd is
 risen_above n (m ∷ ns) h k (inl same) = subst (λ j. n < j) (sym same) h.0
 risen_above n (m ∷ ns) h k (inr rest) = risen_above n ns h.1 k rest
 
--- a number of the list `n ∷ ns` that is above `n` is one of `ns`
+-- for `narrowed`: a number of the list `n ∷ ns` that is above `n` is one of `ns`
 another : (k n : ℕ) (ns : List ℕ) → n < k → IsListed k (n ∷ ns) → IsListed k ns
 another k n ns above is = elim is [ inl same ↦ absurd (omega (arith, above, same)) | inr rest ↦ rest ]
 
--- a number of the list `n ∷ ns` that isn't `n` is one of `ns`
+-- for `with_first`: a number of the list `n ∷ ns` that isn't `n` is one of `ns`
 not_this : (k n : ℕ) (ns : List ℕ) → k ≢ n → IsListed k (n ∷ ns) → IsListed k ns
 not_this k n ns apart is = elim is [ inl same ↦ absurd (apart same) | inr rest ↦ rest ]
 
@@ -61,12 +62,13 @@ module _ (draws : Drawers) where
     narrowed n ns [] above all = tt
     narrowed n ns (f ∷ es) above all = (λ draws. let (is, same) = all.0 draws in (another f.0 n ns above.0 is, same), narrowed n ns es above.1 all.1)
 
-    -- if the units of all shares have numbers above `k`, their numbers are above each `n` that is at most `k`
+    -- for `with_first`: if the units of all shares have numbers above `k`, their numbers are above each `n` that is at
+    -- most `k`
     lower : (n k : ℕ) (es : List (ℕ × ℕ)) → n ≤ k → AllByRecursion (λ f. k < f.0) es → AllByRecursion (λ f. n < f.0) es
     lower n k [] low above = tt
     lower n k (f ∷ es) low above = (omega (arith, low, above.0), lower n k es low above.1)
 
-    -- 0 plus a number that is 0 is 0
+    -- for `nothing_drawn`: 0 plus a number that is 0 is 0
     none_first : (rest : ℕ) → rest ≡ 0 → 0 + rest ≡ 0
     none_first rest h = omega (arith, h)
 
@@ -79,15 +81,17 @@ module _ (draws : Drawers) where
           | false ↦ λ _. none_first (drawn es) (nothing_drawn es all.1)
         ] refl
 
-    -- if others draw `rest`, at most `others`, then with `mine` they draw at most `all`: `mine` and `others` together
+    -- for `with_first`: if others draw `rest`, at most `others`, then with `mine` they draw at most `all`: `mine` and
+    -- `others` together
     both : (mine rest others all : ℕ) → rest ≤ others → all ≡ mine + others → mine + rest ≤ all
     both mine rest others all h e = omega (arith, h, e)
 
-    -- if what others draw (`rest`) is at most `all`, so is 0 plus it
+    -- for `with_first`: if what others draw (`rest`) is at most `all`, so is 0 plus it
     none_of : (rest all : ℕ) → rest ≤ all → 0 + rest ≤ all
     none_of rest all h = omega (arith, h)
 
-    -- if what others draw (`drawing`) is at most `others`, it is at most `all`, which is `first` and `others`
+    -- for `with_first`: if what others draw (`drawing`) is at most `others`, it is at most `all`, which is `first` and
+    -- `others`
     skipped : (drawing others first all : ℕ) → drawing ≤ others → all ≡ first + others → drawing ≤ all
     skipped drawing others first all h e = omega (arith, h, e)
 
@@ -148,7 +152,7 @@ module _ {K : Type 0} (pots : DrawnPots K) where
     pub first_draws : (k : K) (q : Region) → get d.regions (pots.pot_region k) ≡ Some q → pots.draws k e.0 ≡ true → e.1 ≤ pots.left k q
     first_draws k q around mine = at_least (pots.left k q) (subst (λ b. cond b e.1 0 + drawn (pots.draws k) es ≤ pots.left k q) mine (enough k q around))
       where
-        -- a share is at most the pot if the share and what later units draw are together at most the pot
+        -- for `first_draws`: a share is at most the pot if it and what later units draw are together at most the pot
         at_least : (all : ℕ) → e.1 + drawn (pots.draws k) es ≤ all → e.1 ≤ all
         at_least all h = omega (arith, h)
 
@@ -158,12 +162,13 @@ module _ {K : Type 0} (pots : DrawnPots K) where
         let (q, around, less) = drains k x is in
         left_over (cond (pots.draws k e.0) e.1 0) (drawn (pots.draws k) es) (pots.left k x) (pots.left k q) (enough k q around) less
       where
-        -- if `share` and `rest` make at most `all`, what later units draw (`rest`) is at most `all` less `share`
+        -- for `others_draw`: if `share` and `rest` make at most `all`, what later units draw (`rest`) is at most `all`
+        -- less `share`
         left_over : (share rest less all : ℕ) → share + rest ≤ all → less + share ≡ all → rest ≤ less
         left_over share rest less all h k = omega (arith, h, k)
 
   module _ (d : CampaignValue) (e : ℕ × ℕ) (after : CampaignValue) where
-    -- a number plus 0 is the number
+    -- for `region_drains` and `nothing_drains`: a number plus 0 is the number
     no_less : (a : ℕ) → a + 0 ≡ a
     no_less a = omega arith
 
@@ -189,7 +194,7 @@ module _ {K : Type 0} (pots : DrawnPots K) where
     pub nothing_drains : after.regions ≡ d.regions → e.1 ≡ 0 → Drains d e after
     nothing_drains same none k x found = (x, sym (ap (λ m. get m (pots.pot_region k)) same) ∙ found, ap (λ s. pots.left k x + cond (pots.draws k e.0) s 0) none ∙ neither (pots.draws k e.0) (pots.left k x))
       where
-        -- an amount plus a share of 0, whether drawn or not, is the amount
+        -- for `nothing_drains`: an amount plus a share of 0, whether drawn or not, is the amount
         neither : (b : Bool) (a : ℕ) → a + cond b 0 0 ≡ a
         neither true a = no_less a
         neither false a = no_less a
@@ -239,7 +244,7 @@ module _ (pot_of : ℕ → ℕ) (wants : FinMap nat_cmp ℕ) (c : CampaignValue)
       let here : u.region ≡ r = eqb-true u.region r (ap (is_in_region r) (sym at) ∙ stands) in
       (subst (λ k. IsListed n (takers_in wants c.units k)) here (taker_listed wants c.units n want u wanted at), ap (λ o. unwrap_or o 0) is)
 
-  -- what is at most the lesser of a pot and a sum is at most the pot
+  -- for `shares_are_enough`: what is at most the lesser of a pot and a sum is at most the pot
   least : (drawing pot all : ℕ) → drawing ≤ min pot all → drawing ≤ pot
   least drawing pot all h = omega (arith, h)
 

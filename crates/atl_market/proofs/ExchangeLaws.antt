@@ -51,17 +51,18 @@ module _ (w : WorldValue) (c : CampaignValue) (n : ℕ) (u : Unit) (q : Region) 
   total_of : KeepsTogether u q f more z → (t : Thing) → pos (total exchanged t) ≡ pos (total c t) +ℤ share_of t Money z
   total_of keeps t = by_thing t (total-amount left entry Money t z) (total-region f supplied u.region q around t) (total-unit_amount w c n u more is t)
     where
-      -- the total of an item stays the same, if what the unit gains of it is what the region loses
+      -- for `total_of`: the total of an item is before (`e`) and after (`a`) the exchange the same, if what the unit
+      -- gains of the item is what the region loses
       same : (a b d e g h i j : ℕ) → a ≡ b → b + g ≡ d + h → d + i ≡ e + j → j + h ≡ i + g → a ≡ e
       same a b d e g h i j s k l m = omega (arith, s, k, l, m)
 
-      -- what is booked of an item, which is nothing, leaves the item's total as it is
+      -- for `total_of`: what is booked of an item, which is nothing, leaves the item's total as it is
       none_booked : (x i : ℕ) → pos x +ℤ share_of (Item i) Money z ≡ pos x
       none_booked x i =
           let other : (2 + i == 0) ≡ false = grind (arith, nat_tests) in
           ap (λ b. pos x +ℤ cond b z (pos 0)) other ∙ zero_more
         where
-          -- a number plus 0 is the number
+          -- for `none_booked`: a number plus 0 is the number
           zero_more : pos x +ℤ pos 0 ≡ pos x
           zero_more = omega (arith, ints)
 

@@ -34,11 +34,11 @@ use Rattle.atl_market.specs.Goods.{with_made, with_used}
 use Rattle.atl_market.specs.Making.{CanMake, CanUse}
 use Rattle.atl_market.proofs.ThereLaws.{by_unit, unit_there}
 
--- if `a` takes the place of `l` in a total `t`, and `a` is `l` plus `z`, the new total `x` is `t` plus `z`
+-- for `total_of`: if `a`, which is `l` plus `z`, takes the place of `l` in total `t`, the new total `x` is `t` plus `z`
 moved : (x y t k a l : ℕ) (z : ℤ) → x ≡ y → y + k ≡ t + a → k ≡ l → pos a ≡ pos l +ℤ z → pos x ≡ pos t +ℤ z
 moved x y t k a l z e f g h = omega (arith, ints, e, f, g, h)
 
--- if an amount takes the place of an equal one in a total `t`, the new total `x` is `t`
+-- for `total_of`: if an amount takes the place of an equal one in a total `t`, the new total `x` is `t`
 unmoved : (x y t k : ℕ) → x ≡ y → y + k ≡ t + k → pos x ≡ pos t +ℤ pos 0
 unmoved x y t k e f = omega (arith, ints, e, f)
 
@@ -89,7 +89,7 @@ module _ (w : WorldValue) (c : CampaignValue) (n : ℕ) (u : Unit) (i amount : �
           let other : (2 + j == 2 + i) ≡ false = grind (arith, nat_tests) in
           unmoved x y t (amount_of u.holding.items j) a b ∙ sym (ap (λ p. pos t +ℤ cond p z (pos 0)) other)
 
-      -- the total of each thing changes by what is booked of it
+      -- a thing's total changes by what is booked of it, given what setting the item and the booking change of it
       total_of : (t : Thing) → total after t ≡ total with_set t → total with_set t + unit_amount t u.holding ≡ total c t + unit_amount t more → pos (total after t) ≡ pos (total c t) +ℤ share_of t (Item i) z
       total_of Money a b =
           let other : (0 == 2 + i) ≡ false = grind (arith, nat_tests) in
@@ -118,11 +118,11 @@ module _ (w : WorldValue) (c : CampaignValue) (n : ℕ) (u : Unit) (i amount : �
 
 -- ---- what is used
 
--- an amount less a part of it, as a whole number with sign, is the amount minus the part
+-- for `used_up_to`: an amount less a part of it, as a whole number with sign, is the amount minus the part
 taken_off : (a k : ℕ) → k ≤ a → pos (a - k) ≡ pos a +ℤ neg_ℤ (pos k)
 taken_off a k l = omega (arith, ints, l)
 
--- the sum of two amounts, as a whole number with sign, is the sum of both
+-- for `made_well`: the sum of two amounts, as a whole number with sign, is the sum of both
 put_to : (a k : ℕ) → pos (a + k) ≡ pos a +ℤ pos k
 put_to a k = omega (arith, ints)
 
@@ -185,7 +185,7 @@ module _ (w : WorldValue) (c : CampaignValue) (n i k : ℕ) where
 pub no_more : (h : HoldingValue) (r i k : ℕ) → amount_of (with_amount_of h.items r (amount_of h.items r - k)) i ≤ amount_of h.items i
 no_more h r i k = subst (λ a. a ≤ amount_of h.items i) (sym (set_amount h.items r (amount_of h.items r - k) i)) (by_test (eq_by_cmp nat_cmp i r) refl)
   where
-    -- `a` less `k` is at most `b`, which is `a`
+    -- for `no_more`: `a` less `k` is at most `b`, which is `a`
     less : (a b k : ℕ) → b ≡ a → a - k ≤ b
     less a b k e = omega (arith, e)
 

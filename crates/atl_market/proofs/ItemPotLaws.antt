@@ -23,7 +23,7 @@ use Rattle.atl_market.specs.Puts.{with_each}
 use Rattle.atl_shares.specs.Share.{shares}
 use Rattle.atl_market.proofs.PotLaws.{AgreeWith, Entries, IsApart, IsRisen, agreeing_put, each_flat, each_found, each_region, found_among, found_is, found_other, found_put, given_apart, given_is, given_takes, pots_give, somewhere, takers_risen}
 
--- a choice between two equal options is that option
+-- for `found_listed` and `shares_at`: a choice between two equal options is that option
 either : (b : Bool) (o : Option ℕ) → cond b o o ≡ o
 either true o = refl
 either false o = refl
@@ -104,7 +104,7 @@ module _ (item_of : ℕ → Option ℕ) (wants : FinMap nat_cmp ℕ) where
   wants_the_same : (i n : ℕ) → is_some (get (mine i) n) ≡ true → want_of wants n ≡ want_of (mine i) n
   wants_the_same i n some = by_test (is_for i (item_of n)) refl
     where
-      -- the unit has the same want in both maps, since it asks for item `i` (the test `b`)
+      -- for `wants_the_same`: the unit has the same want in both maps, since it asks for item `i` (the test `b`)
       by_test : (b : Bool) → is_for i (item_of n) ≡ b → want_of wants n ≡ want_of (mine i) n
       by_test true is = sym (ap (λ o. unwrap_or o 0) (mine_at i n ∙ ap (λ b. cond b (get wants n) None) is))
       by_test false is = absurd (false≢true (sym (ap is_some (mine_at i n ∙ ap (λ b. cond b (get wants n) None) is)) ∙ some))
@@ -146,12 +146,13 @@ module _ (item_of : ℕ → Option ℕ) (wants : FinMap nat_cmp ℕ) where
     | Some want ↦ ap (λ ks. n ∷ ks) (pair_keys i ns)
   ]
 
--- if `f` and `g` are equal for each number that passes a test, they map the listed numbers that pass alike
+-- if `f n` is `g n` for each number `n` that passes test `p`, both map the listed numbers that pass to the same list
 filtered_map : (p : ℕ → Bool) (f g : ℕ → ℕ) → ((n : ℕ) → p n ≡ true → f n ≡ g n) → (ns : List ℕ) → map f (filter p ns) ≡ map g (filter p ns)
 filtered_map p f g same [] = refl
 filtered_map p f g same (n ∷ ns) = by_test (p n) refl (filtered_map p f g same ns)
   where
-    -- the two mapped lists are still equal with number `n` in front, whether `n` passes the test or not
+    -- for `filtered_map`: `f` and `g` map those of `n ∷ ns` that pass the test alike, if they do so for `ns`, whether
+    -- `n` passes (`b`) or not
     by_test : (b : Bool) → p n ≡ b → map f (filter p ns) ≡ map g (filter p ns) → map f (cond b (n ∷ filter p ns) (filter p ns)) ≡ map g (cond b (n ∷ filter p ns) (filter p ns))
     by_test true is rest = λ i. same n is i ∷ rest i
     by_test false is rest = rest
@@ -204,7 +205,7 @@ module _ (item_of : ℕ → Option ℕ) (pot_of : (item region : ℕ) → ℕ) (
         let one : item_shares_in pot_of wants r e ≡ of_item e.0 = ap (λ g. item_shares_in pot_of wants r (e.0, g)) (sym group) ∙ item_is e.0 in
         ap (λ (fs : Entries). fs ++ flat_map (item_shares_in pot_of wants r) es) one ∙ ap (λ (fs : Entries). of_item e.0 ++ fs) (items_are es h.1)
 
-    -- the region's shares are those of its items, one item after the other
+    -- the shares that the code puts in for the region are those of its items (`of_item`), one item after the other
     region_is : region_shares item_of pot_of wants c r ≡ flat_map of_item (keys groups)
     region_is = items_are (entries groups) (each-from_every (λ i group. get groups i ≡ Some group) groups (λ i group is. is))
 
@@ -224,7 +225,7 @@ module _ (item_of : ℕ → Option ℕ) (pot_of : (item region : ℕ) → ℕ) (
         subst (λ (es : Entries). is_some (find nat_cmp n es) ≡ true) (sym region_is)
         (found_among of_item n (keys groups) i (sym (contains_key-keys groups i) ∙ by_group (get groups i) refl) (ap is_some is))
       where
-        -- an item of which some unit of the region has a share has a group
+        -- for `region_whole`: an item of which some unit of the region has a share has a group (`o`)
         by_group : (o : Option (FinMap nat_cmp ℕ)) → get groups i ≡ o → is_some o ≡ true
         by_group (Some group) at = refl
         by_group None at =
@@ -260,7 +261,7 @@ module _ (item_of : ℕ → Option ℕ) (pot_of : (item region : ℕ) → ℕ) (
     | inr apart ↦ other apart (gets e.0) ∙ found_listed es n ∙ sym (ap (λ o. cond (is_some o) (gets n) None) (found_other e es n apart))
   ]
     where
-      -- the unit of the first entry is found with its share `o`, if it has one
+      -- for `found_listed`: the unit of the first entry is found with its share `o`, if it has one
       here : n ≡ e.0 → (o : Option ℕ) → gets e.0 ≡ o → find nat_cmp n (of_wants es) ≡ cond (is_some (find nat_cmp n es)) (gets n) None → find nat_cmp n (cons_option (share_at e.0 o) (of_wants es)) ≡ o
       here same None is rest = rest ∙ ap (λ o. cond (is_some (find nat_cmp n es)) o None) (ap gets same ∙ is) ∙ either (is_some (find nat_cmp n es)) None
       here same (Some s) is rest = ap (λ k. find nat_cmp k ((e.0, s) ∷ of_wants es)) same ∙ first (e.0, s) (of_wants es)
@@ -304,7 +305,7 @@ module _ (item_of : ℕ → Option ℕ) (pot_of : (item region : ℕ) → ℕ) (
           let (r, among, found) = somewhere (of_item_in i) n s (keys c.regions) (sym (found_is (pot_of i) (mine item_of wants i) c n) ∙ is) in
           found_among (region_shares item_of pot_of wants c) n (keys c.regions) r among (region_whole r i n s found)
         where
-          -- the shares of item `i` in region `r`, by unit
+          -- the units of region `r` that want item `i`, each with its share of the region's pot of the item
           of_item_in : ℕ → ℕ → Entries
           of_item_in i r = shares_in (pot_of i) (mine item_of wants i) c.units r
 
@@ -319,7 +320,7 @@ module _ (item_of : ℕ → Option ℕ) (pot_of : (item region : ℕ) → ℕ) (
   pub nothing_put : (r : ℕ) → takers_in wants c.units r ≡ [] → region_shares item_of pot_of wants c r ≡ []
   nothing_put r nobody = ap (λ (gs : Groups). flat_map (item_shares_in pot_of wants r) (entries gs)) (unwanted empty (numbers_in r c.units) nobody) ∙ ap (flat_map (item_shares_in pot_of wants r)) (no_entries nat_cmp)
     where
-      -- a unit without a want changes no group
+      -- for `nothing_put`: a unit without a want changes no group
       skipped : (groups : Groups) (n : ℕ) (i v : Option ℕ) → is_some v ≡ false → with_item_want groups n i v ≡ groups
       skipped groups n None v h = refl
       skipped groups n (Some i) None h = refl

@@ -28,7 +28,7 @@ use Rattle.atl_shares.proofs.ShareLaws.{all_is_given, share_at_most, length-shar
 abbrev pub Entries : Type 0
 Entries = List (ℕ × ℕ)
 
--- an option that can't be Some is None
+-- for `zip_apart`: an option that can't be Some is None
 refuted : {X : Type 0} (o : Option X) → ((x : X) → o ≡ Some x → ⊥) → o ≡ None
 refuted None h = refl
 refuted (Some x) h = absurd (h x refl)
@@ -127,7 +127,7 @@ module _ (g : ℕ → Option ℕ) where
   pub agreeing_put : (es : Entries) → AgreeWith es → ((n s : ℕ) → g n ≡ Some s → is_some (find nat_cmp n es) ≡ true) → (n : ℕ) → get (with_each empty es) n ≡ g n
   agreeing_put es tells whole n = by_find (find nat_cmp n es) refl
     where
-      -- `g` has no value for a number that isn't among the entries
+      -- for `agreeing_put`: `g` has no value for a number that isn't among the entries, which have all numbers of `g`
       nothing : find nat_cmp n es ≡ None → (o : Option ℕ) → g n ≡ o → o ≡ None
       nothing none None is = refl
       nothing none (Some s) is = absurd (false≢true (ap is_some (sym none) ∙ whole n s is))
@@ -175,7 +175,7 @@ last_put {V} m (e ∷ es) n = last_put (insert m e.0 e.1) es n ∙ by_find (find
     by_find None is =
         get-insert nat_cmp_total m e.0 e.1 n ∙ by_test (is_eq (nat_cmp n e.0)) ∙ ap (λ o. or_else o (get m n)) (sym (found_later n (reverse es) (e ∷ []) is))
       where
-        -- a map into which entry `e` was put has under `n` the entry's value if the number is its own, else what it had
+        -- the map with entry `e` put in has under `n` the entry's value if its number is `n` (`b`), else what it had
         by_test : (b : Bool) → cond b (Some e.1) (get m n) ≡ or_else (cond b (Some e.1) None) (get m n)
         by_test true = refl
         by_test false = refl
@@ -185,7 +185,7 @@ pub put_in_turn : {V : Type 0} (es : List (ℕ × V)) → with_each empty es ≡
 put_in_turn {V} es = same_map nat_cmp_total nat_cmp-IsAntisymmetric _ _ (λ n.
     last_put empty es n ∙ ap (or_else (find nat_cmp n (reverse es))) (get-empty nat_cmp n) ∙ or_none (find nat_cmp n (reverse es)) ∙ sym (get-from_entries nat_cmp_total (reverse es) n))
   where
-    -- an option, or None in its place where it is None, is the option
+    -- for `put_in_turn`: the first value of an option and None (`or_else`) is that option
     or_none : (o : Option V) → or_else o None ≡ o
     or_none None = refl
     or_none (Some s) = refl
@@ -287,7 +287,7 @@ module _ {X : Type 0} (p : X → Bool) where
   kept_in_order R [] h = tt
   kept_in_order R (x ∷ xs) h = either (kept_in_order R xs h.1) (p x)
     where
-      -- the elements that pass are in order, with `x` in front if it passes, and without it if not
+      -- for `kept_in_order`: the elements that pass are in order, with `x` in front if it passes (`b`), else without it
       either : InOrder R (filter p xs) → (b : Bool) → InOrder R (cond b (x ∷ filter p xs) (filter p xs))
       either rest true = (filter_each p (R x) xs h.0, rest)
       either rest false = rest
@@ -298,7 +298,8 @@ module _ (p : ℕ → Bool) (n : ℕ) where
   kept_listed [] h is = is
   kept_listed (k ∷ ns) h is = by_test (kept_listed ns h) (p k) refl is
     where
-      -- `n` is among those that pass, when `k` stands in front of the list, whether `k` passes or not
+      -- for `kept_listed`: `n`, which passes and is on the list `k ∷ ns`, is among those of it that pass, whether `k`
+      -- passes (`b`) or not
       by_test : (IsListed n ns → IsListed n (filter p ns)) → (b : Bool) → p k ≡ b → IsListed n (k ∷ ns) → IsListed n (cond b (k ∷ filter p ns) (filter p ns))
       by_test rest true e (inl same) = inl same
       by_test rest true e (inr later) = inr (rest later)
@@ -310,7 +311,8 @@ module _ (p : ℕ → Bool) (n : ℕ) where
   kept_was [] is = absurd is
   kept_was (k ∷ ns) is = by_test (kept_was ns) (p k) refl is
     where
-      -- the number was listed and passes, whether `k` in front of the others passes or not
+      -- for `kept_was`: a number `n` that is among those of `k ∷ ns` that pass is on this list and passes, whether `k`
+      -- passes (`b`) or not
       by_test : (IsListed n (filter p ns) → IsListed n ns × (p n ≡ true)) → (b : Bool) → p k ≡ b → IsListed n (cond b (k ∷ filter p ns) (filter p ns)) → IsListed n (k ∷ ns) × (p n ≡ true)
       by_test rest true e (inl same) = (inl same, ap p same ∙ e)
       by_test rest true e (inr later) = let (was, passes) = rest later in (inr was, passes)
@@ -345,7 +347,7 @@ module _ (wants : FinMap nat_cmp ℕ) (units : FinMap nat_cmp Unit) where
 -- ---- shares of all regions
 
 module _ (pot_of : ℕ → ℕ) (wants : FinMap nat_cmp ℕ) (units : FinMap nat_cmp Unit) where
-  -- the shares of region `r`, by unit
+  -- the units of region `r` that have a want, each with its share of the region's pot
   abbrev given_in : ℕ → Entries
   given_in r = shares_in pot_of wants units r
 
@@ -377,7 +379,7 @@ each_region P c h = by_entries (entries c.regions) (each-from_every (λ r q. get
     by_entries (e ∷ es) all = (h e.0 (e.1, all.0), by_entries es all.1)
 
 module _ (pot_of : ℕ → ℕ) (wants : FinMap nat_cmp ℕ) (c : CampaignValue) where
-  -- the share of a unit is the one found among those of all regions
+  -- the share of a unit (`share_of`) is the one found under its number among the shares of all regions
   pub found_is : (n : ℕ) → share_of pot_of wants c n ≡ find nat_cmp n (flat_map (shares_in pot_of wants c.units) (keys c.regions))
   unfolding pot_shares
   found_is n = get-from_entries nat_cmp_total (flat_map (shares_in pot_of wants c.units) (keys c.regions)) n
@@ -439,7 +441,7 @@ module _ (wants : FinMap nat_cmp ℕ) (c : CampaignValue) where
   pub none_asked : (r : ℕ) → is_some (get (regions_with_wants wants c) r) ≡ false → takers_in wants c.units r ≡ []
   none_asked r free = by_takers (takers_in wants c.units r) (takers_each wants c.units r)
     where
-      -- a list of units that each have a want in the region is empty, since a unit's want would list the region
+      -- for `none_asked`: a list of units with a want in region `r` is empty, as `r` isn't among the regions with wants
       by_takers : (ns : List ℕ) → AllByRecursion (IsTaker wants c.units r) ns → ns ≡ []
       by_takers [] all = refl
       by_takers (n ∷ ns) all =
@@ -489,12 +491,12 @@ pots_give pot_of c wants n share is = let (want, u, wanted, low, at, region) = o
 amounts : (g : ℕ → Option ℕ) (ns ss : List ℕ) → map g ns ≡ map Some ss → map (λ n. unwrap_or (g n) 0) ns ≡ ss
 amounts g ns ss h = mapped ns ∙ ap (map (λ o. unwrap_or o 0)) h ∙ back ss
   where
-    -- mapping numbers to amounts is mapping them to options, and then each option to its amount
+    -- for `amounts`: mapping numbers to amounts is mapping them to options, and then each option to its amount
     mapped : (ns : List ℕ) → map (λ n. unwrap_or (g n) 0) ns ≡ map (λ o. unwrap_or o 0) (map g ns)
     mapped [] = refl
     mapped (n ∷ ns) = ap (λ l. unwrap_or (g n) 0 ∷ l) (mapped ns)
 
-    -- the amounts of options that are Some of some amounts are these amounts
+    -- for `amounts`: the amounts of options that are Some of some amounts are these amounts
     back : (ss : List ℕ) → map (λ o. unwrap_or o 0) (map Some ss) ≡ ss
     back [] = refl
     back (s ∷ ss) = ap (λ l. s ∷ l) (back ss)

@@ -48,12 +48,12 @@ use Rattle.atl_market.proofs.WantLaws.{few_given, given_is_named}
 
 -- ---- what is moved
 
--- a bound that is a holding's limit or 0 is at most a holding's limit
+-- for `used_less` and `made_less`: a bound that is a holding's limit or 0 is at most a holding's limit
 on : (b : Bool) → (if b then holding_limit else 0) ≤ holding_limit
 on true = omega arith
 on false = omega arith
 
--- the bound that moves only the amount numbered `b` is 0 for an amount with another number
+-- for `used_less` and `made_less`: the bound that moves only the amount numbered `b` is 0 for one numbered `a`
 off : (a b : ℕ) → a ≢ b → (if a == b then holding_limit else 0) ≤ 0
 off a b apart = let other : (a == b) ≡ false = grind (arith, nat_tests) in rw other (omega arith)
 
@@ -146,7 +146,7 @@ module _ (asked : FinMap nat_cmp ℕ) (w : WorldValue) (c : CampaignValue) (e : 
               (room_less (both_move (moves_only holding_limit booked.Used (things.Item r)) (moves_only holding_limit booked.Made (things.Item i))) (produce_moves holding_limit) c (both_less r i) can.room) booked.Made (things.Item i)));
         }
       where
-        -- if an amount has room for the share within a holding's limit, so has any smaller amount
+        -- for `can_after`: if an amount has room for the share within a holding's limit, so has any smaller amount
         below : (a b : ℕ) → a ≤ b → b + e.1 ≤ holding_limit → a + e.1 ≤ holding_limit
         below a b l m = omega (arith, l, m)
 
@@ -213,13 +213,13 @@ produce_keeps_others w c os = others_no_worse produce_pots w (λ items. produced
 needs_item : (w : WorldValue) (h : HoldingValue) → make_fault h (item_of w None) ≡ None → ⊥
 needs_item w h fine = by_men (h.men == 0) fine
   where
-    -- an order without an item has a fault: NoMen for a unit without men (`b`), else NoSkill
+    -- for `needs_item`: an order without an item has a fault: NoMen for a unit without men (`b`), else NoSkill
     by_men : (b : Bool) → first_fault ((b, NoMen) ∷ (true, NoSkill) ∷ []) ≡ None → ⊥
     by_men true never = none_some NoMen (sym never)
     by_men false never = none_some NoSkill (sym never)
 
 module _ (w : WorldValue) (c : CampaignValue) (os : List Task) where
-  -- the item that each unit's order names
+  -- the item that each unit's order of PRODUCE names, by unit
   abbrev items : FinMap nat_cmp ℕ
   items = items_by produce_pots w c os
 
@@ -227,7 +227,7 @@ module _ (w : WorldValue) (c : CampaignValue) (os : List Task) where
   abbrev Makes : ℕ × ℕ → Type 0
   Makes e = (u : Unit) × (get c.units e.0 ≡ Some u) × (e.1 ≤ most_makeable w u.holding (get items e.0))
 
-  -- each unit makes at most what it can make
+  -- each unit that makes something is there, and makes at most what it can make of its order's item
   pub given_can : Every (λ n made. Makes (n, made)) (given_by produce_pots w c os)
   given_can n made is =
       let (u, t, there, own, low, fine, named) = given_is_named produce_pots w c (makes_give w c) os n made is in
@@ -247,15 +247,15 @@ up_to_most h count (Some r) most = omega arith
 up_to_held : (h : HoldingValue) (count : ℕ) (raw : Option ℕ) (most r : ℕ) → raw ≡ Some r → up_to_raw h count raw most ≤ amount_of h.items r / count
 up_to_held h count raw most r is = subst (λ o. up_to_raw h count o most ≤ amount_of h.items r / count) (sym is) (omega arith)
 
--- if `made` is at most what `limit` leaves beside `held`, then `held` and `made` together are within the limit
+-- for `fits_by`: if `made` is at most what `limit` leaves beside `held`, then `held` and `made` together are within it
 has_room : (made skilled limit held most : ℕ) → held ≤ limit → made ≤ most → most ≤ min skilled (limit - held) → held + made ≤ limit
 has_room made skilled limit held most fits low least = omega (arith, fits, low, least)
 
--- for at most `held / count` pieces, at `count` each, what is held is enough
+-- for `fits_by`: for at most `held / count` pieces, at `count` each, what is held is enough
 has_raw : (made count held : ℕ) → made ≤ held / count → made * count ≤ held
 has_raw made count held low = omega (arith, mul-le-mul_right count low, mul-div-le held count, mul_comm (held / count) count)
 
--- the raw item of an item of the world is an item of the world
+-- for `fits_by`: the raw item of an item of the world is an item of the world
 raw_in : (items r : ℕ) (o : Option ℕ) → o ≡ Some r → IfSome o (λ k. k < items) → r < items
 raw_in items r None is known = none_some r is
 raw_in items r (Some k) is known = let same : k ≡ r = cc in subst (λ m. m < items) same known
@@ -306,7 +306,7 @@ module _ (w : WorldValue) (c : CampaignValue) (world : IsWorld w) (steady : IsSt
   abbrev shares : List (ℕ × ℕ)
   shares = entries (given_by produce_pots w c os)
 
-  -- the item that each unit's order names
+  -- the item that each unit's order of PRODUCE names, by unit
   abbrev named : FinMap nat_cmp ℕ
   named = items_by produce_pots w c os
 
@@ -320,7 +320,7 @@ module _ (w : WorldValue) (c : CampaignValue) (world : IsWorld w) (steady : IsSt
   few : length shares ≤ most_units
   few = omega (arith, few_given produce_pots w c (makes_give w c) os, steady.numbers.few_units)
 
-  -- the production of all these units together moves each amount of the books by less than 10^14
+  -- the production of all units that make something moves each amount of the books by less than 10^14 altogether
   little : MovesLess (moved_times (length shares) (produce_moves holding_limit)) (produce_moves most_moved)
   little e t = scaled (length shares) holding_limit most_moved (omega (arith, few)) e t
 

@@ -48,7 +48,7 @@ peasants_of q = q.peasants
 
 -- ---- one unit gets its recruits
 
--- a region `r` with the peasants of `q` less the recruits
+-- region `r` with the peasants that region `q` has, less the recruits
 abbrev pub with_fewer_peasants : Region → ℕ → Region → Region
 with_fewer_peasants q recruits r = record r { peasants = q.peasants - recruits }
 
@@ -110,7 +110,7 @@ module _ (w : WorldValue) (c : CampaignValue) (n : ℕ) (u : Unit) (q : Region) 
 -- ---- one step
 
 module _ (w : WorldValue) (c : CampaignValue) (e : ℕ × ℕ) where
-  -- what the recruits of a share cost
+  -- what the recruits of the share `e` cost together
   abbrev price : ℕ
   price = e.1 * w.rules.recruit_price
 
@@ -134,7 +134,7 @@ module _ (w : WorldValue) (c : CampaignValue) (e : ℕ × ℕ) where
   recruited_drains can units there =
       one_drains units peasants_of c e can.at.unit can.at.region there can.at.around (after_recruiting w c e) (with_fewer_peasants can.at.region e.1) (ap (λ (d : CampaignValue). d.regions) (made_is can)) (less can.at.region.peasants can.enough)
     where
-      -- the peasants that are left and the recruits are together the peasants from before
+      -- for `recruited_drains`: the peasants that are left and the recruits are together the peasants from before
       less : (all : ℕ) → e.1 ≤ all → all - e.1 + e.1 ≡ all
       less all enough = omega (arith, enough)
 
@@ -166,11 +166,11 @@ module _ (w : WorldValue) (c : CampaignValue) where
   abbrev CanHave : ℕ × ℕ → Type 0
   CanHave e = (u : Unit) × (get c.units e.0 ≡ Some u) × (u.holding.men + e.1 ≤ men_limit) × (e.1 * w.rules.recruit_price ≤ u.holding.money)
 
-  -- the shares still to come can be given in campaign `d`
+  -- in a campaign the listed shares (unit, share) of RECRUIT can be given, one after the other (`AreReady`)
   abbrev AreToJoin : CampaignValue → List (ℕ × ℕ) → Type 0
   AreToJoin = AreReady pots CanHave w c
 
-  -- the books have room for the price of all shares still to come
+  -- the books of a campaign have room for the price of all listed shares (unit, share) of RECRUIT
   abbrev CanBook : CampaignValue → List (ℕ × ℕ) → Type 0
   CanBook d es = HaveRoom (moved_times (length es) step_moves) d
 
@@ -200,23 +200,23 @@ module _ (w : WorldValue) (c : CampaignValue) where
     abbrev shares : List (ℕ × ℕ)
     shares = entries (given_by recruit_pots w c os)
 
-    -- a unit has room for a share of at most its want
+    -- a unit with `men` men has room for a share of at most its want: the least of `count`, `payable` and its room
     wanted_fits : (count payable men share : ℕ) → men ≤ men_limit → share ≤ min count (min payable (men_limit - men)) → men + share ≤ men_limit
     wanted_fits count payable men share fits low = omega (arith, fits, low)
 
-    -- a unit can pay for a share of at most its want
+    -- a unit with this money can pay for a share of at most its want: the least of `count`, what it can pay, and `most`
     wanted_payable : (count money price most share : ℕ) → share ≤ min count (min (money / price) most) → share * price ≤ money
     wanted_payable count money price most share low =
         let few : share ≤ money / price = omega (arith, low) in
         omega (arith, mul-le-mul_right price few, mul-div-le money price, mul_comm (money / price) price)
 
-    -- each unit has room for its recruits and can pay for them
+    -- each unit that gets recruits is there, has room for them, and can pay for them
     each_fits : Every (λ n share. CanHave (n, share)) (given_by recruit_pots w c os)
     each_fits n share is =
         let (u, o, there, own, low) = given_is_wanted recruit_pots w c (λ items. pots_give (recruits_at w c) c) os n share is in
         (u, there, wanted_fits _ _ u.holding.men share (early.steady.numbers.units n u there).1.men low, wanted_payable _ u.holding.money w.rules.recruit_price _ share low)
 
-    -- a region's peasants divided by a number, rounded down, are at most all its peasants
+    -- for `all_enough`: a region's peasants divided by a number, rounded down, are at most all its peasants
     part : (all one : ℕ) → all / one ≤ all
     part all one = div-le_self all one
 
@@ -230,7 +230,7 @@ module _ (w : WorldValue) (c : CampaignValue) where
     few : length shares ≤ most_units
     few = omega (arith, few_given recruit_pots w c (λ items. pots_give (recruits_at w c) c) os, early.steady.numbers.few_units)
 
-    -- the recruiting of all these units together moves each amount of the books by less than 10^14
+    -- the recruiting of all units that get recruits moves each amount of the books by less than 10^14 altogether
     little : (e : Entry) (t : Thing) → moved_times (length shares) step_moves e t ≤ recruit_moves most_moved e t
     little e t = few_holdings (length shares) few Recruiting Money e t
 

@@ -46,7 +46,7 @@ money_of q = q.money
 
 -- ---- one unit takes its share
 
--- a region `r` with the money of `q` less a share
+-- region `r` with the money that region `q` has, less a share
 abbrev pub drain : Region → ℕ → Region → Region
 drain q share r = record r { money = q.money - share }
 
@@ -71,7 +71,8 @@ module _ (w : WorldValue) (c : CampaignValue) (n : ℕ) (u : Unit) (q : Region) 
     same_total People a b = omega (arith, a, b)
     same_total (Item i) a b = same (total after (Item i)) (total (richer c n u share) (Item i)) (total c (Item i)) (amount_of q.stocks i) (amount_of u.holding.items i) a b
       where
-        -- the total of an item stays the same if unit and region have as much of it as before
+        -- for `same_total`: the total of an item stays the same (`x` is `z`), as the region has as much of it as before
+        -- (`j`), and so has the unit (`k`)
         same : (x y z j k : ℕ) → x + j ≡ y + j → y + k ≡ z + k → x ≡ z
         same x y z j k a b = omega (arith, a, b)
 
@@ -115,7 +116,7 @@ module _ (w : WorldValue) (c : CampaignValue) (e : ℕ × ℕ) where
       one_drains units money_of c e can.at.unit can.at.region there can.at.around (after_tax c e) (drain can.at.region e.1)
       (ap (λ (d : CampaignValue). d.regions) (taxed_is can.at.unit can.at.region can.at.there can.at.around)) (less can.at.region.money can.enough)
     where
-      -- the money that is left and the share are together the money from before
+      -- for `taxed_drains`: the money that is left and the share are together the money from before
       less : (all : ℕ) → e.1 ≤ all → all - e.1 + e.1 ≡ all
       less all enough = omega (arith, enough)
 
@@ -149,7 +150,7 @@ module _ (w : WorldValue) (c : CampaignValue) where
   abbrev HasRoomFor : ℕ × ℕ → Type 0
   HasRoomFor e = (u : Unit) × (get c.units e.0 ≡ Some u) × (u.holding.money + e.1 ≤ holding_limit)
 
-  -- the shares still to come can be paid in campaign `d`
+  -- in a campaign the listed shares (unit, share) of TAX can be paid, one after the other (`AreReady`)
   abbrev AreTaken : CampaignValue → List (ℕ × ℕ) → Type 0
   AreTaken = AreReady pots HasRoomFor w c
 
@@ -177,11 +178,11 @@ module _ (w : WorldValue) (c : CampaignValue) where
     abbrev shares : List (ℕ × ℕ)
     shares = entries (given_by tax_pots w c os)
 
-    -- a unit has room for a share of at most its want
+    -- a unit has room for a share of at most its want: the lesser of what its men take (`men`) and its room
     wanted_fits : (money men share : ℕ) → money ≤ holding_limit → share ≤ min men (holding_limit - money) → money + share ≤ holding_limit
     wanted_fits money men share fits low = omega (arith, fits, low)
 
-    -- each unit has room for its share
+    -- each unit that gets tax is there and has room for its share
     each_fits : Every (λ n share. HasRoomFor (n, share)) (given_by tax_pots w c os)
     each_fits n share is =
         let (u, o, there, own, low) = given_is_wanted tax_pots w c (λ items. pots_give (money_at c) c) os n share is in

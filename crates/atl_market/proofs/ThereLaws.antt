@@ -11,7 +11,7 @@ use Rattle.atl_phase.specs.There.{at_region, at_unit}
 pub by_option : {A B : Type 0} (P : B → Type 0) (f : A → B) (o : Option A) (otherwise : B) → P otherwise → ((x : A) → o ≡ Some x → P (f x)) → P (option_map_or f o otherwise)
 by_option {A} P f o otherwise without with = by_case o refl
   where
-    -- `P` holds of what `option_map_or` gives, whether the option is None or Some
+    -- for `by_option`: `P` holds of what `option_map_or` gives, whether the option is None or Some
     by_case : (p : Option A) → o ≡ p → P (option_map_or f p otherwise)
     by_case None is = without
     by_case (Some x) is = with x is

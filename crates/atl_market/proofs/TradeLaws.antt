@@ -177,31 +177,31 @@ module _ (w : WorldValue) (u : Unit) (m : Market) (stock share : ℕ) (there : m
   limit_is : stock_limit w u.region m.item ≡ m.limit
   limit_is = ap (λ o. option_map_or (λ (x : Market). x.limit) o most_amount) there
 
-  -- an amount within a limit is still within it after `k` is taken off
+  -- for `deal_fits`: an amount within a limit is still within it after `k` is taken off
   less : (a k limit : ℕ) → a ≤ limit → a - k ≤ limit
   less a k limit most = omega (arith, most)
 
-  -- if `k` goes from what the unit has (`a`) to the stock (`s`), their sum stays the same
+  -- for `deal_fits`: if `k` goes from what the unit has (`a`) to the stock (`s`), their sum stays the same
   gone : (a s k : ℕ) → k ≤ a → a - k + (s + k) ≡ a + s
   gone a s k enough = omega (arith, enough)
 
-  -- if `k` goes from the stock (`s`) to what the unit has (`a`), their sum stays the same
+  -- for `deal_fits`: if `k` goes from the stock (`s`) to what the unit has (`a`), their sum stays the same
   come : (a s k : ℕ) → k ≤ s → a + k + (s - k) ≡ a + s
   come a s k enough = omega (arith, enough)
 
-  -- the sum of two amounts, as a whole number with sign, is the sum of both
+  -- for `deal_fits`: the sum of two amounts, as a whole number with sign, is the sum of both
   put_to : (a k : ℕ) → pos (a + k) ≡ pos a +ℤ pos k
   put_to a k = omega (arith, ints)
 
-  -- an amount less a part of it, as a whole number with sign, is the amount minus the part
+  -- for `deal_fits`: an amount less a part of it, as a whole number with sign, is the amount minus the part
   taken_off : (a k : ℕ) → k ≤ a → pos (a - k) ≡ pos a +ℤ neg_ℤ (pos k)
   taken_off a k enough = omega (arith, ints, enough)
 
-  -- if a sum is within a limit, so is its part `k`
+  -- for `deal_fits`: if a sum is within a limit, so is its part `k`
   part : (a k limit : ℕ) → a + k ≤ limit → k ≤ limit
   part a k limit fits = omega (arith, fits)
 
-  -- an amount below one within a limit is within the limit
+  -- for `deal_fits`: an amount that is at most one within a limit is within the limit
   up_to : (a k limit : ℕ) → k ≤ a → a ≤ limit → k ≤ limit
   up_to a k limit few most = omega (arith, few, most)
 
@@ -300,7 +300,7 @@ module _ (trade : Trade) (items : FinMap nat_cmp ℕ) (w : WorldValue) (c : Camp
         (λ k same. here k same (eq_by_cmp nat_cmp k.1 m.item) refl)
         (λ k apart. ap (λ b. b && is_for k.1 (get items e.0)) (ap (is_in_region k.0) there ∙ other_number can.at.unit.region k.0 (λ is. apart (sym is))))
       where
-        -- a number plus 0 is the number
+        -- for `made_drains`: a number plus 0 is the number
         no_less : (a : ℕ) → a + 0 ≡ a
         no_less a = omega arith
 
@@ -369,15 +369,15 @@ trade_keeps_others trade w c os = others_no_worse (trade_pots trade) w (λ items
 
 -- what a unit wants to trade it can afford, if its holding is within the limits
 module _ (h : HoldingValue) (m : Market) (told share : ℕ) (holds : IsHolding h) where
-  -- a share of at most the least of three numbers is at most the second and the third
+  -- for `wanted_fits`: a share of at most the least of three numbers is at most the second and the third
   few_of : (told a b : ℕ) → share ≤ min told (min a b) → (share ≤ a) × (share ≤ b)
   few_of told a b low = (omega (arith, low), omega (arith, low))
 
-  -- a share of at most the quotient of money and price costs at most that money
+  -- for `wanted_fits`: a share of at most the quotient of money and price costs at most that money
   times : (money price : ℕ) → share ≤ money / price → share * price ≤ money
   times money price few = omega (arith, mul-le-mul_right price few, mul-div-le money price, mul_comm (money / price) price)
 
-  -- if `k` is at most the room that `a` leaves under a limit, `a` and `k` together are within the limit
+  -- for `wanted_fits`: if `k` is at most the room that `a` leaves under a limit, `a` and `k` are within it together
   room_for : (a k limit : ℕ) → a ≤ limit → k ≤ limit - a → a + k ≤ limit
   room_for a k limit fits few = omega (arith, fits, few)
 
@@ -405,11 +405,11 @@ module _ (trade : Trade) (items : FinMap nat_cmp ℕ) (w : WorldValue) (world : 
   abbrev CanHave : ℕ × ℕ → Type 0
   CanHave e = (u : Unit) × (get c.units e.0 ≡ Some u) × CanAfford trade u.holding e.1 (market_for w u (get items e.0))
 
-  -- the shares still to come can be traded in campaign `d`
+  -- in a campaign the listed shares (unit, share) of SELL or BUY can be traded, one after the other (`AreReady`)
   abbrev AreToTrade : CampaignValue → List (ℕ × ℕ) → Type 0
   AreToTrade = AreReady pots CanHave w c
 
-  -- the books have room for the money of all shares still to come
+  -- the books of a campaign have room for the money of all listed shares (unit, share) of SELL or BUY
   abbrev CanBook : CampaignValue → List (ℕ × ℕ) → Type 0
   CanBook d es = HaveRoom (moved_times (length es) step_moves) d
 
@@ -417,7 +417,7 @@ module _ (trade : Trade) (items : FinMap nat_cmp ℕ) (w : WorldValue) (world : 
   has_pot : (limit stock share : ℕ) (m : Market) → limit ≡ m.limit → stock ≤ m.limit → share ≤ pot_by trade limit stock → HasPot trade stock share (Some m)
   has_pot limit stock share m same low few = by_trade trade few
     where
-      -- the market has room for the share (SELL) or has it in stock (BUY), if the share is at most the pot
+      -- for `has_pot`: if the share is at most the pot, the market has room for it (SELL) or has it in stock (BUY)
       by_trade : (t : Trade) → share ≤ pot_by t limit stock → HasPot t stock share (Some m)
       by_trade Sell few = omega (arith, same, low, few)
       by_trade Buy few = few
@@ -458,15 +458,15 @@ module _ (trade : Trade) (items : FinMap nat_cmp ℕ) (w : WorldValue) (world : 
       )
 
 module _ (trade : Trade) (w : WorldValue) (world : IsWorld w) (c : CampaignValue) (early : IsEarly w c) (os : List Task) (room : HaveRoom (trade_moves trade most_moved) c) where
-  -- the item that each unit's order names
+  -- the item that each unit's order of SELL or BUY names, by unit
   abbrev named : FinMap nat_cmp ℕ
   named = items_by (trade_pots trade) w c os
 
-  -- the share of each unit, by unit
+  -- how many pieces each unit gets to trade in the phase, by unit
   abbrev given : FinMap nat_cmp ℕ
   given = given_by (trade_pots trade) w c os
 
-  -- the shares with the numbers of their units, sorted by unit
+  -- the units that get to trade in the phase, by number, each with how many pieces, sorted by unit
   abbrev shares : List (ℕ × ℕ)
   shares = entries given
 
@@ -478,11 +478,11 @@ module _ (trade : Trade) (w : WorldValue) (world : IsWorld w) (c : CampaignValue
   abbrev drawn_pots : DrawnPots (ℕ × ℕ)
   drawn_pots = item_pots trade w c.units named
 
-  -- the unit of a pair (unit, share) is in the campaign, and can afford the share
+  -- the unit of a pair (unit, share) is in campaign `c`, and can afford to trade the share
   abbrev MayTrade : ℕ × ℕ → Type 0
   MayTrade = CanHave trade named w world c
 
-  -- each unit can afford its share
+  -- each unit that gets to trade is there and can afford its share (`MayTrade`)
   each_fits : Every (λ n share. MayTrade (n, share)) given
   each_fits n share is =
       let (u, t, there, own, low, fine, told) = given_is_named (trade_pots trade) w c (trades_give trade w c) os n share is in
@@ -508,7 +508,7 @@ module _ (trade : Trade) (w : WorldValue) (world : IsWorld w) (c : CampaignValue
       let told = for_item k.1 (get named n) parts.1 in
       (sym (ap (share_for (get named) (trade_pot trade w c) wants c n) told) ∙ sym (shares_at (get named) (trade_pot trade w c) wants c n) ∙ is, parts.0)) (q, around))
     where
-      -- if a unit that asks for `o` passes the test for item `i`, it asks for item `i`
+      -- for `all_enough`: if a unit that asks for `o` passes the test for item `i`, it asks for item `i`
       for_item : (i : ℕ) (o : Option ℕ) → is_for i o ≡ true → o ≡ Some i
       for_item i None never = cc
       for_item i (Some j) same = ap Some (eqb-true j i same)
@@ -517,7 +517,7 @@ module _ (trade : Trade) (w : WorldValue) (world : IsWorld w) (c : CampaignValue
   few : length shares ≤ most_units
   few = omega (arith, few_given (trade_pots trade) w c (trades_give trade w c) os, early.steady.numbers.few_units)
 
-  -- the trades of all these units together move each amount of the books by less than 10^14
+  -- the trades of all units that have a share move each amount of the books by less than 10^14 together
   little : (e : Entry) (t : Thing) → moved_times (length shares) moves e t ≤ trade_moves trade most_moved e t
   little e t = few_holdings (length shares) few (trade_entry trade) Money e t
 

@@ -19,7 +19,7 @@ use Rattle.atl_market.specs.Bounds.{CanInTurn}
 pub few_holdings : (k : ℕ) → k ≤ most_units → (a : Entry) (b : Thing) (e : Entry) (t : Thing) → moved_times k (moves_only holding_limit a b) e t ≤ moves_only most_moved a b e t
 few_holdings k few a b e t = by_test (amount_number e t == amount_number a b)
   where
-    -- `k` times a holding's limit is at most `most_moved`, and `k` times 0 is 0
+    -- for `few_holdings`: `k` times a holding's limit is at most `most_moved`, and `k` times 0 is 0
     by_test : (same : Bool) → k * (if same then holding_limit else 0) ≤ (if same then most_moved else 0)
     by_test true = omega (arith, few)
     by_test false = omega (arith, few)

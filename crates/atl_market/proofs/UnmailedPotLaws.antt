@@ -50,7 +50,7 @@ module _ (p : PotMeaning) (w : WorldValue) (c : CampaignValue) where
       sum_by-cons (λ (e : Event). if e.unit == n then men_starved_by e.verb e.outcome else 0) (event_of p w c given o) (map (event_of p w c given) os)
       ∙ ap (λ x. (if o.unit == n then 0 else 0) + x) (none_starve given os n) ∙ nobody (o.unit == n)
     where
-      -- an order adds 0 men who starved to a count of 0, whether or not it is for unit `n`
+      -- for `none_starve`: an order adds 0 men who starved to a count of 0, whether or not it is for unit `n`
       nobody : (b : Bool) → (if b then 0 else 0) + 0 ≡ 0
       nobody true = refl
       nobody false = refl
@@ -62,7 +62,7 @@ module _ (p : PotMeaning) (w : WorldValue) (c : CampaignValue) where
       sum_by-append (λ (e : Event). if e.unit == n then men_starved_by e.verb e.outcome else 0) events (map (event_of p w c (given_by p w c os)) os)
       ∙ ap (λ x. starved_in events n + x) (none_starve (given_by p w c os) os n) ∙ plus_none (starved_in events n)
     where
-      -- a count of men plus 0 is the count
+      -- for `pots_report_none_starved`: a count of men plus 0 is the count
       plus_none : (x : ℕ) → x + 0 ≡ x
       plus_none x = omega arith
 
@@ -124,7 +124,7 @@ none_listed : (n f : ℕ) (ts : List Task) → AllByRecursion (λ t. t.faction �
 none_listed n f [] h = refl
 none_listed n f (t ∷ ts) h = neither (t.unit == n) (t.faction == f) _ (other_number t.faction f h.0) (none_listed n f ts h.1)
   where
-    -- no order is found if the first is from another faction and none is found among the later ones
+    -- for `none_listed`: no order is found if the first is from another faction (`b`) and none among the later (`d`)
     neither : (a b d : Bool) → b ≡ false → d ≡ false → (a && b || d) ≡ false
     neither true b d e g = rw (e, g) refl
     neither false b d e g = g

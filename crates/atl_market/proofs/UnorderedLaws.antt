@@ -21,7 +21,7 @@ use Rattle.atl_market.proofs.DrawLaws.{all_pairs}
 use Rattle.atl_market.proofs.PotLaws.{put_in_turn}
 use Rattle.atl_market.proofs.WantLaws.{GivesToWants, any_then, carries_out}
 
--- if the disjunction of two tests is false, both are false
+-- for `unwanted`: if the disjunction of two tests is false, both are false
 neither : (a b : Bool) → (a || b) ≡ false → (a ≡ false) × (b ≡ false)
 neither true b h = absurd (false≢true (sym h))
 neither false b h = (refl, h)
@@ -33,11 +33,11 @@ module _ (p : PotMeaning) (w : WorldValue) (c : CampaignValue) (n : ℕ) (u : Un
   abbrev own : Task → Bool
   own o = o.unit == n && o.faction == u.faction
 
-  -- an order for unit `n` from the unit's faction is one of its own
+  -- an order for unit `n` from the unit's faction can't fail the test `own`
   no_order : (o : Task) → o.unit ≡ n → (u.faction == o.faction) ≡ true → own o ≡ false → ⊥
   no_order o unit faction is = false≢true (sym (clash o.unit n o.faction u.faction unit faction is))
     where
-      -- the test `own` holds of an order with the number and the faction of the unit
+      -- for `no_order`: `own` can't be false of an order with the unit's number (`a`, `b`) and faction (`f`, `g`)
       clash : (a b f g : ℕ) → a ≡ b → (g == f) ≡ true → (a == b && f == g) ≡ false → true ≡ false
       clash a b f g same one none = grind (arith, nat_tests)
 

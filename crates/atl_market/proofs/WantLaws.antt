@@ -57,7 +57,7 @@ every-with_each P m (e ∷ es) each old = every-with_each P (insert m e.0 e.1) e
 pub one_want : (m : FinMap nat_cmp ℕ) (n want : ℕ) → want ≤ most_amount → AreWants m → AreWants (insert m n want)
 one_want m n want low old = every-insert (λ number want. want ≤ most_amount) m n want low old
 
--- a number isn't equal to one above it
+-- for `others`: a number isn't equal to one above it
 differs : (k n : ℕ) → k < n → eq_by_cmp nat_cmp k n ≡ false
 differs k n l = sym (unsigned_ties k n) ∙ (let t : (k == n) ≡ false = grind (arith, nat_tests) in t)
 
@@ -67,7 +67,7 @@ unfolding IsDistinct
 rise_apart [] h = tt
 rise_apart (e ∷ es) h = (others e.0 es h.0, rise_apart es h.1)
   where
-    -- a number below those of all entries is equal to none of them
+    -- for `rise_apart`: a number below those of all entries is equal to none of them
     others : (k : ℕ) (es : List (ℕ × ℕ)) → AllByRecursion (λ f. k < f.0) es → AllByRecursion (λ n. eq_by_cmp nat_cmp k n ≡ false) (keys_of es)
     others k [] h = tt
     others k (f ∷ es) h = (differs k f.0 h.0, others k es h.1)
@@ -96,27 +96,29 @@ module _ (p : PotMeaning) (w : WorldValue) (c : CampaignValue) where
   unfolding unit_for
   carries_out t u is = by_unit (get c.units t.unit) refl is
     where
-      -- a unit `v` of the order's faction carries the order out if the phase finds no fault `f`
+      -- for `carries_out`: a unit `v` of the order's faction carries the order out if the phase finds no fault (`f`)
       by_fault : (v : Unit) → get c.units t.unit ≡ Some v → (v.faction == t.faction) ≡ true → (f : Option EventFault) → p.fault w v t ≡ f → option_map_or Err f (Ok v) ≡ Ok u → CarriesOut t u
       by_fault v at own (Some f) fault h = none_some u (ap result_ok h)
       by_fault v at own None fault h = subst (CarriesOut t) (same_Some _ _ (ap result_ok h)) (record { there = at; own = own; fine = fault })
 
-      -- a unit `v` that is there carries the order out if it is of the order's faction (`b`) and has no fault
+      -- for `carries_out`: a unit `v` that is there carries the order out, if it is of its faction (`b`) without a
+      -- fault
       by_test : (v : Unit) → get c.units t.unit ≡ Some v → (b : Bool) → (v.faction == t.faction) ≡ b → unless_fault t (cond b (Some v) None) ≡ Ok u → CarriesOut t u
       by_test v at true own h = by_fault v at own (p.fault w v t) refl h
       by_test v at false own h = none_some u (ap result_ok h)
 
-      -- the unit `o` under the order's number, if there is one, carries the order out where it is returned
+      -- for `carries_out`: unit `u`, if `unless_fault` returns it for the unit with the order's number (`o`), carries
+      -- it out
       by_unit : (o : Option Unit) → get c.units t.unit ≡ o → unless_fault t (of_faction t.faction o) ≡ Ok u → CarriesOut t u
       by_unit None at h = none_some u (ap result_ok h)
       by_unit (Some v) at h = by_test v at (v.faction == t.faction) refl h
 
   module _ (m items : FinMap nat_cmp ℕ) (t : Task) where
-    -- the entry with what the unit of an order wants, if there is one
+    -- the unit of order `t` with what it wants by the order, as an entry; None where the order has a fault
     abbrev wanting : Result Unit EventFault → Option (ℕ × ℕ)
     wanting r = option_map (λ u. (t.unit, p.want w u t)) (result_ok r)
 
-    -- the entry with the item that the order names, if it names one
+    -- the unit of order `t` with the item that the order names, as an entry; None where it names none
     abbrev named : Option ℕ → Option (ℕ × ℕ)
     named s = option_map (λ i. (t.unit, i)) s
 

@@ -78,11 +78,11 @@ module _ (w : WorldValue) (c : CampaignValue) (n : ℕ) (u : Unit) (money : ℕ)
           ap pos (same (total wages_paid (Item i)) (total given (Item i)) (total c (Item i)) (amount_of u.holding.items i) a b)
           ∙ sym (ap (λ q. pos (total c (Item i)) +ℤ cond q (pos money) (pos 0)) other ∙ zero_more (total c (Item i)))
         where
-          -- the total of an item stays the same if the unit holds as much of it as before
+          -- for `total_of`: an item's total stays the same (`x` is `z`), as the unit holds the same of it (`k`)
           same : (x y z k : ℕ) → x ≡ y → y + k ≡ z + k → x ≡ z
           same x y z k a b = omega arith
 
-          -- a number plus 0 is the number
+          -- for `total_of`: a number plus 0 is the number
           zero_more : (x : ℕ) → pos x +ℤ pos 0 ≡ pos x
           zero_more x = omega (arith, ints)
 
@@ -181,7 +181,7 @@ module _ (w : WorldValue) where
     abbrev shares : List (ℕ × ℕ)
     shares = entries (given_by work_pots w c os)
 
-    -- each unit has room for its wages
+    -- each unit that gets work places is there and has room for their wages
     each_fits : Every (λ n places. HasRoomFor w c (n, places)) (given_by work_pots w c os)
     each_fits n places is =
         let (u, o, there, own, low) = given_is_wanted work_pots w c (λ items. pots_give (places_at w) c) os n places is in
@@ -191,7 +191,7 @@ module _ (w : WorldValue) where
     few : length shares ≤ most_units
     few = omega (arith, few_given work_pots w c (λ items. pots_give (places_at w) c) os, steady.numbers.few_units)
 
-    -- the wages of all these units together move each amount of the books by less than 10^14
+    -- the wages of all units that get work places move each amount of the books by less than 10^14 together
     little : (e : Entry) (t : Thing) → moved_times (length shares) step_moves e t ≤ work_moves most_moved e t
     little e t = few_holdings (length shares) few Wages Money e t
 

@@ -34,7 +34,7 @@ use Rattle.atl_market.specs.Work.{idle_task, idle_work, is_idle, is_work, sorted
 use Rattle.atl_market.proofs.PotLaws.{some_new, still_some}
 use Rattle.atl_market.proofs.WantLaws.{appended_entries}
 
--- a test `b` that holds (`T b`) is equal to `true`
+-- for `values_apart`: a test `b` that holds (`T b`) is equal to `true`
 is_so : (b : Bool) → T b → b ≡ true
 is_so true h = refl
 is_so false h = absurd h
@@ -56,13 +56,13 @@ module _ {K X : Type 0} (R : K → K → Ordering) (exact : IsAntisymmetric R) (
         | Greater ↦ λ _. (all.0, keyed-put x es all.1)
       ] refl
 
-  -- the entries of a map from values by their keys are under the keys of their values
+  -- in the map of some values, each put in under its key, each entry is under the key of its value (`AreKeyed`)
   keyed-listed : IsTotalOrder R → (xs : List X) → AreKeyed (entries (from_entries {R = R} (map (λ x. (key x, x)) xs)))
   keyed-listed o [] = subst AreKeyed (sym (no_entries R)) tt
   keyed-listed o (x ∷ xs) =
       subst AreKeyed (sym (entries-insert o (from_entries (map (λ x. (key x, x)) xs)) (key x) x)) (keyed-put x (entries (from_entries (map (λ x. (key x, x)) xs))) (keyed-listed o xs))
 
-  -- an ordering that is Less isn't Equal
+  -- for `others`: an ordering that is Less isn't Equal
   apart_of : (o : Ordering) → is_lt o ≡ true → is_eq o ≡ false
   apart_of Less h = refl
   apart_of Equal h = absurd (false≢true h)
@@ -81,7 +81,7 @@ module _ {K X : Type 0} (R : K → K → Ordering) (exact : IsAntisymmetric R) (
   listed_apart [] up all = tt
   listed_apart (e ∷ es) up all = let parts = and_parts _ _ up in (others e.1 e.0 es all.0 parts.0 all.1, listed_apart es parts.1 all.1)
 
-  -- the values of a map from their keys differ in their keys
+  -- no two values of the map of some values, each put in under its key, have the same key
   values_apart : IsTotalOrder R → (xs : List X) → IsDistinct (λ x y. eq_by_cmp R (key x) (key y)) (values (from_entries {R = R} (map (λ x. (key x, x)) xs)))
   values_apart o xs = let m = from_entries {R = R} (map (λ x. (key x, x)) xs) in listed_apart (entries m) (is_so _ (entries_sorted m)) (keyed-listed o xs)
 
@@ -157,7 +157,7 @@ module _ (c : CampaignValue) where
     each_idle : AllByRecursion IsIdle (all_idle c os)
     each_idle = idle_each (entries c.units) (each-from_every (λ n u. get c.units n ≡ Some u) c.units (λ n u is. is))
 
-    -- the work that the code adds for a unit is for that unit
+    -- the order of WORK that the code adds for a unit, if it adds one, is for that unit
     of_unit : (e : ℕ × Unit) → AllByRecursion (λ o. o.unit ≡ e.0) (idle_by writers e)
     of_unit (n, u) = elim (nat_lt 0 u.holding.men && not (is_some (get writers n))) as (λ b. AllByRecursion (λ (o : Task). o.unit ≡ n) (cond b (idle_task n u.faction ∷ []) [])) [ true ↦ (refl, tt) | false ↦ tt ]
 
@@ -174,7 +174,7 @@ module _ (c : CampaignValue) where
 
     -- ---- written orders, and the added ones
 
-    -- equal numbers pass the test for equality
+    -- for `written_idle`: equal numbers pass the test for equality
     same_faction : (a b : ℕ) → a ≡ b → (a == b) ≡ true
     same_faction a b e = grind (arith, nat_tests)
 
@@ -204,7 +204,7 @@ writes_own c (o ∷ os) n u is m =
     ap (λ (k : FinMap nat_cmp ℕ). is_some (get k n)) (appended_entries m (own_unit c o) (flat_map (own_unit c) os))
     ∙ writes_own c os n u is (with_each m (own_unit c o)) ∙ ap (λ b. is_ordered os n u || b) one ∙ swapped (is_ordered os n u) (o.unit == n && o.faction == u.faction) (is_some (get m n))
   where
-    -- whether one of three tests holds doesn't depend on the order of the tests
+    -- for `writes_own`: whether one of three tests holds doesn't depend on the order of the tests
     swapped : (a b d : Bool) → (a || (b || d)) ≡ ((b || a) || d)
     swapped true true d = refl
     swapped true false d = refl
@@ -240,7 +240,7 @@ writes_own c (o ∷ os) n u is m =
 is_writer : (c : CampaignValue) (os : List Task) (n : ℕ) (u : Unit) → get c.units n ≡ Some u → is_some (get (own_writers c os) n) ≡ is_ordered os n u
 is_writer c os n u is = writes_own c os n u is empty ∙ ap (λ o. is_ordered os n u || is_some o) (get-empty nat_cmp n) ∙ or_false (is_ordered os n u)
   where
-    -- a test or false is the test
+    -- for `is_writer`: a test or false is the test
     or_false : (b : Bool) → (b || false) ≡ b
     or_false true = refl
     or_false false = refl

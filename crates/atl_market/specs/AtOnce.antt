@@ -61,7 +61,7 @@ given_of item_of given units region item =
 pub record HasNewStocks (q : Region) (becomes : (stock given : ℕ) → ℕ) (given : (item : ℕ) → ℕ) (after : Option Region) : Type 0 where
   -- how many pieces of each item the region `after` has in stock, by the number of the item
   pub stocks : FinMap nat_cmp ℕ
-  -- the region `after` is there, and is `q` with these stocks
+  -- the region `after` is there, and is `q` with `stocks` in the place of its own stocks
   pub region : after ≡ Some (record q { stocks = stocks })
   -- the new stock of each item is `becomes` of its old stock and of the amount of the item that was given
   pub amounts : (item : ℕ) → amount_of stocks item ≡ becomes (amount_of q.stocks item) (given item)

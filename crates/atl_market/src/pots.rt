@@ -23,7 +23,7 @@ pub trait Pots {
     // What must hold for `pot` to be called.
     ghost ready: { Self → Type 0 };
 
-    /// The pot of a region, at most 999,999,999.
+    /// How much a region has to share, its pot: at most 999,999,999.
     fn pot(&self, region: u32) -> u64
         requires { ready self.now }
         ensures value { result ≡ pot_of self.now region }
@@ -65,7 +65,8 @@ fn wants_of(alloc: Global, takers: &[u32], wants: &Numbered<u32>) -> Result<Vec<
     Ok(wanted)
 }
 
-/// Puts the share of each unit of `takers` into the map `given`, by unit.
+/// Puts for each unit of `takers` its share, which is at its place in `shares`, into the map
+/// `given`, by unit.
 fn put_shares(takers: &[u32], shares: &[u64], given: &mut Numbered<u32>) -> Result<(), AllocError>
     requires length { length shares.now ≡ length takers.now }
     requires bound { All (λ share. share ≤ most_amount) shares.now }

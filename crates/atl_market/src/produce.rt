@@ -88,7 +88,8 @@ impl PotPhase for ProducePhase {
     }
 }
 
-/// The law that every `World` is well-formed (`IsWorld`). Does nothing.
+/// The law that every `World` is well-formed (`IsWorld`), from which the proofs of PRODUCE, SELL
+/// and BUY take it. Does nothing.
 pub(crate) fn world_is_well_formed(world: &World)
     ensures { IsWorld world.now }
 {

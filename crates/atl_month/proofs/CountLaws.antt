@@ -21,7 +21,7 @@ module _ {V : Type 0} where
   some_values : (m : FinMap nat_cmp V) (n : ℕ) (v : V) → get m n ≡ Some v → 1 ≤ len m
   some_values m n v is = by_count (len m) refl
     where
-      -- a map of size `k` that has number `n` isn't empty, whether `k` is 0, which can't be, or more
+      -- for `some_values`: a map of size `k` that has number `n` isn't empty, whether `k` is 0, which can't be, or more
       by_count : (k : ℕ) → len m ≡ k → 1 ≤ k
       by_count zero none = none_some v (sym (get-empty nat_cmp n) ∙ ap (λ e. get e n) (sym (empty_of_len m none)) ∙ is)
       by_count (suc k) some = omega arith

@@ -35,7 +35,7 @@ month_within e t =
 
 -- ---- two phases at most move an amount
 
--- a number that tests as at most 2 is at most 2
+-- for `two_at_most`: a number that tests as at most 2 is at most 2
 few : (n : ℕ) → nat_le n 2 ≡ true → n ≤ 2
 few n is = grind (arith, nat_tests, is)
 

@@ -28,8 +28,8 @@ use Rattle.atl_world.proofs.GeneralLaws.{is_equal}
 -- ---- the first number whose value passes a test
 
 module _ {V : Type 0} (p : V → Bool) where
-  -- What follows if `k` is `n`, and also if `k` is listed in `ns`, follows if `k` is listed in `ns` with `n` in front
-  -- (if `b`) or without.
+  -- for `below_listed`: what follows if `k` is `n`, and also if `k` is listed in `ns`, follows if `k` is listed in `ns`
+  -- with `n` in front (if `b`) or without
   either_listed : {P : Type 0} (b : Bool) (n k : ℕ) (ns : List ℕ) → (k ≡ n → P) → (IsListed k ns → P) → IsListed k (cond b (n ∷ ns) ns) → P
   either_listed true n k ns here rest (inl same) = here same
   either_listed true n k ns here rest (inr h) = rest h
@@ -57,7 +57,7 @@ module _ {V : Type 0} (p : V → Bool) where
       by_test true least above (inr rest) = let l = above rest in omega arith
       by_test false least above rest = least rest
 
-  -- number `k` of a map is there and its value passes the test
+  -- a map has the number `k`, and its value there passes the test `p`
   abbrev PassesIn : FinMap nat_cmp V → ℕ → Type 0
   PassesIn m k = (v : V) × (get m k ≡ Some v) × (p v ≡ true)
 
@@ -71,7 +71,7 @@ module _ {V : Type 0} (p : V → Bool) where
       let listed = passing_listed p m first v is t in
       (there (numbers_where p m) (λ k h. let (x, at, u) = listed_passing p m k h in low k x at) first listed, first_least first (entries m) (sorted m) listed)
     where
-      -- a list that has a number, and only numbers of at least 1, doesn't have 0 as its first
+      -- for `first_below`: a list that has a number, and only numbers of at least 1, doesn't have 0 as its first
       there : (ns : List ℕ) → ((k : ℕ) → IsListed k ns → 1 ≤ k) → (k : ℕ) → IsListed k ns → first_or_zero ns ≢ 0
       there [] least k h = absurd h
       there (n ∷ ns) least k h = let l = least n (inl refl) in λ zero. absurd (omega (arith, zero, l))
@@ -120,7 +120,7 @@ module _ (m : ReceiverMap) (n : ℕ) (u : Unit) (es : List (ℕ × Unit)) (low :
   opened : (r f : ℕ) → first_or_zero (numbers_among (receives r f) ((n, u) ∷ es)) ≡ cond (receives r f u) n (behind r f)
   opened r f = ap first_or_zero (chosen-cons (receives r f) (n, u) es) ∙ first_of_cond (receives r f u) (numbers_among (receives r f) es)
     where
-      -- the first number of a list with `n` in front (if `b`) is `n`, and without it that of the list
+      -- for `opened`: the first number of a list with `n` in front (if `b`) is `n`, and without it that of the list
       first_of_cond : (b : Bool) (ns : List ℕ) → first_or_zero (cond b (n ∷ ns) ns) ≡ cond b n (first_or_zero ns)
       first_of_cond b ns = grind arith
 
@@ -158,6 +158,6 @@ nothing_noted c m none r f = rw (none, get-empty nat_cmp r, get-empty nat_cmp f)
 pub all_noted : (c : CampaignValue) (m : ReceiverMap) → ((r f : ℕ) → or_if_zero (receiver_in m r f) (first_or_zero (numbers_among (receives r f) [])) ≡ receiver c r f) → AreReceivers c m
 all_noted c m h r f = plain (receiver_in m r f) ∙ h r f
   where
-    -- `or_if_zero` with 0 as the second number gives the first
+    -- for `all_noted`: `or_if_zero` with 0 as the second number gives the first
     plain : (x : ℕ) → x ≡ or_if_zero x 0
     plain x = grind (arith, nat_tests)

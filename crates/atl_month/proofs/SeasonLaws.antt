@@ -100,7 +100,7 @@ module _ (w : WorldValue) (c : CampaignValue) (n : ℕ) (r : Region) (born earne
       total_of People a b g h = omega (arith, ints, a, b, g, h)
       total_of (Item i) a b g h = grind (arith, ints, nat_tests, a, b, g, h)
 
-  -- the books after the births were booked
+  -- the books after the births were booked, and before the income is
   abbrev one_booked : BooksValue
   one_booked = after_booking c.books Births People (pos born)
 

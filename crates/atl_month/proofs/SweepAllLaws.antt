@@ -45,13 +45,14 @@ module _ (c : CampaignValue) (n : ℕ) where
   unfolding after_sweeping_unit
   by_sweeping P stays swept = by_unit (get c.units n) refl
     where
-      -- the property P holds after unit `n`, which is there, was swept, whether the unit has no men (`b`) or some
+      -- for `by_sweeping`: the property P holds after unit `n`, which is there, was swept, whether the unit has no men
+      -- (`b`) or some
       by_men : (u : Unit) → get c.units n ≡ Some u → (b : Bool) → (u.holding.men == 0) ≡ b
           → P (if b then without_unit (after_passing_all c (receiver c u.region u.faction) u) n else c)
       by_men u is true t = swept u is (is_equal u.holding.men 0 t)
       by_men u is false t = stays (λ v there none. is_unequal u.holding.men 0 t (ap (λ (x : Unit). x.holding.men) (same_Some u v (sym is ∙ there)) ∙ none))
 
-      -- the property P holds after unit `n` was swept, whether the unit is there or not
+      -- for `by_sweeping`: the property P holds after unit `n` was swept, whether the unit is there or not
       by_unit : (o : Option Unit) → get c.units n ≡ o
           → P (option_map_or (λ u. if u.holding.men == 0 then without_unit (after_passing_all c (receiver c u.region u.faction) u) n else c) o c)
       by_unit None is = stays (λ v there. none_some v (sym is ∙ there))
@@ -94,7 +95,7 @@ module _ (w : WorldValue) (c : CampaignValue) (n : ℕ) (steady : IsSteady w c) 
 abbrev AreListed : List ℕ → CampaignValue → Type 0
 AreListed ns c = Every (λ m v. v.holding.men ≡ 0 → IsListed m ns) c.units
 
--- a number that is listed in `n ∷ ns`, and isn't `n`, is listed in `ns`
+-- for `all_have_men` and `all_are_gone`: a number that is listed in `n ∷ ns`, and isn't `n`, is listed in `ns`
 behind_it : (m n : ℕ) (ns : List ℕ) → m ≢ n → IsListed m (n ∷ ns) → IsListed m ns
 behind_it m n ns apart (inl same) = absurd (apart same)
 behind_it m n ns apart (inr rest) = rest
@@ -125,13 +126,12 @@ module _ (c : CampaignValue) (n : ℕ) where
       → ((f : Faction) → get c.factions n ≡ Some f → numbers_of n c.units ≡ [] → P (with_gone c n)) → P (after_sweeping_faction c n)
   by_gone P stays gone = by_units (numbers_of n c.units) refl
     where
-      -- The property P holds after faction `n`, which has no units, was set to gone, whether the faction is there or
-      -- not.
+      -- for `by_gone`: the property P holds after faction `n`, without units, was set to gone, be it there (`o`) or not
       by_faction : numbers_of n c.units ≡ [] → (o : Option Faction) → get c.factions n ≡ o → P (with_gone c n)
       by_faction none None is = subst P (sym (none-gone c n is)) (stays (λ f there. none_some f (sym is ∙ there)))
       by_faction none (Some f) is = gone f is none
 
-      -- the property P holds after faction `n` was swept, whether the faction has no units or some
+      -- for `by_gone`: the property P holds after faction `n` was swept, whether it has no units or some (`ns`)
       by_units : (ns : List ℕ) → numbers_of n c.units ≡ ns → P (if is_empty ns then with_gone c n else c)
       by_units [] is = by_faction is (get c.factions n) refl
       by_units (k ∷ ns) is = stays (λ f there none. let one : k ∷ ns ≡ [] = sym is ∙ none in cc)

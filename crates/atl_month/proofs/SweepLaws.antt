@@ -128,11 +128,12 @@ module _ (w : WorldValue) (c : CampaignValue) (n : ℕ) (u : Unit) (is : get c.u
       (all_owed u.holding none s) before
       ∙ ap (λ (books : BooksValue). booked books s) (sym only.books)
     where
-      -- an integer is itself plus 0
+      -- for `balanced`: an integer is itself plus 0
       plain : (z : ℤ) → z ≡ z +ℤ pos 0
       plain z = omega (arith, ints)
 
-      -- if the total was above the books by what unit `n` had, the total without the unit is what the books account for
+      -- for `balanced`: if the total `b` was above what the books account for (`z`) by what unit `n` had (`h`), the
+      -- total without the unit (`a`) is `z`
       rest : (a h b o : ℕ) (z : ℤ) → a + h ≡ b → o ≡ h → pos b ≡ z +ℤ pos (0 + o) → pos a ≡ z
       rest a h b o z e f g = omega (arith, ints, e, f, g)
 
@@ -142,7 +143,7 @@ module _ (w : WorldValue) (c : CampaignValue) (n : ℕ) (u : Unit) (is : get c.u
       within (moves_only u.holding.men Left People e s) (moving_all u.holding e s) (loss_under e s u.holding) (loses_by most_amount e s) (moves_what_leaves u.holding e s)
       (little_lost u.holding none (steady.numbers.units n u is).1.money (λ i. amount_within u.holding i (steady.numbers.units n u is).1) e s)
     where
-      -- of a sum that is at most `b`, the second part is at most each number that is at least `b`
+      -- for `moves_little`: of a sum that is at most `b`, the second part is at most each number that is at least `b`
       within : (m a b d : ℕ) → m + a ≤ b → b ≤ d → a ≤ d
       within m a b d k l = omega arith
 
@@ -193,12 +194,13 @@ passed_item_is c to item amount v is = rw is refl
 
 -- ---- room
 
--- books that moved within one bound have room under another bound, if they had room under both together
+-- the books of `d`, moved within bound `j` from those of `c`, have room under bound `k`, if those of `c` had room under
+-- `j` and `k` together
 pub near_leaves_room : (j k : BookBound) (c d : CampaignValue) → ((e : Entry) (t : Thing) → IsNear (j e t) (amount_in c.books e t) (amount_in d.books e t))
     → HaveRoom (both_move j k) c → HaveRoom k d
 near_leaves_room j k c d near room e t = near_room (j e t) (k e t) (amount_in c.books e t) (amount_in d.books e t) (near e t) (room e t)
 
--- no number is its own successor
+-- no number is its own successor: the laws below pass things on as if from unit `suc to`, which isn't unit `to`
 another : (n : ℕ) → suc n ≢ n
 another n same = omega (arith, same)
 

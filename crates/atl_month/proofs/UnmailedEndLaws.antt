@@ -38,7 +38,7 @@ less_plus a b u v x one two = record {
 nobody_less : (u : Unit) → IsLessBy 0 u u
 nobody_less u = record { faction = refl; name = refl; men = omega arith; items = λ i. omega arith }
 
--- after its upkeep a unit has exactly those men less who starved
+-- after its upkeep a unit has exactly as many men less as starved of it (`IsLessBy`)
 fewer_by : (s : UpkeepResult) (u : Unit) → IsLessBy s.starved u (unit_after_upkeep s u)
 fewer_by s u = record { faction = refl; name = grind arith; men = grind (arith, nat_tests); items = λ i. grind arith }
 
@@ -46,7 +46,7 @@ fewer_by s u = record { faction = refl; name = grind arith; men = grind (arith, 
 abbrev among : ℕ → UpkeepResult → ℕ
 among n s = if s.unit == n then s.starved else 0
 
--- after upkeep of one unit each unit has exactly those men less who starved of it
+-- after upkeep of one unit each unit has exactly as many men less as starved of it, which is 0 for the other units
 supplied_at : (c : CampaignValue) (s : UpkeepResult) (n : ℕ) (u : Unit) → get c.units n ≡ Some u → IsUnaffected (IsLessBy (among n s)) (upkeep_at c s) n u
 supplied_at c s n u there = elim (cases_eq n s.unit) [
   | inl own ↦
@@ -64,7 +64,7 @@ supplied_at c s n u there = elim (cases_eq n s.unit) [
       }
 ]
 
--- after upkeep of several units each unit has exactly those men less who starved of it
+-- after upkeep of several units each unit has exactly as many men less as starved of it altogether (`IsLessBy`)
 all_supplied : (c : CampaignValue) (ss : List UpkeepResult) (n : ℕ) (u : Unit) → get c.units n ≡ Some u → IsUnaffected (IsLessBy (sum_by (among n) ss)) (fold upkeep_at c ss) n u
 all_supplied c [] n u there = record { unit = u; there = there; spared = nobody_less u }
 all_supplied c (s ∷ ss) n u there =
@@ -109,7 +109,7 @@ upkeep_leaves = record {
     sums : (w : WorldValue) (c : CampaignValue) (m : MonthValue) (n : ℕ) → starved_in (upkeep_meaning w c m).1.events n ≡ starved_in m.events n + all w c n
     sums w c m n = sum_by-append (by_event n) m.events (map starved_event (filter starves (upkeep_results w c))) ∙ ap (λ x. starved_in m.events n + x) (starved_are_reported (upkeep_results w c) n)
 
-    -- one of two numbers is their sum less the other
+    -- for `upkeep_leaves`: the men who starve by upkeep (`y`) are all who starved (`z`) less those before (`x`)
     less : (x y z : ℕ) → z ≡ x + y → y ≡ z - x
     less x y z is = omega (arith, is)
 

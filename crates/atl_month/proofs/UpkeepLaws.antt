@@ -65,7 +65,7 @@ module _ (w : WorldValue) (left men : ℕ) (fewer : left ≤ men) where
   part : (days : ℕ) → days ≤ most_days * men → days * left / men ≤ most_days * left
   part days most = div-le_of_le-mul men (subst (λ n. days * left ≤ n) turned (mul-le-mul_right left most))
     where
-      -- the factors of a product can be taken in another order
+      -- for `part`: the factors of a product can be taken in another order
       turned : (most_days * men) * left ≡ men * (most_days * left)
       turned = grind arith
 
@@ -81,7 +81,7 @@ module _ (w : WorldValue) (h : HoldingValue) (left : ℕ) (fewer : left ≤ h.me
       let (some, said) = each_said (going_of left h) (keys h.days) k d is in
       by_option (get h.days k) refl some said
     where
-      -- of 0 days 0 stay
+      -- for `studied_left`: of 0 days 0 stay
       nothing : 0 * left / h.men ≡ 0
       nothing = ap (λ n. n / h.men) (zero-mul left) ∙ zero-div h.men
 
@@ -128,7 +128,7 @@ module _ (w : WorldValue) (c : CampaignValue) (s : UpkeepResult) (u : Unit) (is 
   abbrev now : HoldingValue
   now = after_upkeep s old
 
-  -- how many men the unit has left
+  -- how many men the unit has left after its upkeep
   abbrev left : ℕ
   left = old.men - s.starved
 
@@ -201,7 +201,7 @@ module _ (w : WorldValue) (c : CampaignValue) (s : UpkeepResult) (u : Unit) (is 
       total_of People a b g = omega (arith, ints, a, b, g, with_less.0, spare.starved)
       total_of (Item i) a b g = let items = ap (λ m. amount_of m i) with_less.4 in grind (arith, ints, nat_tests, a, b, g, items)
 
-  -- the books after the money was booked
+  -- the books after what the unit paid was booked, and before those who starved are
   abbrev one_booked : BooksValue
   one_booked = after_booking c.books Upkeep Money (neg_ℤ (pos s.paid))
 
@@ -259,7 +259,7 @@ pub other_unit : (c : CampaignValue) (s : UpkeepResult) (n : ℕ) → n ≢ s.un
 unfolding upkeep_at
 other_unit c s n apart = by_unit (get c.units s.unit)
   where
-    -- unit `n` stays as it is, whether the unit whose upkeep is taken is there or not
+    -- for `other_unit`: unit `n`, which isn't the one that pays, stays as it is, whether that one is there (`o`) or not
     by_unit : (o : Option Unit) → get (upkeep_in c s o).units n ≡ get c.units n
     by_unit None = refl
     by_unit (Some u) = get-insert_other c.units s.unit n (record u { holding = after_upkeep s u.holding }) apart
@@ -391,7 +391,7 @@ days_set left h listed =
     stays : ℕ → ℕ → ℕ
     stays k d = d * left / h.men
 
-    -- of 0 days 0 stay
+    -- for `days_set`: of 0 days 0 stay
     none : (k : ℕ) → stays k 0 ≡ 0
     none k = ap (λ d. d / h.men) (zero-mul left) ∙ zero-div h.men
 
@@ -403,7 +403,7 @@ days_set left h listed =
     not_listed : (k : ℕ) → list_any (eq_by_cmp nat_cmp k) (keys h.days) ≡ false → amount_of h.days k ≡ 0
     not_listed k other = by_option (get h.days k) (contains_key-keys h.days k ∙ other)
       where
-        -- a look-up that finds no value counts as 0
+        -- for `not_listed`: a look-up that finds no value counts as 0
         by_option : (o : Option ℕ) → is_some o ≡ false → unwrap_or o 0 ≡ 0
         by_option None is = refl
         by_option (Some d) is = cc
@@ -423,7 +423,7 @@ starved_supplied s h some fewer listed =
 abbrev pub unit_after_upkeep : UpkeepResult → Unit → Unit
 unit_after_upkeep s u = record u { holding = after_upkeep s u.holding }
 
--- upkeep of a unit that is there leaves it what its result says
+-- upkeep leaves a unit that is there what its result says (`unit_after_upkeep`)
 pub own_unit : (c : CampaignValue) (s : UpkeepResult) (u : Unit) → get c.units s.unit ≡ Some u → get (upkeep_at c s).units s.unit ≡ Some (unit_after_upkeep s u)
 own_unit c s u is = ap (λ (d : CampaignValue). get d.units s.unit) (upkeep_at_is c s u is) ∙ get-insert_same c.units s.unit (unit_after_upkeep s u)
 

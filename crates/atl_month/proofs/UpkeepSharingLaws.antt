@@ -32,7 +32,7 @@ module _ (amount : UpkeepInput → ℕ) (xs : List UpkeepInput) (p : UpkeepInput
       ap (sum_by amount) (filter-append (is_input_of s g) xs (p ∷ [])) ∙ sum_by-append amount (peers_of s g xs) (peers_of s g (p ∷ []))
       ∙ ap (λ n. sum_by amount (peers_of s g xs) + n) (one (is_input_of s g p))
     where
-      -- the sum over one more unit is its amount if it is one of the units (`b`), and else 0
+      -- for `more_among`: the sum over one more unit is its amount if it is one of the units (`b`), and else 0
       one : (b : Bool) → sum_by amount (cond b (p ∷ []) []) ≡ cond b (amount p) 0
       one true = omega arith
       one false = refl
@@ -51,7 +51,7 @@ module _ (amount : UpkeepInput → ℕ) (xs : List UpkeepInput) (p : UpkeepInput
 abbrev account : (left short given covered : ℕ) → Account
 account left short given covered = record { left = left; short = short; given = given; covered = covered }
 
--- accounts with the same amounts are the same
+-- two accounts are equal if each of the four amounts of the one is equal to that of the other
 account_is : (a b c d e f g h : ℕ) → a ≡ e → b ≡ f → c ≡ g → d ≡ h → account a b c d ≡ account e f g h
 account_is a b c d e f g h x y z u = rw (x, y, z, u) refl
 
@@ -61,12 +61,12 @@ pub each_account : (P : ℕ → ℕ → Account → Type 0) (m : FactionAccounts
     → (s g : ℕ) → P s g (account_at (with_account m p.region p.faction a) s g)
 each_account P m p a here others s g = by_test (is_input_of s g p) refl
   where
-    -- the account of a faction in a region is the new one if the unit is of both (`test`), and else the old one
+    -- for `each_account`: the account of faction `g` in region `s` is new if the unit is of both (`test`), else the old
     at : (test : Bool) → is_input_of s g p ≡ test
         → account_at (with_account m p.region p.faction a) s g ≡ unwrap_or (cond test (Some a) (get (group_of m s) g)) no_account
     at test is = ap (λ o. unwrap_or o no_account) (get-grouped m p.region p.faction a s g ∙ ap (λ b. cond b (Some a) (get (group_of m s) g)) is)
 
-    -- the property P holds of the account of a faction in a region, whether the unit is of both (`test`) or not
+    -- for `each_account`: P holds of the account of faction `g` in region `s`, be the unit of both (`test`) or not
     by_test : (test : Bool) → is_input_of s g p ≡ test → P s g (account_at (with_account m p.region p.faction a) s g)
     by_test true is =
         let region : p.region ≡ s = grind (arith, nat_tests) in
@@ -87,12 +87,12 @@ pub record IsFew (n : ℕ) (a : Account) : Type 0 where
   -- the money that the account's units are short of is within what `n` units may be short of
   pub short : a.short ≤ most_per_head * men_limit * n
 
--- in the empty map the sums of each account are within those of 0 units
+-- the accounts of the empty map are within what 0 units may have left and be short of (`IsFew`): they are all 0
 pub none_few : (s g : ℕ) → IsFew 0 (account_at empty s g)
 none_few s g = rw (no_accounts 0 s g) (record { left = omega arith; short = omega arith })
 
 module _ (m : ℕ) (before : List UpkeepInput) (p : UpkeepInput) where
-  -- the lesser of 0 and `x` is the lesser of 0 and `y`, since both are 0
+  -- for `opened_more`: the lesser of 0 and `x` is the lesser of 0 and `y`, since both are 0
   none_given : (x y : ℕ) → min 0 x ≡ min 0 y
   none_given x y = omega arith
 
@@ -121,12 +121,12 @@ few_more m n accounts p a left short each is =
 -- ---- the units of lower numbers
 
 module _ {A : Type 0} where
-  -- filtering a list by two tests gives the same in either order
+  -- for `before_among`: filtering a list by two tests gives the same in either order
   filters_swap : (t q : A → Bool) (xs : List A) → filter q (filter t xs) ≡ filter t (filter q xs)
   filters_swap t q [] = refl
   filters_swap t q (x ∷ xs) = grind (arith, filters_swap t q xs)
 
-  -- if no element passes a test, filtering by the test gives the empty list
+  -- for `lower_first`: if no element passes a test, filtering by the test gives the empty list
   none_pass : (t : A → Bool) (xs : List A) → All (λ x. t x ≡ false) xs → filter t xs ≡ []
   none_pass t [] h = refl
   none_pass t (x ∷ xs) h = rw (h 0 x (omega arith)) (none_pass t xs (λ k d l. h (suc k) d (omega (arith, l))))
@@ -135,11 +135,11 @@ module _ {A : Type 0} where
 abbrev is_lower : ℕ → UpkeepInput → Bool
 is_lower n p = nat_lt p.unit n
 
--- a number below another tests as lower
+-- for `lower_first`: a number below another tests as lower
 lower : (a b : ℕ) → a < b → nat_lt a b ≡ true
 lower a b l = grind (arith, nat_tests, l)
 
--- a number that isn't below another doesn't test as lower
+-- for `lower_first`: a number that isn't below another doesn't test as lower
 no_lower : (a b : ℕ) → b < a + 1 → nat_lt a b ≡ false
 no_lower a b l = grind (arith, nat_tests, l)
 
@@ -156,11 +156,12 @@ lower_first (p ∷ ps) (suc i) d order l =
 
 -- ---- the upkeep of all units
 
--- what was given so far in turn, with what the next unit gives, is the lesser of all so far and the amount to give
+-- for `settled_more`: what the units before gave in turn, with what the next one gives, is the lesser of what all these
+-- want to give (`before + want`) and the amount to give
 next_dealt : (before want amount : ℕ) → min before amount + min (amount - min before amount) want ≡ min (before + want) amount
 next_dealt before want amount = omega arith
 
--- what one unit gives or gets in turn is the difference of what was given up to the unit and before it
+-- for `settled_is`: what a unit gives or gets in turn is what all did up to and with it, less what those before it did
 is_dealt : (before want amount : ℕ) → min (amount - min before amount) want ≡ min (before + want) amount - min before amount
 is_dealt before want amount = omega arith
 
@@ -213,7 +214,7 @@ module _ (m : ℕ) (all before : List UpkeepInput) (p : UpkeepInput) (accounts :
       settled : (paid starved : ℕ) → UpkeepResult
       settled paid starved = record { unit = p.unit; faction = p.faction; paid = paid; starved = starved }
 
-      -- results of upkeep for the unit with the same numbers are the same
+      -- two results of upkeep for the unit are equal if as much is paid and as many men starve by both
       same_settled : (a b c d : ℕ) → a ≡ c → b ≡ d → settled a b ≡ settled c d
       same_settled a b c d x y = rw (x, y) refl
 
@@ -224,7 +225,7 @@ module _ (m : ℕ) (all before : List UpkeepInput) (p : UpkeepInput) (accounts :
 
 -- ---- a unit pays no more than it has
 
--- if at most what some men cost is missing, at most these men starve
+-- if the money missing (`short`) is at most what `men` men cost, at `m` each, at most `men` men starve
 few_starve : (m men short : ℕ) → 1 ≤ m → short ≤ m * men → starved_of m short ≤ men
 few_starve m men short some most =
     let rounded : short + (m - 1) < (men + 1) * m = omega (arith, mul_comm m men) in
@@ -242,6 +243,6 @@ can_spare m some peers p =
       starved = few_starve m p.men short some (omega arith);
     }
   where
-    -- what a unit pays for itself, with what it gives to others in turn, is at most its money
+    -- for `can_spare`: what a unit pays for itself and what it gives in turn are together at most its money
     within : (given before money due : ℕ) → min money due + amount_in_turn given before (money - min money due) ≤ money
     within given before money due = omega arith

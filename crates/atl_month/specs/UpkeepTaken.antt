@@ -17,7 +17,7 @@ use Rattle.atl_month.specs.Upkeep.{after_upkeep, takes_up_to}
 pub record CanPayUpkeep (w : WorldValue) (c : CampaignValue) (s : UpkeepResult) : Type 0 where
   -- the unit whose upkeep is taken
   pub unit : Unit
-  -- the campaign has this unit
+  -- the unit is in the campaign, under the number that the result names
   pub there : get c.units s.unit ≡ Some unit
   -- the unit has the money and the men that upkeep takes
   pub spare : CanSpare s unit.holding.men unit.holding.money

@@ -11,14 +11,14 @@ use Rattle.atl_market.specs.Goods.{with_used}
 use Rattle.atl_market.proofs.BuildUsedLaws.{same_next, same_structures}
 use Rattle.atl_market.proofs.build.start.Goals as goal
 
--- the number of the next structure is still free after the material was used
+-- start may call begin_structure: the number of the next structure is still free after the material was used
 pub begin_structure-requires-clause-fresh : goal.begin_structure-requires-clause-fresh
 begin_structure-requires-clause-fresh c =
     let old = c.args.campaign.now.value in
     let item = c.args.kind.now.material in
     rw (c.in_ok-use_item.ensures.what, same_structures old c.args.unit item c.args.size, same_next old c.args.unit item c.args.size) c.requires.fresh
 
--- the number of the next structure is at most 10,000 after the material was used
+-- start may call begin_structure: the number of the next structure is at most 10,000 after the material was used
 pub begin_structure-requires-clause-room : goal.begin_structure-requires-clause-room
 begin_structure-requires-clause-room c =
     rw (c.in_ok-use_item.ensures.what, same_next c.args.campaign.now.value c.args.unit c.args.kind.now.material c.args.size) c.requires.room

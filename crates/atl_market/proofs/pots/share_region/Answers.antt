@@ -8,7 +8,7 @@ use Rattle.atl_market.specs.Puts.{with_each}
 use Rattle.atl_shares.specs.Share.{shares}
 use Rattle.atl_market.proofs.pots.share_region.Goals as goal
 
--- a list of length 0 is empty
+-- for `returns-then-is_empty`: a list of length 0 is empty
 empty_list : {X : Type 0} (xs : List X) → length xs ≡ 0 → xs ≡ []
 empty_list [] h = refl
 empty_list (x ∷ xs) h = absurd (omega arith)

@@ -26,22 +26,24 @@ returns-clause-factions c = factions_stay c.args.world.now c.args.campaign.value
 pub returns-clause-books : goal.returns-clause-books
 returns-clause-books c = books_near c.args.world.now c.args.campaign.value c.in_ok-campaign.campaign.value c.in_ok-campaign.ensures.leaves
 
--- what each phase of the month leaves alone over itself is left alone (`month_keeps`)
+-- each phase of the month left alone what its specification says, over the campaigns before and after it
+-- (`month_keeps`)
 pub returns-clause-keeps : goal.returns-clause-keeps
 returns-clause-keeps c =
     let is : c.new-month.result ≡ new_month (by_faction (map reading_of c.args.mailings.items)) c.args.words.now = search rules in
     subst (λ (m : MonthValue). month_keeps c.args.world.now m c.args.campaign.value c.in_ok-campaign.campaign.value) is c.in_ok-campaign.ensures.keeps
 
--- a good campaign is early, as the first phase needs, and each phase leaves what the next one needs
+-- close_month may call `run` of the phases: a good campaign is early, as the first phase needs, and each phase leaves
+-- what the next one needs
 pub run-requires-clause-needs : goal.run-requires-clause-needs
 run-requires-clause-needs c =
     (sound_early c.args.world.now c.args.campaign.value c.requires.good.sound, λ w d h. (h, λ w d h. (h, λ w d h. (h, λ w d h. h))))
 
--- the books of a good campaign have room for all phases of a month
+-- close_month may call `run` of the phases: the books of a good campaign have room for all phases of a month
 pub run-requires-clause-room : goal.run-requires-clause-room
 run-requires-clause-room c = phases_room c.args.world.now c.args.campaign.value c.requires.good.sound
 
--- the mailings that the phases get can be read with the world
+-- close_month may call `run` of the phases: the mailings that the phases get can be read with the world
 pub run-requires-clause-read : goal.run-requires-clause-read
 run-requires-clause-read c =
     let ms = c.args.mailings.items in

@@ -8,7 +8,7 @@ use Rattle.atl_phase.proofs.BookingLaws.{booking_fits, within-pos}
 use Rattle.atl_month.proofs.RestockLaws.{market_marks, restock_small, room_alone}
 use Rattle.atl_month.proofs.restock.restock_market.Goals as goal
 
--- the item's amount under Stocked fits 64 bits with the new goods
+-- restock_market may call book: the item's amount under Stocked fits 64 bits with the new goods
 pub book-requires-clause-fits : goal.book-requires-clause-fits
 book-requires-clause-fits c =
     let before = c.args.campaign.now.value in

@@ -38,7 +38,7 @@ loop-item-init c =
       marks = marks-refl before;
     }
 
--- the books have room for the new goods of the next market
+-- restock_region may call restock_market: the books have room for the new goods of the next market
 pub restock_market-requires-clause-room : goal.restock_market-requires-clause-room
 restock_market-requires-clause-room c =
     room_for_market (c.in-Some-2.item, c.in-Some-2.market.now) c.next.new.self c.loop-item.campaign.value

@@ -8,7 +8,7 @@ use Rattle.atl_month.specs.Season.{grows_by, season_moves}
 use Rattle.atl_month.proofs.SeasonLaws.{births_fit, income_fits, limits_fit, region_grows_well}
 use Rattle.atl_month.proofs.season.turn_region.Goals as goal
 
--- the region's peasants with those born are at most 999,999,999
+-- turn_region may call grow: the region's peasants with those born are at most 999,999,999
 pub grow-requires-clause-peasants : goal.grow-requires-clause-peasants
 grow-requires-clause-peasants c =
     let region = c.in-Some-region.region.now in
@@ -18,7 +18,7 @@ grow-requires-clause-peasants c =
     (limits_fit c.args.world.now c.args.number terrain c.rules-rules.ensures.world (sym c.in-Some.ensures.value)).0
     (c.requires.steady.numbers.regions c.args.number region (sym c.in-Some-region.ensures)).peasants)
 
--- the region's money with its income is at most 999,999,999
+-- turn_region may call grow: the region's money with its income is at most 999,999,999
 pub grow-requires-clause-money : goal.grow-requires-clause-money
 grow-requires-clause-money c =
     let region = c.in-Some-region.region.now in
@@ -28,18 +28,18 @@ grow-requires-clause-money c =
     (limits_fit c.args.world.now c.args.number terrain c.rules-rules.ensures.world (sym c.in-Some.ensures.value)).1
     (c.requires.steady.numbers.regions c.args.number region (sym c.in-Some-region.ensures)).money)
 
--- the books have room for births and income
+-- turn_region may call grow: the books have room for births and income
 pub grow-requires-clause-room : goal.grow-requires-clause-room
 grow-requires-clause-room c = room_less (grows_by most_amount) (season_moves most_amount) c.args.campaign.now.value (λ e t. omega arith) c.requires.room
 
--- the campaign is steady after births and income
+-- turn_region may call restock_region: the campaign is steady after births and income
 pub restock_region-requires-clause-steady : goal.restock_region-requires-clause-steady
 restock_region-requires-clause-steady c =
     let growth = region_grows_well c.args.world.now c.rules-rules.ensures.world c.args.campaign.now.value c.args.number c.args.word c.in-Some.terrain.now c.in-Some-region.region.now
     (sym c.in-Some.ensures.value) (sym c.in-Some-region.ensures) c.requires.steady in
     rw (c.grow.ensures.what, c.income-earned.ensures, c.births-born.ensures, c.rules-rules.ensures.value) growth.leaves_it
 
--- after births and income, the books have room for the new goods of the markets
+-- turn_region may call restock_region: after births and income, the books have room for the new goods of the markets
 pub restock_region-requires-clause-room : goal.restock_region-requires-clause-room
 restock_region-requires-clause-room c =
     let growth = region_grows_well c.args.world.now c.rules-rules.ensures.world c.args.campaign.now.value c.args.number c.args.word c.in-Some.terrain.now c.in-Some-region.region.now

@@ -51,7 +51,7 @@ loop-number-preserved c =
       marks-trans c.args.campaign.now c.loop-number.campaign c.turn_region.new.campaign marks c.in_ok-turn_region-in-Some-get.ensures.marks,
     )
 
--- the books have room for the season of the next region
+-- turn_regions may call turn_region: the books have room for the season of the next region
 pub turn_region-requires-clause-room : goal.turn_region-requires-clause-room
 turn_region-requires-clause-room c =
     let (_, _, whole, steady, room, marks) = c.loop-number.invariant in

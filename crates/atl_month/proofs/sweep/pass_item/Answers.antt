@@ -11,7 +11,7 @@ use Rattle.atl_phase.proofs.MeaningLaws.{less_room}
 use Rattle.atl_month.proofs.SweepLaws.{passed_item_is}
 use Rattle.atl_month.proofs.sweep.pass_item.Goals as goal
 
--- the item is a thing of the books, which have room for what is lost of it
+-- pass_item may call book_taken: the item is a thing of the books, which have room for what is lost of it
 pub book_taken-requires : goal.book_taken-requires
 book_taken-requires c =
     let books = ap (λ (s : CampaignValue). s.books) c.in_ok-set_item-in-Some.ensures.ok in

@@ -6,7 +6,7 @@ use Rattle.atl_month.specs.Sweep.{after_passing_item}
 use Rattle.atl_month.proofs.SweepLaws.{item_passes, rest_room}
 use Rattle.atl_month.proofs.sweep.pass_items.Goals as goal
 
--- the books have room for what may be lost of the next item
+-- pass_items may call pass_item: the books have room for what may be lost of the next item
 pub pass_item-requires-clause-room : goal.pass_item-requires-clause-room
 pass_item-requires-clause-room c = next_room c.args.items.now c.loop-item.item-index c.loop-item.campaign.value c.loop-item-test.true c.loop-item.invariant.room
 

@@ -11,13 +11,14 @@ use Rattle.atl_instant.proofs.QuitLaws.{known_held}
 use Rattle.atl_month.proofs.SweepLaws.{items_room, money_steady}
 use Rattle.atl_month.proofs.sweep.sweep_unit.Goals as goal
 
--- the books have room for what may be lost of the unit's money
+-- sweep_unit may call pass_money: the books have room for what may be lost of the unit's money
 pub pass_money-requires-clause-room : goal.pass_money-requires-clause-room
 pass_money-requires-clause-room c =
     less_room c.money-money.result most_amount (amount_in c.args.campaign.now.value.books Lost Money)
     (omega (arith, c.money-money.ensures.value, c.money-money.ensures.fits)) (c.requires.room Lost Money)
 
--- after the money was passed on, the campaign is steady, the items are of the world, and the books have room for them
+-- sweep_unit may call pass_items: after the money was passed on, the campaign is steady, the items are of the world,
+-- and the books have room for them
 pub pass_items-requires : goal.pass_items-requires
 pass_items-requires c =
     let w = c.args.world.now in

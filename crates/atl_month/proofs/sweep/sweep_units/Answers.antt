@@ -10,7 +10,7 @@ use Rattle.atl_month.proofs.ReceiverLaws.{receiver_stays}
 use Rattle.atl_month.proofs.SweepAllLaws.{swept_at_leaves_well}
 use Rattle.atl_month.proofs.sweep.sweep_units.Goals as goal
 
--- the books have room for what the next unit may lose
+-- sweep_units may call sweep_unit: the books have room for what the next unit may lose
 pub sweep_unit-requires-clause-room : goal.sweep_unit-requires-clause-room
 sweep_unit-requires-clause-room c =
     let w = c.args.world.now in

@@ -9,7 +9,7 @@ use Rattle.atl_month.specs.UpkeepTaken.{CanPayUpkeep}
 use Rattle.atl_month.specs.Upkeep.{upkeep_at}
 use Rattle.atl_month.proofs.upkeep.charge_all.Goals as goal
 
--- the next unit can pay what upkeep takes from it
+-- charge_all may call charge_upkeep: the next unit can pay what upkeep takes from it
 pub charge_upkeep-requires : goal.charge_upkeep-requires
 charge_upkeep-requires c =
     let list = c.args.list.now in

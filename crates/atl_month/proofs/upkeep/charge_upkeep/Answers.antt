@@ -12,7 +12,7 @@ use Rattle.atl_phase.proofs.MeaningLaws.{less_room}
 use Rattle.atl_month.proofs.UpkeepLaws.{few_paid, few_starved, upkeep_at_is}
 use Rattle.atl_month.proofs.upkeep.charge_upkeep.Goals as goal
 
--- money is a thing of the books, which have room for what the unit pays
+-- charge_upkeep may call book_taken: money is a thing of the books, which have room for what the unit pays
 pub book_taken-requires : goal.book_taken-requires
 book_taken-requires c =
     let (w, can) = c.requires in
@@ -26,7 +26,8 @@ book_taken-requires c =
       room = rw (ap (λ (s : CampaignValue). s.books) what) (less_room s.paid most_amount (amount_in before.books Upkeep Money) few (can.room Upkeep Money));
     }
 
--- people are a thing of the books, which have room for those who starve after the money was booked
+-- charge_upkeep may call book_taken again: people are a thing of the books, which have room for those who starve after
+-- the money was booked
 pub book_taken-requires-2 : goal.book_taken-requires-2
 book_taken-requires-2 c =
     let (w, can) = c.requires in

@@ -9,11 +9,11 @@ use Rattle.atl_month.specs.Sweep.{loses_by, menless_units, sweep}
 use Rattle.atl_month.proofs.SweepAllLaws.{few_menless, loses_little, sweep_keeps_all, sweep_leaves_well}
 use Rattle.atl_month.proofs.sweep.SweepPhasePhase.run.Goals as goal
 
--- unit numbers begin at 1
+-- the sweep may call receivers_of: unit numbers begin at 1
 pub receivers_of-requires : goal.receivers_of-requires
 receivers_of-requires c n u is = (c.requires.needs.numbers.units n u is).0
 
--- the books have room for what the units without men may lose
+-- the sweep may call sweep_units: the books have room for what the units without men may lose
 pub sweep_units-requires-clause-room : goal.sweep_units-requires-clause-room
 sweep_units-requires-clause-room c =
     let w = c.args.world.now in

@@ -3,13 +3,13 @@ use Rattle.atl_month.specs.Upkeep.{upkeep, upkeep_inputs_of, upkeep_results}
 use Rattle.atl_month.proofs.UpkeepLaws.{upkeep_is_of_peers, all_can_pay, inputs_in_order, upkeep_leaves_well}
 use Rattle.atl_month.proofs.upkeep.UpkeepPhasePhase.run.Goals as goal
 
--- what upkeep reads of the units is sorted by their numbers
+-- upkeep may call upkeep_payments: what upkeep reads of the units is sorted by their numbers
 pub upkeep_payments-requires-clause-order : goal.upkeep_payments-requires-clause-order
 upkeep_payments-requires-clause-order c =
     let list : c.deref.result.now ≡ upkeep_inputs_of c.args.campaign.value = search rules in
     rw list (inputs_in_order c.args.campaign.value)
 
--- each unit can pay what upkeep takes from it when its turn comes
+-- upkeep may call charge_all: each unit can pay what upkeep takes from it when its turn comes
 pub charge_all-requires : goal.charge_all-requires
 charge_all-requires c =
     let w = c.args.world.now in
