@@ -33,7 +33,7 @@ ref_step : (o : Option ℕ) (f : LineFault) (c : ℕ → UnitRef) (ws : List Wor
 ref_step None f c ws = refl
 ref_step (Some n) f c ws = refl
 
--- if a and b are what `then_units` makes of c and d, the choice of a or b is what it makes of the choice of c or d
+-- for `units_step`: if a and b are what `then_units` makes of c and d, it makes a or b of c or d, by whether t is true
 choose : (t : Bool) (a b : Result (List UnitRef) LineFault) (c d : Result (UnitRef × List WordText) LineFault) → a ≡ c >>= then_units → b ≡ d >>= then_units → cond t a b ≡ cond t c d >>= then_units
 choose true a b c d p q = p
 choose false a b c d p q = q

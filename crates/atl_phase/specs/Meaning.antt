@@ -74,7 +74,7 @@ pub record IsNear (most : ℕ) (before after : ℤ) : Type 0 where
 pub record IsSameMonth (before after : CampaignValue) : Type 0 where
   -- the number of the month last closed stays the same
   pub month : after.month ≡ before.month
-  -- the reports stay the same
+  -- the phase leaves the factions' reports as they are
   pub reports : after.reports ≡ before.reports
   -- there are as many factions as before
   pub count : len after.factions ≡ len before.factions
