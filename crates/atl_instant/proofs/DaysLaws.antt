@@ -39,7 +39,8 @@ module _ (days : FinMap nat_cmp ℕ) (f : ℕ → ℕ → ℕ) (s : ℕ) where
       both true x = refl
       both false x = refl
 
-      -- skill s has f of its days if it is among the entries, otherwise what it had, whether the first is for s or not
+      -- for `set_among`: skill s has f of its days if it is among the entries, and else what it had, whether the first
+      -- entry is for s (`b`) or not
       by_key : (b : Bool) → eq_by_cmp nat_cmp s k ≡ b → cond (is_among es) (f s (amount_of days s)) (cond b (f k v) (amount_of left s)) ≡ cond (b || is_among es) (f s (amount_of days s)) (amount_of left s)
       by_key true is =
           let same : s ≡ k = alike k s is in

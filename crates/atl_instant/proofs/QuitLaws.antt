@@ -526,8 +526,7 @@ left_some : (w : WorldValue) (c : CampaignValue) (n : ℕ) → IsSteady w c → 
 unfolding after_leaving
 left_some w c n steady = by_unit (get c.units n) refl
   where
-    -- for `left_some`: after unit n left, each unit that is there is unchanged (`HasSomeOf`), be unit n there (`o`) or
-    -- not
+    -- for `left_some`: as unit n leaves, if it is there (`o`), each unit that is left is unchanged (`HasSomeOf`)
     by_unit : (o : Option Unit) → get c.units n ≡ o → HasSomeOf c (without_leaver c n o)
     by_unit None is = λ k u there. there
     by_unit (Some x) is =

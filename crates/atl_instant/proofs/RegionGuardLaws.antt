@@ -138,8 +138,8 @@ module _ (c : CampaignValue) (m : GuardMap) (are : AreRegionGuards c m) (region 
   all_own : ((u : Unit) → u.region ≡ region → get m u.region ≡ Some u.faction → u.faction ≡ faction) → is_guarded_against c region faction ≡ false
   all_own own = any_none against (numbers_in region c.units) (λ k listed. let (u, is, here) = listed_passing stands_here c.units k listed in ap (guards_against faction) is ∙ by_test u (guards u) (are.noted k u is) (is_equal u.region region here))
     where
-      -- for `all_own`: unit u, in the region, is no guard of another faction than the given one, whether it guards
-      -- (`b`) or not
+      -- for `all_own`: unit u, in the region, is no guard of another faction than the given one, be it on guard (`b`)
+      -- or not
       by_test : (u : Unit) (b : Bool) → (b ≡ true → get m u.region ≡ Some u.faction) → u.region ≡ region → (b && not (u.faction == faction)) ≡ false
       by_test u true noted here = ap (λ f. not (f == faction)) (own u here (noted refl)) ∙ ap not (equal_itself faction)
       by_test u false noted here = refl

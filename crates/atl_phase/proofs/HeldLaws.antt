@@ -24,8 +24,7 @@ sum_within f most [] each = omega arith
 sum_within {V} f most (e ∷ es) each =
     more (sum_by (λ (d : ℕ × V). f d.1) (e ∷ es)) (f e.1) (sum_by (λ (d : ℕ × V). f d.1) es) (length (e ∷ es) * most) (length es * most) most (sum_by-cons (λ (d : ℕ × V). f d.1) e es) (suc-mul (length es) most) each.0 (sum_within f most es each.1)
   where
-    -- for `sum_within`: if x is at most m, and the sum y of the others at most b, all together (s) are at most b + m
-    -- (a)
+    -- for `sum_within`: if x is at most m, and the sum y of the others at most b, all together (s) are at most a: b + m
     more : (s x y a b m : ℕ) → s ≡ x + y → a ≡ b + m → x ≤ m → y ≤ b → s ≤ a
     more s x y a b m e f k l = omega (arith, e, f, k, l)
 

@@ -68,11 +68,11 @@ month_code =
 
 -- ---- aliases
 
--- the number of the unit that a faction's FORM made under an alias; None where there is none
+-- the number of the unit that FORM made for a faction (the first number) under an alias; None where there is none
 abbrev pub alias_unit : Aliases → ℕ → ℕ → Option ℕ
 alias_unit aliases faction alias = get (group_of aliases faction) alias
 
--- the aliases with one more: this unit, under this alias of this faction
+-- the aliases with one more; the numbers are the faction's, the alias, and that of the unit that FORM made under it
 abbrev pub with_alias : Aliases → ℕ → ℕ → ℕ → Aliases
 with_alias aliases faction alias unit = insert aliases faction (insert (group_of aliases faction) alias unit)
 

@@ -21,8 +21,8 @@ use Rattle.atl_service.specs.Step.{step}
 use Rattle.atl_service.specs.Service.{ServiceValue, text_in}
 use Rattle.atl_service.specs.Runs.{Runs, RunsAt, RunsOpen, Accepts, Closes, RunsAll, Follows, FollowsAt, AreClosed, Headline, Interrupted, HeadlineAt}
 
--- if a fault left the tables as it may (`LeavesAfterFault`) by the count `many` of earlier disk failures, it did so by
--- each lower count `few`
+-- what a fault may leave in the tables (`LeavesAfterFault`) if the disk had failed `many` times before, it may leave
+-- also if it had failed `few` times, which is no more
 stops_from : (few many : ℕ) (s : State) (text : List ℕ) (before after : CampaignValue) → few ≤ many → LeavesAfterFault many s text before after → LeavesAfterFault few s text before after
 stops_from few many s text before after h stops = record {
   still = stops.still;

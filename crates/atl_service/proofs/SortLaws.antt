@@ -65,7 +65,8 @@ own_again n (e ∷ es) = by_test (e.faction == n) refl (own_again n es)
     by_test true is rest = ap (λ t. cond t (e ∷ own_events n (own_events n es)) (own_events n (own_events n es))) is ∙ ap (λ (more : List Event). e ∷ more) rest
     by_test false is rest = rest
 
--- a campaign with a report made from a faction's own events is that with a report made from all events
+-- where a call answers Ok and stores faction n's report made from its own events, campaign d is c with the report made
+-- from all events
 pub stored_own : {A E : Type 0} (w : WorldValue) (c d : CampaignValue) (n : ℕ) (faults lines : List FaultyLine) (events own : List Event) (r : Result A E)
     → lines ≡ faults → own ≡ own_events n events → OnOk r (d ≡ reported_with w c n lines own) → OnOk r (d ≡ reported_with w c n faults events)
 stored_own w c d n faults lines events own (Err e) wrong mine is = tt
