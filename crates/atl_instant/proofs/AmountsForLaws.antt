@@ -58,8 +58,7 @@ module _ (f : ℕ → ℕ) where
       both true none = refl
       both false none = none
 
-      -- for `found_said`: among the entries of n ∷ ns q has the amount f q, or 0 if it isn't listed, if so it is with
-      -- ns
+      -- for `found_said`: if it holds of ns, it does of n ∷ ns, whose entries have f q for q, or 0 if q isn't in n ∷ ns
       by_tests : found q ns ≡ cond (is_among q ns) (f q) 0 → (b k : Bool) → (f n == 0) ≡ b → eq_by_cmp nat_cmp q n ≡ k → unwrap_or (find nat_cmp q (cond (not b) ((n, f n) ∷ listed ns) (listed ns))) 0 ≡ cond (k || is_among q ns) (f q) 0
       by_tests rest true true none same = rest ∙ both (is_among q ns) (sym (ap f (same_key q n same) ∙ is_equal (f n) 0 none))
       by_tests rest true false none other = rest

@@ -45,8 +45,8 @@ pub record IsSpared (f : ℕ) (before after : Unit) : Type 0 where
   -- a unit of another faction than f, which wrote the order, has exactly as many men as before
   pub men : f ≢ before.faction → after.holding.men ≡ before.holding.men
 
--- Campaign d, which an order of faction f for unit n makes of c, books nothing, and each unit but n is spared. Where
--- `holds` is true of c and the order fits the world (`fit`), `holds` is true of d, which is of c's month (`StepsWell`).
+-- Campaign d, which an order of faction f for unit n makes of c, spares each unit but n (`IsSpared`). Where `holds` is
+-- true of c and the order fits the world (`fit`), `holds` is true of d, and month, books and balance are kept.
 pub record Keeps (holds : Condition) (fit : Type 0) (w : WorldValue) (c : CampaignValue) (n f : ℕ) (d : CampaignValue) : Type 0 where
   -- where `holds` is true of c and the order fits (`fit`), `holds` is true of d, and month, books and balance are kept
   pub well : holds w c → fit → StepsWell holds nothing_remaining w c d
