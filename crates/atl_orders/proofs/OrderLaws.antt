@@ -118,7 +118,7 @@ item_holds : (world : WorldValue) (ws : List WordText) → Holds (λ i. i < leng
 item_holds world [] = tt
 item_holds world (w ∷ ws) = found _ UnknownThing _ (λ i h. index_within _ world.items w.bytes w.quoted i h)
 
--- an amount, and the number of an item
+-- what is read as goods: an amount, and the number of an item
 abbrev Goods : Type 0
 Goods = ℕ × ℕ
 

@@ -80,7 +80,7 @@ then_changes a b d n f g one two = record {
   goods = two.goods ∙ one.goods;
 }
 
--- the items and the days of a unit
+-- of what a unit holds, the items and the days, which changes of other fields leave as they are
 abbrev goods_of : HoldingValue → FinMap nat_cmp ℕ × FinMap nat_cmp ℕ
 goods_of h = (h.items, h.days)
 

@@ -116,7 +116,7 @@ pub ordered_cases : (P : CampaignValue → Type 0) (step : Option OrderEffect) (
 ordered_cases P None c t same done = same
 ordered_cases P (Some deed) c t same done = carried_cases (λ p. P p.0) deed c t.faction t.unit same (λ x there faction. done x (record { there = there; faction = faction }))
 
--- a campaign and an outcome, with the outcome in `Some`
+-- a campaign and an outcome as an order that isn't passed over has them in its result: the outcome in `Some`
 abbrev with_some : CampaignValue × Outcome → CampaignValue × Option Outcome
 with_some p = (p.0, Some p.1)
 

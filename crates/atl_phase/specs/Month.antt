@@ -88,7 +88,7 @@ with_events m events = record m { events = m.events ++ events }
 abbrev pub HaveOwnFactions : List Mailing → Type 0
 HaveOwnFactions mailings = IsDistinct (eq_by_cmp nat_cmp) (map (λ m. m.faction) mailings)
 
--- the map from each faction to its reading
+-- the map of these readings, each under its faction
 abbrev pub by_faction : List Reading → FinMap nat_cmp Reading
 by_faction readings = from_entries (map (λ r. (r.faction, r)) readings)
 
