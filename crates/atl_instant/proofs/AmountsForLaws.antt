@@ -12,7 +12,7 @@ use Rattle.atl_records.specs.Holdings.{amount_of}
 use Rattle.atl_records.proofs.EveryLaws.{found_of}
 use Rattle.atl_instant.specs.Amounts.{amounts_for}
 
--- a number that isn't 0 is at least 1
+-- for `each_some`: an amount that isn't 0 is at least 1
 at_least_one : (n : ℕ) → (n == 0) ≡ false → 1 ≤ n
 at_least_one n some = grind (arith, nat_tests)
 
@@ -30,7 +30,7 @@ module _ (f : ℕ → ℕ) where
   each_some [] = tt
   each_some (n ∷ ns) = by_test (each_some ns) (f n == 0) refl
     where
-      -- the entries of n ∷ ns have their amounts (`IsSome`), whether the amount of n is 0 or not
+      -- for `each_some`: the entries of n ∷ ns have their amounts (`IsSome`), whether the amount of n is 0 (`b`) or not
       by_test : EachOf IsSome (listed ns) → (b : Bool) → (f n == 0) ≡ b → EachOf IsSome (cond (not b) ((n, f n) ∷ listed ns) (listed ns))
       by_test rest true is = rest
       by_test rest false is = ((at_least_one (f n) is, refl), rest)
@@ -53,12 +53,12 @@ module _ (f : ℕ → ℕ) where
   found_said q [] = refl
   found_said q (n ∷ ns) = by_tests (found_said q ns) (f n == 0) (eq_by_cmp nat_cmp q n) refl refl
     where
-      -- if f q is 0, the choice between f q and 0 is f q
+      -- for `by_tests`: where the amount of q is 0 (f q), it is f q whether q is among the numbers (`b`) or not
       both : (b : Bool) → 0 ≡ f q → cond b (f q) 0 ≡ f q
       both true none = refl
       both false none = none
 
-      -- number q has the amount f q among the entries of n ∷ ns, or 0 if it isn't in n ∷ ns, if this holds with ns
+      -- for `found_said`: if it holds of ns, it does of n ∷ ns, whose entries have f q for q, or 0 if q isn't in n ∷ ns
       by_tests : found q ns ≡ cond (is_among q ns) (f q) 0 → (b k : Bool) → (f n == 0) ≡ b → eq_by_cmp nat_cmp q n ≡ k → unwrap_or (find nat_cmp q (cond (not b) ((n, f n) ∷ listed ns) (listed ns))) 0 ≡ cond (k || is_among q ns) (f q) 0
       by_tests rest true true none same = rest ∙ both (is_among q ns) (sym (ap f (same_key q n same) ∙ is_equal (f n) 0 none))
       by_tests rest true false none other = rest
@@ -71,7 +71,7 @@ module _ (f : ℕ → ℕ) where
   unfolding amounts_for
   as_said ns q others = ap (λ (o : Option ℕ). unwrap_or o 0) (get-from_entries nat_cmp_total (listed ns) q) ∙ found_said q ns ∙ by_test (is_among q ns) refl
     where
-      -- the amount that the map has for q is f q, whether q is in the list or not
+      -- for `as_said`: the amount that the map has for q is f q, whether q is in the list (`b`) or not
       by_test : (b : Bool) → is_among q ns ≡ b → cond b (f q) 0 ≡ f q
       by_test true is = refl
       by_test false is = sym (others is)
@@ -80,7 +80,7 @@ module _ (f : ℕ → ℕ) where
 pub same_amounts : (m o : FinMap nat_cmp ℕ) → Every (λ n amount. 1 ≤ amount) m → Every (λ n amount. 1 ≤ amount) o → ((n : ℕ) → amount_of m n ≡ amount_of o n) → m ≡ o
 same_amounts m o some also same = same_map nat_cmp_total nat_cmp-IsAntisymmetric m o (λ n. by_options n (get m n) (get o n) refl refl (same n))
   where
-    -- the two maps have the same value under n, or none, whether each of them lists n or not
+    -- for `same_amounts`: the two maps have the same under n (`a` and `b`): one value, or both none
     by_options : (n : ℕ) (a b : Option ℕ) → get m n ≡ a → get o n ≡ b → unwrap_or a 0 ≡ unwrap_or b 0 → a ≡ b
     by_options n None None one two e = refl
     by_options n None (Some y) one two e = let l = also n y two in absurd (omega (arith, l, e))

@@ -34,12 +34,13 @@ module _ (days : FinMap nat_cmp ℕ) (f : ℕ → ℕ → ℕ) (s : ℕ) where
       ∙ ap (cond (is_among es) (f s (amount_of days s))) (set_amount left k (f k v) s)
       ∙ by_key (eq_by_cmp nat_cmp s k) refl
     where
-      -- a choice between x and x is x
+      -- for `by_key`: if both choices are x, the result is x
       both : (b : Bool) (x : ℕ) → cond b x x ≡ x
       both true x = refl
       both false x = refl
 
-      -- skill s has f of its days if it is among the entries, otherwise what it had, whether the first is for s or not
+      -- for `set_among`: skill s has f of its days if it is among the entries, and else what it had, whether the first
+      -- entry is for s (`b`) or not
       by_key : (b : Bool) → eq_by_cmp nat_cmp s k ≡ b → cond (is_among es) (f s (amount_of days s)) (cond b (f k v) (amount_of left s)) ≡ cond (b || is_among es) (f s (amount_of days s)) (amount_of left s)
       by_key true is =
           let same : s ≡ k = alike k s is in
@@ -55,7 +56,7 @@ module _ (days : FinMap nat_cmp ℕ) (f : ℕ → ℕ → ℕ) (s : ℕ) where
       ∙ ap (λ b. cond b (f s (amount_of days s)) (amount_of left s)) (sym (contains_key-keys days s))
       ∙ by_option (get days s) refl
     where
-      -- skill s has f of its days, whether the map `days` lists it or not
+      -- for `set_each`: skill s has f of its days, whether the map `days` lists it (`o`) or not
       by_option : (o : Option ℕ) → get days s ≡ o → cond (is_some o) (f s (amount_of days s)) (amount_of left s) ≡ f s (amount_of days s)
       by_option (Some d) there = refl
       by_option None there =
@@ -76,21 +77,21 @@ with_days_mapped f (e ∷ es) all = with_days_mapped f es (with_amount_of all e.
 none_listed : (days : FinMap nat_cmp ℕ) (s : ℕ) → list_any (eq_by_cmp nat_cmp s) (keys days) ≡ false → amount_of days s ≡ 0
 none_listed days s none = by_option (get days s) (contains_key-keys days s ∙ none)
   where
-    -- without an entry the days are 0
+    -- for `none_listed`: a look-up of a skill that finds no entry (`o`) gives 0 days
     by_option : (o : Option ℕ) → is_some o ≡ false → unwrap_or o 0 ≡ 0
     by_option None is = refl
     by_option (Some d) is = cc
 
--- if the disjunction of two tests is false, both are false
+-- for `days_go_with_men`: if the test whether a skill is in one of two lists fails, it fails for each list (a, b)
 neither : (a b : Bool) → (a || b) ≡ false → (a ≡ false) × (b ≡ false)
 neither true b h = cc
 neither false b h = (refl, h)
 
--- if a unit has 0 days of a skill, 0 stay with it
+-- if a unit has 0 days of a skill (d), of which g go with its men, 0 stay with it
 none_stay : (d g : ℕ) → d ≡ 0 → d - g ≡ 0
 none_stay d g e = omega (arith, e)
 
--- if a unit has 0 days of a skill, and 0 come, it has 0 then
+-- for `days_go_with_men`: a receiver that has 0 days of a skill (d), and to which 0 come (g), has 0 after that
 none_come : (d g : ℕ) → d ≡ 0 → g ≡ 0 → d + g ≡ 0
 none_come d g e f = omega (arith, e, f)
 
@@ -136,7 +137,7 @@ set_again days f none some =
     set_as_said days days anew f some (every_set f (entries days) empty (every-empty (λ s d. 1 ≤ d))) (λ s free. free ∙ sym (none s))
     (λ s. sym (set_each days f s empty (λ free. ap (λ (o : Option ℕ). unwrap_or o 0) (get-empty nat_cmp s) ∙ sym (none s))))
 
--- the days of a skill that stay when n of `men` men go
+-- the days of a skill that stay when n of `men` men go, who have `days` of it together
 abbrev rest_days : (n men : ℕ) → (skill days : ℕ) → ℕ
 rest_days n men k d = d - days_going n men d
 
@@ -149,7 +150,8 @@ fewer_is n h had =
     (λ s none. none ∙ sym (none_stay 0 (days_going n h.men 0) refl))
     (λ s. sym (days_go_with_men n h h s).stay))
 
--- the days of a skill that the receiver has, once n of the sender's `men` men came
+-- the days of a skill that the receiver, which had those in the map, has once n of the sender's `men` men came, who
+-- have `days` of it together
 abbrev raised_days : (n men : ℕ) → FinMap nat_cmp ℕ → (skill days : ℕ) → ℕ
 raised_days n men had k d = amount_of had k + days_going n men d
 
@@ -162,6 +164,6 @@ more_is n other h had =
     (λ s none. nothing_more (amount_of h.days s) (days_going n other.men 0) (nobody_goes n other.men))
     (λ s. sym (days_go_with_men n other h s).come))
   where
-    -- a number to which 0 is added stays the same
+    -- for `more_is`: the receiver's days a stay the same if no days (g) come
     nothing_more : (a g : ℕ) → g ≡ 0 → a ≡ a + g
     nothing_more a g e = omega arith

@@ -45,8 +45,8 @@ pub record IsSpared (f : ℕ) (before after : Unit) : Type 0 where
   -- a unit of another faction than f, which wrote the order, has exactly as many men as before
   pub men : f ≢ before.faction → after.holding.men ≡ before.holding.men
 
--- Campaign d, which an order of faction f for unit n makes of c, books nothing, and each unit but n is spared.
--- Where `holds` is true of c and the order fits the world (`fit`), d is as good as c (`StepsWell`).
+-- Campaign d, which an order of faction f for unit n makes of c, spares each unit but n (`IsSpared`). Where `holds` is
+-- true of c and the order fits the world (`fit`), `holds` is true of d, and month, books and balance are kept.
 pub record Keeps (holds : Condition) (fit : Type 0) (w : WorldValue) (c : CampaignValue) (n f : ℕ) (d : CampaignValue) : Type 0 where
   -- where `holds` is true of c and the order fits (`fit`), `holds` is true of d, and month, books and balance are kept
   pub well : holds w c → fit → StepsWell holds nothing_remaining w c d
@@ -132,8 +132,8 @@ module _ (c : CampaignValue) (from to : ℕ) (u v : Unit) (h k : HoldingValue) (
   total-moved w both t =
       sum (total moved t) (total between t) (total c t) (unit_amount t u.holding) (unit_amount t v.holding) (unit_amount t h) (unit_amount t k) (total-unit_amount w between to v k receiver_still t) (total-unit_amount w c from u h giver t) (both t)
     where
-      -- the total a after both changes is the total x before them, if giver and receiver together hold as much as
-      -- before
+      -- for `total-moved`: the total a after both changes is x, that before them, if giver and receiver, who held p and
+      -- q of the thing, hold r and s after, with the same sum; b is the total between the changes
       sum : (a b x p q r s : ℕ) → a + q ≡ b + s → b + p ≡ x + r → r + s ≡ p + q → a ≡ x
       sum a b x p q r s e f g = omega arith
 
@@ -162,12 +162,13 @@ pub moved_cases : (P : CampaignValue → Type 0) (c : CampaignValue) (from to : 
     → P (unless c (fault (to == from)) (if to == from then c else with_held (with_held c from h (Some u)) to k (Some v), o)).0
 moved_cases P c from to u v h k fault o same move = by_test (to == from) refl
   where
-    -- P holds after the order, whether it has a fault or not, and whether the unit is itself the receiver (`b`) or not
+    -- for `moved_cases`: P holds of the campaign after the order, whether it has a fault (`x`) or not, and whether the
+    -- unit is itself the receiver (`b`) or not
     by_fault : (b : Bool) → (to == from) ≡ b → (x : Option EventFault) → fault b ≡ x → P (unless c x (if b then c else with_held (with_held c from h (Some u)) to k (Some v), o)).0
     by_fault b is (Some x) none = same
     by_fault true is None none = same
     by_fault false is None none = let apart : to ≢ from = grind (arith, nat_tests) in move apart none
 
-    -- P holds after the order, whether the unit is itself the receiver or not
+    -- for `moved_cases`: P holds of the campaign after the order, whether the unit is itself the receiver (`b`) or not
     by_test : (b : Bool) → (to == from) ≡ b → P (unless c (fault b) (if b then c else with_held (with_held c from h (Some u)) to k (Some v), o)).0
     by_test b is = by_fault b is (fault b) refl

@@ -56,8 +56,8 @@ len_new m k v h = len-insert nat_cmp_total m k v ∙ ap (λ o. cond (is_some o) 
 still_there : {V : Type 0} (m : FinMap nat_cmp V) (k q : ℕ) (v x : V) → get m k ≡ None → get m q ≡ Some x → get (insert m k v) q ≡ Some x
 still_there m k q v x free is = get-insert_other m k q v (λ same. none_some x (sym free ∙ ap (get m) (sym same) ∙ is)) ∙ is
 
--- if the test for the unit limit is false of a count u of units and a next number n, u is below 100,000, and n at most
--- 999,999,999
+-- for `room`: if the test for the unit limit is false of a count u of units and a next number n, u is below 100,000,
+-- and n at most 999,999,999
 few : (u n : ℕ) → (nat_le most_units u || nat_lt last_unit n) ≡ false → (u < most_units) × (n ≤ last_unit)
 few u n h = (grind (arith, nat_tests), grind (arith, nat_tests))
 
@@ -196,7 +196,7 @@ module _ (w : WorldValue) (c : CampaignValue) (p : ℕ) (u : Unit) (is : get c.u
   nothing_held People = refl
   nothing_held (Item i) = ap (λ o. unwrap_or o 0) (get-empty nat_cmp i)
 
-  -- two numbers are equal, if one is the other plus h, and h is 0
+  -- for `same_total`: the total a after a unit was formed is b, that before, since the new unit holds h, which is 0
   none_more : (a b h : ℕ) → a ≡ b + h → h ≡ 0 → a ≡ b
   none_more a b h e none = omega arith
 

@@ -78,7 +78,7 @@ may_have_of w h (Item i) amount known most may = record {
   days = may.days;
 }
 
--- a unit with another amount of the gift has the same guard flag and the same men
+-- a holding in which the amount of the gift is another has the same guard flag and the same men
 same_rest : (gift : Gift) (h : HoldingValue) (amount : ℕ) → ((with_held_of gift h amount).guard ≡ h.guard) × ((with_held_of gift h amount).men ≡ h.men)
 same_rest Money h amount = (refl, refl)
 same_rest (Item i) h amount = (refl, refl)
@@ -97,7 +97,7 @@ both_hold (Item i) n h k l (things.Item j) =
     let more = set_amount k.items i (b + n) j in
     ap (λ x. x + amount_of (with_amount_of k.items i (b + n)) j) less ∙ ap (λ x. cond (eq_by_cmp nat_cmp j i) (a - n) (amount_of h.items j) + x) more ∙ by_test (eq_by_cmp nat_cmp j i) refl
   where
-    -- taking n from a and adding it to b leaves the sum of both as it was, if a is at least n
+    -- for `both_hold`: if n of the giver's a, which is at least n, go to the receiver's b, the sum of both stays
     sum : (a b n : ℕ) → n ≤ a → (a - n) + (b + n) ≡ a + b
     sum a b n l = omega arith
 
@@ -111,11 +111,11 @@ pub better_off : (gift : Gift) (n : ℕ) (v : Unit) → IsNoWorse v (record v { 
 better_off Money n v = record { faction = refl; region = refl; structure = refl; name = refl; guard = refl; men = omega arith; money = omega arith; items = λ i. omega arith; days = λ s. omega arith }
 better_off (Item i) n v = record { faction = refl; region = refl; structure = refl; name = refl; guard = refl; men = omega arith; money = omega arith; items = λ j. more j; days = λ s. omega arith }
   where
-    -- a number is at most an equal number plus n
+    -- for `better_off`: what the receiver had of the gift (x, which is y) is at most that with n added
     here : (x y n : ℕ) → x ≡ y → x ≤ y + n
     here x y n is = omega arith
 
-    -- the receiver has no fewer pieces of item j, whether j is the item that is given or not
+    -- for `better_off`: the receiver has no fewer pieces of item j, whether j is the given item i (`q`) or not
     by_test : (j : ℕ) (q : Bool) → eq_by_cmp nat_cmp j i ≡ q → amount_of v.holding.items j ≤ cond q (amount_of v.holding.items i + n) (amount_of v.holding.items j)
     by_test j true is = here (amount_of v.holding.items j) (amount_of v.holding.items i) n (ap (amount_of v.holding.items) (alike i j is))
     by_test j false is = omega arith
@@ -150,7 +150,8 @@ module _ {fit : Type 0} (w : WorldValue) (c : CampaignValue) (from to : ℕ) (gi
   unfolding give
   gift_kept = by_receiver (get c.units to) refl
     where
-      -- the order keeps the campaign early, and other units no worse off (`Keeps`), with a receiver there or without
+      -- for `gift_kept`: the order keeps the campaign early, and other units no worse off (`Keeps`), with a receiver
+      -- there (`o`) or without
       by_receiver : (o : Option Unit) → get c.units to ≡ o → Keeps IsEarly fit w c from u.faction (give_to c from to gift n u o).0
       by_receiver None is = keeps_all w c from u.faction
       by_receiver (Some v) receiver =

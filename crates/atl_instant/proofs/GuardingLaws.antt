@@ -46,7 +46,7 @@ none_of : (p : ℕ → Bool) (ns : List ℕ) → list_any p ns ≡ false → (k 
 none_of p [] is k listed = absurd listed
 none_of p (n ∷ ns) is k listed = by_test (p n) refl is (λ e h. none_of p ns e k h) listed
   where
-    -- number k of the list n ∷ ns fails the test, whether n passes it or not
+    -- for `none_of`: if no number of n ∷ ns passes the test p, its number k fails p; n passes p where b is true
     by_test : (b : Bool) → p n ≡ b → (b || list_any p ns) ≡ false → (list_any p ns ≡ false → IsListed k ns → p k ≡ false) → IsListed k (n ∷ ns) → p k ≡ false
     by_test true t e rest h = cc
     by_test false t e rest (inl same) = ap p same ∙ t
@@ -60,7 +60,8 @@ own_guards c region faction none m v there guarding here =
     let no : guards_against faction (get c.units m) ≡ false = none_of (λ n. guards_against faction (get c.units n)) (numbers_in region c.units) none m listed in
     not_apart v.faction faction (second (guards v) (not (v.faction == faction)) guarding (sym (ap (guards_against faction) there) ∙ no))
   where
-    -- if a is true, and "a and b" is false, b is false
+    -- for `own_guards`: if a unit guards (a), and the test "guards and is of another faction" fails, "of another
+    -- faction" (b) fails
     second : (a b : Bool) → a ≡ true → (a && b) ≡ false → b ≡ false
     second true b t e = e
     second false b t e = cc
@@ -88,7 +89,7 @@ module _ (w : WorldValue) (c : CampaignValue) (n : ℕ) (u : Unit) (is : get c.u
       held_same People = refl
       held_same (Item i) = refl
 
-      -- if two sums are equal, and so are their second addends, their first addends are equal
+      -- for `total-labelled`: totals a and b are equal, if they are once what the unit holds (x, which is y) is added
       same : (a b x y : ℕ) → a + x ≡ b + y → y ≡ x → a ≡ b
       same a b x y e f = omega arith
 
@@ -101,7 +102,7 @@ can_guard c u none =
     let two = none_fits (is_guarded_against c u.region u.faction) Guarded [] one.1 in
     (two.0, has_men u.holding.men one.0)
   where
-    -- a number that isn't 0 is above 0
+    -- for `can_guard`: a unit whose number of men isn't 0 has more than 0 men
     has_men : (n : ℕ) → (n == 0) ≡ false → nat_lt 0 n ≡ true
     has_men n some = grind (arith, nat_tests)
 
@@ -168,7 +169,7 @@ guard_keeps w a c t x own = by_operands t.order_value.operands
 pub guard_orderly : IsOrderly guard_step IsSteady nothing_remaining moves_nothing guard_concerns IsNoWorse
 guard_orderly = orderly_by guard_keeps (λ w a t n f own other. passed t.unit t.order_value.operands (λ sets. other (own, sets)))
   where
-    -- the phase passes over each order but GUARD 1
+    -- for `guard_orderly`: the phase passes over an order whose operands aren't those of GUARD 1
     passed : (n : ℕ) (o : OperandsValue) → (o ≡ operands.Flag true → ⊥) → guard_effect n o ≡ None
     passed n (operands.Flag true) other = absurd (other refl)
     passed n o other = refl

@@ -134,7 +134,7 @@ name_keeps w a c t x own = by_operands t.order_value.operands
 pub name_orderly : IsOrderly name_step IsEarly nothing_remaining moves_nothing name_concerns IsNoWorse
 name_orderly = orderly_by name_keeps (λ w a t n f own other. passed w t.unit t.order_value.operands (λ names. other (own, names)))
   where
-    -- the phase passes over an order that must be GUARD 1, since it is NAME or GUARD 0 otherwise
+    -- for `name_orderly`: the phase passes over an order whose operands can't be other than those of GUARD 1
     passed : (w : WorldValue) (n : ℕ) (o : OperandsValue) → (o ≢ operands.Flag true → ⊥) → name_effect w n o ≡ None
     passed w n (operands.Name what name) other = absurd (other (λ same. cc))
     passed w n (operands.Flag false) other = absurd (other (λ same. cc))

@@ -88,13 +88,14 @@ same_thing (Item i) (Item j) e = let same : i ≡ j = omega (arith, e) in ap Ite
 one_moves : (amount : ℕ) (t : Thing) (e : Entry) (s : Thing) → moves_only amount (loss_entry t) t e s ≤ under e s (part_of s t amount)
 one_moves amount t e s = by_number (amount_number e s == amount_number (loss_entry t) t) refl
   where
-    -- where two tests are true, an amount is at most the amount that they choose
+    -- for `by_number`: where both tests are true, of the entry (b) and of the thing (d), `amount` is within `under`
     at_place : (b d : Bool) → b ≡ true → d ≡ true → amount ≤ cond b (cond d amount 0) 0
     at_place true true f g = omega arith
     at_place true false f g = cc
     at_place false d f g = cc
 
-    -- what is booked is within the bound, whether e and s are the entry and the thing that are booked or not
+    -- for `one_moves`: the booking moves thing s under entry e by no more than `under` says, whether that is the amount
+    -- that is booked (`b`) or not
     by_number : (b : Bool) → (amount_number e s == amount_number (loss_entry t) t) ≡ b → (if b then amount else 0) ≤ under e s (part_of s t amount)
     by_number true is =
         let same : entry_count * thing_index s + entry_index e ≡ entry_count * thing_index t + entry_index (loss_entry t) = grind (arith, nat_tests) in
@@ -111,7 +112,7 @@ one_moves amount t e s = by_number (amount_number e s == amount_number (loss_ent
 under_sum : (e : Entry) (s : Thing) (x y m n : ℕ) → x ≤ under e s m → y ≤ under e s n → x + y ≤ under e s (m + n)
 under_sum e s x y m n = by_test (entry_index e == entry_index (loss_entry s))
   where
-    -- x + y is within the sum of the bounds, whether e is the entry of the thing's loss or not
+    -- for `under_sum`: x + y is within the sum of the bounds, whether e is the entry of the thing's loss (`b`) or not
     by_test : (b : Bool) → x ≤ (if b then m else 0) → y ≤ (if b then n else 0) → x + y ≤ (if b then m + n else 0)
     by_test true k l = omega arith
     by_test false k l = omega arith
@@ -129,7 +130,7 @@ items_within : (es : List (ℕ × ℕ)) (e : Entry) (s : Thing) → moving_items
 items_within [] e s = omega arith
 items_within (x ∷ xs) e s = under_sum e s (moves_only x.1 Lost (Item x.0) e s) (moving_items xs e s) (part_of s (Item x.0) x.1) (owing_items xs s) (one_moves x.1 (Item x.0) e s) (items_within xs e s)
 
--- an amount that counts only where a test is true adds nothing where the test is false
+-- in a sum over a list of items, the amount x of an item that isn't the one asked for (b is false) adds nothing to y
 nothing_more : (b : Bool) (x y : ℕ) → b ≡ false → cond b x 0 + y ≡ y
 nothing_more true x y e = cc
 nothing_more false x y e = omega arith
@@ -158,7 +159,7 @@ of_item j (e ∷ es) s =
       | Greater ↦ λ o. let l = ranked j e.0 Greater (sym o) in nothing_more (2 + j == 2 + e.0) e.1 (owing_items es (Item j)) (let t : (2 + j == 2 + e.0) ≡ false = grind (arith, nat_tests) in t) ∙ rest
     ] refl
   where
-    -- an amount that counts, since its test is true, is the same with 0 added
+    -- for `of_item`: the item asked for (b is true) has its amount x, if the items after it have 0 of it (y)
     here : (b : Bool) (x y : ℕ) → b ≡ true → y ≡ 0 → cond b x 0 + y ≡ x
     here true x y t none = omega (arith, none)
     here false x y t none = cc
@@ -177,19 +178,20 @@ held_moves h = both_move (moves_only h.men Left People) (both_move (moves_only h
 all_owed : (h : HoldingValue) (s : Thing) → owing h s ≡ unit_amount s h
 all_owed h Money = sum h.money (owing_items (entries h.items) Money) (no_money (entries h.items))
   where
-    -- the sum of 0, m and 0 is m
+    -- for `all_owed`: of money a holding owes its money m, no men (0), and none by its items (n)
     sum : (m n : ℕ) → n ≡ 0 → 0 + (m + n) ≡ m
     sum m n e = omega (arith, e)
 all_owed h People = sum h.men (owing_items (entries h.items) People) (no_people (entries h.items))
   where
-    -- the sum of m, 0 and 0 is m
+    -- for `all_owed`: of men a holding owes its men m, none by its money (0), and none by its items (n)
     sum : (m n : ℕ) → n ≡ 0 → m + (0 + n) ≡ m
     sum m n e = omega (arith, e)
 all_owed h (Item j) =
     sum (2 + j == 1) (2 + j == 0) h.men h.money (owing_items (entries h.items) (Item j)) (let t : (2 + j == 1) ≡ false = grind (arith, nat_tests) in t) (let t : (2 + j == 0) ≡ false = grind (arith, nat_tests) in t)
     ∙ of_item j (entries h.items) (sorted h.items) ∙ ap (λ (o : Option ℕ). unwrap_or o 0) (sym (get-entries h.items j))
   where
-    -- two amounts that don't count, since their tests are false, add nothing to k
+    -- for `all_owed`: of an item a holding owes what its items have (k); its men m and money n, with tests b and d that
+    -- are false, add nothing
     sum : (b d : Bool) (m n k : ℕ) → b ≡ false → d ≡ false → cond b m 0 + (cond d n 0 + k) ≡ k
     sum false false m n k e f = omega arith
     sum true d m n k e f = cc
@@ -227,7 +229,7 @@ off_twice {o} {p} {i} {j} w a b c one two = record {
   same = two.same ∙ ap (λ (s : CampaignValue). record s { books = c.books }) one.same;
 }
   where
-    -- if x is y + m, and y is z + n, x is z + (m + n)
+    -- for `off_twice`: if the books fall by m from x to y, and by n from y to z, they fall by m + n
     grouped : (x y z : ℤ) (m n : ℕ) → x ≡ y +ℤ pos m → y ≡ z +ℤ pos n → x ≡ z +ℤ pos (m + n)
     grouped x y z m n e f = omega (arith, ints, e, f)
 
@@ -243,7 +245,8 @@ off_one w c t amount inside steady = record {
   same = refl;
 }
   where
-    -- z is the same if an amount is taken from it and added again, or, where the test is false, neither
+    -- for `off_one`: an amount z of the books is z with a taken and added again, where b is true (a is booked of it),
+    -- or with 0 taken and added
     less : (z : ℤ) (b : Bool) (a : ℕ) → z ≡ (z +ℤ cond b (neg_ℤ (pos a)) (pos 0)) +ℤ pos (cond b a 0)
     less z true a = omega (arith, ints)
     less z false a = omega (arith, ints)
@@ -258,7 +261,7 @@ off_items w c [] known steady = record {
   same = refl;
 }
   where
-    -- a number is the same with 0 added
+    -- for `off_items`: where no item is booked, an amount of the books is the same with 0 added
     plain : (z : ℤ) → z ≡ z +ℤ pos 0
     plain z = omega (arith, ints)
 off_items w c ((i, a) ∷ es) known steady =
@@ -290,7 +293,7 @@ first_room t amount next c room =
     less_room amount (moves_only amount (loss_entry t) t (loss_entry t) t + next (loss_entry t) t) (amount_in c.books (loss_entry t) t)
     (at_least (amount_number (loss_entry t) t == amount_number (loss_entry t) t) (next (loss_entry t) t) (same_number (amount_number (loss_entry t) t))) (room (loss_entry t) t)
   where
-    -- where a test is true, an amount is at most the amount that it chooses, plus m
+    -- for `first_room`: `amount`, chosen since the test is true, is at most itself plus m, the bound that follows
     at_least : (b : Bool) (m : ℕ) → b ≡ true → amount ≤ (if b then amount else 0) + m
     at_least true m t = omega arith
     at_least false m t = cc
@@ -322,13 +325,13 @@ known_held w c n u is steady = each-from_every (λ j a. j < length w.items) u.ho
 pub held_room : (c : CampaignValue) (n : ℕ) (u : Unit) → get c.units n ≡ Some u → HaveRoom (quit_reserve c) c → HaveRoom (held_moves u.holding) c
 held_room c n u is room = room_less (held_moves u.holding) (quit_reserve c) c (λ e t. within (held_moves u.holding e t) (loss_under e t u.holding) (sum_over (λ (x : Unit). loss_under e t x.holding) (remove c.units n)) (quit_reserve c e t) (moves_what_leaves u.holding e t) (sum_over-remove c.units n (λ (x : Unit). loss_under e t x.holding) u is)) room
   where
-    -- if a is at most b, and s + b is r, a is at most r
+    -- for `held_room`: what one unit may lose (a, at most b) is at most what all may lose: r, the sum of s and b
     within : (a b s r : ℕ) → a ≤ b → s + b ≡ r → a ≤ r
     within a b s r l e = omega (arith, l, e)
 
 -- ---- a unit that leaves
 
--- other books leave the totals of the campaign as they are
+-- a campaign with other books in place of its own has the same total of each thing
 total_books : (c : CampaignValue) (books : BooksValue) (t : Thing) → total (record c { books = books }) t ≡ total c t
 unfolding total
 total_books c books t = refl
@@ -362,7 +365,8 @@ module _ (w : WorldValue) (c : CampaignValue) (n : ℕ) (u : Unit) (is : get c.u
       rest (total after_leave t) (unit_amount t u.holding) (total off t) (total c t) (owing u.holding t) (booked c.books t) (booked off.books t) (total-without w off n u there t) totals (all_owed u.holding t) (old t) (off_is.owed t)
       ∙ ap (λ (books : BooksValue). booked books t) (sym only.books)
     where
-      -- the total a without the unit is what the books then have (y), since both fell by what the unit held
+      -- for `balanced`: the total a after the unit left is the books' sum y of the thing, since total (b, d) and books
+      -- (z) were equal before, and both fell by what the unit held (h, o)
       rest : (a h b d o : ℕ) (z y : ℤ) → a + h ≡ b → b ≡ d → o ≡ h → pos d ≡ z → z ≡ y +ℤ pos o → pos a ≡ y
       rest a h b d o z y e f g k l = omega (arith, ints, e, f, g, k, l)
 
@@ -398,7 +402,8 @@ pub left_well : (w : WorldValue) (c : CampaignValue) (n : ℕ) → IsSteady w c 
 unfolding after_leaving
 left_well w c n steady = by_unit (get c.units n) refl
   where
-    -- after unit n left, the campaign is still steady and in balance (`StepsWell`), whether the unit was there or not
+    -- for `left_well`: after unit n left, the campaign is still steady and in balance (`StepsWell`), whether unit n was
+    -- there (`o`) or not
     by_unit : (o : Option Unit) → get c.units n ≡ o → StepsWell IsSteady quit_reserve w c (without_leaver c n o)
     by_unit None is = well_same w c steady
     by_unit (Some u) is = leaving_well w c n u is steady
@@ -422,7 +427,7 @@ left_others : (c : CampaignValue) (n k : ℕ) → k ≢ n → get (after_leaving
 unfolding after_leaving
 left_others c n k apart = by_unit (get c.units n)
   where
-    -- unit k is unchanged, whether unit n is there or not
+    -- for `left_others`: as unit n leaves, the other unit k is unchanged, whether unit n is there (`o`) or not
     by_unit : (o : Option Unit) → get (without_leaver c n o).units k ≡ get c.units k
     by_unit None = refl
     by_unit (Some u) = without_others (with_all_losses c u.holding) n k apart ∙ ap (λ (m : FinMap nat_cmp Unit). get m k) (booked_units _ (entries u.holding.items))
@@ -450,7 +455,7 @@ pub quit_cases : (P : CampaignValue → Type 0) (c : CampaignValue) (number : �
 unfolding quit
 quit_cases P c number u same leave = by_fault (quit_fault number u) refl
   where
-    -- P holds after the order, whether it has a fault or not
+    -- for `quit_cases`: P holds of the campaign after the order, whether it has a fault (`f`) or not
     by_fault : (f : Option EventFault) → quit_fault number u ≡ f → P (unless c f (fold after_leaving c (numbers_of u.faction c.units), Done 0)).0
     by_fault (Some fault) e = same
     by_fault None e = leave (not_apart number u.faction (none_fits (not (number == u.faction)) WrongNumber [] e).0)
@@ -479,11 +484,12 @@ quit_stays c number u k x here other =
 reserve_within : (w : WorldValue) (c : CampaignValue) → IsSteady w c → (e : Entry) (t : Thing) → quit_reserve c e t ≤ quit_moves e t
 reserve_within w c steady e t = by_test (entry_index e == entry_index (loss_entry t))
   where
-    -- a number that is at most n times 0 is at most 0
+    -- for `reserve_within`: under other entries than that of the loss n units may lose 0 each, so s, their sum, is 0
     none : (s n : ℕ) → s ≤ n * 0 → s ≤ 0
     none s n l = omega (arith, l)
 
-    -- what QUIT may still book is within the bound of the phase, whether e is the entry of the thing's loss or not
+    -- for `reserve_within`: what QUIT may still book of thing t is within the bound of the phase, whether the entry is
+    -- that of the thing's loss (`b`) or not
     by_test : (b : Bool) → sum_over (λ (u : Unit). if b then unit_amount t u.holding else 0) c.units ≤ (if b then most_moved else 0)
     by_test true = all_held_within w c steady t
     by_test false = none (sum_over (λ (u : Unit). 0) c.units) (length (entries c.units)) (sum_within (λ (u : Unit). 0) 0 (entries c.units) (each-from_every (λ n u. 0 ≤ 0) c.units (λ n u is. omega arith)))
@@ -520,7 +526,7 @@ left_some : (w : WorldValue) (c : CampaignValue) (n : ℕ) → IsSteady w c → 
 unfolding after_leaving
 left_some w c n steady = by_unit (get c.units n) refl
   where
-    -- each unit that is still there is unchanged (`HasSomeOf`), whether unit n was there or not
+    -- for `left_some`: as unit n leaves, if it is there (`o`), each unit that is left is unchanged (`HasSomeOf`)
     by_unit : (o : Option Unit) → get c.units n ≡ o → HasSomeOf c (without_leaver c n o)
     by_unit None is = λ k u there. there
     by_unit (Some x) is =

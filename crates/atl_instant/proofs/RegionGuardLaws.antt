@@ -42,7 +42,7 @@ module _ (c : CampaignValue) where
     one_stays : (m : GuardMap) (u : Unit) → IsOwn u → get m region ≡ Some faction → get (with_guard_of m u) region ≡ Some faction
     one_stays m u own at = by_test (guards u) own
       where
-        -- the map keeps the faction of the region, whether the unit that is noted guards or not
+        -- for `one_stays`: the map keeps the faction of the region once unit u is noted, whether u guards (`b`) or not
         by_test : (b : Bool) → (b ≡ true → u.region ≡ region → u.faction ≡ faction) → get (if b then insert m u.region u.faction else m) region ≡ Some faction
         by_test true own =
             elim (cases_eq u.region region) [
@@ -61,7 +61,8 @@ module _ (c : CampaignValue) where
     held_more : (m : GuardMap) (n : ℕ) (u : Unit) → get c.units n ≡ Some u → (get m region ≡ Some faction → Held region faction) → get (with_guard_of m u) region ≡ Some faction → Held region faction
     held_more m n u is old = by_test (guards u) refl
       where
-        -- the faction that the map has for the region has a guard there, whether the unit that is noted guards or not
+        -- for `held_more`: the faction that the map has for the region has a guard there, whether the noted unit u
+        -- guards (`b`) or not
         by_test : (b : Bool) → guards u ≡ b → get (if b then insert m u.region u.faction else m) region ≡ Some faction → Held region faction
         by_test true on at =
             elim (cases_eq u.region region) [
@@ -90,7 +91,7 @@ module _ (c : CampaignValue) where
     noted_of m (e ∷ es) are =
         (λ on. all_stay e.1.region e.1.faction (with_guard_of m e.1) es (own_of e.0 e.1 are.0 on es are.1) (by_test (guards e.1) on), noted_of (with_guard_of m e.1) es are.1)
       where
-        -- a unit that guards has its faction in the map once it is noted
+        -- for `noted_of`: a unit that guards (b is true) has its faction in the map, under its region, once it is noted
         by_test : (b : Bool) → b ≡ true → get (if b then insert m e.1.region e.1.faction else m) e.1.region ≡ Some e.1.faction
         by_test true on = get-insert_same m e.1.region e.1.faction
         by_test false on = cc
@@ -113,7 +114,7 @@ any_listed p [] k listed t = absurd listed
 any_listed p (n ∷ ns) k (inl same) t = ap (λ b. b || list_any p ns) (ap p (sym same) ∙ t)
 any_listed p (n ∷ ns) k (inr rest) t = either (p n) (any_listed p ns k rest t)
   where
-    -- if the rest of a list has an element that passes a test, so has the list
+    -- for `any_listed`: if the rest ns of a list has an element that passes p, so has the list
     either : (b : Bool) → list_any p ns ≡ true → (b || list_any p ns) ≡ true
     either true t = refl
     either false t = t
@@ -137,7 +138,8 @@ module _ (c : CampaignValue) (m : GuardMap) (are : AreRegionGuards c m) (region 
   all_own : ((u : Unit) → u.region ≡ region → get m u.region ≡ Some u.faction → u.faction ≡ faction) → is_guarded_against c region faction ≡ false
   all_own own = any_none against (numbers_in region c.units) (λ k listed. let (u, is, here) = listed_passing stands_here c.units k listed in ap (guards_against faction) is ∙ by_test u (guards u) (are.noted k u is) (is_equal u.region region here))
     where
-      -- unit u, which is in the region, is no guard of another faction, whether it guards or not
+      -- for `all_own`: unit u, in the region, is no guard of another faction than the given one, be it on guard (`b`)
+      -- or not
       by_test : (u : Unit) (b : Bool) → (b ≡ true → get m u.region ≡ Some u.faction) → u.region ≡ region → (b && not (u.faction == faction)) ≡ false
       by_test u true noted here = ap (λ f. not (f == faction)) (own u here (noted refl)) ∙ ap not (equal_itself faction)
       by_test u false noted here = refl

@@ -67,7 +67,7 @@ can_send n u v is =
 pub days_within : (all : FinMap nat_cmp ℕ) (most skill : ℕ) → Every (λ s days. (1 ≤ days) × (days ≤ most)) all → amount_of all skill ≤ most
 days_within all most skill each = by_option (get all skill) refl
   where
-    -- the days of the skill are at most `most`, whether the skill is listed or not
+    -- for `days_within`: the days of the skill are at most `most`, whether the skill is listed (`o`) or not
     by_option : (o : Option ℕ) → get all skill ≡ o → unwrap_or o 0 ≤ most
     by_option None e = omega arith
     by_option (Some days) e = (each skill days e).1
@@ -76,7 +76,7 @@ days_within all most skill each = by_option (get all skill) refl
 pub going_most : (n men days : ℕ) → days ≤ most_days * men → days_going n men days ≤ most_days * n
 going_most n men days most = div-le_of_le-mul men (subst (λ x. days * n ≤ x) (turned most_days men n) (mul-le-mul_right n most))
   where
-    -- the product of k, m and l is the same in another order
+    -- for `going_most`: the product of k days, m men and l is the same in another order
     turned : (k m l : ℕ) → (k * m) * l ≡ m * (k * l)
     turned k m l = grind arith
 
@@ -94,19 +94,19 @@ rest_within k s n d some most = elim (cases_lt (k * s) d) [
   | inr within ↦ let few : d ≤ k * s = within in omega (arith, few)
 ]
   where
-    -- k * (s + n), multiplied out
+    -- for `scaled` and `rest_within`: k days for each of s + n men are k for each of the s, and k for each of the n
     spread : (k s n : ℕ) → k * (s + n) ≡ k * s + k * n
     spread k s n = grind arith
 
-    -- the product (k * s + y) * n, multiplied out
+    -- for `scaled`: the product (k * s + y) * n, multiplied out
     turned : (k s n y : ℕ) → (k * s + y) * n ≡ (k * n) * s + y * n
     turned k s n y = grind arith
 
-    -- an inequality stays true if c is added on both sides
+    -- for `scaled`: an inequality stays true if c is added on both sides
     sum : (a b c : ℕ) → a ≤ b → a + c ≤ b + c
     sum a b c l = omega arith
 
-    -- if y is at most k * n, y * (s + n) is at most (k * s + y) * n
+    -- for `rest_within`: if y days are at most k for each of n men, y * (s + n) is at most (k * s + y) * n
     scaled : (y : ℕ) → y ≤ k * n → y * (s + n) ≤ (k * s + y) * n
     scaled y few = rw (turned k s n y, spread y s n) (sum (y * s) ((k * n) * s) (y * n) (mul-le-mul_right s few))
 
@@ -127,7 +127,7 @@ staying_days_within n men days fewer some most =
 known_skill : (w : WorldValue) (h : HoldingValue) (s : ℕ) → MayHave w h → 1 ≤ amount_of h.days s → s < length w.skills
 known_skill w h s may some = by_option (get h.days s) refl some
   where
-    -- skill s is a skill of the world, whether the unit lists it or not
+    -- for `known_skill`: skill s, of which the look-up `o` finds days with the unit, is a skill of the world
     by_option : (o : Option ℕ) → get h.days s ≡ o → 1 ≤ unwrap_or o 0 → s < length w.skills
     by_option None there l = absurd (omega (arith, l))
     by_option (Some d) there l = may.skills s d there
@@ -148,7 +148,7 @@ may_have_fewer w n h fewer may = record {
       (some, subst (λ x. x ≤ most_days * (h.men - n)) (sym is) (staying_days_within n h.men (amount_of h.days s) fewer (had (amount_of h.days s) (going_of n h s) d is some) (days_may w h s may)));
 }
   where
-    -- if at least 1 day of a skill stays, the unit had at least 1 day of it
+    -- for `may_have_fewer`: if at least 1 day of a skill (d) stays of a, from which g go, a is at least 1
     had : (a g d : ℕ) → d ≡ a - g → 1 ≤ d → 1 ≤ a
     had a g d is some = omega (arith, is, some)
 
@@ -165,7 +165,7 @@ may_have_more w n other h room from may = record {
       (some, subst (λ x. x ≤ most_days * (h.men + n)) (sym is) (both most_days h.men n (amount_of h.days s) (going_of n other s) (days_may w h s may) (going_most n other.men (amount_of other.days s) (days_may w other s from))));
 }
   where
-    -- if the sum of a and g is at least 1, a or g is at least 1
+    -- for `may_have_more`: if d days of a skill, a of the receiver's and g that came, are at least 1, a or g is
     some_of : (a g d : ℕ) → d ≡ a + g → 1 ≤ d → (1 ≤ a) ⊎ (1 ≤ g)
     some_of a g d is some = elim (cases_lt 0 a) [
       | inl l ↦ inl (omega (arith, l))
@@ -182,11 +182,12 @@ may_have_more w n other h room from may = record {
     known s (inl some) = known_skill w h s may some
     known s (inr some) = known_skill w other s from (came s some (amount_of other.days s == 0) refl)
 
-    -- if a is at most k * m, and b at most k * n, a + b is at most k * (m + n)
+    -- for `may_have_more`: if a days are at most k for each of m men, and b at most k for each of n, a + b are at most
+    -- k for each of both
     both : (k m n a b : ℕ) → a ≤ k * m → b ≤ k * n → a + b ≤ k * (m + n)
     both k m n a b f g = rw (spread k m n) (omega (arith, f, g))
       where
-        -- k * (s + n), multiplied out
+        -- for `both`: k days for each of s + n men are k for each of the s, and k for each of the n
         spread : (k s n : ℕ) → k * (s + n) ≡ k * s + k * n
         spread k s n = grind arith
 
@@ -233,7 +234,8 @@ module _ {fit : Type 0} (w : WorldValue) (c : CampaignValue) (from to n : ℕ) (
   unfolding transfer
   transfer_kept = by_receiver (get c.units to) refl
     where
-      -- the order keeps the campaign early, and other units no worse off (`Keeps`), with a receiver there or without
+      -- for `transfer_kept`: the order keeps the campaign early, and other units no worse off (`Keeps`), with a
+      -- receiver there (`o`) or without
       by_receiver : (o : Option Unit) → get c.units to ≡ o → Keeps IsEarly fit w c from u.faction (transfer_to c from to n u o).0
       by_receiver None is = keeps_all w c from u.faction
       by_receiver (Some v) receiver =

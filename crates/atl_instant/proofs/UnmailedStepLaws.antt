@@ -78,7 +78,7 @@ guard_leaves = carried_leaves guard_step is_guarding (spares_men IsSteady guard_
 quit_spares : SparesMen quit_step
 quit_spares w a c t x own = by_operands t.order_value.operands
   where
-    -- an order with the operands o leaves units of other factions their men
+    -- for `quit_spares`: QUIT with the operands o leaves units of other factions than its writer's their men
     by_operands : (o : OperandsValue) → IfSome (quit_effect o) (λ deed. OthersHaveMen t.faction c (deed c x).0)
     by_operands (operands.Number number) = λ k y there other. record {
       unit = y;

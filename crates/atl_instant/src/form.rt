@@ -204,6 +204,7 @@ impl Phase for FormPhase {
 
     ghost keeps = { form_keeps };
 
+    /// Returns the campaign with the new units, and the month with their aliases and the events.
     fn run(
         &self,
         alloc: Global,

@@ -152,6 +152,7 @@ impl OrderPhase for GivePhase {
 
     ghost holds = { IsEarly };
 
+    /// Returns the outcome of an order of GIVE or PAY, or None where it has other operands.
     fn carry_out(
         &self,
         _: Global,

@@ -122,6 +122,7 @@ impl Phase for GuardPhase {
 
     ghost keeps = { guard_spec.keeps };
 
+    /// Returns the campaign with the new guard flags, and the month with the events.
     fn run(
         &self,
         alloc: Global,

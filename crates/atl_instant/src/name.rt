@@ -161,6 +161,7 @@ impl OrderPhase for NamePhase {
 
     ghost concerns = { name_concerns };
 
+    /// Returns the outcome of an order of NAME or GUARD 0, or None where it has other operands.
     #[tactic(auto, using(crate::proofs::NameLaws::name_other))]
     fn carry_out(
         &self,

@@ -148,6 +148,7 @@ impl OrderPhase for PlacePhase {
 
     ghost holds = { IsEarly };
 
+    /// Returns the outcome of LEAVE, ENTER or PROMOTE, or None where the order has other operands.
     #[tactic(auto, using(crate::proofs::PlaceLaws::place_other))]
     fn carry_out(
         &self,

@@ -37,7 +37,7 @@ fn loss_entry(thing: Thing) -> Entry
     }
 }
 
-/// Books that this amount of a thing left the campaign: men under left, money and items under lost.
+/// Books this amount of a thing as gone: men under left, money and items under lost.
 fn book_loss(campaign: &mut Campaign, thing: Thing, amount: u32)
     requires there { thing_index thing < campaign.old.value.books.things }
     requires room { HasRoom amount (amount_in campaign.old.value.books (loss_entry thing) thing) }
@@ -47,7 +47,7 @@ fn book_loss(campaign: &mut Campaign, thing: Thing, amount: u32)
     book_taken(campaign, loss_entry(thing), thing, amount);
 }
 
-/// Books that these amounts of items are lost.
+/// Books these amounts of items as lost.
 fn book_items(world: &World, campaign: &mut Campaign, items: &[(u16, u32)])
     requires things { campaign.old.value.books.things ≡ things_of world.now }
     requires known { EachOf (λ i amount. i < length world.now.items) items.now }
@@ -169,6 +169,7 @@ impl OrderPhase for QuitPhase {
 
     ghost concerns = { quit_concerns };
 
+    /// Returns the outcome of an order of QUIT, or None where it has other operands.
     fn carry_out(
         &self,
         alloc: Global,
@@ -198,6 +199,7 @@ impl Phase for QuitPhase {
 
     ghost keeps = { quit_keeps };
 
+    /// Returns the campaign without the units that left, and the month with the events.
     fn run(
         &self,
         alloc: Global,

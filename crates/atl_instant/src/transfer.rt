@@ -174,6 +174,7 @@ impl OrderPhase for TransferPhase {
 
     ghost holds = { IsEarly };
 
+    /// Returns the outcome of an order of TRANSFER, or None where it has other operands.
     fn carry_out(
         &self,
         alloc: Global,

@@ -28,7 +28,7 @@ abbrev pub Holds : {X E : Type 0} → (X → Type 0) → Result X E → Type 0
 Holds P (Ok x) = P x
 Holds P (Err e) = Unit {0}
 
--- if P holds of the first step's value, and Q of the next step's after it, Q holds of the value of both steps
+-- if P holds of what is read first (r), and Q of what is then read (f) after a value with P, Q holds of what both give
 after : {A B : Type 0} (P : A → Type 0) (Q : B → Type 0) (r : Result A LineFault) (f : A → Result B LineFault) → Holds P r → ((x : A) → P x → Holds Q (f x)) → Holds Q (r >>= f)
 after P Q (Ok x) f h g = g x h
 after P Q (Err e) f h g = tt
@@ -38,7 +38,7 @@ found : {X : Type 0} (P : X → Type 0) (fault : LineFault) (o : Option X) → (
 found P fault None g = tt
 found P fault (Some x) g = g x refl
 
--- a condition that every value meets holds of every result
+-- a condition that is always true (`Unit`) holds of every result: for a step of reading whose value has no bounds
 anything : {X : Type 0} (r : Result X LineFault) → Holds (λ _. Unit {0}) r
 anything (Ok x) = tt
 anything (Err e) = tt
@@ -83,7 +83,8 @@ unit_holds (w ∷ ws) =
     (λ _. after (λ (x : Counted). IsAlias x.0) _ (alias_at ws) _ (count_holds last_alias BadAlias ws) (λ n h. h))
     (λ _. after (λ (x : Counted). IsNumber x.0) _ (number_at (w ∷ ws)) _ (count_holds most_number BadNumber (w ∷ ws)) (λ n h. h))
 
--- a unit that was read, in front of units that were read, gives units in range, if all of these are
+-- if a unit that was read, and further units that were read, are in range, so are all that `and_then_units` makes of
+-- both
 and_then : (unit : Result UnitRef LineFault) (units : Result (List UnitRef) LineFault) → Holds IsUnitRef unit → Holds (All IsUnitRef) units → Holds (All IsUnitRef) (and_then_units unit units)
 and_then unit units h k = after IsUnitRef _ unit _ h (λ u p. after (All IsUnitRef) _ units _ k (λ us q. All-cons IsUnitRef u us p q))
 
@@ -117,7 +118,7 @@ item_holds : (world : WorldValue) (ws : List WordText) → Holds (λ i. i < leng
 item_holds world [] = tt
 item_holds world (w ∷ ws) = found _ UnknownThing _ (λ i h. index_within _ world.items w.bytes w.quoted i h)
 
--- an amount, and the number of an item
+-- what is read as goods: an amount, and the number of an item
 abbrev Goods : Type 0
 Goods = ℕ × ℕ
 

@@ -20,7 +20,7 @@ use Rattle.atl_orders.specs.Reading.{is_plain, outside, Effect, nothing, faulty,
 use Rattle.atl_orders.specs.Mailing.{EntryValue, entry_of, fault_of, effects}
 use Rattle.atl_orders.specs.Rules.{outer, WordsSay, unit_named, unit_faulty, block_closed, end_alone, form_nested, form_nowhere, form_faulty, form_again, form_new, order_nowhere, order_faulty, order_said, unknown, LineSays, bad_byte, no_word, some_words, BodySays, text_ended, orders_ended, one_line, entries_from, faults_from}
 
--- the result of reading a number, with the words after it
+-- a result of reading a number: the number and the words after it, or a fault
 abbrev Counted : Type 0
 Counted = Result (ℕ × List WordText) LineFault
 

@@ -8,7 +8,7 @@ use Rattle.atl_orders.specs.declared.fault.MailFault.{MailFault}
 use Rattle.atl_orders.specs.Lines.{lines}
 use Rattle.atl_orders.specs.Mailing.{HeaderValue, header_from, Reading, after_header, reading, IsMailingOf}
 
--- two readings a and b are equal, if Ok a and Ok b are
+-- for `sent`: two readings a and b are equal, if the results Ok a and Ok b are
 one_reading : (a b : Reading) → ◌≡◌ {A = Result Reading MailFault} (Ok a) (Ok b) → a ≡ b
 one_reading a b e = cc
 

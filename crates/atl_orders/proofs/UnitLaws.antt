@@ -12,15 +12,15 @@ use Rattle.atl_orders.specs.Views.{with_units}
 use Rattle.std.proofs.lemmas.Bool.{cond_both}
 use Rattle.std.proofs.lemmas.List.{append_assoc, append-nil}
 
--- the result of reading a number, with the words after it
+-- the result Ok of reading a number: the number, and the words after it
 abbrev paired : List WordText → ℕ → Result (ℕ × List WordText) LineFault
 paired ws n = Ok (n, ws)
 
--- the result of reading a unit, made from a number that was read, with the words after it
+-- the result Ok of reading a unit: the unit that a function makes of a number that was read, and the words after that
 abbrev as_unit : (ℕ → UnitRef) → ℕ × List WordText → Result (UnitRef × List WordText) LineFault
 as_unit c n = Ok (c n.0, n.1)
 
--- the result of reading a unit, with the words after it
+-- the result Ok of reading a unit: the unit, and the words after it
 abbrev found : UnitRef → List WordText → Result (UnitRef × List WordText) LineFault
 found u rest = Ok (u, rest)
 
@@ -28,12 +28,13 @@ found u rest = Ok (u, rest)
 abbrev pub then_units : UnitRef × List WordText → Result (List UnitRef) LineFault
 then_units x = units_of x.1 >>= λ us. Ok (x.0 ∷ us)
 
--- reading a unit, by number or alias, in front of further units gives what reading it and then these units gives
+-- reading a unit (c of the number `o`, or else the fault f), put in front of the units of the words after it, is
+-- reading it and then these units
 ref_step : (o : Option ℕ) (f : LineFault) (c : ℕ → UnitRef) (ws : List WordText) → and_then_units (or_fault f o >>= λ n. Ok (c n)) (units_of ws) ≡ (or_fault f o >>= paired ws >>= as_unit c) >>= then_units
 ref_step None f c ws = refl
 ref_step (Some n) f c ws = refl
 
--- if a and b are what `then_units` makes of c and d, the choice of a or b is what it makes of the choice of c or d
+-- for `units_step`: if a and b are what `then_units` makes of c and d, it makes a or b of c or d, by whether t is true
 choose : (t : Bool) (a b : Result (List UnitRef) LineFault) (c d : Result (UnitRef × List WordText) LineFault) → a ≡ c >>= then_units → b ≡ d >>= then_units → cond t a b ≡ cond t c d >>= then_units
 choose true a b c d p q = p
 choose false a b c d p q = q

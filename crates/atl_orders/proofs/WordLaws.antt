@@ -17,7 +17,7 @@ use Rattle.atl_orders.specs.Positions.{IsPartOf, EndsWith, EndsAt}
 
 -- ---- the index of the first element that passes a test, or the length
 
--- an index n that is at most m is the value of the option that has n if n is less than m, with m as the default
+-- for `found_or_len`: an index n, at most the length m, is the one that was found if it is below m, else the default
 placed : (t : Bool) (n m : ℕ) → nat_lt n m ≡ t → n ≤ m → unwrap_or (cond t (Some n) None) m ≡ n
 placed true n m h l = refl
 placed false n m h l = grind (arith, nat_tests)

@@ -1,10 +1,10 @@
 -- The set of the aliases that the FORM lines of a mailing have given so far, as a test of each number.
 use Rattle.std.specs.Prelude.{ℕ, Bool, false, ◌||◌, ◌==◌}
 
--- the empty set of aliases
+-- the empty set of aliases, as a test that no number passes
 abbrev pub no_alias : ℕ → Bool
 no_alias k = false
 
--- a set of aliases with one alias more
+-- a set of aliases with one alias more, as a test of the last number
 abbrev pub with_alias : (ℕ → Bool) → ℕ → ℕ → Bool
 with_alias given alias k = k == alias || given k

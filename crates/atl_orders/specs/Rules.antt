@@ -120,7 +120,7 @@ HaveNoHeader lines = All (λ line. is_header line ≡ false) lines
 pub record HaveHeader (lines above : List (List ℕ)) (header : List ℕ) (below : List (List ℕ)) : Type 0 where
   -- the lines are those above the header, the header, and those below it
   pub whole : lines ≡ above ++ header ∷ below
-  -- `header` is a header
+  -- the line `header` is a header: its first word is `#ATLANTIS`
   pub leads : is_header header ≡ true
   -- no line above it is a header
   pub first : HaveNoHeader above

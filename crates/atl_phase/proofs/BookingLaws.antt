@@ -21,7 +21,7 @@ near_by x y z n small h = elim h [
   | inr is ↦ record { above = omega (arith, ints, is); below = omega (arith, ints, is) }
 ]
 
--- an amount of the books that stays the same moves by at most 0 (`IsNear`)
+-- for `booked-near`: an amount of the books that a booking leaves as it is moves by at most 0 (`IsNear`)
 near_same : (x y : ℤ) → y ≡ x → IsNear 0 x y
 near_same x y is = record { above = omega (arith, ints, is); below = omega (arith, ints, is) }
 
@@ -40,7 +40,7 @@ module _ (books : BooksValue) (e : Entry) (t : Thing) (z : ℤ) (n : ℕ) (small
   pub booked-room : (next : BookBound) → ((f : Entry) (u : Thing) → HasRoom (moves_only n e t f u + next f u) (amount_in books f u)) → (f : Entry) (u : Thing) → HasRoom (next f u) (amount_in (after_booking books e t z) f u)
   booked-room next room f u = near_room (moves_only n e t f u) (next f u) _ _ (booked-near f u) (room f u)
 
--- a number within `amount_limit` in size can be stored in 64 signed bits
+-- for `booking_fits`: a number z within `amount_limit` in size, be it negative or not, can be stored in 64 signed bits
 by_sign : (z : ℤ) → z ≤ℤ pos amount_limit → pos 0 ≤ℤ (z +ℤ pos amount_limit) → FitsSigned w64 z
 by_sign (pos n) most less = record { sfits = omega (arith, ints, most) }
 by_sign (negsuc n) most less = record { sfits = omega (arith, ints, less) }

@@ -45,7 +45,7 @@ changed_held f c d n what u is = what ∙ ap (λ o. record c { units = changed_a
 pub others_held : (f : Unit → Unit) (c : CampaignValue) (n k : ℕ) → k ≢ n → get (unit_changed f c n).units k ≡ get c.units k
 others_held f c n k apart = by_unit (get c.units n)
   where
-    -- a change of unit n leaves unit k as it is, whether unit n is there or not
+    -- a change of unit n leaves the other unit k as it is, whether unit n is there (`o`) or not
     by_unit : (o : Option Unit) → get (changed_at f c.units n o) k ≡ get c.units k
     by_unit None = refl
     by_unit (Some u) = get-insert_other c.units n k (f u) apart
@@ -80,7 +80,7 @@ then_changes a b d n f g one two = record {
   goods = two.goods ∙ one.goods;
 }
 
--- the items and the days of a unit
+-- of what a unit holds, the items and the days, which changes of other fields leave as they are
 abbrev goods_of : HoldingValue → FinMap nat_cmp ℕ × FinMap nat_cmp ℕ
 goods_of h = (h.items, h.days)
 

@@ -24,7 +24,7 @@ sum_within f most [] each = omega arith
 sum_within {V} f most (e ∷ es) each =
     more (sum_by (λ (d : ℕ × V). f d.1) (e ∷ es)) (f e.1) (sum_by (λ (d : ℕ × V). f d.1) es) (length (e ∷ es) * most) (length es * most) most (sum_by-cons (λ (d : ℕ × V). f d.1) e es) (suc-mul (length es) most) each.0 (sum_within f most es each.1)
   where
-    -- if x is at most m, and y at most b, the sum of x and y is at most b + m
+    -- for `sum_within`: if x is at most m, and the sum y of the others at most b, all together (s) are at most a: b + m
     more : (s x y a b m : ℕ) → s ≡ x + y → a ≡ b + m → x ≤ m → y ≤ b → s ≤ a
     more s x y a b m e f k l = omega (arith, e, f, k, l)
 
@@ -41,6 +41,7 @@ all_held_within w c steady t =
     (sum_within (λ (u : Unit). unit_amount t u.holding) holding_limit (entries c.units) (each-from_every (λ n u. unit_amount t u.holding ≤ holding_limit) c.units (λ n u is. within_limit t u.holding (steady.numbers.units n u is).1)))
     (omega (arith, len-entries c.units, steady.numbers.few_units))
   where
-    -- a sum of at most `holding_limit` for each of at most `most_units` units is at most `most_moved`
+    -- for `all_held_within`: a sum s of at most `holding_limit` for each of n units, at most `most_units`, is at most
+    -- `most_moved`
     few : (s n : ℕ) → s ≤ n * holding_limit → n ≤ most_units → s ≤ most_moved
     few s n l m = omega (arith, l, m)

@@ -20,13 +20,13 @@ use Rattle.atl_world.proofs.MappedLaws.{is_less}
 use Rattle.atl_campaign.proofs.KeyLaws.{IsDistinct-map}
 use Rattle.atl_phase.proofs.MappedLaws.{no_entries}
 
--- two look-ups are equal if each value that one finds the other finds too
+-- for `from_entries-permutation`: two look-ups are equal if each value that one finds the other finds too
 alike : {X : Type 0} (a b : Option X) → ((v : X) → a ≡ Some v → b ≡ Some v) → ((v : X) → b ≡ Some v → a ≡ Some v) → a ≡ b
 alike None None f g = refl
 alike None (Some w) f g = g w refl
 alike (Some v) b f g = sym (f v refl)
 
--- a comparison is Less, if it isn't Equal, and the same comparison the other way round isn't Less
+-- for `strictly`: a comparison r is Less, if it isn't Equal, and the comparison the other way round isn't Less
 left_less : (r : Ordering) → is_lt (ordering_reverse r) ≡ false → is_eq r ≡ false → r ≡ Less
 left_less Less up apart = refl
 left_less Equal up apart = cc

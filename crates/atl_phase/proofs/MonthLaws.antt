@@ -25,7 +25,7 @@ use Rattle.atl_phase.proofs.ListedLaws.{find_is, from_entries-permutation, sorte
 abbrev pub under_faction : Mailing → ℕ × Reading
 under_faction m = (m.faction, reading_of m)
 
--- the map of the mailings' readings by faction is made of the readings under their factions
+-- the map of the mailings' readings by faction is made of the pairs of a mailing's faction and its reading
 pub by_faction_is : (ms : List Mailing) → by_faction (map reading_of ms) ≡ from_entries (map under_faction ms)
 by_faction_is ms = ap from_entries (map-map (λ (r : Reading). (r.faction, r)) reading_of ms)
 

@@ -59,11 +59,13 @@ room_drawn r s a b h room = record { above = omega (arith, ints, h.above, room.a
 
 -- ---- steps
 
--- an unchanged campaign keeps its condition, month and balance, and uses no remaining bound (`StepsWell`)
+-- a step that changes nothing keeps `holds` true, the month and the books' balance, and uses nothing of the remaining
+-- bound (`StepsWell`)
 pub well_same : {holds : Condition} {reserve : RemainingBound} (w : WorldValue) (c : CampaignValue) → holds w c → StepsWell holds reserve w c c
 well_same {holds} {reserve} w c h = record { holds_still = h; same_month = same_month c; balances = λ b. b; drawn = λ e t. drawn_same (reserve c e t) (amount_in c.books e t) }
 
--- two steps in turn keep condition, month and balance within the remaining bound (`StepsWell`), if each does
+-- two steps in turn, each of which keeps `holds`, month and balance within the remaining bound, do so together
+-- (`StepsWell`)
 pub well_twice : {holds : Condition} {reserve : RemainingBound} (w : WorldValue) (a b c : CampaignValue) → StepsWell holds reserve w a b → StepsWell holds reserve w b c → StepsWell holds reserve w a c
 well_twice {holds} {reserve} w a b c one two = record {
   holds_still = two.holds_still;
@@ -98,12 +100,12 @@ no_worse_spares = record { same = no_worse; again = no_worse_twice; faction = λ
 pub carried_cases : (P : CampaignValue × Outcome → Type 0) (deed : OrderEffect) (c : CampaignValue) (faction n : ℕ) → P (c, Fault 1) → ((u : Unit) → get c.units n ≡ Some u → u.faction ≡ faction → P (deed c u)) → P (faction_effect deed c faction n)
 carried_cases P deed c faction n other own = by_unit (get c.units n) refl
   where
-    -- P holds of the result of an order for unit u, whether the unit is of the faction or not
+    -- for `carried_cases`: P holds of the result of an order for unit u, whether u is of the faction (`b`) or not
     by_faction : (u : Unit) → get c.units n ≡ Some u → (b : Bool) → (u.faction == faction) ≡ b → P (effect_on deed c (if b then Some u else None))
     by_faction u there true is = own u there (is_equal u.faction faction is)
     by_faction u there false is = other
 
-    -- P holds of the result of an order for unit n, whether the unit is there or not
+    -- for `carried_cases`: P holds of the result of an order for unit n, whether unit n is there (`o`) or not
     by_unit : (o : Option Unit) → get c.units n ≡ o → P (effect_on deed c (of_faction faction o))
     by_unit None there = other
     by_unit (Some u) there = by_faction u there (u.faction == faction) refl
@@ -114,7 +116,7 @@ pub ordered_cases : (P : CampaignValue → Type 0) (step : Option OrderEffect) (
 ordered_cases P None c t same done = same
 ordered_cases P (Some deed) c t same done = carried_cases (λ p. P p.0) deed c t.faction t.unit same (λ x there faction. done x (record { there = there; faction = faction }))
 
--- a campaign and an outcome, with the outcome in `Some`
+-- a campaign and an outcome as an order that isn't passed over has them in its result: the outcome in `Some`
 abbrev with_some : CampaignValue × Outcome → CampaignValue × Option Outcome
 with_some p = (p.0, Some p.1)
 
@@ -123,7 +125,8 @@ pub told_some : (deed : OrderEffect) (c d : CampaignValue) (faction n : ℕ) (o 
 told_some deed c d faction n o is = ap with_some is
 
 module _ (step : OrderMeaning) {holds : Condition} {reserve : RemainingBound} {moving : BookBound} {concerns : Affects} {spares : Unaffected} (orderly : IsOrderly step holds reserve moving concerns spares) (w : WorldValue) where
-  -- an order keeps the condition, the month and the balance of the books (`StepsWell`), if its phase is `IsOrderly`
+  -- an order of a phase that is `IsOrderly` keeps `holds` true, the month and the books' balance, and moves no amount
+  -- further than its remaining bound falls (`StepsWell`)
   pub order_well : (a : Aliases) (c : CampaignValue) (t : Task) → holds w c → IsOrderOf w t.order_value → StepsWell holds reserve w c (order_result (step w a t) c t.faction t.unit).0
   order_well a c t h fit = ordered_cases (StepsWell holds reserve w c) (step w a t) c t (well_same w c h) (λ x own. orderly.well w a c t x h fit own)
 

@@ -45,7 +45,7 @@ module _ (aliases : Aliases) (ms : List Mailing) (at : ℕ) where
 
   -- the list has the indices of the orders that count before index i of the mailing, after those of `old`
   pub record Added (old : List OrderIndex) (i : ℕ) (list : List OrderIndex) : Type 0 where
-    -- the list names orders that are there, if the old indices do
+    -- each index of the list names an order that the mailings have (`IsThere`), if each index of `old` does
     pub there : All (IsThere ms) old → All (IsThere ms) list
     -- the orders that the list names, and those still to come that count, are the old ones and all that count of the
     -- mailing

@@ -104,8 +104,8 @@ by_key : (a : Arrangement) (ms : List Mailing) (list : List OrderIndex) → IsSo
 by_key ByUnit ms list up = up
 by_key ByFaction ms list up = up
 
--- the indices of all orders that count, mailing by mailing, name them as the arrangement sorts them once they are
--- sorted by their keys (`AreOrderIndices`)
+-- the indices of all orders that count, once sorted by their own keys, name these orders as the arrangement sorts them
+-- (`AreOrderIndices`)
 pub sorted_places : (a : Arrangement) (aliases : Aliases) (ms : List Mailing) (os list : List OrderIndex) → AreByFaction ms → AreIndicesByMailing aliases ms os → IsPermutation os list → IsSortedByKey (key_by a) (slice_cmp nat_cmp) list
     → AreOrderIndices a aliases ms list
 sorted_places a aliases ms os list h are p up = record {

@@ -16,7 +16,8 @@ use Rattle.atl_campaign.proofs.NumberListLaws.{IsListed, first_of}
 
 -- two campaigns c and d, in which all units but n are the same
 module _ (c d : CampaignValue) (n : ℕ) (away : (k : ℕ) → k ≢ n → get d.units k ≡ get c.units k) where
-  -- P holds of each unit of campaign d, if it holds of unit n there, and of each other unit as it is in campaign c
+  -- from campaign c to d units other than n stay: P holds of each unit of d, if it holds of unit n there, and of each
+  -- other unit as it is in c
   every_away : (P : ℕ → Unit → Type 0) → ((v : Unit) → get d.units n ≡ Some v → P n v) → ((k : ℕ) (v : Unit) → k ≢ n → get c.units k ≡ Some v → P k v) → Every P d.units
   every_away P mine others k v there = elim (cases_eq k n) [
     | inl same ↦ subst (λ j. P j v) (sym same) (mine v (ap (get d.units) (sym same) ∙ there))
@@ -45,6 +46,6 @@ module _ (c d : CampaignValue) (n : ℕ) (away : (k : ℕ) → k ≢ n → get d
             (λ k v apart there inside. apart (is_equal k n (not-false (k == n) (first.1 none k (inside_is_listed place c.units some k v there inside)))));
       }
     where
-      -- the numbers of the units inside the structure are at least 1
+      -- for `heir_owns`: the numbers of the units inside structure `place` are at least 1
       listed_low : (k : ℕ) → IsListed k (numbers_inside place c.units) → 1 ≤ k
       listed_low k h = let (v, there, inside) = listed_is_inside place c.units k h in low k v there

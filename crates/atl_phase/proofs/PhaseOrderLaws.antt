@@ -25,7 +25,7 @@ use Rattle.atl_phase.proofs.MappedLaws.{no_entries}
 -- ---- what is so of each entry is so of each that a map lists
 
 module _ {K X : Type 0} (R : K → K → Ordering) (P : K → X → Type 0) where
-  -- P holds of each entry of the list
+  -- P holds of the key and the value of each entry of the list
   abbrev Entries : List (K × X) → Type 0
   Entries = AllByRecursion (λ e. P e.0 e.1)
 

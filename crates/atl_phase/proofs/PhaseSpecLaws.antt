@@ -26,7 +26,8 @@ pub moved_within : (phases : List PhaseSpec) → EachPhase MovesItsOwn phases �
 moved_within [] each e t = omega arith
 moved_within (phase ∷ []) each e t = alone (may_move phase.moved e t) (each.0 e t)
   where
-    -- what a single phase moves of an amount is at most `most_moved` if it may move it (`b`), and else 0
+    -- what one phase alone moves of an amount is at most `most_moved` times the number of phases that may move it,
+    -- which is 1 if the phase may (`b`), and else 0
     alone : (b : Bool) → phase.moving e t ≤ (if b then most_moved else 0) → phase.moving e t ≤ ((if b then 1 else 0) + 0) * most_moved
     alone true one = omega (arith, one)
     alone false one = omega (arith, one)
@@ -61,7 +62,7 @@ leave_together [] each = record {
   left = λ w c m keeps n u there none. record { unit = u; there = there; spared = record { faction = refl; name = refl; men = nobody (starved_in m.events n) u.holding.men; items = λ i. omega arith } };
 }
   where
-    -- a number less x - x, which is 0, is the number
+    -- for `leave_together`: if nobody starved (x - x is 0), a unit has its men a less that number
     nobody : (x a : ℕ) → a ≡ a - (x - x)
     nobody x a = omega arith
 leave_together (phase ∷ []) each = each.0

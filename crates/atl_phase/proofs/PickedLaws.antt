@@ -22,7 +22,7 @@ use Rattle.atl_phase.specs.OrderIndices.{AreOrderIndices, every_verb, has_verb, 
 use Rattle.atl_phase.proofs.ListedLaws.{entries-passing}
 use Rattle.atl_phase.proofs.OrderLaws.{all_apart, same_key}
 
--- a filter after a map is the map after a filter by the test of the mapped elements
+-- for `values-passing`: to map elements by f and keep those that pass p is to keep those whose f passes p, and map them
 filter-map : {X Y : Type 0} (p : Y → Bool) (f : X → Y) (xs : List X) → filter p (map f xs) ≡ map f (filter (λ x. p (f x)) xs)
 filter-map p f [] = refl
 filter-map p f (x ∷ xs) =
@@ -76,7 +76,7 @@ picked_more is_of ms places i p o list new b h at task before verb is =
     ∙ ap (λ q. tasks_picked is_of ms (take i places) ++ filter (has_verb is_of) (task_at ms q ∷ [])) at
     ∙ sym (ap (filter (has_verb is_of)) (map_more (task_at ms) places i p h) ∙ filter-append (has_verb is_of) (map (task_at ms) (take i places)) (task_at ms (get_or places i p) ∷ []))
   where
-    -- the orders of the new list, whether the order at i was added (`c`) or not
+    -- for `picked_more`: the new list has the orders of the old, and then the order at i if it was added (`c`)
     by_test : (c : Bool) → map task_of (cond c (list ++ o ∷ []) list) ≡ map task_of list ++ cond c (task_at ms p ∷ []) []
     by_test true = map_push task_of list o ∙ ap (λ t. map task_of list ++ t ∷ []) task
     by_test false = sym (append-nil (map task_of list))

@@ -114,7 +114,7 @@ module _ (w : WorldValue) (c : CampaignValue) (n : ℕ) (u : Unit) (s : ℕ) (is
 
   -- ---- the owners of the structures after the move
 
-  -- unit numbers begin at 1
+  -- each unit of campaign c has a number of at least 1
   low : Every (λ k v. 1 ≤ k) c.units
   low k v there = (steady.numbers.units k v there).0
 
@@ -126,7 +126,8 @@ module _ (w : WorldValue) (c : CampaignValue) (n : ℕ) (u : Unit) (s : ℕ) (is
   stands : (v : Unit) → get behind.units n ≡ Some v → v.structure ≡ s
   stands v there = sym (ap (λ (x : Unit). x.structure) (same_Some moved v (sym (get-insert_same c.units n moved) ∙ there)))
 
-  -- a structure still has its right owner if unit n didn't own it, and doesn't enter it where nobody owned it
+  -- after unit n went, a structure q that it didn't own still has its right owner, unless nobody owned q and unit n
+  -- entered it
   still_owned : (q : ℕ) (y : Structure) → get c.structures q ≡ Some y → y.owner ≢ n → (y.owner ≡ 0 → s ≢ q) → IsOwned behind q y
   still_owned q y there other free = owner_stays c behind n away q y (steady.owners q y there) other (λ none v here inside. free none (sym (stands v here) ∙ inside))
 
@@ -135,7 +136,8 @@ module _ (w : WorldValue) (c : CampaignValue) (n : ℕ) (u : Unit) (s : ℕ) (is
   structure_in (Some x) v = x.structure
   structure_in None v = v.structure
 
-  -- structure s has its right owner after the unit entered it
+  -- after unit n went, structure q, which it entered and didn't leave, has its right owner: unit n if nobody owned q
+  -- (`z`), and else the old owner
   entered_owned : (q : ℕ) (y : Structure) → get c.structures q ≡ Some y → q ≢ old_place → q ≡ s → (z : Bool) → (y.owner == 0) ≡ z → IsOwned behind q (if z then owned_by n y else y)
   entered_owned q y there other here true t = record {
     owned = λ some. (moved, get-insert_same c.units n moved, sym here);
@@ -143,12 +145,13 @@ module _ (w : WorldValue) (c : CampaignValue) (n : ℕ) (u : Unit) (s : ℕ) (is
   }
   entered_owned q y there other here false t = still_owned q y there (owns_no_other w c n u is steady q y there other) (λ none. absurd (true≢false (sym (equal_passes y.owner 0 none) ∙ t)))
 
-  -- a structure with its owner after both handovers, by whether it is the one left, was the unit's own,
-  -- and is the one entered
+  -- a structure with its owner after both handovers, by whether it is the one left (`a`), was unit n's own (`e`),
+  -- and is the one entered (`b`)
   abbrev given : (a e b : Bool) → Structure → Structure
   given a e b y = let x = if a && e then owned_by next y else y in if b && x.owner == 0 then owned_by n x else x
 
-  -- each structure has its right owner after both handovers, in each case of the three tests
+  -- each structure q has its right owner after both handovers, whether or not it is the one left (`a`), was unit n's
+  -- own (`e`), and is the one entered (`b`)
   by_tests : (q : ℕ) (y : Structure) → get c.structures q ≡ Some y → (a e b : Bool) → (q == old_place) ≡ a → (y.owner == n) ≡ e → (q == s) ≡ b → IsOwned behind q (given a e b y)
   by_tests q y there true e true p r t = absurd (apart (sym (is_equal q old_place p) ∙ is_equal q s t))
   by_tests q y there true true false p r t = subst (λ k. IsOwned behind k (owned_by next y)) (sym (is_equal q old_place p)) (heir_owns c behind n away old_place (λ zero. is_no_zero c.structures c.next_structure steady.next.structures q y there (is_equal q old_place p ∙ zero)) low (λ v here inside. apart (sym inside ∙ stands v here)) y)
@@ -159,7 +162,7 @@ module _ (w : WorldValue) (c : CampaignValue) (n : ℕ) (u : Unit) (s : ℕ) (is
   -- ---- the campaign
 
   module _ (inside : s ≢ 0 → (x : Structure) × (get c.structures s ≡ Some x) × (x.region ≡ u.region)) (afloat : is_land_at w u.region ≡ false → (x : Structure) × (get c.structures s ≡ Some x) × (is_ship w x ≡ true)) where
-    -- the campaign `behind` is a refit (`IsRefit`)
+    -- the campaign `behind`, in which unit n went to structure s, is a refit (`IsRefit`) of c
     refit : IsRefit w c n u s is after_entering.structures owner_behind
     refit = record {
       at = at;

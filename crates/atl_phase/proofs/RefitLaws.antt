@@ -83,7 +83,7 @@ module _ (w : WorldValue) (c : CampaignValue) (n : ℕ) (u : Unit) (s : ℕ) (is
   abbrev pub moved_unit : Unit
   moved_unit = record u { structure = s }
 
-  -- the units, of which unit n is inside structure s
+  -- the units of campaign c, once unit n is inside structure s
   abbrev units : FinMap nat_cmp Unit
   units = insert c.units n moved_unit
 
@@ -208,7 +208,7 @@ module _ (w : WorldValue) (c : CampaignValue) (n : ℕ) (u : Unit) (s : ℕ) (is
     pub early-refitted : IsEarly w c → IsEarly w refitted
     early-refitted old = record { steady = steady-refitted old.steady; flags = of_one_faction_refitted (λ x. x.holding.guard) (λ g. g) old.flags }
 
-  -- if two sums with one addend in common are equal, so are the sums with another addend in its place
+  -- for `total-refitted`: the units' totals a and b, equal if h is added to both, are so too if the regions' r is
   cancelled : (a b h r : ℕ) → a + h ≡ b + h → a + r ≡ b + r
   cancelled a b h r e = omega arith
 

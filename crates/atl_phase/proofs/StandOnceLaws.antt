@@ -60,7 +60,7 @@ slots_are Taxing Taxing same = refl
 slots_are Recruiting Recruiting same = refl
 slots_are s o same = cc
 
--- an order that counts in a slot is on the last line of the slot for its unit
+-- an order t that counts among the orders ts of its mailing has the last line of its slot and unit among them
 line_of : (ts : List Task) (t : Task) (s : Slot) (o : Option Slot) → o ≡ Some s → stands_in ts t o ≡ true → t.line ≡ last_line s t.unit ts
 line_of ts t s None is there = cc
 line_of ts t s (Some x) is there = is_equal t.line (last_line x t.unit ts) there ∙ ap (λ y. last_line y t.unit ts) (same_Some x s is)
@@ -79,7 +79,7 @@ one_line ts us t o same unit share one two = by_slots (row_of t.order_value.verb
 
 -- ---- the orders of a phase
 
--- if no two elements pass a test, no two pass another test that fails where the first does, for elements with P
+-- if P holds of each element, and no two elements pass the test e, no two pass the test f, which fails where e does
 distinct_also : {X : Type 0} (P : X → Type 0) (e f : X → X → Bool) → ((x y : X) → P x → P y → e x y ≡ false → f x y ≡ false) → (xs : List X) → AllByRecursion P xs → IsDistinct e xs → IsDistinct f xs
 unfolding IsDistinct
 distinct_also P e f also [] all apart = tt

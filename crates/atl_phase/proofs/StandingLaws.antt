@@ -38,11 +38,11 @@ module _ (lines : Lines) (k u line : ℕ) where
         | false ↦ λ _. two (line_in lines k unit) n
       ] refl
     where
-      -- the greatest of three numbers is the same in either grouping
+      -- for `in_group`: of the noted line a (which is b), the line, and n, the greatest is the same in either grouping
       three : (a b line n : ℕ) → a ≡ b → max (max a line) n ≡ max b (max line n)
       three a b line n h = omega arith
 
-      -- a further number 0 leaves the greater of two numbers
+      -- for `in_group`: for another unit the new line counts as 0, which leaves the greater of a and n
       two : (a n : ℕ) → max a n ≡ max a (max 0 n)
       two a n = omega arith
 
@@ -56,7 +56,7 @@ module _ (lines : Lines) (k u line : ℕ) where
         | false ↦ λ _. other (u == unit) (line_in lines j unit)
       ] refl
     where
-      -- a line that counts as 0, since it is of another slot, leaves the greater of two lines
+      -- for `noted_at`: a line of another slot counts as 0, which leaves the greater of two lines a and n
       other : (b : Bool) (a : ℕ) → max a n ≡ max a (max (if b && false then line else 0) n)
       other true a = omega arith
       other false a = omega arith
@@ -81,7 +81,7 @@ module _ (slot : Slot) (aliases : Aliases) (faction : ℕ) (text : List ℕ) whe
       noted_at lines (slot_number other) (unit_of aliases faction e.target) e.line (slot_number slot) unit (rest_from (i + 1) es unit)
       ∙ ap (max (line_in lines (slot_number slot) unit)) (sym (opened es i e (Some other) unit h is b))
 
-  -- the greater of n and a line that counts as 0, because one of its two tests is false, is n
+  -- for `passed`: the line of an order without a slot counts as 0, so the greater of it and n is n
   neither : (c : Bool) (line n : ℕ) → max (if c && false then line else 0) n ≡ n
   neither true line n = omega arith
   neither false line n = omega arith
@@ -96,6 +96,6 @@ none_noted lines slot unit n h =
     ap (λ g. max (unwrap_or (get g unit) 0) n) (ap (λ m. group_of m slot) h ∙ ap (λ o. unwrap_or o empty) (get-empty nat_cmp slot))
     ∙ ap (λ o. max (unwrap_or o 0) n) (get-empty nat_cmp unit) ∙ bare n
   where
-    -- the greater of 0 and a number is the number
+    -- for `none_noted`: the greater of 0 and n is n
     bare : (n : ℕ) → max 0 n ≡ n
     bare n = omega arith

@@ -21,16 +21,16 @@ equal_passes a b same = grind (arith, nat_tests)
 -- ---- a value of a map that is changed
 
 module _ {V : Type 0} (f : V → V) (m : FinMap nat_cmp V) (k : ℕ) where
-  -- f of the value, if its number q is k, and the value as it is otherwise
+  -- what a change under number k makes of the value under number q: f of it if q is k, and the value as it is otherwise
   abbrev pub at_number : ℕ → V → V
   at_number q v = if q == k then f v else v
 
-  -- if q is k, `at_number` maps what a look-up of q found as f does
+  -- for `get-changed`: if q is k, `at_number` maps what a look-up of q found as f does
   mapped_here : (q : ℕ) → (q == k) ≡ true → (o : Option V) → option_map f o ≡ option_map (at_number q) o
   mapped_here q t None = refl
   mapped_here q t (Some v) = ap (λ b. Some (if b then f v else v)) (sym t)
 
-  -- if q isn't k, `at_number` leaves what a look-up of q found as it is
+  -- for `get-changed`: if q isn't k, `at_number` leaves what a look-up of q found as it is
   mapped_else : (q : ℕ) → (q == k) ≡ false → (o : Option V) → o ≡ option_map (at_number q) o
   mapped_else q t None = refl
   mapped_else q t (Some v) = ap (λ b. Some (if b then f v else v)) (sym t)
@@ -70,11 +70,11 @@ abbrev pub handed_on : (k from to q : ℕ) → Structure → Structure
 handed_on k from to q y = if q == k && y.owner == from then owned_by to y else y
 
 module _ (c : CampaignValue) (k from to : ℕ) where
-  -- the campaign after structure k got the owner `to`, if the test is true; otherwise the campaign as it was
+  -- the campaign after structure k got the owner `to`, if `from` owned it (the test is true), and otherwise as it was
   abbrev after : Bool → CampaignValue
   after b = if b then with_owner c k to else c
 
-  -- structure k after the handover: with the owner `to` if the test is true, and as it was otherwise
+  -- structure k after its handover: with the owner `to` if `from` owned it (`b` is true), and as it was otherwise
   here_by : (y : Structure) → get c.structures k ≡ Some y → (b : Bool) → get (after b).structures k ≡ Some (if b then owned_by to y else y)
   here_by y is true = changed_here (owned_by to) c.structures k (get c.structures k) refl ∙ ap (option_map (owned_by to)) is
   here_by y is false = is
@@ -124,7 +124,8 @@ pub placed_cases : (P : CampaignValue → Type 0) (c : CampaignValue) (n r s : �
 unfolding with_place
 placed_cases P c n r s same put handed = by_unit (get c.units n)
   where
-    -- P holds after unit n is put there, whether the unit is there or not
+    -- for `placed_cases`: P holds of the campaign after unit n was put in region r and structure s, whether c has a
+    -- unit n (`o`) or not
     by_unit : (o : Option Unit) → P (with_place_at c n r s o)
     by_unit None = same
     by_unit (Some u) =

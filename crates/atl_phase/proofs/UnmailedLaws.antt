@@ -69,11 +69,13 @@ less_twice x y z u v t l k one two = record {
   items = λ i. omega (arith, one.items i, two.items i);
 }
   where
-    -- a number d that is b less z - y, where b is a less y - x, is a less z - x
+    -- for `less_twice`: with x, then y, then z starved, men d that are b less z - y, where b are a less y - x, are a
+    -- less z - x
     less : (a b d : ℕ) → b ≡ a - (y - x) → d ≡ b - (z - y) → d ≡ a - (z - x)
     less a b d e f = omega (arith, l, k)
 
--- if fewer men starved in two phases together than there were, fewer starved in the second than the first left
+-- if fewer men of a unit starved in two phases (z - x) than it had (a), fewer starved in the second (z - y) than were
+-- left after the first (b)
 some_left : (x y z a b : ℕ) → x ≤ y → y ≤ z → b ≡ a - (y - x) → z - x < a → z - y < b
 some_left x y z a b l k e some = omega arith
 
@@ -144,7 +146,7 @@ pub men_changed : (f : Unit → Unit) → ((u : Unit) → HasItsMen u (f u)) →
 men_changed f stay c d k same n u there =
     record { unit = at_number f c.units k n u; there = ap (λ (m : FinMap nat_cmp Unit). get m n) same ∙ get-changed f c.units k n ∙ ap (option_map (at_number f c.units k n)) there; spared = by_number (n == k) }
   where
-    -- a unit has its men after the change, whether it is unit k, which f changes (`b`), or another
+    -- for `men_changed`: unit u has its men after the change, whether it is unit k, which f changes (`b`), or another
     by_number : (b : Bool) → HasItsMen u (if b then f u else u)
     by_number true = stay u
     by_number false = record { faction = refl; men = refl }
@@ -200,11 +202,12 @@ items_of_no_worse u v h = record { name = h.name; items = h.items }
 abbrev pub UnmailedAre : Unaffected → MonthValue → CampaignValue → CampaignValue → Type 0
 UnmailedAre spares m before after = Every (λ n u. get m.readings u.faction ≡ None → IsUnaffected spares after n u) before.units
 
--- a unit that keeps its faction, men and name, and no less of any item, has 0 men less (`IsLessBy`)
+-- if a phase leaves the number x of starved men as it is (y), a unit that keeps its faction, men and name, and no less
+-- of any item, has y - x men less (`IsLessBy`), which is 0
 whole : (x y : ℕ) (u v : Unit) → y ≡ x → HasItsMen u v → HasItsItems u v → IsLessBy (y - x) u v
 whole x y u v same men items = record { faction = men.faction; name = items.name; men = nobody u.holding.men v.holding.men men.men; items = items.items }
   where
-    -- the men of a unit that keeps its men are those before less y - x, which is 0
+    -- for `whole`: the men b of a unit that keeps its men a are a less y - x, which is 0
     nobody : (a b : ℕ) → b ≡ a → b ≡ a - (y - x)
     nobody a b e = omega (arith, same)
 
@@ -238,7 +241,7 @@ pub told_of_order : (events : List Event) (t : Task) (outcome : Outcome) (n : �
 told_of_order events t outcome n =
     sum_by_push (λ (e : Event). if e.unit == n then men_starved_by e.verb e.outcome else 0) events (event_for t outcome) ∙ by_unit (t.unit == n) (starved_in events n)
   where
-    -- an event that reports nobody as starved adds 0, whether it is of unit n (`b`) or not
+    -- for `told_of_order`: an event that reports nobody as starved adds 0 to the count x, be it of unit n (`b`) or not
     by_unit : (b : Bool) (x : ℕ) → x + (if b then 0 else 0) ≡ x
     by_unit true x = omega arith
     by_unit false x = omega arith

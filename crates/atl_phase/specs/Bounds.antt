@@ -84,7 +84,8 @@ pub record IsUnitOf (c : CampaignValue) (t : Task) (u : Unit) : Type 0 where
 -- remaining bound (`StepsWell`), `spares` relates each unit that an order doesn't concern to what it is after it, and
 -- no remaining bound is above the bound of the phase.
 pub record IsOrderly (step : OrderMeaning) (holds : Condition) (reserve : RemainingBound) (moving : BookBound) (concerns : Affects) (spares : Unaffected) : Type 0 where
-  -- each order for a unit of its writer's faction keeps condition, month, balance and remaining bound (`StepsWell`)
+  -- each order for a unit of its writer's faction keeps `holds` true, the month, and the books' balance, and moves no
+  -- amount further than its remaining bound falls (`StepsWell`)
   pub well : (w : WorldValue) (a : Aliases) (c : CampaignValue) (t : Task) (x : Unit) → holds w c → IsOrderOf w t.order_value → IsUnitOf c t x →
       IfSome (step w a t) (λ deed. StepsWell holds reserve w c (deed c x).0)
   -- `spares` can be used over several orders: it is reflexive, transitive, and keeps the faction

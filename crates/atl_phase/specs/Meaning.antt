@@ -29,7 +29,8 @@ Condition = WorldValue → CampaignValue → Type 0
 abbrev pub Follows : Condition → Condition → Type 0
 Follows leaves needs = (w : WorldValue) (c : CampaignValue) → leaves w c → needs w c
 
--- what two phases in turn need: what the first one needs, and that what the first leaves is what the second needs
+-- what two phases in turn need: the first condition, which the first phase needs, and that the second, which that phase
+-- leaves, implies the third, which the second phase needs
 abbrev pub both_need : Condition → Condition → Condition → Condition
 both_need needs between follows w c = needs w c × Follows between follows
 
@@ -38,8 +39,8 @@ both_need needs between follows w c = needs w c × Follows between follows
 abbrev pub Frame : Type 1
 Frame = WorldValue → MonthValue → CampaignValue → CampaignValue → Type 0
 
--- what two phases in turn keep: each keeps its own,
--- with the campaign and the month between them as the first one makes them
+-- what two phases in turn keep, by the effect of the first one: each keeps its own, and the second does from the
+-- campaign and the month that the first one makes
 abbrev pub both_keep : Meaning → Frame → Frame → Frame
 both_keep first early late w m before after =
     let between = first w before m in
@@ -74,7 +75,7 @@ pub record IsNear (most : ℕ) (before after : ℤ) : Type 0 where
 pub record IsSameMonth (before after : CampaignValue) : Type 0 where
   -- the number of the month last closed stays the same
   pub month : after.month ≡ before.month
-  -- the reports stay the same
+  -- the phase leaves the factions' reports as they are
   pub reports : after.reports ≡ before.reports
   -- there are as many factions as before
   pub count : len after.factions ≡ len before.factions

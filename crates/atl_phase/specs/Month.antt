@@ -68,11 +68,11 @@ month_code =
 
 -- ---- aliases
 
--- the number of the unit that a faction's FORM made under an alias; None where there is none
+-- the number of the unit that FORM made for a faction (the first number) under an alias; None where there is none
 abbrev pub alias_unit : Aliases → ℕ → ℕ → Option ℕ
 alias_unit aliases faction alias = get (group_of aliases faction) alias
 
--- the aliases with one more: this unit, under this alias of this faction
+-- the aliases with one more; the numbers are the faction's, the alias, and that of the unit that FORM made under it
 abbrev pub with_alias : Aliases → ℕ → ℕ → ℕ → Aliases
 with_alias aliases faction alias unit = insert aliases faction (insert (group_of aliases faction) alias unit)
 
@@ -88,7 +88,7 @@ with_events m events = record m { events = m.events ++ events }
 abbrev pub HaveOwnFactions : List Mailing → Type 0
 HaveOwnFactions mailings = IsDistinct (eq_by_cmp nat_cmp) (map (λ m. m.faction) mailings)
 
--- the map from each faction to its reading
+-- the map of these readings, each under its faction
 abbrev pub by_faction : List Reading → FinMap nat_cmp Reading
 by_faction readings = from_entries (map (λ r. (r.faction, r)) readings)
 

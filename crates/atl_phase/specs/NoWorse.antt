@@ -33,7 +33,7 @@ pub record IsNoWorse (before after : Unit) : Type 0 where
   -- the unit has no fewer days of any skill than before
   pub days : (s : ℕ) → amount_of before.holding.days s ≤ amount_of after.holding.days s
 
--- each unit is still there, and no worse off
+-- each unit of the campaign before is in the campaign after, and no worse off there
 abbrev pub AreNoWorse : CampaignValue → CampaignValue → Type 0
 AreNoWorse before after = Every (λ n u. (v : Unit) × (get after.units n ≡ Some v) × IsNoWorse u v) before.units
 

@@ -102,14 +102,14 @@ pub record IsThere (mailings : List Mailing) (p : OrderIndex) : Type 0 where
 
 -- each index names an order that is there, and the orders that they name are ts, in this order
 pub record AreAt (mailings : List Mailing) (ts : List Task) (places : List OrderIndex) : Type 0 where
-  -- each index names an order that is there
+  -- each index names an order that the mailings have (`IsThere`)
   pub there : All (IsThere mailings) places
   -- the orders that the indices name are ts
   pub tasks : map (task_at mailings) places ≡ ts
 
 -- the new indices name the orders that the old ones name, and after them the orders ts
 pub record Adds (mailings : List Mailing) (ts : List Task) (old new : List OrderIndex) : Type 0 where
-  -- the new indices name orders that are there, if the old ones do
+  -- each new index names an order that the mailings have (`IsThere`), if each old index does
   pub there : All (IsThere mailings) old → All (IsThere mailings) new
   -- the new indices name the orders of the old ones, and then ts
   pub tasks : map (task_at mailings) new ≡ map (task_at mailings) old ++ ts

@@ -99,7 +99,8 @@ moving_of [] = λ e t. 0
 moving_of (phase ∷ []) = phase.moving
 moving_of (phase ∷ next ∷ rest) = both_move phase.moving (moving_of (next ∷ rest))
 
--- what these phases in turn leave unchanged: each its own, with the campaign and the month that those before it made
+-- what phases in turn leave unchanged together: each keeps what its own specification says, from the campaign and the
+-- month that the phases before it made
 abbrev pub keeps_of : List PhaseSpec → Frame
 keeps_of [] = λ w m before after. ⊤
 keeps_of (phase ∷ []) = phase.keeps

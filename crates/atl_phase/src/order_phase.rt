@@ -177,6 +177,7 @@ impl<P: PlainPhase> Phase for P {
 
     ghost keeps = { spares_others P.concerns P.spares P.is_of };
 
+    /// Returns the campaign as the orders leave it, and the month with their events.
     fn run(
         &self,
         alloc: Global,

@@ -16,12 +16,14 @@ use Rattle.atl_service.specs.Causes.{GivesError, HasCause}
 
 -- if a test chose between two different values, the chosen value shows the test's result
 module _ {F : Type 0} (memory other : F) (apart : memory ≢ other) where
-  -- if a test that chooses between two different values chose the first, it is true
+  -- for `lacked` and `creation_lacked`: if a test that chooses between the faults `memory` and `other`, which differ,
+  -- chose `memory`, it is true
   is_first : (b : Bool) → memory ≡ cond b memory other → b ≡ true
   is_first true is = refl
   is_first false is = absurd (apart is)
 
-  -- if a test that chooses between two different values chose the second, it is false
+  -- for `failed` and `creation_failed`: if a test that chooses between the faults `memory` and `other`, which differ,
+  -- chose `other`, it is false
   is_second : (b : Bool) → other ≡ cond b memory other → b ≡ false
   is_second true is = absurd (apart (sym is))
   is_second false is = refl

@@ -69,7 +69,7 @@ module _ (w : WorldValue) (n : ℕ) (text : List ℕ) where
   pub not_unread : (fault : MailFault) → IsMailingOf n text → reading w text ≡ Err fault → ⊥
   not_unread fault sent unread = let (r, is, own) = reads sent in apart r fault (sym is ∙ unread)
     where
-      -- a mailing that was read (Ok) is not one that can't be read (Err)
+      -- for `not_unread`: a mailing that was read (Ok) is not one that can't be read (Err)
       apart : (r : Reading) (fault : MailFault) → ◌≡◌ {A = Result Reading MailFault} (Ok r) (Err fault) → ⊥
       apart r fault is = cc
 
@@ -115,7 +115,8 @@ own_factions w c ms good is =
 pub faulty_lines_under : (w : WorldValue) (mail : FinMap nat_cmp (List ℕ)) (n : ℕ) → unwrap_or (get (mapped (λ text. faults_of (reading w text)) mail) n) [] ≡ faults_in w (get mail n)
 faulty_lines_under w mail n = ap (λ o. unwrap_or o []) (get-mapped (λ text. faults_of (reading w text)) mail n) ∙ at (get mail n)
   where
-    -- the faulty lines found for a faction, with a mailing or without one, are those of `faults_in`
+    -- for `faulty_lines_under`: the faulty lines found for a faction, with a mailing (`o`) or without one, are those of
+    -- `faults_in`
     at : (o : Option (List ℕ)) → unwrap_or (option_map (λ text. faults_of (reading w text)) o) [] ≡ faults_in w o
     at None = refl
     at (Some text) = refl
@@ -140,8 +141,8 @@ there_among : (P : ℕ → Type 0) (p : Faction → Bool) (es : List (ℕ × Fac
 there_among P p [] all = tt
 there_among P p (e ∷ es) (here, all) = at (p e.1) (there_among P p es all)
   where
-    -- if P holds of the numbers of the other factions that pass the test, it also does with the first faction in front,
-    -- whether that one passes the test or not
+    -- for `there_among`: if P holds of the numbers of the other factions that pass the test, it also does with the
+    -- first faction e in front, whether e passes the test (`b`) or not
     at : (b : Bool) → AllByRecursion P (numbers_among p es) → AllByRecursion P (map (λ x. x.0) (cond b (e ∷ filter (λ x. p x.1) es) (filter (λ x. p x.1) es)))
     at true rest = (here, rest)
     at false rest = rest
@@ -183,7 +184,8 @@ report_marked w c d n faults events is m = marked_as c d (reported_with w c.valu
 pub turned_marked : (a b c d : MarkedCampaign) (n : ℕ) → MarksChanges a b → c.value ≡ with_month b.value n → c.marks ≡ mark_campaign_row b → d.value ≡ without_mail c.value → d.marks ≡ mark_all_mail c → MarksChanges a d
 turned_marked a b c d n run is m taken t = marks-trans a b d run (marks-trans b c d (month_marked b c n is m) (mail_marked c d taken t))
 
--- with a report stored and marked without an error, no mark is lost and all that changed is marked (`MarksChanges`)
+-- where a call answers Ok, and stores and marks a report, no mark is lost and all that changed is marked
+-- (`MarksChanges`)
 pub stored_marked : {A E : Type 0} (w : WorldValue) (c d : MarkedCampaign) (n : ℕ) (faults : List FaultyLine) (events : List Event) (r : Result A E) → OnOk r (d.value ≡ reported_with w c.value n faults events) → OnOk r (d.marks ≡ mark_report c n)
     → OnOk r (MarksChanges c d)
 stored_marked w c d n faults events (Ok a) is m = report_marked w c d n faults events is m

@@ -86,7 +86,7 @@ module _ {S : Type 0} (g : Ghosts S) where
       crash = λ clean v v_is. let same : w ≡ v = ok_same w v (sym made.world ∙ v_is) in subst (λ (d : CampaignValue). MayLeaveCampaign (state g old) text d (state g new)) (made.campaign ∙ ap (λ u. founded_of u pass) same) (fails.crash clean);
     }
       where
-        -- if two results Ok are equal, so are the worlds in them
+        -- for `failed`: if the results Ok of reading two worlds are equal, so are the worlds
         ok_same : (a b : WorldValue) → ◌≡◌ {A = Result WorldValue WorldFault} (Ok a) (Ok b) → a ≡ b
         ok_same a b e = cc
 

@@ -21,8 +21,8 @@ use Rattle.atl_service.specs.Step.{step}
 use Rattle.atl_service.specs.Service.{ServiceValue, text_in}
 use Rattle.atl_service.specs.Runs.{Runs, RunsAt, RunsOpen, Accepts, Closes, RunsAll, Follows, FollowsAt, AreClosed, Headline, Interrupted, HeadlineAt}
 
--- if a fault left the tables as it may (`LeavesAfterFault`) by the count `many` of earlier disk failures, it did so by
--- each lower count `few`
+-- what a fault may leave in the tables (`LeavesAfterFault`) if the disk had failed `many` times before, it may leave
+-- also if it had failed `few` times, which is no more
 stops_from : (few many : ℕ) (s : State) (text : List ℕ) (before after : CampaignValue) → few ≤ many → LeavesAfterFault many s text before after → LeavesAfterFault few s text before after
 stops_from few many s text before after h stops = record {
   still = stops.still;
@@ -30,7 +30,7 @@ stops_from few many s text before after h stops = record {
   crash = stops.crash;
 }
   where
-    -- more disk failures than `many` are more than `few`
+    -- for `stops_from`: more disk failures than `many` are more than `few`, which is at most `many`
     lower : (few many now : ℕ) → few ≤ many → MoreFaults many now → MoreFaults few now
     lower few many now h more = omega (arith, h, more)
 
@@ -129,12 +129,14 @@ module _ {S : Type 0} (g : Ghosts S) where
     later = later_on (state g old.conn) (state g mid.conn) (state g new.conn) later rest.later;
   }
 
-  -- for no commands, no answers and an unchanged service are right (`FollowsAt`)
+  -- to an empty list of commands, no answers and an unchanged service are allowed (`FollowsAt`), if the tables of a
+  -- service with a campaign hold it
   none_left : (now : ServiceValue S) (o : Option CampaignValue) → now.campaign ≡ o → IfSome o (λ c. HoldsCampaign g now.conn (text_in g now.conn) c) → FollowsAt g now [] [] now o
   none_left now (Some c) is holds = ((is, holds), refl)
   none_left now None is holds = (tt, refl)
 
-  -- for no commands, no answers and an unchanged service are what `run_all` promises (`RunsAll`)
+  -- to an empty list of commands, no answers and an unchanged service are what `run_all` promises (`RunsAll`), if the
+  -- tables of a service with a campaign hold it
   pub run_none : (now : ServiceValue S) → IfSome now.campaign (λ c. HoldsCampaign g now.conn (text_in g now.conn) c) → RunsAll g now [] [] now
   run_none now holds = record { follows = none_left now now.campaign refl holds; later = record { clean = λ h. h; counts = omega arith; shield = λ s. s } }
 

@@ -85,7 +85,7 @@ get_posted mail (Mail faction pass text ∷ more) n =
     get_posted (insert mail faction text) more n
     ∙ ap (λ o. last_text n o more) (get-insert nat_cmp_total mail faction text n ∙ ap (λ b. cond b (Some text) (get mail n)) (swapped n faction))
   where
-    -- comparing two numbers by `nat_cmp` for equality gives what `==` gives with the two exchanged
+    -- for `get_posted`: two faction numbers a and b are equal by `nat_cmp` exactly if b and a are by `==`
     swapped : (a b : ℕ) → eq_by_cmp nat_cmp a b ≡ (b == a)
     swapped a b = sym (unsigned_ties a b) ∙ grind (arith, nat_tests)
 get_posted mail (Close _ _ _ ∷ more) n = get_posted mail more n
@@ -98,7 +98,8 @@ last_or n before other [] = refl
 last_or n before other (Join _ _ _ ∷ more) = last_or n before other more
 last_or n before other (Mail faction pass text ∷ more) = ap (λ o. last_text n o more) (inside (faction == n)) ∙ last_or n (cond (faction == n) (Some text) before) other more
   where
-    -- putting a text in place of the earlier mail and falling back to `other` may be done in either order
+    -- for `last_or`: putting a text in place of the earlier mail (where `b` is true), and falling back to `other`, may
+    -- be done in either order
     inside : (b : Bool) → cond b (Some text) (option_or before other) ≡ option_or (cond b (Some text) before) other
     inside true = refl
     inside false = refl

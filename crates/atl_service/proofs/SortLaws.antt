@@ -27,7 +27,7 @@ by_faction false o listed rest e h = refl
 same_list : (sorted : FinMap nat_cmp (List Event)) (q r : ℕ) → (r == q) ≡ true → events_of sorted r ≡ events_of sorted q
 same_list sorted q r h = ap (events_of sorted) (equal q r h)
   where
-    -- two numbers that the test `==` finds equal are equal
+    -- for `same_list`: two faction numbers that the test `==` finds equal are equal
     equal : (q r : ℕ) → (r == q) ≡ true → r ≡ q
     equal q r h = grind (arith, nat_tests)
 
@@ -59,13 +59,14 @@ pub own_again : (n : ℕ) (events : List Event) → own_events n (own_events n e
 own_again n [] = refl
 own_again n (e ∷ es) = by_test (e.faction == n) refl (own_again n es)
   where
-    -- choosing again changes nothing in a list with event `e` in front, whether `e` is the faction's own or not, if it
-    -- changes nothing in the rest
+    -- for `own_again`: choosing again changes nothing in e ∷ es, whether event e is the faction's own (`b`) or not,
+    -- if it changes nothing in es
     by_test : (b : Bool) → (e.faction == n) ≡ b → own_events n (own_events n es) ≡ own_events n es → own_events n (cond b (e ∷ own_events n es) (own_events n es)) ≡ cond b (e ∷ own_events n es) (own_events n es)
     by_test true is rest = ap (λ t. cond t (e ∷ own_events n (own_events n es)) (own_events n (own_events n es))) is ∙ ap (λ (more : List Event). e ∷ more) rest
     by_test false is rest = rest
 
--- a campaign with a report made from a faction's own events is that with a report made from all events
+-- where a call answers Ok and stores faction n's report made from its own events, campaign d is c with the report made
+-- from all events
 pub stored_own : {A E : Type 0} (w : WorldValue) (c d : CampaignValue) (n : ℕ) (faults lines : List FaultyLine) (events own : List Event) (r : Result A E)
     → lines ≡ faults → own ≡ own_events n events → OnOk r (d ≡ reported_with w c n lines own) → OnOk r (d ≡ reported_with w c n faults events)
 stored_own w c d n faults lines events own (Err e) wrong mine is = tt

@@ -42,7 +42,8 @@ pub record Founds {S : Type 0} (g : Ghosts S) (old : Held S) (text pass : List �
 abbrev pub IsWorldText : List ℕ → Type 0
 IsWorldText text = (w : WorldValue) × (world_of text ≡ Ok w)
 
--- Founding may fail with this cause: the cause of the first check that fails, Store if no check fails, or Memory.
+-- Founding by a world text and a pass text may fail with this cause: that of the first check that fails, Store if none
+-- fails, or Memory.
 -- `is_there` says whether a table `campaign` exists. Causes of opening and upgrading never apply.
 abbrev pub MayBeCause : List ℕ → List ℕ → Bool → Cause → Type 0
 MayBeCause text pass is_there (BadWorld fault) = world_of text ≡ Err fault
@@ -74,8 +75,8 @@ pub record FailsToFound {S : Type 0} (g : Ghosts S) (old : Held S) (text pass : 
 abbrev pub RefusesToWrite : {S : Type 0} → Ghosts S → Statements → Held S → Held S → Type 0
 RefusesToWrite g own old new = ((¬ IsReadyToCreate (state g old)) × (new ≡ old)) ⊎ (IsReadyToCreate (state g old) × GivesOtherError g own old new)
 
--- What a refused founding leaves, by its cause: nothing is changed after a failed check; Store and Memory leave what
--- `FailsToFound` says.
+-- What a refused founding by a world text and a pass text leaves, by its cause: nothing is changed after a failed
+-- check; Store and Memory leave what `FailsToFound` says.
 abbrev pub LeavesByCause : {S : Type 0} → Ghosts S → Held S → List ℕ → List ℕ → Held S → Cause → Type 0
 LeavesByCause g old text pass new (BadWorld fault) = new ≡ old
 LeavesByCause g old text pass new BadPassText = new ≡ old

@@ -48,7 +48,7 @@ of_loading load.Memory = Memory
 -- Opening was refused for a fault of loading: if the disk is clean, loading gives this fault, and the tables are
 -- unchanged.
 pub record RefusesOpening {S : Type 0} (g : Ghosts S) (old : Held S) (why : Cause) (new : Held S) : Type 0 where
-  -- the fault of loading
+  -- the fault with which loading the campaign failed
   pub fault : StoreFault
   -- the cause of the refusal is that of the fault of loading, of the same name
   pub why_is : why ≡ of_loading fault

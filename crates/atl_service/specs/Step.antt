@@ -63,8 +63,8 @@ abbrev pub report_answer : CampaignValue → ℕ → Result Faction Refusal → 
 report_answer c faction (Err refusal) = (c, Refused refusal)
 report_answer c faction (Ok f) = (c, Text (unwrap_or (get c.reports faction) []))
 
--- The campaign and answer for closing a month: closed if pass text, month and number of dice words are right, else the
--- first refusal.
+-- The campaign and answer for closing a month with a pass text and words of the dice: closed if pass text, month and
+-- number of words are right, else the first refusal.
 abbrev pub closed_by : WorldValue → CampaignValue → ℕ → List ℕ → List ℕ → CampaignValue × Answer
 closed_by w c month pass words =
     if not (pointwise nat_eq c.pass pass) then (c, Refused why.WrongPass)

@@ -41,7 +41,7 @@ of_upgrading upgrade.Memory = Memory
 -- An upgrade was refused with the store's fault. If the disk is clean, the tables are as before while the connection is
 -- open; a crash leaves them as before, or upgraded.
 pub record RefusesUpgrade {S : Type 0} (g : Ghosts S) (old : Held S) (text : List ℕ) (why : Cause) (new : Held S) : Type 0 where
-  -- the fault of the store's upgrade
+  -- the fault with which the store refused to upgrade the file
   pub fault : UpgradeFault
   -- the cause of the refusal is that of the store's fault, of the same name
   pub why_is : why ≡ of_upgrading fault

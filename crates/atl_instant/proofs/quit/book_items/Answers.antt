@@ -11,7 +11,8 @@ use Rattle.atl_instant.proofs.quit.book_items.Goals as goal
 pub book_loss-requires-clause-room : goal.book_loss-requires-clause-room
 book_loss-requires-clause-room c = next_room c.args.items.now c.loop-item.item-index c.loop-item.campaign.value c.loop-item-test.true c.loop-item.invariant.room
 
--- the invariant of the loop over the items holds after one more item is booked
+-- after one more item is booked as lost, booking the items left still gives what booking all gives, and the books have
+-- room for them
 pub loop-item-preserved : goal.loop-item-preserved
 loop-item-preserved c =
     let w = c.args.world.now in

@@ -14,11 +14,11 @@ use Rattle.atl_phase.proofs.holdings.set_people.Goals as goal
 abbrev set_all : List (ℕ × ℕ) → Unit → Unit
 set_all list u = record u { holding = record u.holding { days = with_days u.holding.days list } }
 
--- the invariant of the loop over skills holds before the first one
+-- before the first skill the loop's invariant holds: all days are still to be set, and all that changed is marked
 pub loop-skill-init : goal.loop-skill-init
 loop-skill-init c = record { value = refl; marks = marks-refl c.set_men.new.self; goods = refl; items = refl }
 
--- the invariant of the loop over skills holds after one more skill is set
+-- after one more skill is set, setting the days left still makes what setting all makes, and all that changed is marked
 pub loop-skill-preserved : goal.loop-skill-preserved
 loop-skill-preserved c =
     let list = c.args.days.now in

@@ -7,11 +7,12 @@ use Rattle.atl_phase.proofs.OrderIndexLaws.{Added, added, counts_by, ended, pass
 use Rattle.atl_phase.proofs.order_indices.add_standing.Goals as goal
 use Rattle.atl_phase.proofs.order_indices.add_standing.Goals.{then-stands+in_ok-push, else-stands}
 
--- the invariant of the loop over a mailing's orders holds before the first one
+-- before the first order of the mailing the list has the old indices alone (`Added`)
 pub loop-place-init : goal.loop-place-init
 loop-place-init c = record { there = λ all. all; tasks = refl }
 
--- the invariant of the loop over a mailing's orders holds after one more order, whether it counts or not
+-- after one more order of the mailing, whether it counts or not, the list has the old indices and those of the orders
+-- so far that count (`Added`)
 pub loop-place-preserved : goal.loop-place-preserved
 loop-place-preserved c =
     let aliases = c.args.aliases.now in

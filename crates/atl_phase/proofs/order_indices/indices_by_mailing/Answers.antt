@@ -3,7 +3,7 @@ use Rattle.atl_phase.specs.OrderIndices.{AreAt, all_tasks}
 use Rattle.atl_phase.proofs.OrderIndexLaws.{next_mailing}
 use Rattle.atl_phase.proofs.order_indices.indices_by_mailing.Goals as goal
 
--- the invariant of the loop over mailings holds after one more mailing
+-- after one more mailing the list names the orders that count of the mailings so far
 pub loop-at-preserved : goal.loop-at-preserved
 loop-at-preserved c =
     let added = c.in_ok-add_standing.ensures in record {

@@ -14,7 +14,7 @@ use Rattle.atl_phase.proofs.MeaningLaws.{room_less}
 use Rattle.atl_phase.proofs.OrderEffectLaws.{leaves_well, order_well, orders_fit, orders_spare, room_left, well_same, well_twice}
 use Rattle.atl_phase.proofs.order_phase.carry_out_orders.Goals as goal
 
--- the invariant of the loop over orders holds before the first one
+-- before the first order the loop's invariant holds: all orders are still to come, and nothing has changed
 pub loop-order-init : goal.loop-order-init
 loop-order-init g c =
     let P = g.P.OrderPhase in
@@ -43,7 +43,8 @@ carry_one-requires-clause-fit g c =
     (ap (map task_of) c.deref-order-items.ensures.value ∙ c.in_ok-orders.ensures) (orders_fit w m.aliases m.readings c.requires.read g.P.PhaseVerbs.is_of)
     c.loop-order.order-index o c.loop-order-test.true)
 
--- the invariant of the loop over orders holds after one more order
+-- after one more order the loop's invariant still holds: the orders left make what all make, and the steps so far kept
+-- the phase's condition, month, balance and remaining bound (`StepsWell`)
 pub loop-order-preserved : goal.loop-order-preserved
 loop-order-preserved g c =
     let P = g.P.OrderPhase in

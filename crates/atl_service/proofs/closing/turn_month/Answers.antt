@@ -23,7 +23,7 @@ returns-clause-there c =
     rw (done, c.in_ok-factions.ensures)
     (active_there c.args.campaign.now.value after (rw (← c.replace-before.ensures.value) c.in_ok-after.ensures.factions))
 
--- no mark is lost and all that changed is marked (`MarksChanges`)
+-- turning the month loses no mark of the campaign, and marks all that it changes (`MarksChanges`)
 pub returns-clause-marks : goal.returns-clause-marks
 returns-clause-marks c =
     rw (← c.replace-before.ensures.value)

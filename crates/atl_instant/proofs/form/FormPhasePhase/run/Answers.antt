@@ -14,7 +14,7 @@ use Rattle.atl_orders.specs.declared.verb.Verb.TheVariants.{Form}
 use Rattle.atl_instant.specs.Forming.{form_apart}
 use Rattle.atl_instant.specs.declared.form.Forming.{Forming}
 
--- the invariant of the loop over the copied orders holds before the first one
+-- before the first copied order the loop's invariant holds: all orders are still to come, and nothing has changed
 pub loop-order-init : goal.loop-order-init
 loop-order-init c = record {
   orders = refl;
@@ -28,7 +28,8 @@ loop-order-init c = record {
 pub form_one-requires : goal.form_one-requires
 form_one-requires c = record { free = free_number c.args._world.now c.loop-order.campaign.value c.loop-order.invariant.well.holds_still }
 
--- the invariant of the loop over the copied orders holds after one more order
+-- after one more copied order the loop's invariant still holds: the orders left give what all give, the campaign is
+-- early and in balance, and each unit that was there is unchanged
 pub loop-order-preserved : goal.loop-order-preserved
 loop-order-preserved c =
     let w = c.args._world.now in

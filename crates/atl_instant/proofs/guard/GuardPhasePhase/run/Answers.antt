@@ -19,7 +19,7 @@ use Rattle.atl_instant.proofs.GuardingLaws.{guard_orderly}
 use Rattle.atl_instant.proofs.RegionGuardLaws.{holders_are}
 use Rattle.atl_instant.proofs.guard.GuardPhasePhase.run.Goals as goal
 
--- the invariant of the loop over the orders of GUARD holds before the first one
+-- before the first order of GUARD the loop's invariant holds: nothing has changed, and the map has those who guard
 pub loop-order-init : goal.loop-order-init
 loop-order-init c = record {
   orders = ap (λ es. fold (λ p o. one_order guard_step c.args._world.now p (task_of o)) (c.args.campaign.value, with_events c.args.month es) c.deref-order-items.result.now) c.new-events.ensures.items;
@@ -28,7 +28,8 @@ loop-order-init c = record {
   marks = marks-refl c.args.campaign;
 }
 
--- the invariant of the loop over the orders of GUARD holds after one more order
+-- after one more order of GUARD the loop's invariant still holds: the orders left give what all give, the campaign is
+-- steady and in balance, and the map has the factions that guard
 pub loop-order-preserved : goal.loop-order-preserved
 loop-order-preserved c =
     let w = c.args._world.now in

@@ -2,7 +2,8 @@ use Rattle.std.proofs.Common.{◌+◌, ◌++◌, ◌∷◌, [], cond, ap, ◌∙
 use Rattle.atl_service.proofs.ListLaws.{one_more, all_done, headline}
 use Rattle.atl_service.proofs.service.Service.run_all.Goals as goal
 
--- after one more command is run, the answers so far and those that the rest may get are still right for the whole list
+-- after one more command is run, the answers so far, with those that the rest may get, are answers that the whole list
+-- may get (`RunsAll`)
 pub loop-command-preserved : goal.loop-command-preserved
 loop-command-preserved g c =
     let fits = c.push.ensures.succeeds (omega (arith, c.loop-command.invariant.count, c.loop-command.invariant.room)) in
