@@ -10,24 +10,26 @@ use Rattle.std.proofs.lemmas.List.Sums.{sum_by-cons}
 use Rattle.std.proofs.lemmas.Option.{none-some}
 use Rattle.atl_world.specs.Sums.{sum_over, numbers_where}
 
--- addition is commutative
+-- addition is commutative: for `put_new`
 swapped : (a b : ℕ) → a + b ≡ b + a
 swapped a b = omega arith
 
--- if b is c + d, then a + b is (a + c) + d
+-- if b is c + d, then a + b is (a + c) + d: for `put_new`, where the new entry is put behind one that counts a
 later : (a b c d : ℕ) → b ≡ c + d → a + b ≡ (a + c) + d
 later a b c d h = omega arith
 
--- (a + c) + b is (b + c) + a
+-- (a + c) + b is (b + c) + a: for `put_either`, where a and b are what f gives for the two values
 exchanged : (a b c : ℕ) → (a + c) + b ≡ (b + c) + a
 exchanged a b c = omega arith
 
--- two equal sums stay equal if e is added to the first addend of each
+-- two equal sums stay equal if e is added to the first addend of each: for `put_either`, with an entry in front that
+-- counts e
 under : (e a b c d : ℕ) → a + b ≡ c + d → (e + a) + b ≡ (e + c) + d
 under e a b c d h = omega arith
 
 module _ {X : Type 0} where
-  -- a choice by b in the second branch of a choice by the same b may be replaced by its own second branch
+  -- a choice by b between x, and what the same b chooses of y and z, is that between x and z: for `put_over`, what the
+  -- map has under a number, with and without its value removed first
   twice : (b : Bool) (x y z : Option X) → cond b x z ≡ cond b x (cond b y z)
   twice true x y z = refl
   twice false x y z = refl
