@@ -62,11 +62,11 @@ read_so_far between after seen new count h (piece, is, few, more, same) = inr (s
 
 -- ---- the number of missing bytes
 
--- if a progress that is right for some bytes is `Lacks count`, then `Lacks count` is right for equal bytes
+-- if the progress on some bytes (`ComesTo`) is `Lacks count`, so is that on equal bytes
 pub lacks : (seen items : List ℕ) (told : Progress) (count : ℕ) → seen ≡ items → told ≡ Lacks count → ComesTo seen told → ComesTo items (Lacks count)
 lacks seen items told count e f h = subst (λ l. ComesTo l (Lacks count)) e (subst (ComesTo seen) f h)
 
--- received bytes whose right progress is `Lacks` have the verdict More
+-- received bytes of which `count` or more are missing still (the progress `Lacks`) have the verdict More
 pub no_outcome : (items : List ℕ) (count : ℕ) → ComesTo items (Lacks count) → Judges items More
 no_outcome items count (some, short) = subst (λ l. Judges l More) (append-nil items) (short [] some)
 

@@ -37,7 +37,7 @@ long_stays : (input more : List ℕ) → IsTooLong input → IsTooLong (input ++
 long_stays input more (long, none) =
     ((let k = length-append input more in omega (arith, long, k)), subst HasNoRequest (sym (take-append-le most_head input more long)) none)
 
--- a final verdict stays right when more bytes follow
+-- a final verdict on an input is the verdict on the input with more bytes behind it, too
 pub judged_still : (input more : List ℕ) (v : Verdict) → Judges input v → IsFinal v → Judges (input ++ more) v
 judged_still input more v (whole head rest h e) final =
     whole head (rest ++ more) (head_stays input more head rest h) (e ∙ sym (ended_still (head_checks head.minor head.method head.target (fields_of head)) rest more (subst IsFinal e final)))

@@ -114,8 +114,8 @@ WriteFaultOf writes ReadFault = ⊥
 WriteFaultOf writes WriteFault = (writes.last ≡ written.Failed) ⊎ (writes.interrupted ≡ most_interrupted)
 WriteFaultOf writes Memory = ⊥
 
--- The writes agree with the result of writing a reply: fewer than `most_interrupted` were interrupted, or they explain
--- the fault.
+-- How the writes of a reply ended, by the result of writing it: with Ok fewer than `most_interrupted` were interrupted,
+-- and a fault is WriteFault, which the writes explain (`WriteFaultOf`).
 abbrev pub EndsWriting : Writes → Result (Unit {0}) HttpFault → Type 0
 EndsWriting writes (Ok done) = writes.interrupted < most_interrupted
 EndsWriting writes (Err fault) = (writes.interrupted ≤ most_interrupted) × WriteFaultOf writes fault

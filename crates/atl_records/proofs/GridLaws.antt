@@ -20,7 +20,7 @@ use Rattle.atl_records.proofs.EveryEntryLaws.{entry_in_place, entry_small}
 
 -- ---- accounts among those of the first things
 
--- "a or b" is true if its second part is true
+-- "x or y" is true if y is: for `any_later` and `any_under`, where y says whether a later element passes
 or_later : (x y : Bool) → y ≡ true → (x || y) ≡ true
 or_later true y h = refl
 or_later false y h = h
@@ -37,7 +37,8 @@ module _ {A : Type 0} (p : A → Bool) where
   any_later [] ys h = h
   any_later (x ∷ xs) ys h = or_later (p x) (list_any p (xs ++ ys)) (any_later xs ys h)
 
-  -- if some element of entry e's list passes a test, and e is in es, some element of the lists of es together does
+  -- if e is among the entries es, and some element of the list f e passes a test, so does some element of the lists
+  -- that f gives for es, joined
   any_flat : (f : Entry → List A) (e : Entry) (es : List Entry) → list_any (λ d. entry_index d == entry_index e) es ≡ true → list_any p (f e) ≡ true → list_any p (flat_map f es) ≡ true
   any_flat f e [] h its = absurd (false≢true h)
   any_flat f e (d ∷ es) h its =
@@ -70,7 +71,7 @@ any_accounts things e t h = any_flat (eq_by_cmp account_cmp (e, t)) (accounts_un
 -- ---- the books that rows stand for
 
 -- `filled` books list each account (entry and thing) of a list with the amount that is given, if it isn't 0, and all
--- other accounts as before
+-- other accounts as `books` do
 get-filled : (amount : Account → ℤ) (chosen : List Account) (books : BooksValue) (a : Account) → get (filled amount chosen books).amounts a ≡ cond (list_any (eq_by_cmp account_cmp a) chosen) (listed (amount a)) (get books.amounts a)
 get-filled amount [] books a = refl
 get-filled amount (c ∷ others) books a =

@@ -65,7 +65,7 @@ skill_text w e =
 abbrev pub skill_texts : WorldValue → List SkillView → List ℕ
 skill_texts w = each_text (skill_text w)
 
--- the items and the skills of an own unit; empty for another faction's unit
+-- the texts of the items and the skills of an own unit, one after another; empty for another faction's unit
 abbrev pub goods_text : WorldValue → Side → List ℕ
 goods_text w (Own money items skills) = item_texts w items ▸ skill_texts w skills
 goods_text w (Other faction name) = []

@@ -50,12 +50,12 @@ some : (n : ℕ) (t : set.FinSet nat_cmp) (k : ℕ) → set.len t ≡ n → set.
 some zero t k e h = absurd (false≢true (sym (set.contains-empty nat_cmp k) ∙ ap (λ u. set.contains u k) (sym (set.empty_of_len t e)) ∙ h))
 some (suc n) t k e h = omega arith
 
--- a law of truth values: if "not a, and b" holds, a is false
+-- if "not a, and b" holds, a is false: a number of a set from which k was taken out (b) is not k (a)
 pub without_first : (a b : Bool) → (not a && b) ≡ true → a ≡ false
 without_first true b h = absurd (false≢true h)
 without_first false b h = refl
 
--- a law of truth values: if "a or b" holds, and a is false, b is true
+-- if "a or b" holds, and a is false, b is true: a number of k ∷ ks that isn't k (a) is in ks (b)
 pub rest_holds : (a b : Bool) → a ≡ false → (a || b) ≡ true → b ≡ true
 rest_holds true b e h = absurd (false≢true (sym e))
 rest_holds false b e h = h
@@ -93,12 +93,13 @@ fewer (k ∷ ks) s t all h =
 pub len-within : (s t : set.FinSet nat_cmp) → ((q : ℕ) → set.contains s q ≡ true → set.contains t q ≡ true) → set.len s ≤ set.len t
 len-within s t h = fewer (set.items s) s t (λ q e. sym (set.contains-items s q) ∙ e) h
 
--- a law of truth values: "b or false" is b
+-- "b or false" is b: no number is in the empty set or the empty list
 pub nothing_more : (b : Bool) → (b || false) ≡ b
 nothing_more true = refl
 nothing_more false = refl
 
--- a law of truth values: the first two of three may be swapped in "or"
+-- the first two of three may be swapped in "or": whether a number is in a set (a), is the one put in (b), or is in
+-- another set (c)
 pub swapped : (a b c : Bool) → (a || (b || c)) ≡ (b || (a || c))
 swapped true true c = refl
 swapped true false c = refl
@@ -114,7 +115,7 @@ union-insert s t k = same _ _ (λ q.
     set.contains-union nat_cmp_total s (set.insert t k) q ∙ ap (λ b. set.contains s q || b) (set.contains-insert nat_cmp_total t k q) ∙ swapped (set.contains s q) (eq_by_cmp nat_cmp q k) (set.contains t q)
     ∙ sym (set.contains-insert nat_cmp_total (set.union s t) k q ∙ ap (λ b. eq_by_cmp nat_cmp q k || b) (set.contains-union nat_cmp_total s t q)))
 
--- a law of truth values: "or" is associative
+-- "or" is associative: whether a number is the one put in (a), is in a set (b), or is in another set (c)
 pub joined : (a b c : Bool) → ((a || b) || c) ≡ (a || (b || c))
 joined true b c = refl
 joined false b c = refl
@@ -141,7 +142,7 @@ len-union s (k ∷ ks) =
     let l = at_most (set.contains (set.union s (set.from_list ks)) k) (set.len (set.union s (set.from_list ks))) in
     omega (arith, rest, e, l)
 
--- a law of truth values: if a is true, so is "a or b"
+-- if a is true, so is "a or b": a number of a set (a) is in its union with another set (b)
 pub first : (a b : Bool) → a ≡ true → (a || b) ≡ true
 first true b h = refl
 first false b h = absurd (false≢true h)

@@ -21,8 +21,8 @@ either : (a b : Bool) → b ≡ true → (a || b) ≡ true
 either true b h = refl
 either false b h = h
 
--- P holds of the test whether q is n, if P holds of true where q is n, and if P holds of false: for laws of a set or
--- map into which n is put, asked about q
+-- P holds of the test whether q is n, if P holds of true where q is n, and if P holds of false: for laws of a set or a
+-- map that is changed at n, asked about q
 at : (n q : ℕ) (P : Bool → Type 0) → (q ≡ n → P true) → P false → P (eq_by_cmp nat_cmp q n)
 at n q P here other = elim (eq_by_cmp nat_cmp q n) as (λ b. eq_by_cmp nat_cmp q n ≡ b → P b) [ true ↦ λ e. here (same_key q n e) | false ↦ λ _. other ] refl
 
