@@ -97,7 +97,7 @@ taken_whole key b p e h =
 abbrev IsAt : ℕ → Option ℕ → Type 0
 IsAt key found = (found ≡ Some key) ⊎ (found ≡ None)
 
--- if two lookups find the key or nothing, so does the first with the second as its fallback
+-- if two lookups, a and b, find the key or nothing, so does a with b as its fallback (`or_else`)
 or_either : (key : ℕ) (a b : Option ℕ) → IsAt key a → IsAt key b → IsAt key (or_else a b)
 or_either key a b (inl e) h = inl (ap (λ x. or_else x b) e)
 or_either key a b (inr e) h = subst (λ x. IsAt key (or_else x b)) (sym e) h

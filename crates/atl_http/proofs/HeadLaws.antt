@@ -58,7 +58,7 @@ whole_head input headers spans head lies at room =
 pub head_stays : (input more : List ℕ) (head : RequestHead) (rest : List ℕ) → HasHead input head rest → HasHead (input ++ more) head (rest ++ more)
 head_stays input more head rest h = record { reads = ReadsRequest-append input head rest more h.reads; bytes = h.bytes; fields = h.fields }
 
--- the verdict by the checks of the parsed spans is the verdict on the head that they describe
+-- the verdict by the checks of the spans into which a head was parsed is the verdict on this head (`verdict_of`)
 verdict_is : (input : List ℕ) (headers : List HeaderSpan) (spans : RequestSpans) (head : RequestHead) (rest : List ℕ) → IsRequestAt (take most_head input) headers spans head → verdict_with_body (head_checks spans.version (span_bytes (take most_head input) spans.method) (span_bytes (take most_head input) spans.path) (seen (take most_head input) (take spans.headers headers))) rest ≡ verdict_of head rest
 verdict_is input headers spans head rest at = rw (at.version, at.method, at.path, at.fields) refl
 
@@ -92,11 +92,12 @@ short_front input h none goes_on =
 
 -- ---- from the parser's result to the progress
 
--- The input has a whole head with `rest` after it, and these are the results of its checks.
+-- The input has a whole head with `rest` after it, and these results of checks lead to the verdict on this head.
 abbrev Finds : (input rest : List ℕ) → Result (Route × ℕ × List ℕ) Problem → Type 0
 Finds input rest checks = (head : RequestHead) × HasHead input head rest × ((behind : List ℕ) → verdict_with_body checks behind ≡ verdict_of head behind)
 
--- the input has the head that was parsed whole, with the results of the checks of its spans (`Finds`)
+-- if the first 8,192 bytes were parsed as a whole head, the input has this head, and the checks of its spans lead to
+-- the verdict on the head (`Finds`)
 pub finds_head : (input front method target rest : List ℕ) (headers fields : List HeaderSpan) (spans : RequestSpans) → front ≡ take most_head input → IsRequestWithin front headers spans × IsRequestOf front headers spans → length headers ≡ most_fields → method ≡ span_bytes front spans.method → target ≡ span_bytes front spans.path → fields ≡ take spans.headers headers → rest ≡ drop spans.len input → Finds input rest (head_checks spans.version method target (seen front fields))
 finds_head input front method target rest headers fields spans e (lies, (head, at)) room method_is target_is fields_are rest_is =
     let at_front : IsRequestAt (take most_head input) headers spans head = subst (λ l. IsRequestAt l headers spans head) e at in

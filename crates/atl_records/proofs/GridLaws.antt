@@ -153,11 +153,11 @@ as_books-replicate things =
 -- ---- another amount in a cell
 
 module _ (rows : List (List ℤ)) (grid : IsGrid rows) (e : Entry) (t : Thing) (z : ℤ) (there : thing_index t < length rows) where
-  -- the thing's row with z in the entry's column
+  -- the row of thing t with z as the amount in the column of entry e
   abbrev new : List ℤ
   new = set (row_of rows t) (entry_index e) z
 
-  -- the thing's row has an amount for each entry
+  -- the row of thing t has an amount for each entry
   wide : length (row_of rows t) ≡ entry_count
   wide = grid.wide (thing_index t) [] there
 
@@ -174,7 +174,7 @@ module _ (rows : List (List ℤ)) (grid : IsGrid rows) (e : Entry) (t : Thing) (
             ];
       }
 
-  -- once z is written into a cell, this cell is z, and the other cells are as before
+  -- once z is written into the cell of entry e and thing t, this cell is z, and each other cell is what it was
   cell-with_cell : (a : Account) → cell (with_cell rows e t z) a ≡ cond (eq_by_cmp account_cmp a (e, t)) z (cell rows a)
   cell-with_cell a =
       let choice = λ (b : Bool). cond b z (cell rows a) in

@@ -27,7 +27,8 @@ unreached_level_is_above_0 (suc n) men days h = omega arith
 
 -- ---- sums
 
--- to add the next term x of a sum to the terms added so far leaves these and the terms left together the whole sum
+-- if the terms added so far (`sum`) and those left (`whole`: x and then `rest`) are `all` together, so are `sum` with x
+-- added, and `rest`
 pub added : (sum x rest whole all : ℕ) → whole ≡ x + rest → sum + whole ≡ all → (sum + x) + rest ≡ all
 added sum x rest whole all h e = omega (arith, h, e)
 
