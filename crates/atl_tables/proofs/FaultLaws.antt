@@ -7,8 +7,8 @@ use Rattle.atl_tables.specs.declared.fault.WorldFault.TheVariants.{Memory}
 use Rattle.atl_tables.specs.Faults.{Conditions, fault_of, first_fault, unless, Reads}
 use Rattle.atl_tables.specs.Results.{Stops, Gives}
 
--- if the definition gives r, and a call returns an error instead of r's value (`Reads`), the error is the first fault
--- of any conditions that begin with r's fault, or Memory (`Stops`)
+-- if a call returned the error e where the definition gives r (`Reads`), e is Memory, or the first fault of any
+-- conditions that begin with r's fault (`Stops`)
 pub stops_first : {X Y : Type 0} (view : X → Y) (e : WorldFault) (r : Result Y WorldFault) (fs : Conditions) → Reads view (Err e) r → Stops e (first_fault (fault_of r ∷ fs))
 stops_first view Memory r fs h = tt
 stops_first view e r fs h = rw h refl
@@ -40,8 +40,8 @@ stops_after e fs gs h s = subst (Stops e) (sym (passes fs gs h)) s
 pub passes_both : (fs gs : Conditions) → first_fault fs ≡ None → first_fault gs ≡ None → first_fault (fs ++ gs) ≡ None
 passes_both fs gs h s = passes fs gs h ∙ s
 
--- if the first of two lists of conditions has no fault, a call that gives v or the first fault of the second list, or
--- Memory (`Gives`), gives v or the first fault of both joined
+-- if the first of two lists has no fault, a call that gives v, or the second list's first fault if it has one, or
+-- Memory (`Gives`), does so by the joined list, too
 pub gives_after : {X Y : Type 0} (view : X → Y) (r : Result X WorldFault) (fs gs : Conditions) (v : Y) → first_fault fs ≡ None → Gives view r (first_fault gs) v → Gives view r (first_fault (fs ++ gs)) v
 gives_after view (Ok x) fs gs v h g = (passes fs gs h ∙ g.0, g.1)
 gives_after view (Err e) fs gs v h g = stops_after e fs gs h g
@@ -58,13 +58,13 @@ pub stops_here : (e : WorldFault) (fault : Option WorldFault) (fs : Conditions) 
 stops_here Memory fault fs h = tt
 stops_here e fault fs h = rw h refl
 
--- a call that gives v or the fault of one condition, or Memory (`Gives`), gives v or the first fault of the list that
--- has this condition alone
+-- a call that gives v, or the fault of one condition if this is broken, or Memory (`Gives`), does so by the list of
+-- this condition alone, too
 pub gives_last : {X Y : Type 0} (view : X → Y) (r : Result X WorldFault) (fault : Option WorldFault) (v : Y) → Gives view r fault v → Gives view r (first_fault (fault ∷ [])) v
 gives_last view r None v h = h
 gives_last view r (Some f) v h = h
 
 -- if `?` returns the error of a call, and that error is the first fault of the conditions, or Memory (`Stops`), the
--- function gives v or this fault, as it has to (`Gives`)
+-- function returns what `Gives` demands
 pub exits : {X Y : Type 0} (view : X → Y) (r : Result X WorldFault) (e : WorldFault) (fault : Option WorldFault) (v : Y) → IsErrAnd r (λ f. f ≡ e) → Stops e fault → Gives view r fault v
 exits view r e fault v h s = let p = err_from_is_err_and r h in rw (p.1, p.2) s

@@ -60,7 +60,8 @@ pub rest_holds : (a b : Bool) → a ≡ false → (a || b) ≡ true → b ≡ tr
 rest_holds true b e h = absurd (false≢true (sym e))
 rest_holds false b e h = h
 
--- "not a, and b" holds, if a is false and b true: for `fewer`, where a says that a number is k, and b that t has it
+-- "not a, and b" holds, if a is false and b true: for `fewer`, where a says whether a number is k, and b whether t has
+-- it
 both_hold : (a b : Bool) → a ≡ false → b ≡ true → (not a && b) ≡ true
 both_hold true b e h = absurd (false≢true (sym e))
 both_hold false b e h = h

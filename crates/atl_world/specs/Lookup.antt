@@ -9,8 +9,8 @@ use Rattle.atl_world.specs.Worlds.{WorldValue}
 abbrev pub letter_of : Bool → ℕ → ℕ
 letter_of quoted b = if quoted then b else if b == underscore then space else b
 
--- the name that a word means: its bytes, in a word without quotes (the flag `quoted` is false) with a space for each
--- `_`
+-- the name that a word means: its bytes, with a space for each `_` in a word without quotes (the flag `quoted` is
+-- false)
 abbrev pub name_of : List ℕ → Bool → List ℕ
 name_of word quoted = map (letter_of quoted) word
 
