@@ -17,8 +17,8 @@ use Rattle.atl_http.proofs.HeadLaws.{head_stays, refused_stays}
 
 -- ---- more bytes
 
--- A final verdict on a head with its body stays the same when more bytes follow, whether the body is whole or, which
--- can't be, short.
+-- A final verdict on a head with its body stays the same when more bytes follow. A body that is short has the verdict
+-- More, which isn't final, so the body is whole.
 ended_at : (short : Bool) (route : Route) (size : ℕ) (pass rest more : List ℕ) → nat_lt (length rest) size ≡ short → IsFinal (cond short More (verdict_on_request (request_of route pass (take size rest)))) → cond (nat_lt (length (rest ++ more)) size) More (verdict_on_request (request_of route pass (take size (rest ++ more)))) ≡ cond short More (verdict_on_request (request_of route pass (take size rest)))
 ended_at true route size pass rest more e final = absurd final
 ended_at false route size pass rest more e final =

@@ -223,7 +223,7 @@ booked-as_books rows t grid there =
 pub grid_there : (rows : List (List ℤ)) (books : BooksValue) (t : Thing) → as_books rows ≡ books → thing_index t < books.things → thing_index t < length rows
 grid_there rows books t is there = let size = ap (λ (b : BooksValue). b.things) (sym is) ∙ things-as_books rows in omega (arith, size, there)
 
--- a row that is read at the index of a thing is the thing's row
+-- the row that is read at the index of a thing is the thing's row (`row_of`)
 row_read : (rows : List (List ℤ)) (t : Thing) (place : ℕ) (row : List ℤ) → row ≡ get_or rows place row → place ≡ thing_index t → thing_index t < length rows → row ≡ row_of rows t
 row_read rows t place row is at there = is ∙ ap (λ k. get_or rows k row) at ∙ get_or_default rows (thing_index t) row [] there
 

@@ -103,7 +103,8 @@ abbrev number_alone : {V : Type 0} → ℕ × V → ℕ × Prim.Unit {0}
 number_alone e = (e.0, tt)
 
 module _ {V : Type 0} where
-  -- looking up a number in the entries without values finds it just where it had a value
+  -- to look up a number among entries with their values replaced by `tt` gives `tt` exactly where it gives a value
+  -- among the entries themselves
   find-alone : (q : ℕ) (es : List (ℕ × V)) → find nat_cmp q (map number_alone es) ≡ option_map forget_value (find nat_cmp q es)
   find-alone q [] = refl
   find-alone q (e ∷ es) = elim (is_eq (nat_cmp q e.0)) as (λ b. cond b (Some tt) (find nat_cmp q (map number_alone es)) ≡ option_map forget_value (cond b (Some e.1) (find nat_cmp q es))) [
@@ -111,12 +112,12 @@ module _ {V : Type 0} where
     | false ↦ find-alone q es
   ]
 
-  -- whether a number is below all entries does not depend on values
+  -- a number is below all entries with their values replaced by `tt` exactly if it is below all entries themselves
   below-alone : (k : ℕ) (es : List (ℕ × V)) → below_all nat_cmp k (map number_alone es) ≡ below_all nat_cmp k es
   below-alone k [] = refl
   below-alone k (e ∷ es) = ap (λ b. is_lt (nat_cmp k e.0) && b) (below-alone k es)
 
-  -- whether entries are sorted does not depend on values
+  -- entries with their values replaced by `tt` are sorted exactly if the entries themselves are
   sorted-alone : (es : List (ℕ × V)) → is_sorted nat_cmp (map number_alone es) ≡ is_sorted nat_cmp es
   sorted-alone [] = refl
   sorted-alone (e ∷ es) = ap (λ b. b && is_sorted nat_cmp (map number_alone es)) (below-alone e.0 es) ∙ ap (λ b. below_all nat_cmp e.0 es && b) (sorted-alone es)

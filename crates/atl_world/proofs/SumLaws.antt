@@ -153,7 +153,8 @@ module _ {X : Type 0} where
   pub put_same : (m : FinMap nat_cmp X) (k : ℕ) (u v : X) → get m k ≡ Some u → v ≡ u → insert m k v ≡ m
   put_same m k u v h e = ap (insert m k) e ∙ put_over m k u ∙ sym (put_back m k u h)
 
-  -- if on an error a value is replaced by an equal one, then on an error the map is as it was
+  -- if v equals u, the value under k, wherever the result r is an error, then putting in v leaves the map as it was
+  -- wherever r is an error
   pub put_same_err : {A E : Type 0} (r : Result A E) (m : FinMap nat_cmp X) (k : ℕ) (u v : X) → get m k ≡ Some u → OnErr r (v ≡ u) → OnErr r (insert m k v ≡ m)
   put_same_err (Ok a) m k u v h e = tt
   put_same_err (Err x) m k u v h e = put_same m k u v h e
