@@ -65,7 +65,7 @@ abbrev pub west_at : Key (Option ℕ)
 west_at = optional_number_at 1 last_region (codes "west")
 
 -- the conditions on the keys `north`, `south`, `east` and `west` of the table `[[region]]` at a path: each that is
--- there is the number of a region
+-- there is a number from 1 to last_region
 unfoldable pub side_keys : List ℕ → Members → Conditions
 side_keys at t =
     fault_of (north_at at t)
