@@ -53,7 +53,8 @@ impl Subcommands for () {
 /// A list of a first subcommand and others: adds its parser before theirs, and runs it if it has
 /// the name.
 impl<First: Subcommand, Rest: Subcommands> Subcommands for (First, Rest) {
-    /// Adds the parser of the first subcommand, and then those of the others.
+    /// Adds the parser of the first subcommand to that of the command line, and then those of the
+    /// others.
     fn add_to<'a>(alloc: Global, line: Command<'a>) -> Result<Command<'a>, AllocError> {
         let first = command_of::<First>(alloc)?;
         Rest::add_to(alloc, line.subcommand(first)?)

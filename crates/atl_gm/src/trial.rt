@@ -54,8 +54,8 @@ fn first_report(
     }
 }
 
-/// Founds a campaign in memory by the world text, joins a faction, and returns the answer to its
-/// Report.
+/// Founds a campaign in memory by the world text, has a faction join, and returns the answer to the
+/// command for its report, or to a join that failed.
 fn answer(alloc: Global, world_text: &str) -> Result<Answer, Failure> {
     let join = join(alloc)?;
     let report = report(alloc)?;

@@ -97,7 +97,7 @@ taken_whole key b p e h =
 abbrev IsAt : ℕ → Option ℕ → Type 0
 IsAt key found = (found ≡ Some key) ⊎ (found ≡ None)
 
--- if two lookups find the key or nothing, so does the first with the second as its fallback
+-- if two lookups, a and b, find the key or nothing, so does a with b as its fallback (`or_else`)
 or_either : (key : ℕ) (a b : Option ℕ) → IsAt key a → IsAt key b → IsAt key (or_else a b)
 or_either key a b (inl e) h = inl (ap (λ x. or_else x b) e)
 or_either key a b (inr e) h = subst (λ x. IsAt key (or_else x b)) (sym e) h
@@ -113,7 +113,8 @@ unfolding seek
 end_alone key [] = inl refl
 end_alone key (b ∷ p) = inr (end_none key b p)
 
--- a row whose text is matched to its end, kept or dropped by a test, finds its key or nothing
+-- a row whose text is matched to its end, if a test t keeps it, or else no row, finds its key or nothing: for
+-- `one_or_none`
 stepped : (key b : ℕ) (p : List ℕ) (t : Bool) → IsAt key (seek 0 (cond t (([], key) ∷ []) []) p)
 stepped key b p true = end_alone key p
 stepped key b p false = inr (seek-empty 0 p)
@@ -130,13 +131,14 @@ one_or_none key b p =
     or_either key (seek 0 (cond (param_token == b) (([], key) ∷ []) []) p) (or_else (after_param (([], key) ∷ []) (b ∷ p)) None) (stepped key b p (param_token == b))
     (or_either key (after_param (([], key) ∷ []) (b ∷ p)) None (after_by key b p (has_slash (b ∷ p)) refl) (inr refl))
 
--- a choice between a number and None, by three tests of which the last is false, is None
+-- a choice between a number and None, by three tests of which the last is false, is None: for `number_by`, of a text
+-- that isn't all digits
 number_none : (x y : Bool) (n : Option ℕ) → cond (x && (y && false)) n None ≡ None
 number_none true true n = refl
 number_none true false n = refl
 number_none false y n = refl
 
--- a byte that passes a test for ASCII is below 128
+-- a byte is below 128 if it passes a test that only such bytes pass (t is the result): for `all_utf8`
 small_by : (test : ℕ → Bool) (b : ℕ) (t : Bool) → test b ≡ t → (test b ≡ true → b < 128) → (t ≡ false → ⊥) → b < 128
 small_by test b true e small h = small e
 small_by test b false e small h = absurd (h refl)
@@ -161,12 +163,13 @@ ascii_utf8 p h = all_utf8 (λ b. ltb b 128) (λ b e. grind (arith, nat_tests)) p
 abbrev pub NumberSays : ℕ → List ℕ → Type 0
 NumberSays key rest = ((first (number_row key) rest ≡ Some key) × ((number_of rest ≡ None) ⊎ IsUtf8 rest)) ⊎ ((first (number_row key) rest ≡ None) × (number_of rest ≡ None))
 
--- the lookup of a text that is no number agrees with `number_of` (`NumberSays`) if it finds the key or nothing
+-- a text that is no number is as `NumberSays` has it, whether its lookup finds the key or nothing
 found_or_none : (key : ℕ) (rest : List ℕ) → number_of rest ≡ None → IsAt key (first (number_row key) rest) → NumberSays key rest
 found_or_none key rest none (inl e) = inl (e, inl none)
 found_or_none key rest none (inr e) = inr (e, none)
 
--- the lookup of a text that isn't empty agrees with `number_of` (`NumberSays`), whether all bytes are digits or not
+-- a text that isn't empty finds its key, and is UTF-8 or no number; or it finds nothing, and is no number
+-- (`NumberSays`), whether all its bytes are digits (t) or not
 number_by : (key b : ℕ) (p : List ℕ) (t : Bool) → list_all is_ascii_digit (b ∷ p) ≡ t → NumberSays key (b ∷ p)
 unfolding number_of
 number_by key b p true e = inl (taken_whole key b p (first_digit b p (is_ascii_digit b) refl e) (no_slash (b ∷ p) e), inr (digits_utf8 (b ∷ p) e))
@@ -174,7 +177,7 @@ number_by key b p false e =
     let none : number_of (b ∷ p) ≡ None = rw e (number_none (nat_lt 0 (length (b ∷ p))) (nat_le (length (b ∷ p)) 9) (Some (digits_value 10 (b ∷ p)))) in
     found_or_none key (b ∷ p) none (one_or_none key b p)
 
--- the lookup of every text after a prefix agrees with `number_of` (`NumberSays`)
+-- a text after a prefix finds its key, and is UTF-8 or no number; or it finds nothing, and is no number (`NumberSays`)
 pub number_says : (key : ℕ) (rest : List ℕ) → NumberSays key rest
 unfolding seek number_of
 number_says key [] = inr (refl, refl)

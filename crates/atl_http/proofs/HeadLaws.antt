@@ -58,7 +58,7 @@ whole_head input headers spans head lies at room =
 pub head_stays : (input more : List ℕ) (head : RequestHead) (rest : List ℕ) → HasHead input head rest → HasHead (input ++ more) head (rest ++ more)
 head_stays input more head rest h = record { reads = ReadsRequest-append input head rest more h.reads; bytes = h.bytes; fields = h.fields }
 
--- the verdict by the checks of the parsed spans is the verdict on the head that they describe
+-- the verdict by the checks of the spans into which a head was parsed is the verdict on this head (`verdict_of`)
 verdict_is : (input : List ℕ) (headers : List HeaderSpan) (spans : RequestSpans) (head : RequestHead) (rest : List ℕ) → IsRequestAt (take most_head input) headers spans head → verdict_with_body (head_checks spans.version (span_bytes (take most_head input) spans.method) (span_bytes (take most_head input) spans.path) (seen (take most_head input) (take spans.headers headers))) rest ≡ verdict_of head rest
 verdict_is input headers spans head rest at = rw (at.version, at.method, at.path, at.fields) refl
 
@@ -92,11 +92,12 @@ short_front input h none goes_on =
 
 -- ---- from the parser's result to the progress
 
--- The input has a whole head with `rest` after it, and these are the results of its checks.
+-- The input has a whole head with `rest` after it, and these results of checks lead to the verdict on this head.
 abbrev Finds : (input rest : List ℕ) → Result (Route × ℕ × List ℕ) Problem → Type 0
 Finds input rest checks = (head : RequestHead) × HasHead input head rest × ((behind : List ℕ) → verdict_with_body checks behind ≡ verdict_of head behind)
 
--- the input has the head that was parsed whole, with the results of the checks of its spans (`Finds`)
+-- if the first 8,192 bytes were parsed as a whole head, the input has this head, and the checks of its spans lead to
+-- the verdict on the head (`Finds`)
 pub finds_head : (input front method target rest : List ℕ) (headers fields : List HeaderSpan) (spans : RequestSpans) → front ≡ take most_head input → IsRequestWithin front headers spans × IsRequestOf front headers spans → length headers ≡ most_fields → method ≡ span_bytes front spans.method → target ≡ span_bytes front spans.path → fields ≡ take spans.headers headers → rest ≡ drop spans.len input → Finds input rest (head_checks spans.version method target (seen front fields))
 finds_head input front method target rest headers fields spans e (lies, (head, at)) room method_is target_is fields_are rest_is =
     let at_front : IsRequestAt (take most_head input) headers spans head = subst (λ l. IsRequestAt l headers spans head) e at in
@@ -108,7 +109,8 @@ finds_head input front method target rest headers fields spans e (lies, (head, a
     ∙ ap (λ l. head_checks spans.version (span_bytes l spans.method) (span_bytes l spans.path) (seen l (take spans.headers headers))) e in
     (head, subst (λ l. HasHead input head l) (sym rest_is) (whole_head input headers spans head lies_front at_front room), λ behind. ap (λ c. verdict_with_body c behind) checked ∙ verdict_is input headers spans head behind at_front)
 
--- the progress on an input with a whole head is right (`ComesTo`) if it is right for the head's checks (`EndsAs`)
+-- if an input has a whole head, a progress that is the verdict by the head's checks, or a count of missing bytes
+-- (`EndsAs`), is that on the input, too (`ComesTo`)
 pub comes_whole : (input rest : List ℕ) (checks : Result (Route × ℕ × List ℕ) Problem) (told : Progress) → Finds input rest checks → EndsAs checks rest told → ComesTo input told
 comes_whole input rest checks (Ends outcome) (head, has, same) e = whole head rest has (e ∙ same rest)
 comes_whole input rest checks (Lacks count) (head, has, same) (some, short) = (some, λ more few. whole head (rest ++ more) (head_stays input more head rest has) (sym (short more few) ∙ same (rest ++ more)))
@@ -121,7 +123,7 @@ judges_refused input front e h = refused (front_refused input (subst IsRefused e
 judges_more : (input front : List ℕ) → front ≡ take most_head input → length input < most_head → HasNoRequest front × MayBecomeRequest front → Judges input More
 judges_more input front e h (none, goes_on) = unfinished (short_front input h (subst HasNoRequest e none) (subst MayBecomeRequest e goes_on)) refl
 
--- with fewer than one byte more the verdict stays More
+-- if an input has the verdict More, it still has it with fewer than one byte more, which is none: so it lacks one byte
 short_by_one : (input : List ℕ) → Judges input More → (more : List ℕ) → length more < 1 → Judges (input ++ more) More
 short_by_one input h [] few = subst (λ l. Judges l More) (sym (append-nil input)) h
 short_by_one input h (x ∷ more) few = absurd (omega (arith, few))
@@ -135,7 +137,7 @@ pub if_ok : {T E : Type 0} {P Q : T → Type 0} (r : Result T E) → ((x : T) �
 if_ok (Ok x) f h = f x h
 if_ok (Err e) f h = tt
 
--- if a progress is right (`ComesTo`), its verdict is right (`Judges`)
+-- if a progress is that on an input (`ComesTo`), the verdict of the progress is the verdict on the input (`Judges`)
 pub judges_by : (input : List ℕ) (told : Progress) → ComesTo input told → Judges input (verdict_by told)
 judges_by input (Ends outcome) h = h
 judges_by input (Lacks count) (some, short) = subst (λ l. Judges l More) (append-nil input) (short [] some)

@@ -12,28 +12,32 @@ use Rattle.atl_http.specs.declared.request.Progress.TheVariants.{Lacks}
 use Rattle.atl_http.specs.Io.{ReadsMore, Receives}
 use Rattle.std.proofs.Math.Seq.{take-add, take-length}
 
--- if some bytes were read and then a piece, the bytes followed by the piece were read
+-- if the bytes `seen` were read from `before` to `between`, and `piece` from there to `after`, then `seen ++ piece` was
+-- read from `before` to `after` (`Consumes`)
 pub consumes_more : (before between after : Option (List ℕ)) (seen piece : List ℕ) → Consumes before between seen → Consumes between after piece → Consumes before after (seen ++ piece)
 consumes_more None between after seen piece h k = tt
 consumes_more (Some xs) None after seen piece h k = absurd h
 consumes_more (Some xs) (Some ys) None seen piece h k = absurd k
 consumes_more (Some xs) (Some ys) (Some zs) seen piece h k = h ∙ ap (λ l. seen ++ l) k ∙ sym (append_assoc seen piece zs)
 
--- if some bytes were read and then nothing, those bytes were read
+-- if the bytes `seen` were read from `before` to `between`, and none from there to `after`, then `seen` was read from
+-- `before` to `after` (`Consumes`)
 pub consumes_kept : (before between after : Option (List ℕ)) (seen : List ℕ) → Consumes before between seen → Keeps between after → Consumes before after seen
 consumes_kept None between after seen h k = tt
 consumes_kept (Some xs) None after seen h k = absurd h
 consumes_kept (Some xs) (Some ys) None seen h k = absurd k
 consumes_kept (Some xs) (Some ys) (Some zs) seen h k = h ∙ ap (λ l. seen ++ l) (sym k)
 
--- if some bytes were written and then a piece, the bytes followed by the piece were written
+-- if the bytes `sent` were written from `before` to `between`, and `piece` from there to `after`, then `sent ++ piece`
+-- was written from `before` to `after` (`Appends`)
 pub appends_more : (before between after : Option (List ℕ)) (sent piece : List ℕ) → Appends before between sent → Appends between after piece → Appends before after (sent ++ piece)
 appends_more None between after sent piece h k = tt
 appends_more (Some xs) None after sent piece h k = absurd h
 appends_more (Some xs) (Some ys) None sent piece h k = absurd k
 appends_more (Some xs) (Some ys) (Some zs) sent piece h k = k ∙ ap (λ l. l ++ piece) h ∙ append_assoc xs sent piece
 
--- if the first `sent` bytes were written and then the next `count`, the first `sent + count` were written
+-- if the first `sent` bytes were written from `before` to `between`, and the next `count` from there to `after`, the
+-- first `sent + count` were written from `before` to `after` (`Appends`)
 pub appends_next : (before between after : Option (List ℕ)) (bytes : List ℕ) (sent count : ℕ) → Appends before between (take sent bytes) → Appends between after (take count (drop sent bytes)) → Appends before after (take (sent + count) bytes)
 appends_next before between after bytes sent count h k =
     let P : List ℕ → Type 0 = λ l. Appends before after l in
@@ -51,7 +55,8 @@ stopped before between after seen new ReadFault h judged (kept, same) =
 stopped before between after seen new WriteFault h judged none = absurd none
 stopped before between after seen new Memory h judged done = tt
 
--- if the bytes collected were exactly those read, they are so still after one more read without a fault
+-- if the bytes collected (`seen`) were those read so far, then after one more read without a fault the bytes collected
+-- (`new`) are again those read
 pub went_on : (before between after : Option (List ℕ)) (seen new : List ℕ) (count : ℕ) → Consumes before between seen → ReadsMore between after seen new (Ok count) → Consumes before after new
 went_on before between after seen new count h (piece, is, few, more, same) = subst (λ l. Consumes before after l) (sym same) (consumes_more before between after seen piece h more)
 
@@ -62,11 +67,11 @@ read_so_far between after seen new count h (piece, is, few, more, same) = inr (s
 
 -- ---- the number of missing bytes
 
--- if a progress that is right for some bytes is `Lacks count`, then `Lacks count` is right for equal bytes
+-- if the progress on some bytes (`ComesTo`) is `Lacks count`, so is that on equal bytes
 pub lacks : (seen items : List ℕ) (told : Progress) (count : ℕ) → seen ≡ items → told ≡ Lacks count → ComesTo seen told → ComesTo items (Lacks count)
 lacks seen items told count e f h = subst (λ l. ComesTo l (Lacks count)) e (subst (ComesTo seen) f h)
 
--- received bytes whose right progress is `Lacks` have the verdict More
+-- received bytes with the progress `Lacks`, of which some are missing still, have the verdict More
 pub no_outcome : (items : List ℕ) (count : ℕ) → ComesTo items (Lacks count) → Judges items More
 no_outcome items count (some, short) = subst (λ l. Judges l More) (append-nil items) (short [] some)
 
@@ -76,6 +81,7 @@ short_by_less between after seen new lacking count (some, short) (piece, is, few
     let together : length (piece ++ more) < lacking = (let k = length-append piece more in omega (arith, k, is, fewer)) in
     subst (λ l. Judges l More) (sym (append_assoc seen piece more) ∙ ap (λ l. l ++ more) (sym same)) (short (piece ++ more) together)
 
--- if some bytes lack `count` bytes, equal bytes lack as many
+-- if the request isn't whole with fewer than `count` bytes added to some bytes (`IsShortBy`), it isn't with fewer added
+-- to equal bytes
 pub short_still : (seen items : List ℕ) (count : ℕ) → seen ≡ items → IsShortBy items count → IsShortBy seen count
 short_still seen items count e short = subst (λ l. IsShortBy l count) (sym e) short

@@ -9,7 +9,7 @@ use Rattle.atl_http.specs.Checks.{json_of}
 pub json_read : (body : List ℕ) → IsUtf8 body → json_of body ≡ read body
 json_read body h = ap (λ t. cond t (read body) None) (is_utf8-from_IsUtf8 body h)
 
--- a choice by the test for UTF-8 is None for a body that is not UTF-8
+-- what is read of a body if t says that it is UTF-8, else None, is None for a body that isn't UTF-8
 no_text : (t : Bool) (body : List ℕ) → is_utf8 body ≡ t → (IsUtf8 body → ⊥) → cond t (read body) None ≡ None
 no_text true body e h = absurd (h (IsUtf8-from_is_utf8 body e))
 no_text false body e h = refl

@@ -20,7 +20,8 @@ one_more g dice count old between new after e (served, few, turn) h = (suc serve
 pub connection_aborted : {S : Type 0} (g : Ghosts S) (dice : Dice) (count : ℕ) (old between after : ServiceValue S) → after ≡ between → HasServed g dice count old between → HasServed g dice (count + 1) old after
 connection_aborted g dice count old between after e (served, few, turn) = (served, omega (arith, few), subst (λ s. ServesInTurn g dice served old s) (sym e) turn)
 
--- if serving ends with a fault before `count` connections, `serve_each` may return that fault (`ServesEach`)
+-- if at most `done` requests were served, fewer than `count`, and the next one ends with a fault, `serve_each` for
+-- `count` connections may return this fault (`ServesEach`)
 pub ended : {S : Type 0} (g : Ghosts S) (dice : Dice) (done count : ℕ) (old between new : ServiceValue S) (fault : ListenFault) → done < count → HasServed g dice done old between → ServesConnection g dice between (Err fault) new → ServesEach g dice count old (Err fault) new
 ended g dice done count old between new Net more h none = absurd none
 ended g dice done count old between new Memory more (served, few, turn) h = (served, omega (arith, few, more), between, turn, h)

@@ -17,8 +17,8 @@ use Rattle.atl_http.proofs.HeadLaws.{head_stays, refused_stays}
 
 -- ---- more bytes
 
--- A final verdict on a head with its body stays the same when more bytes follow, whether the body is whole or, which
--- can't be, short.
+-- A final verdict on a head with its body stays the same when more bytes follow. A body that is short has the verdict
+-- More, which isn't final, so the body is whole.
 ended_at : (short : Bool) (route : Route) (size : ℕ) (pass rest more : List ℕ) → nat_lt (length rest) size ≡ short → IsFinal (cond short More (verdict_on_request (request_of route pass (take size rest)))) → cond (nat_lt (length (rest ++ more)) size) More (verdict_on_request (request_of route pass (take size (rest ++ more)))) ≡ cond short More (verdict_on_request (request_of route pass (take size rest)))
 ended_at true route size pass rest more e final = absurd final
 ended_at false route size pass rest more e final =
@@ -37,7 +37,7 @@ long_stays : (input more : List ℕ) → IsTooLong input → IsTooLong (input ++
 long_stays input more (long, none) =
     ((let k = length-append input more in omega (arith, long, k)), subst HasNoRequest (sym (take-append-le most_head input more long)) none)
 
--- a final verdict stays right when more bytes follow
+-- a final verdict on an input is the verdict on the input with more bytes behind it, too
 pub judged_still : (input more : List ℕ) (v : Verdict) → Judges input v → IsFinal v → Judges (input ++ more) v
 judged_still input more v (whole head rest h e) final =
     whole head (rest ++ more) (head_stays input more head rest h) (e ∙ sym (ended_still (head_checks head.minor head.method head.target (fields_of head)) rest more (subst IsFinal e final)))

@@ -110,7 +110,7 @@ record Fronted (key : ℕ) (front : List ℕ) : Type 0 where
   cut : (rest : List ℕ) → IsUtf8 (front ++ rest) → IsUtf8 rest
   -- the path is UTF-8, if what follows the prefix is
   joins : (rest : List ℕ) → IsUtf8 rest → IsUtf8 (front ++ rest)
-  -- if what follows the prefix is no number, it gives no route
+  -- if what follows the prefix is no number, the route of this key is None for it (`route_in`)
   without : (rest : List ℕ) → number_of rest ≡ None → route_in (kept_at key).value (Some rest) ≡ None
 
 -- if the rest after a UTF-8 prefix that ends in an ASCII byte is the parameter, the rest is UTF-8 where prefix and rest
@@ -143,7 +143,8 @@ abbrev in_found : ℕ → Option (List ℕ) → Option Route
 in_found key None = None
 in_found key (Some rest) = route_in (kept_at key).value (Some rest)
 
--- for a path with the prefix of a route with a number, router and `route_of` agree: this route, or none (`Leads`)
+-- for a path with the prefix of a route with a number, the router finds the route that `route_of` gives: this one, or
+-- none (`Leads`)
 leads_number : (key : ℕ) (front path rest : List ℕ) → path ≡ front ++ rest → Fronted key front → first rows path ≡ first (number_row key) rest → route_of path ≡ route_in (kept_at key).value (Some rest) → NumberSays key rest → Leads path
 leads_number key front path rest p f a b (inl (e, inl none)) =
     to_number key rest (a ∙ e) (subst (λ l. Takes key l rest) (sym p) (f.takes_rest rest)) (λ u. f.cut rest (subst IsUtf8 p u)) (inl (b ∙ f.without rest none)) b
@@ -151,8 +152,8 @@ leads_number key front path rest p f a b (inl (e, inr text)) =
     to_number key rest (a ∙ e) (subst (λ l. Takes key l rest) (sym p) (f.takes_rest rest)) (λ u. f.cut rest (subst IsUtf8 p u)) (inr (subst IsUtf8 (sym p) (f.joins rest text))) b
 leads_number key front path rest p f a b (inr (e, none)) = nowhere (a ∙ e) (b ∙ f.without rest none)
 
--- for a path that begins with `/` and the first letter of a route with a number, router and `route_of` agree, whether
--- the path has the route's prefix or not (`Leads`)
+-- for a path that begins with `/` and the first letter of a route with a number, the router finds the route that
+-- `route_of` gives, whether the path has the route's prefix or not (`Leads`)
 leads_by : (key c : ℕ) (w q : List ℕ) (found : Option (List ℕ)) → after_prefix w q ≡ found → Fronted key (47 ∷ c ∷ w) → first rows (47 ∷ c ∷ q) ≡ option_and_then (λ rest. first (number_row key) rest) found → route_of (47 ∷ c ∷ q) ≡ in_found key found → Leads (47 ∷ c ∷ q)
 leads_by key c w q None h f a b = nowhere a b
 leads_by key c w q (Some rest) h f a b = leads_number key (47 ∷ c ∷ w) (47 ∷ c ∷ q) rest (ap (λ l. 47 ∷ c ∷ l) (after_prefix_is w q rest h)) f a b (number_says key rest)
@@ -176,21 +177,21 @@ letter_step c q = simp (param_step-empty (c ∷ q), seek-empty ((param_step {K =
 letter_first : (c : ℕ) (q : List ℕ) → first rows (47 ∷ c ∷ q) ≡ seek 0 (step c after_slash) q
 letter_first c q = slash_first (47 ∷ c ∷ q) ∙ letter_step c q
 
--- for each path that begins with `/c`, router and `route_of` agree: the route Close, or none (`Leads`)
+-- for each path that begins with `/c`, the router finds the route that `route_of` gives: Close, or none (`Leads`)
 leads_close : (q : List ℕ) → Leads (47 ∷ 99 ∷ q)
 unfolding route_of
 leads_close q =
     let same : (x : Option (List ℕ)) → numbered route.Close x None ≡ in_found 0 x = λ x. elim x as (λ x. numbered route.Close x None ≡ in_found 0 x) [ None ↦ refl | Some r ↦ refl ] in
     leads_by 0 99 (codes "lose/") q (after_prefix (codes "lose/") q) refl fronted_close (letter_first 99 q ∙ lookup_after_prefix (codes "lose/") (number_row 0) q (is_text (codes "lose/") refl)) (same (after_prefix (codes "lose/") q))
 
--- for each path that begins with `/o`, router and `route_of` agree: the route Orders, or none (`Leads`)
+-- for each path that begins with `/o`, the router finds the route that `route_of` gives: Orders, or none (`Leads`)
 leads_orders : (q : List ℕ) → Leads (47 ∷ 111 ∷ q)
 unfolding route_of
 leads_orders q =
     let same : (x : Option (List ℕ)) → numbered route.Orders x None ≡ in_found 2 x = λ x. elim x as (λ x. numbered route.Orders x None ≡ in_found 2 x) [ None ↦ refl | Some r ↦ refl ] in
     leads_by 2 111 (codes "rders/") q (after_prefix (codes "rders/") q) refl fronted_orders (letter_first 111 q ∙ lookup_after_prefix (codes "rders/") (number_row 2) q (is_text (codes "rders/") refl)) (same (after_prefix (codes "rders/") q))
 
--- for each path that begins with `/r`, router and `route_of` agree: the route Report, or none (`Leads`)
+-- for each path that begins with `/r`, the router finds the route that `route_of` gives: Report, or none (`Leads`)
 leads_report : (q : List ℕ) → Leads (47 ∷ 114 ∷ q)
 unfolding route_of
 leads_report q =
@@ -212,13 +213,14 @@ at_join : Leads (codes "/join")
 unfolding seek route_of
 at_join = to_join refl (ascii_utf8 (codes "/join") refl) refl
 
--- for each path that begins with `/j`, router and `route_of` agree, whether the path is `/join` or not (`Leads`)
+-- for each path that begins with `/j`, the router finds the route that `route_of` gives, whether the path is `/join` or
+-- not (`Leads`)
 join_by : (q : List ℕ) (t : Bool) → bytes_eq q (codes "oin") ≡ t → Leads (47 ∷ 106 ∷ q)
 unfolding route_of
 join_by q true e = subst Leads (ap (λ l. 47 ∷ 106 ∷ l) (sym ((bytes_eq-Decides q (codes "oin")).0 e))) at_join
 join_by q false e = nowhere (letter_first 106 q ∙ lookup_after_prefix (codes "oin") join_row q (is_text (codes "oin") refl) ∙ join_none q (after_prefix (codes "oin") q) refl (λ k. let yes = (bytes_eq-Decides q (codes "oin")).1 k in cc)) (rw e refl)
 
--- for each path that begins with `/j`, router and `route_of` agree: the route Join, or none (`Leads`)
+-- for each path that begins with `/j`, the router finds the route that `route_of` gives: Join, or none (`Leads`)
 leads_join : (q : List ℕ) → Leads (47 ∷ 106 ∷ q)
 leads_join q = join_by q (bytes_eq q (codes "oin")) refl
 
@@ -232,30 +234,32 @@ leads_other c q one two three four =
     let first_four : (114 == c) ≡ false = grind (arith, nat_tests) in
     nowhere (letter_first c q ∙ rw (first_one, first_two, first_three, first_four) (seek-empty 0 q)) (rw (one, two, three, four) refl)
 
--- for each path without `c`, `j` or `o` after the slash, router and `route_of` agree, whether that byte is `r` or not
--- (`Leads`)
+-- for each path without `c`, `j` or `o` after the slash, the router finds the route that `route_of` gives, whether that
+-- byte is `r` or not (`Leads`)
 letter_report : (c : ℕ) (q : List ℕ) → (c == 99) ≡ false → (c == 106) ≡ false → (c == 111) ≡ false → (t : Bool) → (c == 114) ≡ t → Leads (47 ∷ c ∷ q)
 letter_report c q one two three true e =
     let same : 114 ≡ c = grind (arith, nat_tests) in
     subst (λ x. Leads (47 ∷ x ∷ q)) same (leads_report q)
 letter_report c q one two three false e = leads_other c q one two three e
 
--- for each path without `c` or `j` after the slash, router and `route_of` agree, whether that byte is `o` or not
--- (`Leads`)
+-- for each path without `c` or `j` after the slash, the router finds the route that `route_of` gives, whether that byte
+-- is `o` or not (`Leads`)
 letter_orders : (c : ℕ) (q : List ℕ) → (c == 99) ≡ false → (c == 106) ≡ false → (t : Bool) → (c == 111) ≡ t → Leads (47 ∷ c ∷ q)
 letter_orders c q one two true e =
     let same : 111 ≡ c = grind (arith, nat_tests) in
     subst (λ x. Leads (47 ∷ x ∷ q)) same (leads_orders q)
 letter_orders c q one two false e = letter_report c q one two e (c == 114) refl
 
--- for each path without `c` after the slash, router and `route_of` agree, whether that byte is `j` or not (`Leads`)
+-- for each path without `c` after the slash, the router finds the route that `route_of` gives, whether that byte is `j`
+-- or not (`Leads`)
 letter_join : (c : ℕ) (q : List ℕ) → (c == 99) ≡ false → (t : Bool) → (c == 106) ≡ t → Leads (47 ∷ c ∷ q)
 letter_join c q one true e =
     let same : 106 ≡ c = grind (arith, nat_tests) in
     subst (λ x. Leads (47 ∷ x ∷ q)) same (leads_join q)
 letter_join c q one false e = letter_orders c q one e (c == 111) refl
 
--- for each path with a byte after the slash, router and `route_of` agree, whether that byte is `c` or not (`Leads`)
+-- for each path with a byte after the slash, the router finds the route that `route_of` gives, whether that byte is `c`
+-- or not (`Leads`)
 letter_close : (c : ℕ) (q : List ℕ) (t : Bool) → (c == 99) ≡ t → Leads (47 ∷ c ∷ q)
 letter_close c q true e =
     let same : 99 ≡ c = grind (arith, nat_tests) in
@@ -268,7 +272,8 @@ unfolding seek route_of
 leads_slash [] = nowhere (slash_first (47 ∷ [])) refl
 leads_slash (c ∷ q) = letter_close c q (c == 99) refl
 
--- for each path that is not empty, router and `route_of` agree, whether it begins with a slash or not (`Leads`)
+-- for each path that is not empty, the router finds the route that `route_of` gives, whether the path begins with a
+-- slash or not (`Leads`)
 leads_begin : (a : ℕ) (q : List ℕ) (t : Bool) → (a == 47) ≡ t → Leads (a ∷ q)
 unfolding route_of
 leads_begin a q true e =
@@ -288,7 +293,7 @@ leads (a ∷ q) = leads_begin a q (a == 47) refl
 kept_first : (path : List ℕ) (found : Option ℕ) → first rows path ≡ found → first kept path ≡ map_key kept_at found
 kept_first path found e = first-rename kept_at rows path ∙ ap (map_key kept_at) e
 
--- if the router finds nothing for a path, and agrees with `route_of` on it (`Leads`), the path has no route
+-- if the router finds nothing for a path, and what it finds is what `route_of` gives (`Leads`), the path has no route
 missing_by : (path : List ℕ) → first kept path ≡ None → Leads path → route_of path ≡ None
 missing_by path h (to_join e text is) = (let some = kept_first path (Some 1) e in cc)
 missing_by path h (to_number key rest e taken cut text is) = (let some = kept_first path (Some key) e in cc)
@@ -302,8 +307,8 @@ missing path h = missing_by path h (leads path)
 abbrev Says : (path : List ℕ) → RouteOf RouteKey → Type 0
 Says path e = AllText (walk e.pattern e.text path e.names 0 0) × (route_of path ≡ route_in e.value (named (codes "number") (walk e.pattern e.text path e.names 0 0)))
 
--- if router and `route_of` agree on a UTF-8 path (`Leads`), the route found has UTF-8 parameters and is that of
--- `route_of` (`Says`)
+-- if the router finds for a UTF-8 path what `route_of` gives (`Leads`), the route found has UTF-8 parameters and is
+-- that of `route_of` (`Says`)
 route_by : (path : List ℕ) (e : RouteOf RouteKey) → IsUtf8 path → first kept path ≡ Some e → Leads path → Says path e
 route_by path e text h (to_join at utf8 is) =
     let same : kept_at 1 ≡ e = (let some = kept_first path (Some 1) at in cc) in
@@ -321,7 +326,8 @@ found path e text h = route_by path e text h (leads path)
 abbrev Gets : {A : Type 0} → (A → List ℕ) → Option A → List (List ℕ × List ℕ) → Type 0
 Gets view r taken = AllText taken → MatchOption r (named number_text taken ≡ None) (λ text. named number_text taken ≡ Some (view text))
 
--- if a lookup's result is right for the parameter's text, the text is that result seen through `view`
+-- if the text is None where the result r is None, and `view x` where r is Some x, the text is r mapped by `view`: for
+-- `got`, of the parameter's text
 got_is : {A : Type 0} (view : A → List ℕ) (r : Option A) (text : Option (List ℕ)) → MatchOption r (text ≡ None) (λ x. text ≡ Some (view x)) → text ≡ option_map view r
 got_is view None text h = h
 got_is view (Some x) text h = h
@@ -333,7 +339,7 @@ got view r path given e route same text at gets is =
     let taken : Gets view r (walk e.pattern e.text path e.names 0 0) = subst (λ l. Gets view r (walk e.pattern e.text l e.names 0 0)) same gets in
     is ∙ ap (λ x. route_in e.value x) (sym (got_is view r (named number_text (walk e.pattern e.text path e.names 0 0)) (taken says.0))) ∙ sym says.1
 
--- a path that is not UTF-8, and on which router and `route_of` agree (`Leads`), has no route
+-- a path that is not UTF-8, and for which the router finds what `route_of` gives (`Leads`), has no route
 no_text_by : (path : List ℕ) → (IsUtf8 path → ⊥) → Leads path → route_of path ≡ None
 no_text_by path h (to_join e text is) = absurd (h text)
 no_text_by path h (to_number key rest e taken cut (inl none) is) = none

@@ -67,8 +67,8 @@ ReadFaultOf reads ReadFault = (reads.last ≡ came.Failed) ⊎ (GoesOn reads.las
 ReadFaultOf reads WriteFault = ⊥
 ReadFaultOf reads Memory = GoesOn reads.last
 
--- The reads agree with the result of reading a request: at most `most_reads` were done; with Ok another might follow
--- (`GoesOn`), and a fault is explained (`ReadFaultOf`).
+-- How the reads of a request ended, by the result of reading it: at most `most_reads` were done; with Ok another might
+-- follow (`GoesOn`), and a fault is one that the reads explain (`ReadFaultOf`).
 abbrev pub EndsReading : {X : Type 0} → Reads → Result X HttpFault → Type 0
 EndsReading reads (Ok x) = (reads.count ≤ most_reads) × GoesOn reads.last
 EndsReading reads (Err fault) = (reads.count ≤ most_reads) × ReadFaultOf reads fault
@@ -96,7 +96,7 @@ Takes before after rest written.Failed = Appends before after []
 abbrev pub no_writes : Writes
 no_writes = record { interrupted = 0; last = written.Taken 0 }
 
--- the count of writes after one more with this outcome; only interrupted ones are counted
+-- the counters after one more write with this outcome, which is kept as the last one, and counted if it was interrupted
 abbrev pub with_write : Writes → WriteOutcome → Writes
 with_write old (written.Taken count) = record { interrupted = old.interrupted; last = written.Taken count }
 with_write old written.Interrupted = record { interrupted = old.interrupted + 1; last = written.Interrupted }
@@ -114,15 +114,15 @@ WriteFaultOf writes ReadFault = ⊥
 WriteFaultOf writes WriteFault = (writes.last ≡ written.Failed) ⊎ (writes.interrupted ≡ most_interrupted)
 WriteFaultOf writes Memory = ⊥
 
--- The writes agree with the result of writing a reply: fewer than `most_interrupted` were interrupted, or they explain
--- the fault.
+-- How the writes of a reply ended, by the result of writing it: with Ok fewer than `most_interrupted` were interrupted,
+-- and a fault is WriteFault, which the writes explain (`WriteFaultOf`).
 abbrev pub EndsWriting : Writes → Result (Unit {0}) HttpFault → Type 0
 EndsWriting writes (Ok done) = writes.interrupted < most_interrupted
 EndsWriting writes (Err fault) = (writes.interrupted ≤ most_interrupted) × WriteFaultOf writes fault
 
 -- ---- the whole
 
--- The reads and writes agree with the result of serving a request: the reads explain a missing request, the writes an
+-- How reads and writes ended, by the result of serving a request: the reads explain a missing request, the writes an
 -- unfinished reply. Memory runs out only before the first write, and not after a read that failed or found the end.
 abbrev pub EndsBy : Reads → Writes → Result ℕ HttpFault → Type 0
 EndsBy reads writes (Ok status) = EndsReading reads (Ok status) × EndsWriting writes (Ok tt)

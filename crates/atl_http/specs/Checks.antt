@@ -31,7 +31,7 @@ has_host minor fields = minor == 0 || is_some (only (values_of (codes "Host") fi
 
 -- ---- the second: a route, and its method
 
--- the route, if there is one and this is its method; else NoRoute, or BadMethod
+-- the route (Some) if the request's method is its method; else NoRoute (None), or BadMethod
 abbrev pub with_method : (method : List ℕ) → Option Route → Result Route Problem
 with_method method None = Err NoRoute
 with_method method (Some route) = if bytes_eq method (method_of route) then Ok route else Err (BadMethod route)

@@ -46,13 +46,14 @@ abbrev pub Gives : {X Y : Type 0} → (X → Y) → Result X CheckError → Resu
 Gives view (Ok x) read = read ≡ Ok (view x)
 Gives view (Err e) read = Fails e read
 
--- The progress is right for a head with these checks and the bytes `rest` after it: it has the verdict, or a count of
--- missing bytes. With fewer further bytes than this count the verdict stays More.
+-- By a head's checks and the bytes `rest` after it, the progress is the verdict, or a count of missing bytes: with
+-- fewer further bytes than this count the verdict stays More.
 abbrev pub EndsAs : Result (Route × ℕ × List ℕ) Problem → (rest : List ℕ) → Progress → Type 0
 EndsAs checks rest (Lacks count) = (0 < count) × ((more : List ℕ) → length more < count → verdict_with_body checks (rest ++ more) ≡ More)
 EndsAs checks rest (Ends outcome) = final outcome ≡ verdict_with_body checks rest
 
--- The result of parsing `front` as a head is right: whole with these spans, unfinished, or refused.
+-- What is so of `front` by the result of parsing it as a head: it has a whole head, with its parts at these spans; or
+-- none yet, but may have with further bytes; or it is refused.
 abbrev pub ParsesHead : List ℕ → List HeaderSpan → HeadParse → Type 0
 ParsesHead front fields (Whole spans) = IsRequestWithin front fields spans × IsRequestOf front fields spans
 ParsesHead front fields Partial = HasNoRequest front × MayBecomeRequest front

@@ -17,7 +17,8 @@ use Rattle.atl_http.specs.Serving.{IsReply}
 
 -- ---- reading
 
--- One read added `count` bytes to those read before, or none with Cut or ReadFault. Memory leaves open what was read.
+-- One read added `count` bytes from the reader to those collected before (`old`, then `new`), or none with ReadFault,
+-- or with Cut at the end of the input. Memory leaves open what was read.
 abbrev pub ReadsMore : (before after : Option (List ℕ)) → (old new : List ℕ) → Result ℕ HttpFault → Type 0
 ReadsMore before after old new (Ok count) = (piece : List ℕ) × (length piece ≡ count) × (count ≤ most_at_once) × Consumes before after piece × (new ≡ old ++ piece)
 ReadsMore before after old new (Err Cut) = Keeps before after × IsAtEnd after × (new ≡ old)
@@ -40,7 +41,8 @@ Receives before after seen (Err Memory) = ⊤
 abbrev pub Says : Reply → Message → Type 0
 Says reply message = (message.status ≡ reply.status) × (string_bytes message.bytes ≡ bytes_of reply)
 
--- All bytes were written; or, with WriteFault, only the first `count` of them, which are fewer.
+-- All of `bytes` were added to what the writer held; or, with WriteFault, the one fault that can come, only the first
+-- `count` of them, which are fewer.
 abbrev pub Sends : (before after : Option (List ℕ)) → (bytes : List ℕ) → Result (Unit {0}) HttpFault → Type 0
 Sends before after bytes (Ok done) = Appends before after bytes
 Sends before after bytes (Err Cut) = ⊥

@@ -95,7 +95,7 @@ impl Reads {
         }
     }
 
-    /// How many reads there were.
+    /// How many reads of the request there were.
     pub fn count(self) -> u32
         ensures { result ≡ self.count }
     {
@@ -130,7 +130,7 @@ impl Writes {
         }
     }
 
-    /// How many writes were interrupted.
+    /// How many writes of the reply were interrupted.
     pub fn interrupted(self) -> u32
         ensures { result ≡ self.interrupted }
     {

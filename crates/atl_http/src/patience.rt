@@ -27,7 +27,8 @@ impl<'a, C: Clock> Drop for Patience<'a, C> {
     }
 }
 
-/// Starts with all of the time, gives the limit of each call, and subtracts what it took.
+/// Starts with all of the time, gives the time limit of each read or write, and subtracts what it
+/// took.
 impl<'a, C: Clock> Patience<'a, C> {
     /// The patience with a new connection: all of `WHOLE_SECONDS` is left.
     pub fn new(clock: &'a C) -> Patience<'a, C> {
@@ -37,7 +38,8 @@ impl<'a, C: Clock> Patience<'a, C> {
         }
     }
 
-    /// The time limit of the call that begins now, and the time now. TimedOut once no time is left.
+    /// The time limit of the read or write that begins now, and the time now. TimedOut once no time
+    /// is left.
     fn begin(&self) -> io::Result<(Duration, Instant)> {
         let left = self.left.get();
         if left.is_zero() {
@@ -47,7 +49,7 @@ impl<'a, C: Clock> Patience<'a, C> {
         Ok((wait, Instant::now(self.clock)?))
     }
 
-    /// Subtracts the time since a call began from the time left.
+    /// Subtracts the time since a read or write began from the time left.
     fn spend(&self, begun: Instant) -> io::Result<()> {
         let spent = begun.elapsed(self.clock)?;
         self.left.set(self.left.get().saturating_sub(spent));

@@ -38,7 +38,7 @@ pub enum RouteKey {
 
 /// Gives the HTTP method of a route.
 impl Route {
-    /// The one method of the route.
+    /// The one HTTP method that the route takes.
     pub fn method(self) -> Method
         ensures { result ≡ method_of self }
     {

@@ -100,11 +100,11 @@ share_of t u n = cond (thing_index t == thing_index u) n (pos 0)
 abbrev under : Entry → ℤ → Entry → ℤ
 under e n f = cond (entry_index f == entry_index e) n (pos 0)
 
--- an amount plus 0 is the amount
+-- an amount plus 0 is the amount: for amounts to which a booking adds nothing
 nothing : (z : ℤ) → z ≡ z +ℤ pos 0
 nothing z = omega (arith, ints)
 
--- (x + y) + (z + w) is (x + z) + (y + w)
+-- (x + y) + (z + w) is (x + z) + (y + w): for `sum_of-raised`
 regroup : (x y z w : ℤ) → (x +ℤ y) +ℤ (z +ℤ w) ≡ (x +ℤ z) +ℤ (y +ℤ w)
 regroup x y z w = omega (arith, ints)
 
@@ -113,7 +113,7 @@ sum_of-raised : (a b : Entry → ℤ) (es : List Entry) → sum_of (map (λ e. a
 sum_of-raised a b [] = nothing (pos 0)
 sum_of-raised a b (e ∷ es) = ap (λ z. (a e +ℤ b e) +ℤ z) (sum_of-raised a b es) ∙ regroup (a e) (b e) (sum_of (map a es)) (sum_of (map b es))
 
--- what a booking of n adds to the amounts under all entries (`under`) is n together
+-- what a booking of n under entry e adds to the amounts under all entries (`under`), summed over the entries, is n
 once : (e : Entry) (n : ℤ) → sum_of (map (under e n) all_entries) ≡ n
 once Founding n = omega (arith, ints)
 once _ n = omega (arith, ints)
@@ -219,11 +219,13 @@ same_books things a b are also same =
 
 -- ---- how great the amounts are
 
--- an amount from -bound to bound (`IsWithin`), raised by n, is within each bound from bound + n on
+-- if z is from -bound to bound (`IsWithin`), y, which is z + n, is within each bound `more` from bound + n on: for
+-- `IsWithin-after_booking`, an amount that a booking raises
 grows : (z y : ℤ) (bound n more : ℕ) → y ≡ z +ℤ pos n → IsWithin bound z → bound + n ≤ more → IsWithin more y
 grows z y bound n more e h l = record { most = omega (arith, ints, h.most); least = omega (arith, ints, h.least) }
 
--- an amount from -bound to bound (`IsWithin`) is within each bound from bound + n on
+-- if z is from -bound to bound (`IsWithin`), y, which is z, is within each bound `more` from bound + n on: for
+-- `IsWithin-after_booking`, an amount that a booking leaves as it is
 stays : (z y : ℤ) (bound n more : ℕ) → y ≡ z → IsWithin bound z → bound + n ≤ more → IsWithin more y
 stays z y bound n more e h l = record { most = omega (arith, ints, h.most); least = omega (arith, ints, h.least) }
 

@@ -137,7 +137,8 @@ module _ {V : Type 0} where
         | Greater ↦ fails p es n v apart.1
       ] is
     where
-      -- if "a or b" is false, both a and b are false
+      -- if "a or b" is false, both a and b are false: for `fails`, where a says whether the first value passes, and b
+      -- whether a later one does
       or_parts : (a b : Bool) → (a || b) ≡ false → (a ≡ false) × (b ≡ false)
       or_parts true b h = cc
       or_parts false b h = (refl, h)
@@ -161,8 +162,8 @@ module _ {V : Type 0} where
     behind : (e : ℕ × V) (es : List (ℕ × V)) (n : ℕ) → is_sorted nat_cmp (e ∷ es) ≡ true → Passing es n → Passing (e ∷ es) n
     behind e es n s (v, is, h) = (v, later e es n v s is, h)
 
-    -- if each number chosen from the list without its first entry has a value that passes the test p, so has each
-    -- number chosen from the whole sorted list
+    -- if each number chosen from the list without its first entry e has a value that passes the test p, so has each
+    -- number chosen from the whole sorted list (b says whether e passes)
     listed_in : (b : Bool) (e : ℕ × V) (es : List (ℕ × V)) → p e.1 ≡ b → is_sorted nat_cmp (e ∷ es) ≡ true → (d : ℕ) → ((i : ℕ) → i < length (chosen es) → Passing es (get_or (chosen es) i d))
         → (i : ℕ) → i < length (cond b (e.0 ∷ chosen es) (chosen es)) → Passing (e ∷ es) (get_or (cond b (e.0 ∷ chosen es) (chosen es)) i d)
     listed_in true e es t s d rest zero h = (e.1, first e es, t)
@@ -181,7 +182,7 @@ module _ {V : Type 0} where
 -- ---- a map with f at each value
 
 module _ {V W : Type 0} (f : V → W) where
-  -- if an option mapped by f has the value x, the option has a value of which f is x
+  -- if an option mapped by f is Some x, the option is Some v, where f v is x
   under : (o : Option V) (x : W) → option_map f o ≡ Some x → (v : V) × (o ≡ Some v) × (f v ≡ x)
   under None x is = none_some x is
   under (Some v) x is = let same : f v ≡ x = cc in (v, refl, same)

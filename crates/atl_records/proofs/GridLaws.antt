@@ -20,7 +20,7 @@ use Rattle.atl_records.proofs.EveryEntryLaws.{entry_in_place, entry_small}
 
 -- ---- accounts among those of the first things
 
--- "a or b" is true if its second part is true
+-- "x or y" is true if y is: for `any_later` and `any_under`, where y says whether a later element passes
 or_later : (x y : Bool) → y ≡ true → (x || y) ≡ true
 or_later true y h = refl
 or_later false y h = h
@@ -37,7 +37,8 @@ module _ {A : Type 0} (p : A → Bool) where
   any_later [] ys h = h
   any_later (x ∷ xs) ys h = or_later (p x) (list_any p (xs ++ ys)) (any_later xs ys h)
 
-  -- if some element of entry e's list passes a test, and e is in es, some element of the lists of es together does
+  -- if e is among the entries es, and some element of the list f e passes a test, so does some element of the lists
+  -- that f gives for es, joined
   any_flat : (f : Entry → List A) (e : Entry) (es : List Entry) → list_any (λ d. entry_index d == entry_index e) es ≡ true → list_any p (f e) ≡ true → list_any p (flat_map f es) ≡ true
   any_flat f e [] h its = absurd (false≢true h)
   any_flat f e (d ∷ es) h its =
@@ -70,7 +71,7 @@ any_accounts things e t h = any_flat (eq_by_cmp account_cmp (e, t)) (accounts_un
 -- ---- the books that rows stand for
 
 -- `filled` books list each account (entry and thing) of a list with the amount that is given, if it isn't 0, and all
--- other accounts as before
+-- other accounts as `books` do
 get-filled : (amount : Account → ℤ) (chosen : List Account) (books : BooksValue) (a : Account) → get (filled amount chosen books).amounts a ≡ cond (list_any (eq_by_cmp account_cmp a) chosen) (listed (amount a)) (get books.amounts a)
 get-filled amount [] books a = refl
 get-filled amount (c ∷ others) books a =
@@ -152,11 +153,11 @@ as_books-replicate things =
 -- ---- another amount in a cell
 
 module _ (rows : List (List ℤ)) (grid : IsGrid rows) (e : Entry) (t : Thing) (z : ℤ) (there : thing_index t < length rows) where
-  -- the thing's row with z in the entry's column
+  -- the row of thing t with z as the amount in the column of entry e
   abbrev new : List ℤ
   new = set (row_of rows t) (entry_index e) z
 
-  -- the thing's row has an amount for each entry
+  -- the row of thing t has an amount for each entry
   wide : length (row_of rows t) ≡ entry_count
   wide = grid.wide (thing_index t) [] there
 
@@ -173,7 +174,7 @@ module _ (rows : List (List ℤ)) (grid : IsGrid rows) (e : Entry) (t : Thing) (
             ];
       }
 
-  -- once z is written into a cell, this cell is z, and the other cells are as before
+  -- once z is written into the cell of entry e and thing t, this cell is z, and each other cell is what it was
   cell-with_cell : (a : Account) → cell (with_cell rows e t z) a ≡ cond (eq_by_cmp account_cmp a (e, t)) z (cell rows a)
   cell-with_cell a =
       let choice = λ (b : Bool). cond b z (cell rows a) in
@@ -222,7 +223,7 @@ booked-as_books rows t grid there =
 pub grid_there : (rows : List (List ℤ)) (books : BooksValue) (t : Thing) → as_books rows ≡ books → thing_index t < books.things → thing_index t < length rows
 grid_there rows books t is there = let size = ap (λ (b : BooksValue). b.things) (sym is) ∙ things-as_books rows in omega (arith, size, there)
 
--- a row that is read at the index of a thing is the thing's row
+-- the row that is read at the index of a thing is the thing's row (`row_of`)
 row_read : (rows : List (List ℤ)) (t : Thing) (place : ℕ) (row : List ℤ) → row ≡ get_or rows place row → place ≡ thing_index t → thing_index t < length rows → row ≡ row_of rows t
 row_read rows t place row is at there = is ∙ ap (λ k. get_or rows k row) at ∙ get_or_default rows (thing_index t) row [] there
 

@@ -16,7 +16,7 @@ use Rattle.atl_records.proofs.RemovedLaws.{every-remove, get-remove_other}
 pub every_amount : (P : ℕ → ℕ → Type 0) (items : FinMap nat_cmp ℕ) (i amount : ℕ) → (1 ≤ amount → P i amount) → Every P items → Every P (with_amount_of items i amount)
 every_amount P items i amount here old = by_zero (amount == 0) refl
   where
-    -- P holds of every amount, whether the amount set is 0 or not
+    -- P holds of every amount once the amount under i is set: if it is 0 (b), i is removed, else the amount is put in
     by_zero : (b : Bool) → (amount == 0) ≡ b → Every P (if b then remove items i else insert items i amount)
     by_zero true is = every-remove items i P old
     by_zero false is = let some : 1 ≤ amount = grind (arith, nat_tests) in every-insert P items i amount (here some) old
@@ -35,7 +35,8 @@ set_amount items i amount j = by_zero (amount == 0) refl
     taken true e = e
     taken false e = refl
 
-    -- the amount under j is read back as `set_amount` says, whether the amount set under i is 0 or not
+    -- the amount under j is read as `set_amount` says once the one under i is set: if this is 0 (b), i is removed, else
+    -- it is put in
     by_zero : (b : Bool) → (amount == 0) ≡ b → amount_of (if b then remove items i else insert items i amount) j ≡ cond (eq_by_cmp nat_cmp j i) amount (amount_of items j)
     by_zero true is =
         let none : 0 ≡ amount = grind (arith, nat_tests) in
@@ -73,7 +74,8 @@ module _ (items : FinMap nat_cmp ℕ) (i amount : ℕ) where
   pub get-set_other : (j : ℕ) → j ≢ i → get (with_amount_of items i amount) j ≡ get items j
   get-set_other j apart = by_zero (amount == 0)
     where
-      -- another number is listed as before, whether the amount set is 0 or not
+      -- another number j is listed as before once the amount under i is set: if it is 0 (b), i is removed, else it is
+      -- put in
       by_zero : (b : Bool) → get (if b then remove items i else insert items i amount) j ≡ get items j
       by_zero true = get-remove_other items i j apart
       by_zero false = get-insert_other items i j amount apart

@@ -27,13 +27,13 @@ unreached_level_is_above_0 (suc n) men days h = omega arith
 
 -- ---- sums
 
--- to add the next term x of a sum to the terms added so far leaves these and the terms left together the whole sum
+-- if the terms added so far (`sum`) and those left (`whole`: x and then `rest`) are `all` together, so are `sum` with x
+-- added, and `rest`
 pub added : (sum x rest whole all : ℕ) → whole ≡ x + rest → sum + whole ≡ all → (sum + x) + rest ≡ all
 added sum x rest whole all h e = omega (arith, h, e)
 
--- if `sum`, over items with numbers below `low`, is at most most_u32 * most_weight * low, then with x added for e, the
--- next item of a sorted list, it is at most most_u32 * most_weight * next, for some `next` of at most most_items: each
--- item after e has the number `next` or a greater one
+-- with B for most_u32 * most_weight: if `sum` is at most B * low, then with x for the next item e of a sorted list
+-- added, it is at most B * next, for some `next` of at most most_items from which the items after e begin
 pub fits_next : (low sum x : ℕ) (e : ℕ × ℕ) (es : List (ℕ × ℕ)) → is_sorted nat_cmp (e ∷ es) ≡ true → low ≤ most_items → sum ≤ (most_u32 * most_weight) * low → low ≤ e.0 → x ≤ (most_u32 * most_weight) → (most_items ≤ e.0 → x ≡ 0)
     → (next : ℕ) × (next ≤ most_items) × (sum + x ≤ (most_u32 * most_weight) * next) × BeginsFrom next es
 fits_next low sum x e es sorted few fits from small far =

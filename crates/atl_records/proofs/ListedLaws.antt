@@ -97,7 +97,7 @@ amounts_sorted m = is_true _ (entries_sorted m)
 
 -- ---- amounts that are listed
 
--- whichever of an option that is None and of None a truth value b chooses, it is None
+-- if o is None, the choice by b between o and None is None: for an amount that is 0, and so isn't listed
 none_either : (b : Bool) (o : Option ℤ) → o ≡ None → cond b o None ≡ None
 none_either true o h = h
 none_either false o h = refl

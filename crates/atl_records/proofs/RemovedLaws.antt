@@ -30,7 +30,7 @@ module _ {V : Type 0} (m : FinMap nat_cmp V) (k : ℕ) where
         | Greater ↦ λ o. let l = ranked k k Greater (sym o) in absurd (omega arith)
       ] refl
 
-  -- a value that is there after k is removed was there, under another number
+  -- a value v that the map has under n after k is removed was there before, and n is not k
   pub still : (n : ℕ) (v : V) → get (remove m k) n ≡ Some v → (n ≢ k) × (get m n ≡ Some v)
   still n v is =
       elim (nat_cmp n k) as (λ o. nat_cmp n k ≡ o → cond (is_eq o) None (get m n) ≡ Some v → (n ≢ k) × (get m n ≡ Some v)) [
@@ -47,7 +47,8 @@ module _ {V : Type 0} (m : FinMap nat_cmp V) (k : ℕ) where
   pub fewer : len (remove m k) ≤ len m
   fewer = let is = len-remove nat_cmp_total m k in less (contains_key m k) (len (remove m k)) (len m) is
     where
-      -- whichever of y - 1 and y a truth value b chooses, it is at most y
+      -- x, which is y - 1 if b is true, and else y, is at most y: for `fewer`, where b says whether the map of y values
+      -- has the number that is removed
       less : (b : Bool) (x y : ℕ) → x ≡ cond b (y - 1) y → x ≤ y
       less true x y h = omega arith
       less false x y h = omega arith

@@ -33,7 +33,8 @@ holding_code =
 abbrev pub amount_of : FinMap nat_cmp ℕ → ℕ → ℕ
 amount_of items item = unwrap_or (get items item) 0
 
--- the amounts with another amount under a number; an amount of 0 is not listed
+-- the amounts with the one under a number (the first ℕ) set to another amount (the second); an amount of 0 is not
+-- listed
 abbrev pub with_amount_of : FinMap nat_cmp ℕ → ℕ → ℕ → FinMap nat_cmp ℕ
 with_amount_of items item amount = if amount == 0 then remove items item else insert items item amount
 

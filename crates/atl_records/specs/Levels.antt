@@ -17,11 +17,12 @@ abbrev pub greatest : (ℕ → Bool) → ℕ → ℕ
 greatest passes zero = 0
 greatest passes (suc n) = if passes (suc n) then suc n else greatest passes n
 
--- the days of study that `men` men together need for a level: 15 * level * (level + 1) each
+-- `days_for level men`: the days of study that `men` men together need for a level, 15 * level * (level + 1) each
 abbrev pub days_for : ℕ → ℕ → ℕ
 days_for level men = level_days * level * (level + 1) * men
 
--- the level of men by their days of study together: the greatest from 0 to 5 for which these are enough; 0 without men
+-- `level_of days men`: the level of men by their days of study together, the greatest from 0 to 5 for which these are
+-- enough; 0 without men
 unfoldable pub level_of : ℕ → ℕ → ℕ
 level_of days men = if men == 0 then 0 else greatest (λ level. nat_le (days_for level men) days) last_level
 

@@ -34,7 +34,7 @@ some_passes p (e ∷ es) h = by_test (p e) h (some_passes p es)
 some_length : (f : FaultyLine) (fs : List FaultyLine) → (length (f ∷ fs) == 0) ≡ false
 some_length f fs = grind (arith, nat_tests)
 
--- without faulty lines and own events, the text of these in a report is `None.`
+-- where there are no faulty lines and no own events, the text that a report has for them is `None.`
 pub results_none : (faction : ℕ) (faults : List FaultyLine) (events : List Event) → ((length faults == 0) && not (list_any (λ (e : Event). e.faction == faction) events)) ≡ true
     → results_text faults (own_events faction events) ≡ codes "None.\n"
 results_none faction (f ∷ fs) events h = absurd (false≢true (sym (ap (λ b. b && not (list_any (λ (e : Event). e.faction == faction) events)) (some_length f fs)) ∙ h))
@@ -45,7 +45,7 @@ results_none faction [] events h = by_test (list_any (λ (e : Event). e.faction 
     by_test true h rest = absurd (false≢true h)
     by_test false h rest = rest refl
 
--- with faulty lines or own events, the text of these in a report is their lines
+-- where there are faulty lines or own events, the text that a report has for them is their lines
 pub results_lines : (faction : ℕ) (faults : List FaultyLine) (events : List Event) → ((length faults == 0) && not (list_any (λ (e : Event). e.faction == faction) events)) ≡ false
     → results_text faults (own_events faction events) ≡ faulty_lines faults ++ event_lines (own_events faction events)
 results_lines faction (f ∷ fs) events h = refl

@@ -16,11 +16,11 @@ written is_first direction exit = option_map_or (λ to. (if is_first then [] els
 abbrev after_commas : List (List ℕ) → List ℕ
 after_commas texts = each_text (λ t. codes ", " ++ t) texts
 
--- the texts of exits with that of an exit in front, where there is one
+-- the texts of exits, with the text of one more exit in front if it is there (Some)
 abbrev with_exit : (direction : List ℕ) → Option ℕ → List (List ℕ) → List (List ℕ)
 with_exit direction exit texts = cons_option (option_map (exit_text direction) exit) texts
 
--- an exit that isn't the first, in front of others, is written after a comma
+-- the texts of exits, each with a comma in front, begin with the first one as `written` gives it with `is_first` false
 later : (direction : List ℕ) (exit : Option ℕ) (texts : List (List ℕ)) →
     after_commas (with_exit direction exit texts) ≡ written false direction exit ++ after_commas texts
 later direction None texts = refl
@@ -60,7 +60,8 @@ pub joined_in_turn : (p : RegionPlan) →
 unfolding exit_texts
 joined_in_turn p = in_turn p.north p.south p.east p.west
 
--- the texts of four exits, joined or `none`, are `none` where there is no exit, else joined by commas
+-- `joined_or_none` gives of the texts of four exits `none` if none of the four is there, else the texts joined by
+-- commas
 or_none : (north south east west : Option ℕ) →
     let texts = with_exit (codes "north") north (with_exit (codes "south") south (with_exit (codes "east") east (with_exit (codes "west") west []))) in
     joined_or_none texts ≡ if ((is_none north && is_none south) && is_none east) && is_none west then codes "none" else separated_texts (codes ", ") texts
@@ -70,7 +71,7 @@ or_none None None (Some e) w = refl
 or_none None None None (Some w) = refl
 or_none None None None None = refl
 
--- the exits of a region are `none` where it has no exit, else joined by commas
+-- `joined_or_none` gives of the exits of a region `none` if it has no exit, else their texts joined by commas
 pub none_or_joined : (p : RegionPlan) →
     joined_or_none (exit_texts p)
     ≡ if ((is_none p.north && is_none p.south) && is_none p.east) && is_none p.west then codes "none" else separated_texts (codes ", ") (exit_texts p)

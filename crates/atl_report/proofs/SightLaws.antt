@@ -36,7 +36,8 @@ above k q h = elim (nat_cmp q k) as (λ o. nat_cmp q k ≡ o → is_eq o ≡ fal
 -- ---- what holds of some entry
 
 module _ {X : Type 0} (p : X → Bool) (g : Option X → Bool) where
-  -- whether a value looked up by a number of `es` passes `g` doesn't depend on an entry in front that is below `es`
+  -- an entry in front, whose number is below all of `es`, makes no difference to whether `g` holds of some value looked
+  -- up by the number of an entry of `es` that passes `p`
   past : (k : ℕ) (v : X) (fs es : List (ℕ × X)) → below_all nat_cmp k es ≡ true → list_any (λ n. g (find nat_cmp n ((k, v) ∷ fs))) (numbers_among p es) ≡ list_any (λ n. g (find nat_cmp n fs)) (numbers_among p es)
   past k v fs [] h = refl
   past k v fs (e ∷ es) h =
@@ -49,7 +50,8 @@ module _ {X : Type 0} (p : X → Bool) (g : Option X → Bool) where
       ]
       ∙ ap (list_any (λ n. g (find nat_cmp n fs))) (sym (chosen-cons p e es))
 
-  -- in a sorted list, a value looked up by the number of one that passes `p` passes `g` just where a value passes both
+  -- in a sorted list `g` holds of some value looked up by the number of an entry that passes `p`, just where some entry
+  -- passes both `p` and `g`
   some_found : (es : List (ℕ × X)) → is_sorted nat_cmp es ≡ true → list_any (λ n. g (find nat_cmp n es)) (numbers_among p es) ≡ list_any (λ e. p e.1 && g (Some e.1)) es
   some_found [] h = refl
   some_found (e ∷ es) h =
@@ -61,7 +63,8 @@ module _ {X : Type 0} (p : X → Bool) (g : Option X → Bool) where
         | false ↦ rest
       ]
 
-  -- a value looked up in a map by the number of one that passes `p` passes `g` just where some value passes both
+  -- in a map `g` holds of some value looked up by the number of an entry that passes `p`, just where some entry passes
+  -- both `p` and `g`
   some_where : (m : FinMap nat_cmp X) → list_any (λ n. g (get m n)) (numbers_where p m) ≡ list_any (λ e. p e.1 && g (Some e.1)) (entries m)
   some_where m = ap (λ (f : ℕ → Option X). list_any (λ n. g (f n)) (numbers_where p m)) (λ i n. get-entries m n i) ∙ some_found (entries m) (is_true _ (entries_sorted m))
 
@@ -72,7 +75,8 @@ abbrev watches_in : ℕ → ℕ → Option Unit → Bool
 watches_in f q None = false
 watches_in f q (Some u) = is_watching f (Some u) && eq_by_cmp nat_cmp q u.region
 
--- `a and a and m and e` is `b and a and m`, if e is b
+-- `a and a and m and e` is `b and a and m`, if e is b: for `seen_by`, where a unit is the faction's (a), has men (m)
+-- and is in the region (e, b)
 regrouped : (a m e b : Bool) → e ≡ b → (a && ((a && m) && e)) ≡ (b && (a && m))
 regrouped true true e true h = h
 regrouped true true e false h = h
@@ -99,7 +103,8 @@ abbrev number_alone : {V : Type 0} → ℕ × V → ℕ × Prim.Unit {0}
 number_alone e = (e.0, tt)
 
 module _ {V : Type 0} where
-  -- looking up a number in the entries without values finds it just where it had a value
+  -- to look up a number among entries with their values replaced by `tt` gives `tt` exactly where it gives a value
+  -- among the entries themselves
   find-alone : (q : ℕ) (es : List (ℕ × V)) → find nat_cmp q (map number_alone es) ≡ option_map forget_value (find nat_cmp q es)
   find-alone q [] = refl
   find-alone q (e ∷ es) = elim (is_eq (nat_cmp q e.0)) as (λ b. cond b (Some tt) (find nat_cmp q (map number_alone es)) ≡ option_map forget_value (cond b (Some e.1) (find nat_cmp q es))) [
@@ -107,17 +112,18 @@ module _ {V : Type 0} where
     | false ↦ find-alone q es
   ]
 
-  -- whether a number is below all entries does not depend on values
+  -- a number is below all entries with their values replaced by `tt` exactly if it is below all entries themselves
   below-alone : (k : ℕ) (es : List (ℕ × V)) → below_all nat_cmp k (map number_alone es) ≡ below_all nat_cmp k es
   below-alone k [] = refl
   below-alone k (e ∷ es) = ap (λ b. is_lt (nat_cmp k e.0) && b) (below-alone k es)
 
-  -- whether entries are sorted does not depend on values
+  -- entries with their values replaced by `tt` are sorted exactly if the entries themselves are
   sorted-alone : (es : List (ℕ × V)) → is_sorted nat_cmp (map number_alone es) ≡ is_sorted nat_cmp es
   sorted-alone [] = refl
   sorted-alone (e ∷ es) = ap (λ b. b && is_sorted nat_cmp (map number_alone es)) (below-alone e.0 es) ∙ ap (λ b. below_all nat_cmp e.0 es && b) (sorted-alone es)
 
-  -- replacing a value by `tt` gives the same before and after a choice between the value and None
+  -- to replace a value by `tt`, after a choice between it and None or before it, gives the same: for
+  -- `entries-with_all_watched`
   alone_chosen : (b : Bool) (o : Option V) → option_map forget_value (cond b o None) ≡ cond b (option_map forget_value o) None
   alone_chosen true o = refl
   alone_chosen false o = refl
@@ -127,7 +133,8 @@ module _ (c : CampaignValue) (f q : ℕ) where
   abbrev there : ℕ → Option (Prim.Unit {0})
   there k = option_map forget_value (get c.regions k)
 
-  -- after region `k` is added to the gathered regions, `q` is one of them if it was, or if it is `k` and is there
+  -- after region `k` is added to the gathered regions, `q` is one of them if it was (b), or if it is `k` and the
+  -- campaign has it
   one_region : (seen : FinMap nat_cmp (Prim.Unit {0})) (k : ℕ) (b : Bool) (o : Option Region) → get c.regions k ≡ o → get seen q ≡ cond b (there q) None → get (with_region seen k o) q ≡ cond (eq_by_cmp nat_cmp q k || b) (there q) None
   one_region seen k b None is was = was ∙ elim (nat_cmp q k) as (λ o. nat_cmp q k ≡ o → cond b (there q) None ≡ cond (is_eq o || b) (there q) None) [
     | Less ↦ λ _. refl
@@ -135,7 +142,8 @@ module _ (c : CampaignValue) (f q : ℕ) where
     | Greater ↦ λ _. refl
   ] refl
     where
-      -- None, chosen or not, is None
+      -- if o is None, the choice by b between o and None is o: for `one_region`, of a region that the campaign doesn't
+      -- have
       absent : (b : Bool) (o : Option (Prim.Unit {0})) → o ≡ None → cond b o None ≡ o
       absent true o h = refl
       absent false o h = sym h
@@ -145,8 +153,8 @@ module _ (c : CampaignValue) (f q : ℕ) where
     | Greater ↦ λ _. was
   ] refl
 
-  -- After the region of a unit is added to the gathered regions, `q` is one of them if it was, or if it is there and
-  -- the unit is one of the faction's with men in it.
+  -- After a unit's region is added to the gathered regions, `q` is one of them if it was (b), or if the campaign has
+  -- region `q` and the unit is one of the faction's with men in it.
   one_watched : (seen : FinMap nat_cmp (Prim.Unit {0})) (b : Bool) (o : Option Unit) → get seen q ≡ cond b (there q) None → get (with_watched c f seen o) q ≡ cond (watches_in f q o || b) (there q) None
   one_watched seen b None was = was
   one_watched seen b (Some u) was =
@@ -155,15 +163,16 @@ module _ (c : CampaignValue) (f q : ℕ) where
         | false ↦ was
       ]
 
-  -- `a or w or b` is `w or a or b`
+  -- `a or (w or b)` is `(w or a) or b`: for `all_watched`, where w says whether the next unit is in region `q`, a
+  -- whether a later one is, and b whether an earlier one was
   or_order : (a w b : Bool) → (a || (w || b)) ≡ ((w || a) || b)
   or_order true true b = refl
   or_order true false b = refl
   or_order false true b = refl
   or_order false false b = refl
 
-  -- After the regions of some units are added to the gathered regions, `q` is one of them if it was, or if it is there
-  -- and one of the units is one of the faction's with men in it.
+  -- After the regions of some units are added to the gathered ones, `q` is one of them if it was (b), or if the
+  -- campaign has region `q` and one of the units is one of the faction's with men in it.
   all_watched : (ns : List ℕ) (seen : FinMap nat_cmp (Prim.Unit {0})) (b : Bool) → get seen q ≡ cond b (there q) None
       → get (with_all_watched c f ns seen) q ≡ cond (list_any (λ n. watches_in f q (get c.units n)) ns || b) (there q) None
   all_watched [] seen b was = was
@@ -171,7 +180,7 @@ module _ (c : CampaignValue) (f q : ℕ) where
       all_watched ns (with_watched c f seen (get c.units n)) (watches_in f q (get c.units n) || b) (one_watched seen b (get c.units n) was)
       ∙ ap (λ t. cond t (there q) None) (or_order (list_any (λ n. watches_in f q (get c.units n)) ns) (watches_in f q (get c.units n)) b)
 
-  -- `a or false` is `a`
+  -- `a or false` is `a`: for `get-with_all_watched`, where at first no region is gathered
   or_none : (a : Bool) → (a || false) ≡ a
   or_none true = refl
   or_none false = refl
@@ -196,7 +205,8 @@ entries-with_all_watched c f =
 
 -- regions looked up by the numbers of chosen entries
 module _ {A : Type 0} (m : FinMap nat_cmp Region) (make : ℕ → Region → A) where
-  -- what `make` gives of regions looked up by the numbers of chosen entries is what it gives of these entries
+  -- if the map `m` has each entry of `es`, then `make` gives of the regions looked up in `m` by the numbers of the
+  -- entries that pass `p` what it gives of these entries
   looked_up : (p : ℕ × Region → Bool) (es : List (ℕ × Region)) → EachOf (λ n r. get m n ≡ Some r) es
       → filter_map (λ (e : ℕ × Prim.Unit {0}). option_map (make e.0) (get m e.0)) (map number_alone (filter p es)) ≡ map (λ e. make e.0 e.1) (filter p es)
   looked_up p [] h = refl
@@ -206,6 +216,7 @@ module _ {A : Type 0} (m : FinMap nat_cmp Region) (make : ℕ → Region → A) 
         | false ↦ looked_up p es h.1
       ]
 
--- what `make` gives of regions looked up by the numbers of a map's chosen entries is what it gives of these entries
+-- `make` gives of the regions looked up in a map by the numbers of its entries that pass `p` what it gives of these
+-- entries
 pub regions_looked_up : {A : Type 0} (m : FinMap nat_cmp Region) (make : ℕ → Region → A) (p : ℕ × Region → Bool) → filter_map (λ (e : ℕ × Prim.Unit {0}). option_map (make e.0) (get m e.0)) (map (λ e. (e.0, tt)) (filter p (entries m))) ≡ map (λ e. make e.0 e.1) (filter p (entries m))
 regions_looked_up m make p = looked_up m make p (entries m) (each-from_every (λ n r. get m n ≡ Some r) m (λ n r is. is))

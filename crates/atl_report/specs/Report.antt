@@ -43,7 +43,7 @@ abbrev pub guard_text : Bool → List ℕ
 guard_text true = codes ", guard"
 guard_text false = []
 
--- the structure that a unit is inside, by its number as in `, in 7`; empty where it is inside none
+-- the text of the structure that a unit is inside, by its number as in `, in 7`; empty where it is inside none
 abbrev pub inside_text : ℕ → List ℕ
 inside_text structure = if structure == 0 then [] else codes ", in " ▸ decimal structure
 
@@ -65,7 +65,7 @@ skill_text w e =
 abbrev pub skill_texts : WorldValue → List SkillView → List ℕ
 skill_texts w = each_text (skill_text w)
 
--- the items and the skills of an own unit; empty for another faction's unit
+-- the texts of the items and the skills of an own unit, one after another; empty for another faction's unit
 abbrev pub goods_text : WorldValue → Side → List ℕ
 goods_text w (Own money items skills) = item_texts w items ▸ skill_texts w skills
 goods_text w (Other faction name) = []
@@ -110,11 +110,11 @@ terrain_name w plan = option_map_or (λ t. t.name) (slice_get w.terrains plan.te
 unfoldable pub region_line : WorldValue → RegionView → List ℕ
 region_line w r = option_map_or (λ plan. region_text r plan (terrain_name w plan)) (get w.regions r.number) []
 
--- an exit of a region: its direction, and the number of the region to which it leads
+-- the text of an exit of a region: its direction, and the number of the region to which it leads
 abbrev pub exit_text : (direction : List ℕ) → (to : ℕ) → List ℕ
 exit_text direction to = direction ▸ codes " " ▸ decimal to
 
--- the exits that a region has, in the order north, south, east, west
+-- the texts of the exits that a region has, in the order north, south, east, west
 unfoldable pub exit_texts : RegionPlan → List (List ℕ)
 exit_texts p =
     filter_map (λ (e : List ℕ × Option ℕ). option_map (exit_text e.0) e.1)
@@ -151,7 +151,7 @@ market_lines w region = each_text (market_line w region)
 unfoldable pub region_part : WorldValue → RegionView → List ℕ
 region_part w r = region_line w r ▸ exits_line w r ▸ market_lines w r.number r.markets ▸ structure_lines w r.structures ▸ unit_lines w r.units
 
--- the lines of the regions of a list, in its order
+-- all lines of each region of a list (`region_part`), in the order of the list
 abbrev pub region_parts : WorldValue → List RegionView → List ℕ
 region_parts w = each_text (region_part w)
 

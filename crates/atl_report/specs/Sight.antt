@@ -46,17 +46,18 @@ item_views h = map item_view (entries h.items)
 abbrev pub skill_view : ℕ → ℕ × ℕ → SkillView
 skill_view men (skill, days) = record { skill = skill; level = level_of days men; days = days }
 
--- the views of all skills with days, in the order of the world
+-- the views of all skills in which a unit has days, in the order of the world
 abbrev pub skill_views : HoldingValue → List SkillView
 skill_views h = map (skill_view h.men) (entries h.days)
 
--- the side of a unit in a view: `Own` with money, items and skills, or `Other` with its faction's number and name
+-- the side of a unit in a faction's view: `Own` with money, items and skills, or `Other` with the number and the name
+-- of the unit's faction
 abbrev pub side_of : CampaignValue → ℕ → Unit → Side
 side_of c faction u =
     if u.faction == faction then Own u.holding.money (item_views u.holding) (skill_views u.holding)
     else Other u.faction (shown_name (get c.factions u.faction))
 
--- the view that a faction has of a unit that it sees
+-- `unit_view c faction number u`: the view that a faction has of the unit u, which it sees and which has this number
 abbrev pub unit_view : CampaignValue → ℕ → ℕ → Unit → UnitView
 unit_view c faction number u = record { number = number; name = u.holding.name; men = u.holding.men; guard = guards u; structure = u.structure; side = side_of c faction u }
 

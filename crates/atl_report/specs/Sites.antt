@@ -11,6 +11,6 @@ use Rattle.atl_report.specs.Sight.{structures_in}
 abbrev pub AreSites : FinMap nat_cmp Structure → FinMap nat_cmp (List ℕ) → Type 0
 AreSites structures sites = (region : ℕ) → list_of sites region ≡ structures_in region structures
 
--- the lists with a structure's number added at the end of a region's list
+-- `with_site sites region number`: the lists with a structure's number added at the end of a region's list
 abbrev pub with_site : FinMap nat_cmp (List ℕ) → ℕ → ℕ → FinMap nat_cmp (List ℕ)
 with_site sites region number = insert sites region (list_of sites region ++ (number ∷ []))

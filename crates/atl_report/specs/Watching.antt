@@ -16,7 +16,7 @@ use Rattle.atl_report.specs.declared.watch.Watch.{Watch}
 abbrev pub is_watching : ℕ → Option Unit → Bool
 is_watching faction unit = option_map_or (λ u. u.faction == faction && nat_lt 0 u.holding.men) unit false
 
--- whether a faction sees a region: it has a unit with men there
+-- `sees_region c faction region`: whether a faction sees a region, since it has a unit with men there
 abbrev pub sees_region : CampaignValue → ℕ → ℕ → Bool
 sees_region c faction region = list_any (λ n. is_watching faction (get c.units n)) (numbers_in region c.units)
 
@@ -31,11 +31,11 @@ abbrev pub greatest : List ℕ → ℕ
 greatest [] = 0
 greatest (n ∷ ns) = max n (greatest ns)
 
--- the best observation level of a faction's units in a region
+-- `observation_in w c faction region`: the best observation level of a faction's units in a region
 abbrev pub observation_in : WorldValue → CampaignValue → ℕ → ℕ → ℕ
 observation_in w c faction region = greatest (map (λ n. observation_of w faction (get c.units n)) (numbers_in region c.units))
 
--- a faction's watch in a region: faction, region, and the best observation level of the faction's units there
+-- `watch_over w c faction region`: a faction's watch in a region, with the best observation level of its units there
 abbrev pub watch_over : WorldValue → CampaignValue → ℕ → ℕ → Watch
 watch_over w c faction region = record { faction = faction; region = region; observation = observation_in w c faction region }
 

@@ -46,7 +46,8 @@ module _ {A : Type 0} (title : A → List ℕ) where
   abbrev is_before : A → List A → Bool
   is_before x front = list_any (λ y. same_name (title y) (title x)) front
 
-  -- if a condition that has the fault f exactly where b is true has no fault, b is false
+  -- if the list of one condition, which has the fault f exactly where b is true, has no fault, b is false: for
+  -- `no_twin`, where b says whether an element before has the name
   by_test : (b : Bool) (f : WorldFault) → first_fault (cond b (Some f) None ∷ []) ≡ None → b ≡ false
   by_test true f h = absurd (cc)
   by_test false f h = refl

@@ -14,7 +14,8 @@ module _ {A : Type 0} (conditions : ℕ → A → Conditions) where
     pub goes_on : first_fault (conditions i x) ≡ None → first_fault (each conditions (i + 1) xs) ≡ total
     goes_on one = sym (passes (conditions i x) (each conditions (i + 1) xs) one) ∙ so_far
 
-    -- if a condition on the first element x is broken, its fault is the first fault of all elements (`total`)
+    -- an error e that is Memory or the first fault of the first element x is Memory or the first fault of all elements,
+    -- too (`Stops`)
     pub ends : (e : WorldFault) → Stops e (first_fault (conditions i x)) → Stops e total
     ends e one = subst (Stops e) so_far (stops_on e (conditions i x) (each conditions (i + 1) xs) one)
 
@@ -28,11 +29,13 @@ module _ {A : Type 0} (conditions : ℕ → A → Conditions) where
     pub goes_on_at : first_fault (conditions i x) ≡ None → first_fault (each conditions (i + 1) (drop (i + 1) xs)) ≡ total
     goes_on_at = goes_on i x (drop (i + 1) xs) total from_here
 
-    -- if a condition on the i-th element is broken, its fault is the first fault of all elements
+    -- an error e that is Memory or the first fault of the i-th element, x, is Memory or the first fault of all
+    -- elements, too (`Stops`)
     pub ends_at : (e : WorldFault) → Stops e (first_fault (conditions i x)) → Stops e total
     ends_at = ends i x (drop (i + 1) xs) total from_here
 
--- `front` and then x ∷ xs mapped by f is the same list as `front` with f x appended and then xs mapped by f
+-- `front` and then x ∷ xs mapped by f is the same list as `front` with y, which is f x, appended and then xs mapped by
+-- f
 pub mapped_on : {A B : Type 0} (f : A → B) (front : List B) (x : A) (xs : List A) (y : B) (total : List B) → front ++ map f (x ∷ xs) ≡ total → f x ≡ y → (front ++ y ∷ []) ++ map f xs ≡ total
 mapped_on f front x xs y total so_far one = append_assoc front (y ∷ []) (map f xs) ∙ ap (λ z. front ++ z ∷ map f xs) (sym one) ∙ so_far
 

@@ -16,11 +16,12 @@ pub from_here : (vs : List Value) (i : ℕ) (v : Value) → i < length vs → v 
 from_here vs i v h e = items_view-drop vs i v h ∙ ap (λ (x : Value). item (view x) (items_view (drop (i + 1) vs))) (sym e)
 
 module _ (conditions : List ℕ → Members → Conditions) (key : List ℕ) (i : ℕ) (d : Data) (ds : Items) (total : Option WorldFault) where
-  -- if the conditions on the first element hold, the first fault of the elements after it is that of all elements
+  -- if the conditions on the first element d hold, the first fault of the elements ds after it is that of all elements
   pub goes_on : first_fault (elements_conditions conditions key i (item d ds)) ≡ total → first_fault (element_conditions conditions (element_path key i) d) ≡ None → first_fault (elements_conditions conditions key (i + 1) ds) ≡ total
   goes_on so_far one = sym (passes (element_conditions conditions (element_path key i) d) (elements_conditions conditions key (i + 1) ds) one) ∙ so_far
 
-  -- if a condition on the first element is broken, its fault is the first fault of all elements
+  -- an error e that is Memory or the first fault of the first element d is Memory or the first fault of all elements,
+  -- too (`Stops`)
   pub ends : (e : WorldFault) → first_fault (elements_conditions conditions key i (item d ds)) ≡ total → Stops e (first_fault (element_conditions conditions (element_path key i) d)) → Stops e total
   ends e so_far one = subst (Stops e) so_far (stops_on e (element_conditions conditions (element_path key i) d) (elements_conditions conditions key (i + 1) ds) one)
 

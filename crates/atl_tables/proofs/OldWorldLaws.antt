@@ -20,7 +20,7 @@ use Rattle.atl_world.specs.declared.world.RegionPlan.{RegionPlan}
 use Rattle.atl_world.proofs.MappedLaws.{get-mapped}
 use Rattle.atl_tables.proofs.HasNumberLaws.{at_number}
 
--- an option mapped by f stays as it is, if f doesn't change its value
+-- an option mapped by f stays as it is, if f doesn't change its value: for `mapped_same`, what a map has under a number
 unchanged : {V : Type 0} (f : V → V) (o : Option V) → ((v : V) → o ≡ Some v → f v ≡ v) → option_map f o ≡ o
 unchanged f None same = refl
 unchanged f (Some v) same = ap Some (same v refl)
@@ -44,7 +44,7 @@ module _ (all : WorldDraft) where
       let plans = subst (λ ds. EachIndex (λ i p. without_market p ≡ p) (map (region_of all) ds)) (sym read) (bare_plans rs) in
       ap (λ m. record (world_of_tables all) { regions = m }) (mapped_same without_market (regions_of all) (at_number (λ (p : RegionPlan). p.number) (λ n p. without_market p ≡ p) (map (region_of all) all.regions) plans))
 
--- if the result `unless fault x` is Ok w, then the world x is w
+-- if the result `unless fault x`, the fault or else x, is Ok w, then the world x is w: for `in_document`
 given : (fault : Option WorldFault) (x w : WorldValue) → unless fault x ≡ Ok w → x ≡ w
 given None x w h = cc
 given (Some f) x w h = absurd (cc)

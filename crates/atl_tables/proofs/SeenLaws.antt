@@ -10,7 +10,8 @@ use Rattle.std.specs.declared.string.String.{String}
 use Rattle.atl_world.specs.Names.{same_name}
 use Rattle.atl_tables.specs.SeenNames.{has_name, HasNames}
 
--- the truth value that is true if b is, and else `there`, is "`there` or b"
+-- the choice by b between true and `there` is "`there` or b": for `has_more`, where b says whether a name is the one
+-- put in, and `there` whether the set had it
 or_of : (b there : Bool) → cond b true there ≡ (there || b)
 or_of true true = refl
 or_of true false = refl
@@ -24,12 +25,14 @@ unfolding same_name
 has_more seen grown lowered name put same other =
     rw same at (btree_set_updates_text (string_bytes lowered) seen grown true put (map to_ascii_lowercase other)) ∙ or_of (same_name name other) (has_name seen other)
 
--- if `new` is the negation of `there`, and is false, `there` is true
+-- if `new` is the negation of `there`, and is false, `there` is true: for `came_before`, where `there` says whether the
+-- set has a name
 there_before : (new there : Bool) → new ≡ not there → new ≡ false → there ≡ true
 there_before new true said h = refl
 there_before new false said h = sym h ∙ said
 
--- if `new` is the negation of `there`, and is true, `there` is false
+-- if `new` is the negation of `there`, and is true, `there` is false: for `comes_first`, where `there` says whether the
+-- set has a name
 not_before : (new there : Bool) → new ≡ not there → new ≡ true → there ≡ false
 not_before new true said h = sym h ∙ said
 not_before new false said h = refl

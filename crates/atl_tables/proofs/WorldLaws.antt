@@ -23,7 +23,8 @@ use Rattle.atl_tables.proofs.DuplicateLaws.{names_kept}
 pub at_index : {A : Type 0} (P : A → Type 0) (xs : List A) → All P xs → (i : ℕ) (x : A) → slice_get xs i ≡ Some x → P x
 at_index P xs all i x h = subst P (get_or_from_slice_get xs i x x h) (All-get_or P xs i x (slice_get_within xs i x h) all)
 
--- if Q holds of f x wherever P holds of x, and P of all elements of a list, Q holds at each index of the mapped list
+-- if Q holds of f x wherever P holds of x, and P of all elements of a list, Q holds at each index of the list mapped by
+-- f: for `is_world`, tables in range that become records in range
 mapped_indices : {A B : Type 0} (P : A → Type 0) (Q : B → Type 0) (f : A → B) → ((x : A) → P x → Q (f x)) → (xs : List A) → All P xs → EachIndex (λ i y. Q y) (map f xs)
 mapped_indices P Q f then [] all i y h = absurd (cc)
 mapped_indices P Q f then (x ∷ xs) all zero y h = let same : f x ≡ y = cc in subst Q same (then x (All-head P x xs all))

@@ -12,7 +12,7 @@ use Rattle.atl_tables.specs.declared.item_table.Recipe.{Recipe}
 use Rattle.atl_tables.specs.declared.world_draft.WorldDraft.{WorldDraft}
 use Rattle.atl_world.specs.declared.world.Item.{Item}
 
--- the keys for what making an item takes: skill, level, raw item and its count
+-- reads the keys of a table `[[item]]` for what making an item takes: skill, level, raw item and its count
 unfoldable pub making_at : Table Recipe
 making_at = do
   skill ← optional_text_key (codes "skill")
@@ -21,7 +21,7 @@ making_at = do
   raw_count ← number_or_key 1 1 most_raw_count (codes "raw_count")
   value_only (record { skill = skill; level = level; raw = raw; raw_count = raw_count })
 
--- all keys of a table `[[item]]`, in order: name, weight, what it carries, and what making one takes
+-- reads all keys of a table `[[item]]`, in order: name, weight, what it carries, and what making one takes
 unfoldable pub item_at : Table ItemDraft
 item_at = do
   name ← name_key (codes "name")
@@ -30,11 +30,11 @@ item_at = do
   making ← part making_at
   value_only (record { name = name; weight = weight; carry = carry; making = making })
 
--- the conditions on the keys of a table `[[item]]`
+-- the conditions on the keys of the table `[[item]]` at a path: each has its type and range, and is there if needed
 abbrev pub item_keys : List ℕ → Members → Conditions
 item_keys = conditions_of item_at
 
--- the item that a table `[[item]]` gives, with its skill and its raw item by name
+-- the item that the table `[[item]]` at a path gives, with its skill and its raw item by name
 abbrev pub item_from : List ℕ → Members → ItemDraft
 item_from = value_of item_at
 

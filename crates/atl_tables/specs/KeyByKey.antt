@@ -5,7 +5,8 @@ use Rattle.toml.specs.Data.{Members}
 use Rattle.atl_tables.specs.Faults.{Conditions, fault_of, first_fault, value_or}
 use Rattle.atl_tables.specs.Keys.{Key, number_at, name_at, text_at, flag_at, number_or_at, optional_text_at}
 
--- what reading a table gives: the conditions on its keys in order, and its value, with defaults where they fail
+-- what reading a table gives: the conditions on its keys in order, and its value, with a default where a key has a
+-- fault
 pub record TableReading (A : Type 0) : Type 0 where
   -- the conditions on the keys, in order
   pub conditions : Conditions
@@ -46,11 +47,12 @@ part table = λ at t. record { conditions = first_fault (conditions_of table at 
 abbrev pub one_key : {A : Type 0} → A → Key A → Table A
 one_key d key = λ at t. record { conditions = fault_of (key at t) ∷ []; value = value_or d (key at t) }
 
--- reads a key that must be a number from least to most
+-- `number_key least most key` reads a key that must be a number from least to most
 abbrev pub number_key : ℕ → ℕ → List ℕ → Table ℕ
 number_key least most key = one_key 0 (number_at least most key)
 
--- reads a key that is a number from least to most, or missing, which gives the default
+-- `number_or_key default least most key` reads a key that is a number from least to most, or missing, which gives the
+-- default
 abbrev pub number_or_key : ℕ → ℕ → ℕ → List ℕ → Table ℕ
 number_or_key default least most key = one_key default (number_or_at default least most key)
 

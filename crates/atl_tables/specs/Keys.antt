@@ -12,7 +12,7 @@ use Rattle.atl_tables.specs.declared.fault.WorldFault.TheVariants.{Missing, Wron
 abbrev pub Key : Type 0 → Type 0
 Key A = List ℕ → Members → Result A WorldFault
 
--- the path of a key in the table at a path, as `rules.growth`
+-- `path at key` is the path of a key in the table at the path `at`, as `rules.growth`
 abbrev pub path : List ℕ → List ℕ → List ℕ
 path at key = at ▸ codes "." ▸ key
 
@@ -45,7 +45,7 @@ abbrev pub typed : {A : Type 0} → List ℕ → Option A → Result A WorldFaul
 typed p None = Err (WrongType p)
 typed p (Some x) = Ok x
 
--- an integer as a natural number if it is from least to most, else None
+-- `within least most n` is the integer n as a natural number if it is from least to most, else None
 abbrev pub within : ℕ → ℕ → ℤ → Option ℕ
 within least most (pos n) = if nat_le least n && nat_le n most then Some n else None
 within least most (negsuc n) = None
@@ -55,49 +55,55 @@ abbrev pub in_range : {A : Type 0} → List ℕ → Option A → Result A WorldF
 in_range p None = Err (OutOfRange p)
 in_range p (Some x) = Ok x
 
--- an integer from least to most, else the fault WrongType (it is no integer) or OutOfRange
+-- `integer_in_range p least most n` is the integer n (Some) if it is from least to most, else the fault WrongType
+-- (None: it is no integer) or OutOfRange at the path p
 abbrev pub integer_in_range : List ℕ → ℕ → ℕ → Option ℤ → Result ℕ WorldFault
 integer_in_range p least most None = Err (WrongType p)
 integer_in_range p least most (Some z) = in_range p (within least most z)
 
--- a text that keeps the rule of names, else the fault WrongType (it is no text) or OutOfRange
+-- `named p text` is the text (Some) if it keeps the rule of names, else the fault WrongType (None: it is no text) or
+-- OutOfRange at the path p
 abbrev pub named : List ℕ → Option (List ℕ) → Result (List ℕ) WorldFault
 named p None = Err (WrongType p)
 named p (Some s) = if name_ok s then Ok s else Err (OutOfRange p)
 
 -- ---- keys of a table
 
--- the number under a key of a table, from least to most, else the fault Missing, WrongType or OutOfRange
+-- `number_at least most key at t` is the number under a key of the table t at a path, from least to most, else the
+-- fault Missing, WrongType or OutOfRange
 unfoldable pub number_at : ℕ → ℕ → List ℕ → List ℕ → Members → Result ℕ WorldFault
 number_at least most key at t = present (path at key) (λ d. integer_in_range (path at key) least most (as_integer d)) (get_member key t)
 
--- the name under a key of a table, else the fault Missing, WrongType, or OutOfRange if it breaks the rule of names
+-- `name_at key at t` is the name under a key of the table t at a path, else the fault Missing, WrongType, or OutOfRange
+-- if it breaks the rule of names
 unfoldable pub name_at : List ℕ → List ℕ → Members → Result (List ℕ) WorldFault
 name_at key at t = present (path at key) (λ d. named (path at key) (as_str d)) (get_member key t)
 
--- the text under a key of a table, else the fault Missing or WrongType
+-- `text_at key at t` is the text under a key of the table t at a path, else the fault Missing or WrongType
 unfoldable pub text_at : List ℕ → List ℕ → Members → Result (List ℕ) WorldFault
 text_at key at t = present (path at key) (λ d. typed (path at key) (as_str d)) (get_member key t)
 
--- the truth value under a key of a table, else the fault Missing or WrongType
+-- `flag_at key at t` is the truth value under a key of the table t at a path, else the fault Missing or WrongType
 unfoldable pub flag_at : List ℕ → List ℕ → Members → Result Bool WorldFault
 flag_at key at t = present (path at key) (λ d. typed (path at key) (as_bool d)) (get_member key t)
 
--- the number under a key of a table, from least to most, or the default if the key is missing; else the fault WrongType
--- or OutOfRange
+-- `number_or_at default least most key at t` is the number under a key of the table t at a path, from least to most, or
+-- the default if the key is missing; else the fault WrongType or OutOfRange
 unfoldable pub number_or_at : ℕ → ℕ → ℕ → List ℕ → List ℕ → Members → Result ℕ WorldFault
 number_or_at default least most key at t = or_else default (λ d. integer_in_range (path at key) least most (as_integer d)) (get_member key t)
 
--- the number under a key of a table, from least to most, None if the key is missing; else the fault WrongType or
--- OutOfRange
+-- `optional_number_at least most key at t` is the number under a key of the table t at a path, from least to most, None
+-- if the key is missing; else the fault WrongType or OutOfRange
 unfoldable pub optional_number_at : ℕ → ℕ → List ℕ → List ℕ → Members → Result (Option ℕ) WorldFault
 optional_number_at least most key at t = optional (λ d. integer_in_range (path at key) least most (as_integer d)) (get_member key t)
 
--- the text under a key of a table, None if the key is missing; else the fault WrongType
+-- `optional_text_at key at t` is the text under a key of the table t at a path, None if the key is missing; else the
+-- fault WrongType
 unfoldable pub optional_text_at : List ℕ → List ℕ → Members → Result (Option (List ℕ)) WorldFault
 optional_text_at key at t = optional (λ d. typed (path at key) (as_str d)) (get_member key t)
 
--- the table under a key of a table, empty if the key is missing; else the fault WrongType
+-- `optional_table_at key at t` is the table under a key of the table t at a path, empty if the key is missing; else the
+-- fault WrongType
 unfoldable pub optional_table_at : List ℕ → List ℕ → Members → Result Members WorldFault
 optional_table_at key at t = or_else no_members (λ d. typed (path at key) (as_table d)) (get_member key t)
 
@@ -112,7 +118,8 @@ abbrev pub count_of : Items → ℕ
 count_of no_items = 0
 count_of (item d ds) = suc (count_of ds)
 
--- an array of least to most elements, else the fault WrongType (it is no array) or OutOfRange
+-- `array_of_size key least most items` is the array (Some) if it has least to most elements, else the fault WrongType
+-- (None: it is no array) or OutOfRange at the path `key`
 abbrev pub array_of_size : List ℕ → ℕ → ℕ → Option Items → Result Items WorldFault
 array_of_size key least most None = Err (WrongType key)
 array_of_size key least most (Some ds) = if nat_le least (count_of ds) && nat_le (count_of ds) most then Ok ds else Err (OutOfRange key)
@@ -121,7 +128,7 @@ array_of_size key least most (Some ds) = if nat_le least (count_of ds) && nat_le
 unfoldable pub array_at : ℕ → List ℕ → Members → Result Items WorldFault
 array_at most key doc = present key (λ d. array_of_size key 1 most (as_array d)) (get_member key doc)
 
--- the array under a key of a table, of 0 to most elements, empty if the key is missing; else the fault WrongType or
--- OutOfRange at the path `array`
+-- `optional_array_at most array key t` is the array under a key of the table t, of 0 to most elements, empty if the key
+-- is missing; else the fault WrongType or OutOfRange at the path `array`
 unfoldable pub optional_array_at : ℕ → List ℕ → List ℕ → Members → Result Items WorldFault
 optional_array_at most array key t = or_else no_items (λ d. array_of_size array 0 most (as_array d)) (get_member key t)

@@ -13,7 +13,7 @@ use Rattle.atl_tables.specs.declared.kind_table.Purpose.{Purpose}
 use Rattle.atl_tables.specs.declared.world_draft.WorldDraft.{WorldDraft}
 use Rattle.atl_world.specs.declared.world.Kind.{Kind}
 
--- the keys for what building a structure takes: material, size, skill and level
+-- reads the keys of a table `[[kind]]` for what building a structure takes: material, size, skill and level
 unfoldable pub building_at : Table Building
 building_at = do
   material ← text_key (codes "material")
@@ -22,7 +22,7 @@ building_at = do
   level ← number_key 1 last_level (codes "level")
   value_only (record { material = material; size = size; skill = skill; level = level })
 
--- the keys for what a structure is good for: capacity, crew and the skill that it helps
+-- reads the keys of a table `[[kind]]` for what a structure is good for: capacity, crew and the skill that it helps
 unfoldable pub purpose_at : Table Purpose
 purpose_at = do
   capacity ← number_or_key 0 0 most_amount (codes "capacity")
@@ -30,7 +30,7 @@ purpose_at = do
   helps ← optional_text_key (codes "helps")
   value_only (record { capacity = capacity; crew = crew; helps = helps })
 
--- all keys of a table `[[kind]]`, in order: name, whether it is a ship, what building takes, what it is good for
+-- reads all keys of a table `[[kind]]`, in order: name, whether it is a ship, what building takes, what it is good for
 unfoldable pub kind_at : Table KindDraft
 kind_at = do
   name ← name_key (codes "name")
@@ -39,11 +39,11 @@ kind_at = do
   purpose ← part purpose_at
   value_only (record { name = name; ship = ship; building = building; purpose = purpose })
 
--- the conditions on the keys of a table `[[kind]]`
+-- the conditions on the keys of the table `[[kind]]` at a path: each has its type and range, and is there if needed
 abbrev pub kind_keys : List ℕ → Members → Conditions
 kind_keys = conditions_of kind_at
 
--- the kind of structure that a table `[[kind]]` gives, with its material and skills by name
+-- the kind of structure that the table `[[kind]]` at a path gives, with its material and skills by name
 abbrev pub kind_from : List ℕ → Members → KindDraft
 kind_from = value_of kind_at
 

@@ -14,23 +14,25 @@ use Rattle.atl_tables.specs.declared.market_table.MarketDraft.{MarketDraft}
 use Rattle.atl_tables.specs.declared.world_draft.WorldDraft.{WorldDraft}
 use Rattle.atl_world.specs.declared.world.Market.{Market}
 
--- the key `price` of a market, from 1 to most_price: what a unit pays for one item
+-- reads the key `price` of a table `[[region.market]]`, from 1 to most_price: what a unit pays for one item
 abbrev pub price_at : Key ℕ
 price_at = number_at 1 most_price (codes "price")
 
--- the key `pays` of a market, from 1 to most_price: what the market pays a unit for one item
+-- reads the key `pays` of a table `[[region.market]]`, from 1 to most_price: what the market pays a unit for one item
 abbrev pub pays_at : Key ℕ
 pays_at = number_at 1 most_price (codes "pays")
 
--- the key `limit` of a market, from 0 to most_amount: its largest stock
+-- reads the key `limit` of a table `[[region.market]]`, from 0 to most_amount: the market's largest stock
 abbrev pub limit_at : Key ℕ
 limit_at = number_at 0 most_amount (codes "limit")
 
--- the key `restock` of a market, from 0 to most_amount: what comes into its stock in a month
+-- reads the key `restock` of a table `[[region.market]]`, from 0 to most_amount: what comes into the market's stock in
+-- a month
 abbrev pub restock_at : Key ℕ
 restock_at = number_at 0 most_amount (codes "restock")
 
--- the conditions on the keys of a table `[[region.market]]`: item, price, pays, limit and restock
+-- the conditions on the keys `item`, `price`, `pays`, `limit` and `restock` of the table `[[region.market]]` at a path:
+-- none is missing, and each has its type and range
 unfoldable pub market_keys : List ℕ → Members → Conditions
 market_keys at t =
     fault_of (text_at (codes "item") at t)
@@ -40,7 +42,8 @@ market_keys at t =
     ∷ fault_of (restock_at at t)
     ∷ []
 
--- the market that a table `[[region.market]]` gives, with its item by name; `table_path` is the path of the table
+-- the market that the table `[[region.market]]` at a path gives, with its item by name; the path is kept as
+-- `table_path`
 unfoldable pub market_from : List ℕ → Members → MarketDraft
 market_from at t = record {
   table_path = at;
@@ -55,11 +58,12 @@ market_from at t = record {
 abbrev pub market_path : List ℕ → List ℕ
 market_path at = path at (codes "market")
 
--- the conditions on the array of a region's markets, which may be missing, and on the keys of each market
+-- the conditions on the array of the markets of the region at a path, which may be missing, and on the keys of each
+-- market
 unfoldable pub markets_keys : List ℕ → Members → Conditions
 markets_keys at t = list_conditions market_keys (market_path at) (optional_array_at most_markets (market_path at) (codes "market") t)
 
--- the markets of the region whose table is at a path, as read, in the order of the file
+-- the markets that the table `[[region]]` at a path gives, as read, in the order of the file
 unfoldable pub markets_from : List ℕ → Members → List MarketDraft
 markets_from at t = list_of market_from (market_path at) (optional_array_at most_markets (market_path at) (codes "market") t)
 

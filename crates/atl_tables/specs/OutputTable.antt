@@ -31,15 +31,16 @@ in_byte_order (member key d ms) = put_key key d (in_byte_order ms)
 
 -- ---- each key with its amount
 
--- the amount under a key, from 0 to most_amount, of the table at a path; else the fault WrongType or OutOfRange
+-- the amount under a key, from 0 to most_amount, of the table `output` at a path; else the fault WrongType or
+-- OutOfRange
 abbrev pub amount_at : List ℕ → List ℕ × Data → Result ℕ WorldFault
 amount_at at (key, d) = integer_in_range (path at key) 0 most_amount (as_integer d)
 
--- the conditions that the amount of each entry is a number from 0 to most_amount
+-- the conditions that the amount of each entry of the table `output` at a path is a number from 0 to most_amount
 abbrev pub amounts_keys : List ℕ → List (List ℕ × Data) → Conditions
 amounts_keys at es = map (λ e. fault_of (amount_at at e)) es
 
--- what each entry gives: the item, by its name, and its amount
+-- what each entry of the table `output` at a path gives: the item, by its name, and its amount
 abbrev pub amounts_from : List ℕ → List (List ℕ × Data) → List Output
 amounts_from at es = map (λ e. record { item = e.0; amount = value_or 0 (amount_at at e) }) es
 
@@ -47,22 +48,23 @@ amounts_from at es = map (λ e. record { item = e.0; amount = value_or 0 (amount
 abbrev pub output_path : List ℕ → List ℕ
 output_path at = path at (codes "output")
 
--- the table `output` of a terrain, empty if it is missing
+-- the table `output` in the table of the terrain at a path, empty if it is missing
 abbrev pub output_table : List ℕ → Members → Members
 output_table at t = value_or no_members (optional_table_at (codes "output") at t)
 
--- the conditions on the table `output` of a terrain, and the amounts that it gives
+-- reads the table `output` of a terrain: the conditions on it, and the amounts that it gives
 unfoldable pub output_at : Table (List Output)
 output_at = λ at t. record {
   conditions = fault_of (optional_table_at (codes "output") at t) ∷ amounts_keys (output_path at) (in_byte_order (output_table at t));
   value = amounts_from (output_path at) (in_byte_order (output_table at t));
 }
 
--- the condition that no key before the i-th is equal to the i-th, ignoring ASCII case; else the fault TwoNames
+-- the condition that no key of the output at a path, before the i-th, is equal to the i-th, ignoring ASCII case; else
+-- the fault TwoNames
 unfoldable pub duplicate_key_at : List ℕ → List Output → ℕ → Output → Conditions
 duplicate_key_at at all i o = (if list_any (λ p. same_name p.item o.item) (take i all) then Some (TwoNames (path at o.item)) else None) ∷ []
 
--- the condition that a key names an item; else the fault UnknownName
+-- the condition that a key of the output at a path names an item; else the fault UnknownName
 unfoldable pub known_key_at : WorldDraft → List ℕ → ℕ → Output → Conditions
 known_key_at all at i o = known (path at o.item) (item_number all o.item) ∷ []
 

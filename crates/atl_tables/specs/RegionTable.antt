@@ -15,19 +15,20 @@ use Rattle.atl_tables.specs.declared.region_table.Sides.{Sides}
 use Rattle.atl_tables.specs.declared.world_draft.WorldDraft.{WorldDraft}
 use Rattle.atl_world.specs.declared.world.RegionPlan.{RegionPlan}
 
--- the key `number` of a region, from 1 to last_region
+-- reads the key `number` of a table `[[region]]`, from 1 to last_region
 abbrev pub region_number_at : Key ℕ
 region_number_at = number_at 1 last_region (codes "number")
 
--- the key `peasants` of a region, from 0 to most_amount: its peasants at founding
+-- reads the key `peasants` of a table `[[region]]`, from 0 to most_amount: its peasants at founding
 abbrev pub peasants_at : Key ℕ
 peasants_at = number_at 0 most_amount (codes "peasants")
 
--- the key `money` of a region, from 0 to most_amount: its money at founding
+-- reads the key `money` of a table `[[region]]`, from 0 to most_amount: its money at founding
 abbrev pub money_at : Key ℕ
 money_at = number_at 0 most_amount (codes "money")
 
--- the conditions on the keys of a region's basics: number, name, terrain, peasants and money
+-- the conditions on the keys `number`, `name`, `terrain`, `peasants` and `money` of the table `[[region]]` at a path:
+-- none is missing, and each has its type and range
 unfoldable pub basics_keys : List ℕ → Members → Conditions
 basics_keys at t =
     fault_of (region_number_at at t)
@@ -37,7 +38,7 @@ basics_keys at t =
     ∷ fault_of (money_at at t)
     ∷ []
 
--- the number, name, terrain (by name), peasants and money that a table `[[region]]` gives
+-- the number, name, terrain (by name), peasants and money that the table `[[region]]` at a path gives
 unfoldable pub basics_from : List ℕ → Members → RegionBasics
 basics_from at t = record {
   number = value_or 0 (region_number_at at t);
@@ -47,23 +48,24 @@ basics_from at t = record {
   money = value_or 0 (money_at at t);
 }
 
--- the key `north`: the number of the region to the north, None if it is missing
+-- reads the key `north` of a table `[[region]]`: the number of the region to the north, None if the key is missing
 abbrev pub north_at : Key (Option ℕ)
 north_at = optional_number_at 1 last_region (codes "north")
 
--- the key `south`: the number of the region to the south, None if it is missing
+-- reads the key `south` of a table `[[region]]`: the number of the region to the south, None if the key is missing
 abbrev pub south_at : Key (Option ℕ)
 south_at = optional_number_at 1 last_region (codes "south")
 
--- the key `east`: the number of the region to the east, None if it is missing
+-- reads the key `east` of a table `[[region]]`: the number of the region to the east, None if the key is missing
 abbrev pub east_at : Key (Option ℕ)
 east_at = optional_number_at 1 last_region (codes "east")
 
--- the key `west`: the number of the region to the west, None if it is missing
+-- reads the key `west` of a table `[[region]]`: the number of the region to the west, None if the key is missing
 abbrev pub west_at : Key (Option ℕ)
 west_at = optional_number_at 1 last_region (codes "west")
 
--- the conditions on the keys of a region's four sides: north, south, east and west
+-- the conditions on the keys `north`, `south`, `east` and `west` of the table `[[region]]` at a path: each that is
+-- there is a number from 1 to last_region
 unfoldable pub side_keys : List ℕ → Members → Conditions
 side_keys at t =
     fault_of (north_at at t)
@@ -72,7 +74,7 @@ side_keys at t =
     ∷ fault_of (west_at at t)
     ∷ []
 
--- the numbers of a region's neighbours on its four sides
+-- the numbers of the neighbours on the four sides that the table `[[region]]` at a path gives
 unfoldable pub sides_from : List ℕ → Members → Sides
 sides_from at t = record {
   north = value_or None (north_at at t);
@@ -81,11 +83,11 @@ sides_from at t = record {
   west = value_or None (west_at at t);
 }
 
--- the conditions on a whole table `[[region]]` of the first format, which reads no markets
+-- the conditions on the whole table `[[region]]` at a path in the first format, which reads no markets
 unfoldable pub old_region_keys : List ℕ → Members → Conditions
 old_region_keys at t = first_fault (basics_keys at t) ∷ side_keys at t
 
--- the region that a table `[[region]]` gives in the first format, with its terrain by name
+-- the region that the table `[[region]]` at a path gives in the first format, with its terrain by name
 unfoldable pub old_region_from : List ℕ → Members → OldRegion
 old_region_from at t = record { basics = basics_from at t; sides = sides_from at t }
 
@@ -93,11 +95,12 @@ old_region_from at t = record { basics = basics_from at t; sides = sides_from at
 abbrev pub as_draft : OldRegion → RegionDraft
 as_draft r = record { basics = r.basics; sides = r.sides; markets = [] }
 
--- the conditions on a whole table `[[region]]` of the second format, with its markets
+-- the conditions on the whole table `[[region]]` at a path in the second format, with its markets
 unfoldable pub region_keys : List ℕ → Members → Conditions
 region_keys at t = first_fault (old_region_keys at t) ∷ markets_keys at t
 
--- the region that a table `[[region]]` gives in the second format, with its terrain and its markets' items by name
+-- the region that the table `[[region]]` at a path gives in the second format, with its terrain and its markets' items
+-- by name
 unfoldable pub region_from : List ℕ → Members → RegionDraft
 region_from at t = record { basics = basics_from at t; sides = sides_from at t; markets = markets_from at t }
 

@@ -15,7 +15,7 @@ use Rattle.atl_tables.specs.declared.rules_table.SkillNames.{SkillNames}
 use Rattle.atl_tables.specs.declared.world_draft.WorldDraft.{WorldDraft}
 use Rattle.atl_world.specs.declared.world.Rules.{Rules}
 
--- the keys for maintenance, tax per man, and the price of a recruit
+-- reads the keys of the table `[rules]` for maintenance, tax per man, and the price of a recruit
 unfoldable pub prices_at : Table Prices
 prices_at = do
   maintenance ← number_key 1 most_per_head (codes "maintenance")
@@ -23,7 +23,7 @@ prices_at = do
   recruit_price ← number_key 1 most_price (codes "recruit_price")
   value_only (record { maintenance = maintenance; tax_per_man = tax_per_man; recruit_price = recruit_price })
 
--- the keys for recruits, births and income of peasants
+-- reads the keys of the table `[rules]` for recruits, births and income of peasants
 unfoldable pub peasants_at : Table PeasantRules
 peasants_at = do
   recruit_fraction ← number_key 1 most_fraction (codes "recruit_fraction")
@@ -31,7 +31,7 @@ peasants_at = do
   income ← number_key 0 most_per_head (codes "income")
   value_only (record { recruit_fraction = recruit_fraction; growth = growth; income = income })
 
--- the keys for the money of a new faction, and for what men weigh and carry
+-- reads the keys of the table `[rules]` for the money of a new faction, and for what men weigh and carry
 unfoldable pub men_at : Table MenRules
 men_at = do
   start_money ← number_key 0 most_amount (codes "start_money")
@@ -39,7 +39,7 @@ men_at = do
   man_carry ← number_key 0 most_weight (codes "man_carry")
   value_only (record { start_money = start_money; man_weight = man_weight; man_carry = man_carry })
 
--- the keys that name the skills of observation, stealth and sailing
+-- reads the keys of the table `[rules]` that name the skills of observation, stealth and sailing
 unfoldable pub skill_names_at : Table SkillNames
 skill_names_at = do
   observation ← optional_text_key (codes "observation")
@@ -47,7 +47,7 @@ skill_names_at = do
   sailing ← optional_text_key (codes "sailing")
   value_only (record { observation = observation; stealth = stealth; sailing = sailing })
 
--- all keys of the table `[rules]`, in order: those on prices, on peasants, on men, and the names of skills
+-- reads all keys of the table `[rules]`, in order: those on prices, on peasants, on men, and the names of skills
 unfoldable pub rules_at : Table RulesDraft
 rules_at = do
   prices ← part prices_at

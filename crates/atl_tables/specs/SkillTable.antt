@@ -7,17 +7,17 @@ use Rattle.atl_tables.specs.KeyByKey.{Table, conditions_of, value_of, ◌>>=◌,
 use Rattle.atl_world.specs.Limits.{most_price}
 use Rattle.atl_world.specs.declared.world.Skill.{Skill}
 
--- all keys of a table `[[skill]]`, in order: name and fee
+-- reads all keys of a table `[[skill]]`, in order: name and fee
 unfoldable pub skill_at : Table Skill
 skill_at = do
   name ← name_key (codes "name")
   fee ← number_key 0 most_price (codes "fee")
   value_only (record { name = name; fee = fee })
 
--- the conditions on the keys of a table `[[skill]]`
+-- the conditions on the keys of the table `[[skill]]` at a path: each has its type and range, and none is missing
 abbrev pub skill_keys : List ℕ → Members → Conditions
 skill_keys = conditions_of skill_at
 
--- the skill that a table `[[skill]]` gives
+-- the skill that the table `[[skill]]` at a path gives
 abbrev pub skill_from : List ℕ → Members → Skill
 skill_from = value_of skill_at

@@ -13,7 +13,8 @@ use Rattle.atl_tables.specs.declared.terrain_table.Economy.{Economy}
 use Rattle.atl_tables.specs.declared.terrain_table.TerrainDraft.{TerrainDraft}
 use Rattle.atl_world.specs.declared.world.Terrain.{Terrain}
 
--- the keys for the wage, the work places, and the most money and peasants that a region grows to
+-- reads the keys of a table `[[terrain]]` for the wage, the work places, and the most money and peasants that a region
+-- grows to
 unfoldable pub economy_at : Table Economy
 economy_at = do
   wage ← number_key 1 most_price (codes "wage")
@@ -22,7 +23,7 @@ economy_at = do
   peasant_limit ← number_key 0 most_amount (codes "peasant_limit")
   value_only (record { wage = wage; places = places; money_limit = money_limit; peasant_limit = peasant_limit })
 
--- all keys of a table `[[terrain]]`, in order: name, whether it is land, wage, work places and limits, and output
+-- reads all keys of a table `[[terrain]]`, in order: name, whether it is land, wage, work places and limits, and output
 unfoldable pub terrain_at : Table TerrainDraft
 terrain_at = do
   name ← name_key (codes "name")
@@ -31,11 +32,12 @@ terrain_at = do
   output ← part output_at
   value_only (record { name = name; land = land; economy = economy; output = output })
 
--- the conditions on the keys of a table `[[terrain]]`
+-- the conditions on the keys of the table `[[terrain]]` at a path: each has its type and range, and none is missing but
+-- `output`
 abbrev pub terrain_keys : List ℕ → Members → Conditions
 terrain_keys = conditions_of terrain_at
 
--- the terrain that a table `[[terrain]]` gives, with its output by names of items
+-- the terrain that the table `[[terrain]]` at a path gives, with its output by names of items
 abbrev pub terrain_from : List ℕ → Members → TerrainDraft
 terrain_from = value_of terrain_at
 

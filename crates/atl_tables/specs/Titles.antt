@@ -10,11 +10,13 @@ use Rattle.atl_tables.specs.Keys.{path, element_path}
 use Rattle.atl_world.specs.Names.{same_name}
 
 module _ {A : Type 0} (title : A → List ℕ) where
-  -- the condition that no element before the i-th has the name of the i-th; else the fault TwoNames at the name's key
+  -- the condition that no element before the i-th, x, of the array at a path (the first text) has the name of x; else
+  -- the fault TwoNames at the path of its name's key (the second text)
   unfoldable pub no_twin_before : List ℕ → List ℕ → List A → ℕ → A → Conditions
   no_twin_before array key all i x = (if list_any (λ y. same_name (title y) (title x)) (take i all) then Some (TwoNames (path (element_path array i) key)) else None) ∷ []
 
-  -- the conditions that no two elements of an array have the same name, ignoring ASCII case
+  -- the conditions that no two elements of the array at a path (the first text) have the same name, which is under a
+  -- key (the second text), ignoring ASCII case
   abbrev pub no_twins : List ℕ → List ℕ → List A → Conditions
   no_twins array key all = each (no_twin_before array key all) 0 all
 

@@ -71,19 +71,20 @@ world_of_tables all = record {
 
 -- ---- the conditions, in the order in which their faults count
 
--- the conditions on the keys of items, skills and kinds: each has its type and range, and is not missing if needed
+-- the conditions on the arrays of items, skills and kinds of a document, each of which may be missing, and on the keys
+-- of their tables
 unfoldable pub optional_conditions : Members → Conditions
 optional_conditions doc =
     list_conditions item_keys (codes "item") (optional_array_at most_items (codes "item") (codes "item") doc)
     ++ (list_conditions skill_keys (codes "skill") (optional_array_at most_skills (codes "skill") (codes "skill") doc)
     ++ list_conditions kind_keys (codes "kind") (optional_array_at most_kinds (codes "kind") (codes "kind") doc))
 
--- the conditions on the keys of regions in a format: each has its type and range, and is not missing if needed
+-- the conditions on the array of regions of a document in a format, and on the keys of its tables
 unfoldable pub regions_conditions : Format → Members → Conditions
 regions_conditions First doc = list_conditions old_region_keys (codes "region") (array_at most_regions (codes "region") doc)
 regions_conditions Second doc = list_conditions region_keys (codes "region") (array_at most_regions (codes "region") doc)
 
--- the conditions on the keys of all tables of a document in a format
+-- the conditions on the arrays of a document in a format, on its table `[rules]`, and on all keys in these
 unfoldable pub keys_conditions : Format → Members → Conditions
 keys_conditions format doc =
     rules_conditions doc

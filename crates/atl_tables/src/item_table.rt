@@ -68,7 +68,8 @@ impl Element for Recipe {
 
     ghost is_sound = { IsRecipe };
 
-    /// What making the item takes, as the table at a path says, else the first fault of these keys.
+    /// What making the item takes, as the table at the path `at` says, else the first fault of its
+    /// keys `skill`, `level`, `raw` and `raw_count`.
     #[tactic(auto, unfolding(crate::specs::ItemTable::making_at))]
     fn read(alloc: Global, at: &str, table: &Table) -> Result<Recipe, WorldFault> {
         let skill = keys::optional_text(alloc, "skill", at, table)?;

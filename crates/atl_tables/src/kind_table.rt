@@ -75,8 +75,8 @@ impl Element for Building {
 
     ghost is_sound = { IsBuilding };
 
-    /// What building the structure takes, as the table at a path says, else the first fault of
-    /// these keys.
+    /// What building the structure takes, as the table at the path `at` says, else the first fault
+    /// of its keys `material`, `size`, `skill` and `level`.
     #[tactic(auto, unfolding(crate::specs::KindTable::building_at))]
     fn read(alloc: Global, at: &str, table: &Table) -> Result<Building, WorldFault> {
         let material = keys::text(alloc, "material", at, table)?;
@@ -101,8 +101,8 @@ impl Element for Purpose {
 
     ghost is_sound = { IsPurpose };
 
-    /// What the structure is good for, as the table at a path says, else the first fault of these
-    /// keys.
+    /// What the structure is good for, as the table at the path `at` says, else the first fault of
+    /// its keys `capacity`, `crew` and `helps`.
     #[tactic(auto, unfolding(crate::specs::KindTable::purpose_at))]
     fn read(alloc: Global, at: &str, table: &Table) -> Result<Purpose, WorldFault> {
         let capacity = keys::number_or(alloc, 0, 0, MOST_AMOUNT, "capacity", at, table)?;

@@ -86,7 +86,8 @@ impl Element for RegionBasics {
 
     ghost is_sound = { AreRegionBasics };
 
-    /// The basics that the table of a region gives, else the first fault of these keys.
+    /// The basics that the table of a region gives, else the first fault of its keys `number`,
+    /// `name`, `terrain`, `peasants` and `money`.
     #[tactic(auto, unfolding(crate::specs::RegionTable::basics_keys, crate::specs::RegionTable::basics_from))]
     fn read(alloc: Global, at: &str, table: &Table) -> Result<RegionBasics, WorldFault> {
         let number = keys::number(alloc, 1, LAST_REGION, "number", at, table)?;
@@ -131,8 +132,8 @@ impl Element for OldRegion {
 
     ghost is_sound = { IsOldRegion };
 
-    /// The region that the table at a path describes, else the first fault of the keys that are
-    /// read.
+    /// The region that the table at the path `at` describes in the first format, else the first
+    /// fault of its keys but `market`.
     #[tactic(auto, unfolding(crate::specs::RegionTable::old_region_keys, crate::specs::RegionTable::old_region_from))]
     fn read(alloc: Global, at: &str, table: &Table) -> Result<OldRegion, WorldFault> {
         let basics = RegionBasics::read(alloc, at, table)?;

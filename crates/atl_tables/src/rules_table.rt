@@ -91,7 +91,8 @@ impl Element for Prices {
 
     ghost is_sound = { ArePrices };
 
-    /// The rules on prices that the table at a path gives, else the first fault of these keys.
+    /// The rules on prices that the table gives, else the first fault of its keys `maintenance`,
+    /// `tax_per_man` and `recruit_price`.
     #[tactic(auto, unfolding(crate::specs::RulesTable::prices_at, crate::specs::Keys::number_at))]
     fn read(alloc: Global, at: &str, table: &Table) -> Result<Prices, WorldFault> {
         let maintenance = keys::number(alloc, 1, MOST_PER_HEAD, "maintenance", at, table)?;
@@ -113,7 +114,8 @@ impl Element for PeasantRules {
 
     ghost is_sound = { ArePeasantRules };
 
-    /// The rules on peasants that the table at a path gives, else the first fault of these keys.
+    /// The rules on peasants that the table gives, else the first fault of its keys
+    /// `recruit_fraction`, `growth` and `income`.
     #[tactic(auto, unfolding(crate::specs::RulesTable::peasants_at, crate::specs::Keys::number_at))]
     fn read(alloc: Global, at: &str, table: &Table) -> Result<PeasantRules, WorldFault> {
         let recruit_fraction = keys::number(
@@ -142,7 +144,8 @@ impl Element for MenRules {
 
     ghost is_sound = { AreMenRules };
 
-    /// The rules on men that the table at a path gives, else the first fault of these keys.
+    /// The rules on men that the table gives, else the first fault of its keys `start_money`,
+    /// `man_weight` and `man_carry`.
     #[tactic(auto, unfolding(crate::specs::RulesTable::men_at, crate::specs::Keys::number_at))]
     fn read(alloc: Global, at: &str, table: &Table) -> Result<MenRules, WorldFault> {
         let start_money = keys::number(alloc, 0, MOST_AMOUNT, "start_money", at, table)?;

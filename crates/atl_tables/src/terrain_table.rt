@@ -58,7 +58,8 @@ impl Element for Economy {
 
     ghost is_sound = { IsEconomy };
 
-    /// The economy that the table of a terrain gives, else the first fault of these keys.
+    /// The economy that the table of a terrain gives, else the first fault of its keys `wage`,
+    /// `places`, `money_limit` and `peasant_limit`.
     #[tactic(auto, unfolding(crate::specs::TerrainTable::economy_at, crate::specs::Keys::number_at))]
     fn read(alloc: Global, at: &str, table: &Table) -> Result<Economy, WorldFault> {
         let wage = keys::number(alloc, 1, MOST_PRICE, "wage", at, table)?;

@@ -28,7 +28,7 @@ pub struct WorldDraft {
     pub regions: Sequence<RegionDraft>,
 }
 
-/// Takes tables that need no look-up out of those read.
+/// Takes out the tables that need no look-up: those of skills.
 impl WorldDraft {
     /// The skills, which need no look-up, taken out of the tables.
     pub(crate) fn into_skills(self) -> Sequence<Skill>

@@ -46,7 +46,8 @@ was_there s n q e = (and_parts (not (eq_by_cmp nat_cmp q n)) (set.contains s q) 
 len-less : (s : Numbers) (n : ℕ) → set.len (set.remove s n) ≤ set.len s
 len-less s n = len-within (set.remove s n) s (was_there s n)
 
--- a law of truth values: "not e and a, or not e and b" is "not e, and also a or b"
+-- "not e and a, or not e and b" is "not e, and also a or b": for `union-remove`, where e says that a number is the one
+-- taken out, and a and b that s and t have it
 both_without : (e a b : Bool) → ((not e && a) || (not e && b)) ≡ (not e && (a || b))
 both_without true a b = refl
 both_without false a b = refl
@@ -62,12 +63,13 @@ union-remove s t n = same _ _ (λ q.
 
 -- ---- how many numbers two sets have
 
--- if "a or b" is false, both a and b are false
+-- if "a or b" is false, both a and b are false: for `in_neither`, where they say whether m and l have the number n
 neither : (a b : Bool) → (a || b) ≡ false → (a ≡ false) × (b ≡ false)
 neither true b h = absurd (false≢true (sym h))
 neither false b h = (refl, h)
 
--- if a list has all numbers of t, the union of s and t, which share no number, has as many numbers as both together
+-- `len-apart` by recursion over a list `ks` that has all numbers of t: the union of s and t, which share no number, has
+-- as many numbers as both together
 len-apart_by : (ks : List ℕ) (s t : Numbers) → ((q : ℕ) → set.contains t q ≡ true → list_any (eq_by_cmp nat_cmp q) ks ≡ true) → ((q : ℕ) → set.contains t q ≡ true → set.contains s q ≡ false) → set.len (set.union s t) ≡ set.len s + set.len t
 len-apart_by [] s t all apart =
     let none : t ≡ set.empty = same t set.empty (λ q. false_from_ne_true _ (λ e. false≢true (all q e)) ∙ sym (set.contains-empty nat_cmp q)) in
@@ -87,7 +89,7 @@ len-apart_by (k ∷ ks) s t all apart =
       | false ↦ λ missing. ap (λ u. set.len (set.union s u)) (sym (remove_absent t k missing)) ∙ fewer ∙ ap (λ u. set.len s + set.len u) (remove_absent t k missing)
     ] refl
 
--- where a excludes b, and b is true, a is false
+-- if a excludes b, and b is true, a is false: for `len-apart`, where a and b say whether s and t have a number
 turned : (a b : Bool) → (a ≡ true → b ≡ false) → b ≡ true → a ≡ false
 turned true b h e = absurd (false≢true (sym (h refl) ∙ e))
 turned false b h e = refl
@@ -96,7 +98,8 @@ turned false b h e = refl
 pub len-apart : (s t : Numbers) → AreApart s t → set.len (set.union s t) ≡ set.len s + set.len t
 len-apart s t h = len-apart_by (set.items t) s t (λ q e. sym (set.contains-items t q) ∙ e) (λ q. turned _ _ (h.apart q))
 
--- what follows from a and from b follows from "a or b"
+-- what follows from a and from b follows from "a or b": for `len-both_below`, where a and b say whether s and t have a
+-- number
 one_of : (a b : Bool) (P : Type 0) → (a ≡ true → P) → (b ≡ true → P) → (a || b) ≡ true → P
 one_of true b P f g h = f refl
 one_of false b P f g h = g h
@@ -127,7 +130,7 @@ apart_remove s t n h = record {
   apart = λ q e. set.contains-remove nat_cmp_total t n q ∙ ap (λ b. not (eq_by_cmp nat_cmp q n) && b) (h.apart q (was_there s n q e)) ∙ and_false _;
 }
   where
-    -- a law of truth values: "b and false" is false
+    -- "b and false" is false: a number that t doesn't have is not in t with n taken out either
     and_false : (b : Bool) → (b && false) ≡ false
     and_false true = refl
     and_false false = refl

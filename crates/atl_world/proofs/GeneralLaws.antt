@@ -43,7 +43,8 @@ key_turned q r = unsigned_tied q r ∙ equal_turned q r
 pub same_key : (q r : ℕ) → eq_by_cmp nat_cmp q r ≡ true → q ≡ r
 same_key q r test = is_equal q r (sym (unsigned_tied q r) ∙ test)
 
--- whichever of n and n + 1 a truth value b chooses, it is at most n + 1
+-- whichever of n and n + 1 a truth value b chooses, it is at most n + 1: for `one_more`, where b says whether the map
+-- of n entries has the key already
 at_most : (b : Bool) (n : ℕ) → cond b n (n + 1) ≤ n + 1
 at_most true n = omega arith
 at_most false n = omega arith

@@ -38,7 +38,8 @@ by_rank P Greater xs ys zs a b c = c refl
 
 -- ---- the numbers of two merged lists
 
--- a law of truth values: if t is u, "t or (a or b)" is "(t or a) or (u or b)"
+-- if t is u, "t or (a or b)" is "(t or a) or (u or b)": for `has-step`, where two lists begin with one number, and t
+-- and u say whether it is n
 again : (t u a b : Bool) → t ≡ u → (t || (a || b)) ≡ ((t || a) || (u || b))
 again true u a b e = refl
 again false u a b e = ap (λ v. a || (v || b)) e
@@ -49,6 +50,7 @@ module _ (n : ℕ) where
   has xs = list_any (eq_by_cmp nat_cmp n) xs
 
   -- n is in the merge of x ∷ xs and a second list exactly if it is in one of the two, given that this is so for xs
+  -- (`on` merges xs with a list)
   has-step : (x : ℕ) (xs : List ℕ) (on : List ℕ → List ℕ) → ((ys : List ℕ) → has (on ys) ≡ (has xs || has ys)) → (ys : List ℕ) → has (step x xs on ys) ≡ (has (x ∷ xs) || has ys)
   has-step x xs on h [] = sym (nothing_more (has (x ∷ xs)))
   has-step x xs on h (y ∷ ys) = by_rank (λ zs. has zs ≡ (has (x ∷ xs) || has (y ∷ ys))) (nat_cmp x y) _ _ _
@@ -71,7 +73,7 @@ from_list-merged xs ys = same _ _ (λ n.
 
 module _ (P : ℕ → Type 0) where
   -- if P holds of all numbers of x ∷ xs and of a second list, it holds of all numbers of their merge, given that this
-  -- is so for xs
+  -- is so for xs (`on` merges xs with a list)
   all-step : (x : ℕ) (xs : List ℕ) (on : List ℕ → List ℕ) → P x → AllByRecursion P xs → ((ys : List ℕ) → AllByRecursion P ys → AllByRecursion P (on ys)) → (ys : List ℕ) → AllByRecursion P ys → AllByRecursion P (step x xs on ys)
   all-step x xs on p a h [] b = (p, a)
   all-step x xs on p a h (y ∷ ys) b = by_rank (AllByRecursion P) (nat_cmp x y) _ _ _ (λ _. (p, h (y ∷ ys) b)) (λ _. (p, h ys b.1)) (λ _. (b.0, all-step x xs on p a h ys b.1))
@@ -131,14 +133,16 @@ pub first_alone : (xs us ys : List ℕ) (r : Option ℕ) → length ys ≡ 0 →
 first_alone xs us (y ∷ ys) r e h = absurd (omega (arith, e))
 first_alone xs us [] r e h = rw (merged_alone xs, merged_alone us) h
 
--- a choice of three lists, each extended by ts, is the choice of the three lists, extended by ts
+-- if us, vs and ws are xs, ys and zs with ts behind, the one that k chooses of them is the one that it chooses of xs,
+-- ys and zs, with ts behind: for `own_last-step` and `other_last-step`
 all_longer : (k : Ordering) (ts xs ys zs us vs ws : List ℕ) → us ≡ xs ++ ts → vs ≡ ys ++ ts → ws ≡ zs ++ ts → match_ordering k us vs ws ≡ match_ordering k xs ys zs ++ ts
 all_longer Less ts xs ys zs us vs ws a b c = a
 all_longer Equal ts xs ys zs us vs ws a b c = b
 all_longer Greater ts xs ys zs us vs ws a b c = c
 
 module _ (n : ℕ) where
-  -- n at the end of x ∷ xs is at the end of its merge with lesser numbers, given that this is so for n at the end of xs
+  -- n at the end of x ∷ xs is at the end of its merge with lesser numbers, given that this is so for xs (`on` merges xs
+  -- with a list, `more` merges xs with n at its end)
   own_last-step : (x : ℕ) (xs : List ℕ) (on more : List ℕ → List ℕ) → ((ys : List ℕ) → Under ys n → more ys ≡ on ys ++ n ∷ []) → (ys : List ℕ) → Under ys n → step x (xs ++ n ∷ []) more ys ≡ step x xs on ys ++ n ∷ []
   own_last-step x xs on more h [] u = refl
   own_last-step x xs on more h (y ∷ ys) u = all_longer (nat_cmp x y) (n ∷ []) _ _ _ _ _ _ (ap (λ zs. x ∷ zs) (h (y ∷ ys) u)) (ap (λ zs. x ∷ zs) (h ys u.1)) (ap (λ zs. y ∷ zs) (own_last-step x xs on more h ys u.1))
@@ -156,6 +160,7 @@ module _ (n : ℕ) where
   own_last (x ∷ xs) ys u = own_last-step x xs (merged xs) (merged (xs ++ n ∷ [])) (own_last xs) ys u
 
   -- n at the end of a second list is at the end of its merge with x ∷ xs, for x below n, given that this is so for xs
+  -- (`on` merges xs with a list)
   other_last-step : (x : ℕ) (xs : List ℕ) (on : List ℕ → List ℕ) → nat_cmp x n ≡ Less → on [] ≡ xs → ((ys : List ℕ) → on (ys ++ n ∷ []) ≡ on ys ++ n ∷ []) → (ys : List ℕ) → step x xs on (ys ++ n ∷ []) ≡ step x xs on ys ++ n ∷ []
   other_last-step x xs on l e h [] =
       ap (λ k. match_ordering k (x ∷ on (n ∷ [])) (x ∷ on []) (n ∷ x ∷ xs)) l ∙ ap (λ zs. x ∷ zs) (h [] ∙ ap (λ zs. zs ++ n ∷ []) e)
@@ -179,7 +184,8 @@ under_last xs count n s l h = all_under (take count xs) n (λ k m.
     let rises : get_or xs k 0 ≤ get_or xs (count - 1) 0 = non_decreasing_from_sorted xs s k (count - 1) 0 (omega (arith, within)) (omega (arith, within, l)) in
     omega (arith, read, rises, h (omega (arith, within))))
 
--- after n is put at an index of a list, the list from this index on is n, followed by what it had behind the index
+-- after n is put at the index `place`, which is `from`, the list from this index on is n, followed by what it had
+-- behind the index
 put_there : (xs : List ℕ) (place from n : ℕ) → place ≡ from → place < length xs → drop from (set xs place n) ≡ n ∷ drop (from + 1) xs
 put_there xs place from n e l = subst (λ p. drop p (set xs place n) ≡ n ∷ drop (p + 1) xs) e (drop-set xs place n l)
 

@@ -45,34 +45,37 @@ contains_inserted s n = set.contains-insert nat_cmp_total s n n ∙ ap (λ b. b 
 
 -- ---- how many
 
--- if a set of n numbers has some number k in it, then n is at least 1
+-- if a set t of n numbers has some number k in it, then n is at least 1
 some : (n : ℕ) (t : set.FinSet nat_cmp) (k : ℕ) → set.len t ≡ n → set.contains t k ≡ true → 1 ≤ n
 some zero t k e h = absurd (false≢true (sym (set.contains-empty nat_cmp k) ∙ ap (λ u. set.contains u k) (sym (set.empty_of_len t e)) ∙ h))
 some (suc n) t k e h = omega arith
 
--- a law of truth values: if "not a, and b" holds, a is false
+-- if "not a, and b" holds, a is false: a number of a set from which k was taken out (b) is not k (a)
 pub without_first : (a b : Bool) → (not a && b) ≡ true → a ≡ false
 without_first true b h = absurd (false≢true h)
 without_first false b h = refl
 
--- a law of truth values: if "a or b" holds, and a is false, b is true
+-- if "a or b" holds, and a is false, b is true: a number of k ∷ ks that isn't k (a) is in ks (b)
 pub rest_holds : (a b : Bool) → a ≡ false → (a || b) ≡ true → b ≡ true
 rest_holds true b e h = absurd (false≢true (sym e))
 rest_holds false b e h = h
 
--- a law of truth values: "not a, and b" holds, if a is false and b true
+-- "not a, and b" holds, if a is false and b true: for `fewer`, where a says whether a number is k, and b whether t has
+-- it
 both_hold : (a b : Bool) → a ≡ false → b ≡ true → (not a && b) ≡ true
 both_hold true b e h = absurd (false≢true (sym e))
 both_hold false b e h = h
 
--- if a implies b, b implies 1 ≤ n, and m (less 1 if a is true) is at most n (less 1 if b is true), then m ≤ n
+-- if a implies b, b implies 1 ≤ n, and m (less 1 if a is true) is at most n (less 1 if b is true), then m ≤ n: for
+-- `fewer`, where a and b say whether sets of m and n numbers have k
 less_step : (a b : Bool) (m n : ℕ) → (a ≡ true → b ≡ true) → (b ≡ true → 1 ≤ n) → cond a (m - 1) m ≤ cond b (n - 1) n → m ≤ n
 less_step true true m n f g h = let l : 1 ≤ n = g refl in omega arith
 less_step true false m n f g h = absurd (false≢true (f refl))
 less_step false true m n f g h = omega arith
 less_step false false m n f g h = h
 
--- if a set t has all numbers of a set s, and a list ks has them, too, then s has no more numbers than t
+-- `len-within` by recursion over a list `ks` that has all numbers of s: if t has all numbers of s, then s has no more
+-- numbers than t
 fewer : (ks : List ℕ) (s t : set.FinSet nat_cmp) → ((q : ℕ) → set.contains s q ≡ true → list_any (eq_by_cmp nat_cmp q) ks ≡ true) → ((q : ℕ) → set.contains s q ≡ true → set.contains t q ≡ true) → set.len s ≤ set.len t
 fewer [] s t all h =
     let none : s ≡ set.empty = same s set.empty (λ q. false_from_ne_true _ (λ e. false≢true (all q e)) ∙ sym (set.contains-empty nat_cmp q)) in
@@ -91,12 +94,13 @@ fewer (k ∷ ks) s t all h =
 pub len-within : (s t : set.FinSet nat_cmp) → ((q : ℕ) → set.contains s q ≡ true → set.contains t q ≡ true) → set.len s ≤ set.len t
 len-within s t h = fewer (set.items s) s t (λ q e. sym (set.contains-items s q) ∙ e) h
 
--- a law of truth values: "b or false" is b
+-- "b or false" is b: no number is in the empty set or the empty list
 pub nothing_more : (b : Bool) → (b || false) ≡ b
 nothing_more true = refl
 nothing_more false = refl
 
--- a law of truth values: the first two of three may be swapped in "or"
+-- the first two of three may be swapped in "or": whether a number is in a set (a), is the one put in (b), or is in
+-- another set (c)
 pub swapped : (a b c : Bool) → (a || (b || c)) ≡ (b || (a || c))
 swapped true true c = refl
 swapped true false c = refl
@@ -112,7 +116,7 @@ union-insert s t k = same _ _ (λ q.
     set.contains-union nat_cmp_total s (set.insert t k) q ∙ ap (λ b. set.contains s q || b) (set.contains-insert nat_cmp_total t k q) ∙ swapped (set.contains s q) (eq_by_cmp nat_cmp q k) (set.contains t q)
     ∙ sym (set.contains-insert nat_cmp_total (set.union s t) k q ∙ ap (λ b. eq_by_cmp nat_cmp q k || b) (set.contains-union nat_cmp_total s t q)))
 
--- a law of truth values: "or" is associative
+-- "or" is associative: whether a number is the one put in (a), is in a set (b), or is in another set (c)
 pub joined : (a b c : Bool) → ((a || b) || c) ≡ (a || (b || c))
 joined true b c = refl
 joined false b c = refl
@@ -123,7 +127,8 @@ insert-union s t k = same _ _ (λ q.
     set.contains-union nat_cmp_total (set.insert s k) t q ∙ ap (λ b. b || set.contains t q) (set.contains-insert nat_cmp_total s k q) ∙ joined (eq_by_cmp nat_cmp q k) (set.contains s q) (set.contains t q)
     ∙ sym (set.contains-insert nat_cmp_total (set.union s t) k q ∙ ap (λ b. eq_by_cmp nat_cmp q k || b) (set.contains-union nat_cmp_total s t q)))
 
--- whichever of n and n + 1 a truth value b chooses, it is at most n + 1
+-- whichever of n and n + 1 a truth value b chooses, it is at most n + 1: for `len-union`, where b says whether a set of
+-- n numbers has the number put in already
 at_most : (b : Bool) (n : ℕ) → cond b n (n + 1) ≤ n + 1
 at_most true n = omega arith
 at_most false n = omega arith
@@ -138,7 +143,7 @@ len-union s (k ∷ ks) =
     let l = at_most (set.contains (set.union s (set.from_list ks)) k) (set.len (set.union s (set.from_list ks))) in
     omega (arith, rest, e, l)
 
--- a law of truth values: if a is true, so is "a or b"
+-- if a is true, so is "a or b": a number of a set (a) is in its union with another set (b)
 pub first : (a b : Bool) → a ≡ true → (a || b) ≡ true
 first true b h = refl
 first false b h = absurd (false≢true h)
@@ -154,12 +159,14 @@ pub len-next : (s t : set.FinSet nat_cmp) (k : ℕ) (ks : List ℕ) → set.unio
 len-next s t k ks h =
     len-within (set.insert s k) t (λ q e. ap (λ u. set.contains u q) (sym (union-next s k ks ∙ h)) ∙ set.contains-union nat_cmp_total (set.insert s k) (set.from_list ks) q ∙ first _ _ e)
 
--- a count l is at most one more than r, which is l, or l less one
+-- a count l is at most one more than r, which is l, or l less one if b is true: for `len-below`, where r counts a set
+-- of l numbers without m, and b says whether it has m
 one_less : (b : Bool) (l r : ℕ) → r ≡ cond b (l - 1) l → l ≤ r + 1
 one_less true l r e = omega (arith, e)
 one_less false l r e = omega (arith, e)
 
--- a number below m + 1 that isn't m is below m
+-- a number k of a set that isn't m is below m, if the set's numbers are below m + 1 (`there` says whether k is in the
+-- set): for `len-below`
 rest_below : (m k : ℕ) (there : Bool) → (not (eq_by_cmp nat_cmp k m) && there) ≡ true → (there ≡ true → k < m + 1) → k < m
 rest_below m k there h below = elim (nat_cmp k m) as (λ r. nat_cmp k m ≡ r → (not (is_eq r) && there) ≡ true → k < m) [
   | Less ↦ λ e yes. let l = ranked k m Less (sym e) in omega (arith, l)

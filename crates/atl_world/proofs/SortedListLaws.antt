@@ -87,7 +87,8 @@ apart : (x : ℕ) (xs : List ℕ) → AllByRecursion (λ y. nat_cmp x y ≡ Less
 apart x [] h = refl
 apart x (y ∷ xs) h = ap (λ r. is_eq r || list_any (eq_by_cmp nat_cmp x) xs) h.0 ∙ apart x xs h.1
 
--- if b is false and m is n, then the choice of m (for b true) or m + 1 (for b false) is n + 1
+-- if b is false and m is n, then the choice of m (for b true) or m + 1 (for b false) is n + 1: for `len-rising`, where
+-- b says whether the set of m numbers has the next number already
 one_more : (b : Bool) (m n : ℕ) → b ≡ false → m ≡ n → cond b m (m + 1) ≡ suc n
 one_more true m n e h = absurd (false≢true (sym e))
 one_more false m n e h = omega arith

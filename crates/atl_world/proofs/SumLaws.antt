@@ -10,24 +10,26 @@ use Rattle.std.proofs.lemmas.List.Sums.{sum_by-cons}
 use Rattle.std.proofs.lemmas.Option.{none-some}
 use Rattle.atl_world.specs.Sums.{sum_over, numbers_where}
 
--- addition is commutative
+-- addition is commutative: for `put_new`
 swapped : (a b : ℕ) → a + b ≡ b + a
 swapped a b = omega arith
 
--- if b is c + d, then a + b is (a + c) + d
+-- if b is c + d, then a + b is (a + c) + d: for `put_new`, where the new entry is put behind one that counts a
 later : (a b c d : ℕ) → b ≡ c + d → a + b ≡ (a + c) + d
 later a b c d h = omega arith
 
--- (a + c) + b is (b + c) + a
+-- (a + c) + b is (b + c) + a: for `put_either`, where a and b are what f gives for the two values
 exchanged : (a b c : ℕ) → (a + c) + b ≡ (b + c) + a
 exchanged a b c = omega arith
 
--- two equal sums stay equal if e is added to the first addend of each
+-- two equal sums stay equal if e is added to the first addend of each: for `put_either`, with an entry in front that
+-- counts e
 under : (e a b c d : ℕ) → a + b ≡ c + d → (e + a) + b ≡ (e + c) + d
 under e a b c d h = omega arith
 
 module _ {X : Type 0} where
-  -- a choice by b in the second branch of a choice by the same b may be replaced by its own second branch
+  -- a choice by b between x, and what the same b chooses of y and z, is that between x and z: for `put_over`, what the
+  -- map has under a number, with and without its value removed first
   twice : (b : Bool) (x y z : Option X) → cond b x z ≡ cond b x (cond b y z)
   twice true x y z = refl
   twice false x y z = refl
@@ -151,7 +153,8 @@ module _ {X : Type 0} where
   pub put_same : (m : FinMap nat_cmp X) (k : ℕ) (u v : X) → get m k ≡ Some u → v ≡ u → insert m k v ≡ m
   put_same m k u v h e = ap (insert m k) e ∙ put_over m k u ∙ sym (put_back m k u h)
 
-  -- if on an error a value is replaced by an equal one, then on an error the map is as it was
+  -- if v equals u, the value under k, wherever the result r is an error, then putting in v leaves the map as it was
+  -- wherever r is an error
   pub put_same_err : {A E : Type 0} (r : Result A E) (m : FinMap nat_cmp X) (k : ℕ) (u v : X) → get m k ≡ Some u → OnErr r (v ≡ u) → OnErr r (insert m k v ≡ m)
   put_same_err (Ok a) m k u v h e = tt
   put_same_err (Err x) m k u v h e = put_same m k u v h e

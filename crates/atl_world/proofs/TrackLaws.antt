@@ -16,12 +16,13 @@ use Rattle.atl_world.proofs.GeneralLaws.{key_itself, same_key}
 use Rattle.atl_world.proofs.SetLaws.{same, insert_twice, insert_undone, contains_inserted, first, len-within, len-union}
 use Rattle.atl_world.proofs.SumLaws.{taken_back}
 
--- a law of truth values: if b is true, so is "a or b"
+-- if b is true, so is "a or b": for numbers of which a says whether they have a mark, and b whether they have a value
 either : (a b : Bool) → b ≡ true → (a || b) ≡ true
 either true b h = refl
 either false b h = h
 
--- P holds of the test whether q is n, if P holds of true where q is n, and if P holds of false
+-- P holds of the test whether q is n, if P holds of true where q is n, and if P holds of false: for laws of a set or a
+-- map that is changed at n, asked about q
 at : (n q : ℕ) (P : Bool → Type 0) → (q ≡ n → P true) → P false → P (eq_by_cmp nat_cmp q n)
 at n q P here other = elim (eq_by_cmp nat_cmp q n) as (λ b. eq_by_cmp nat_cmp q n ≡ b → P b) [ true ↦ λ e. here (same_key q n e) | false ↦ λ _. other ] refl
 
@@ -65,7 +66,8 @@ module _ {V : Type 0} where
   pub held-cleared : (v : FinMap nat_cmp V) (m : set.FinSet nat_cmp) → held (empty {X = V} {R = nat_cmp}) (held v m) ≡ held v m
   held-cleared v m = same _ _ (λ q. contains-held empty (held v m) q ∙ ap (λ o. set.contains (held v m) q || is_some o) (get-empty {X = V} nat_cmp q) ∙ nothing_more (set.contains (held v m) q))
     where
-      -- a law of truth values: "b or false" is b
+      -- "b or false" is b: for `held-cleared`, where b says whether a number is marked, and the empty map has no value
+      -- under it
       nothing_more : (b : Bool) → (b || false) ≡ b
       nothing_more true = refl
       nothing_more false = refl

@@ -14,9 +14,9 @@ invariant-loop-outcome g l = record {
   progress : IsReadSoFar l.seen.items;
   -- with fewer than `lacking` further bytes the request isn't whole (`IsShortBy`)
   short : IsShortBy l.seen.items l.lacking;
-  -- the buffer of a read has the bytes that one read takes at most
+  -- the buffer of a read is as long as one read can fill: most_at_once bytes
   room : length l.room ≡ most_at_once;
-  -- the reads are within their limit
+  -- at most `most_reads` reads were done
   few : l.reads.count ≤ most_reads;
   -- the last read gave a piece or was interrupted, so that another may follow (`GoesOn`)
   goes_on : GoesOn l.reads.last;

@@ -6,7 +6,7 @@ use Rattle.atl_http.proofs.io.send.Given as goal
 -- the first `sent` bytes were written, and fewer than `most_interrupted` writes were interrupted
 abbrev pub invariant-loop-sent : goal.invariant-loop-sent
 invariant-loop-sent g l = record {
-  -- at most all bytes were written
+  -- `sent` is at most the number of all bytes
   within : l.sent ≤ length l.bytes;
   -- fewer than `most_interrupted` writes were interrupted
   patient : l.writes.interrupted < most_interrupted;

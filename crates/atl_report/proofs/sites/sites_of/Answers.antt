@@ -18,7 +18,8 @@ loop-number-init c =
           ∙ ap (numbers_among (λ (s : Structure). s.region == region)) is),
     )
 
--- after one more structure is listed, a region's list with its structures still to come still has all in the region
+-- after one more structure is listed, a region's list, followed by its structures still to come, has all structures of
+-- the region
 pub loop-number-preserved : goal.loop-number-preserved
 loop-number-preserved c =
     let (_, _, rest) = c.loop-number.invariant in

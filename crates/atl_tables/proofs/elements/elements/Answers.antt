@@ -12,7 +12,8 @@ returns-in_err-one-clause-value g c =
     let here = from_here vs c.loop-i.i c.index.result.now (omega (arith, c.args.values.now.ok.0)) c.index.ensures in
     exits _ _ _ _ _ c.from_residual.ensures.1 (ends g.E.Element.conditions c.args.key.now c.loop-i.i (view c.index.result.now) (items_view (drop (c.loop-i.i + 1) vs)) _ c.in_err-one.field-0.0 (rw here at c.loop-i.invariant.faults) c.in_err-one.ensures.value)
 
--- after one more element, the first fault of those after it is the array's, and the values so far with theirs are all
+-- after one more element, the first fault of the elements after it is still that of the array, and the values read so
+-- far, followed by the values of the elements after it, are all values of the array
 pub loop-i-preserved : goal.loop-i-preserved
 loop-i-preserved g c =
     let vs = c.args.values.now.items in

@@ -4,7 +4,7 @@ use Rattle.toml.specs.declared.value.Value.{Value}
 use Rattle.atl_tables.specs.Keys.{count_of}
 use Rattle.atl_tables.proofs.keys.count.Goals as goal
 
--- the definition counts as many elements of an array as the code's vector has
+-- the number of an array's elements by the definition (`count_of`) is the length of the code's vector
 count_view : (vs : List Value) → count_of (items_view vs) ≡ length vs
 count_view [] = refl
 count_view (v ∷ vs) = ap suc (count_view vs)

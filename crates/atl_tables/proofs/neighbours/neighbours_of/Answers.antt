@@ -23,8 +23,8 @@ returns-in_err-neighbour-3-clause-value c =
     let side2 = rw (c.as_str-at.ensures, c.in_ok-place.ensures) at c.in_ok-neighbour-2.ensures.value.0 in
     rw (side1, side2) (exits _ _ _ _ _ c.from_residual-in_err-neighbour-3.ensures.1 (stops_here c.in_err-neighbour-3.field-0.0 _ _ (rw (c.as_str-at.ensures, c.in_ok-place.ensures) at c.in_err-neighbour-3.ensures.value)))
 
--- if the three sides before it have no fault, the check of the neighbour to the west returns what `neighbours_of` has
--- to
+-- if the sides before it have no fault, the check of the neighbour to the west, the last side, returns Ok or the
+-- region's first fault (`neighbours_at`), or Memory
 pub returns-clause-value : goal.returns-clause-value
 unfolding neighbours_at
 returns-clause-value c =

@@ -15,8 +15,8 @@ loop-key-init c =
     let order : in_byte_order (table_view c.args.table.now) ≡ pairs c.into_iter-key-iterator.result = entries_in_order c.args.table.now.entries c.iter-key-items.ensures.ordered ∙ ap pairs (sym same) in
     rw (order, c.new-outputs.ensures) (record { faults = refl; read = refl; sound = search rules })
 
--- after one more amount, the first fault of the entries after it is that of all, and the amounts so far with theirs are
--- all
+-- after one more amount, the first fault of the entries after it is still that of all entries, and the amounts so far,
+-- followed by those of the entries after it, are all amounts
 pub loop-key-preserved : goal.loop-key-preserved
 loop-key-preserved c =
     let at = c.args.at.now in

@@ -11,7 +11,8 @@ use Rattle.atl_tables.proofs.FaultLaws.{exits, stops_here}
 use Rattle.atl_tables.proofs.EachLaws.{goes_on_at, ends_at}
 use Rattle.atl_tables.proofs.output_table.known_keys.Goals as goal
 
--- if a key of an output names no item, the fault of the name is the fault of the key's condition
+-- if looking up the item of a key of an output gives the error e, this is the fault of the key's condition, or Memory
+-- (`Stops`)
 unknown_here : (e : WorldFault) (all : WorldDraft) (at : List ℕ) (i : ℕ) (o : Output) → Stops e (known (path at o.item) (item_number all o.item)) → Stops e (first_fault (known_key_at all at i o))
 unfolding known_key_at
 unknown_here e all at i o h = stops_here e (known (path at o.item) (item_number all o.item)) [] h

@@ -23,11 +23,12 @@ regions_are : (all : WorldDraft) (p : WorldParts) (plans : List RegionPlan) → 
 unfolding regions_of
 regions_are all p plans e q = ap (by_number (λ r. r.number)) (q ∙ ap (λ (x : WorldParts). x.regions) e)
 
--- the world that is made of the parts, the skills of the tables, and a map of regions
+-- the world made of `parts`, the skills of the tables `all`, and a map of regions: as `join` makes it
 abbrev made_of : WorldDraft → WorldParts → FinMap nat_cmp RegionPlan → WorldValue
 made_of all p regions = world_of_parts p.rules p.terrains p.items all.skills p.kinds regions
 
--- the world that is made of the tables' own parts and regions is the world that the tables describe
+-- the world made of the parts and the regions that the tables `all` give is the world that these tables describe
+-- (`world_of_tables`)
 made_is_world : (all : WorldDraft) (p : WorldParts) (regions : FinMap nat_cmp RegionPlan) → p ≡ world_parts_of all → regions ≡ regions_of all → made_of all p regions ≡ world_of_tables all
 unfolding world_of_tables
 made_is_world all p regions e q = ap (made_of all p) q ∙ ap (λ (x : WorldParts). made_of all x (regions_of all)) e

@@ -45,7 +45,8 @@ returns-in_err-no_duplicates_inside c =
     let e = c.in_err-no_duplicates_inside.field-0.0 in
     exits _ _ _ _ _ c.from_residual-in_err-no_duplicates_inside.ensures.1 (stops_after e (titles_differ t) (numbers t ++ (outputs t ++ markets t)) c.in_ok-titles_differ.ensures.0 (stops_after e (numbers t) (outputs t ++ markets t) (rw c.as_slice.ensures at c.in_ok-no_duplicate_numbers.ensures.0) (stops_on e (outputs t) (markets t) (rw c.as_slice-2.ensures at c.in_err-no_duplicates_inside.ensures))))
 
--- if no condition before it is broken, the check of the market items returns what `names_differ` has to
+-- if no condition before it is broken, the check of the market items, the last one, returns Ok or the first fault of
+-- `names_differ`, or Memory
 pub returns : goal.returns
 unfolding names_differ
 returns c =

@@ -12,15 +12,15 @@ use Rattle.atl_tables.specs.World.{optional_conditions, optional_tables_of}
 use Rattle.atl_tables.proofs.FaultLaws.{exits, stops_on, stops_after, passes_both}
 use Rattle.atl_tables.proofs.reading.read_optional_tables.Goals as goal
 
--- the conditions on the keys of the tables of items
+-- the conditions on the array of items, which may be missing, and on the keys of its tables
 abbrev items : Members → Conditions
 items doc = list_conditions item_keys (codes "item") (optional_array_at most_items (codes "item") (codes "item") doc)
 
--- the conditions on the keys of the tables of skills
+-- the conditions on the array of skills, which may be missing, and on the keys of its tables
 abbrev skills : Members → Conditions
 skills doc = list_conditions skill_keys (codes "skill") (optional_array_at most_skills (codes "skill") (codes "skill") doc)
 
--- the conditions on the keys of the tables of kinds
+-- the conditions on the array of kinds of structures, which may be missing, and on the keys of its tables
 abbrev kinds : Members → Conditions
 kinds doc = list_conditions kind_keys (codes "kind") (optional_array_at most_kinds (codes "kind") (codes "kind") doc)
 

@@ -12,19 +12,19 @@ use Rattle.atl_world.specs.declared.format.Format.{Format}
 use Rattle.atl_tables.proofs.FaultLaws.{exits, stops_on, stops_after, passes_both}
 use Rattle.atl_tables.proofs.reading.tables.Goals as goal
 
--- the conditions on the keys of the table of rules
+-- the conditions on the table `[rules]` of the document and on its keys
 abbrev rules : Members → Conditions
 rules doc = rules_conditions doc
 
--- the conditions on the keys of the tables of terrains
+-- the conditions on the array of terrains of the document and on the keys of its tables
 abbrev terrains : Members → Conditions
 terrains doc = list_conditions terrain_keys (codes "terrain") (array_at most_terrains (codes "terrain") doc)
 
--- the conditions on the keys of the tables of items, skills and kinds
+-- the conditions on the arrays of items, skills and kinds of the document and on the keys of their tables
 abbrev optional_tables : Members → Conditions
 optional_tables doc = optional_conditions doc
 
--- the conditions on the keys of the tables of regions in a format
+-- the conditions on the array of regions of the document in a format and on the keys of its tables
 abbrev regions : Format → Members → Conditions
 regions format doc = regions_conditions format doc
 

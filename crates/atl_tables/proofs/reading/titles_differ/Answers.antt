@@ -46,7 +46,8 @@ returns-in_err-no_duplicate_names-3 c =
     let e = c.in_err-no_duplicate_names-3.field-0.0 in
     exits _ _ _ _ _ c.from_residual-in_err-no_duplicate_names-3.ensures.1 (stops_after e (terrains t) (items t ++ (skills t ++ kinds t)) (rw c.as_slice.ensures at c.in_ok-no_duplicate_names.ensures.0) (stops_after e (items t) (skills t ++ kinds t) (rw c.as_slice-2.ensures at c.in_ok-no_duplicate_names-2.ensures.0) (stops_on e (skills t) (kinds t) (rw c.as_slice-3.ensures at c.in_err-no_duplicate_names-3.ensures))))
 
--- if the names of terrains, items and skills differ, the check of the kinds' names returns what `titles_differ` has to
+-- if the names of terrains, items and skills differ, the check of the kinds' names, the last one, returns Ok or the
+-- first fault of `titles_differ`, or Memory
 pub returns : goal.returns
 unfolding titles_differ
 returns c =

@@ -6,7 +6,8 @@ use Rattle.atl_tables.specs.Faults.{first_fault}
 use Rattle.atl_tables.specs.Regions.{has_number, duplicate_number_at}
 use Rattle.atl_tables.proofs.regions.no_duplicate_numbers.Given as goal
 
--- `seen` has the numbers of the regions checked so far, and the first fault of those not checked yet is that of all
+-- `seen` has the numbers of the regions checked so far, and the first fault of the regions not checked yet is that of
+-- all regions
 abbrev pub invariant-loop-i : goal.invariant-loop-i
 invariant-loop-i l = record {
   faults : first_fault (each (duplicate_number_at l.drafts) l.i (drop l.i l.drafts)) ≡ first_fault (each (duplicate_number_at l.drafts) 0 l.drafts);

@@ -28,7 +28,8 @@ returns-then-not-branch g c =
     let test = came_before title all i x c.loop-i.seen c.loop-i.invariant.seen _ (rw c.title.ensures at c.in_ok-is_new.ensures.new) c.if-not-branch.true in
     rw (c.in_ok-path.ensures, c.as_str.ensures, c.in_ok-place.ensures) (ends_at (no_twin_before title array key all) all i x (first_fault (no_twins title array key all)) c.loop-i-test.true c.index-items-i.is c.loop-i.invariant.faults (TwoNames (path (element_path array i) key)) (by_test title array key all i x true test))
 
--- after a new title, `seen` has all titles checked so far, and the first fault of the elements after it is that of all
+-- after a new title, `seen` has all titles checked so far, and the first fault of the elements after it is still that
+-- of all elements
 pub loop-i-preserved : goal.loop-i-preserved
 loop-i-preserved g c =
     let x = c.index-items-i.result in

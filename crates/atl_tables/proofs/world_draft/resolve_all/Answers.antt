@@ -9,8 +9,8 @@ pub returns-in_err-record-clause-value : goal.returns-in_err-record-clause-value
 returns-in_err-record-clause-value g c =
     exits _ _ _ _ _ c.from_residual.ensures.1 (ends_at (g.D.Draft.unknown c.args.all.now) c.args.drafts.now c.loop-i.i c.index-drafts-i.result _ c.loop-i-test.true c.index-drafts-i.is c.loop-i.invariant.faults c.in_err-record.field-0.0 c.in_err-record.ensures.value)
 
--- after one more record, the first fault of the tables after it is that of all, and the records so far with theirs are
--- all
+-- after one more record, the first fault of the tables after it is still that of all tables, and the records so far,
+-- followed by those of the tables after it, are all records
 pub loop-i-preserved : goal.loop-i-preserved
 loop-i-preserved g c =
     let drafts = c.args.drafts.now in

@@ -14,7 +14,8 @@ loop-number-init c =
       part = λ same. mine ∙ same_entries plans others same ∙ sym theirs;
     }
 
--- after two regions that are equal but for markets, those still to come are so exactly if the maps are
+-- after two regions that are equal but for markets, the regions still to come are equal but for markets exactly if the
+-- whole maps are
 pub loop-number-preserved : goal.loop-number-preserved
 loop-number-preserved c =
     let k = c.in-Some.number in

@@ -4,7 +4,8 @@ use Rattle.atl_world.proofs.MergeLaws.{Under, under_last, own_put, other_put, al
 use Rattle.atl_world.proofs.ApartLaws.{less_apart}
 use Rattle.atl_world.proofs.sorted_numbers.merge.Goals as goal
 
--- after the largest number left of the first list is put in place, what is left and in place is still both lists merged
+-- after the largest number left of the first list is put in place, the numbers left of both lists, merged, and those in
+-- place are still both whole lists merged
 pub loop-left-preserved-then-is_last_above : goal.loop-left-preserved-then-is_last_above
 loop-left-preserved-then-is_last_above c =
     let was = c.args.numbers.now in
@@ -28,7 +29,8 @@ loop-left-preserved-then-is_last_above c =
           ∙ c.loop-left.invariant.merged;
     }
 
--- after the largest number left of the second list is put in place, what is left and in place is still both merged
+-- after the largest number left of the second list is put in place, the numbers left of both lists, merged, and those
+-- in place are still both whole lists merged
 pub loop-left-preserved : goal.loop-left-preserved
 loop-left-preserved c =
     let was = c.args.numbers.now in

@@ -5,7 +5,7 @@ use Rattle.atl_records.specs.Grids.{IsGrid, as_books}
 use Rattle.atl_records.proofs.GridLaws.{IsGrid-with_cell, as_books-with_cell, cell_written, grid_there}
 use Rattle.atl_records.proofs.books.Books.put.Goals as goal
 
--- the thing has a row in the books
+-- the thing has a row in the books, so the row can be indexed
 pub index_mut-requires : goal.index_mut-requires
 index_mut-requires c = let there = grid_there c.self.inside.rows.items c.args.self.now c.args.thing c.self.view_is c.requires in omega (arith, there)
 
@@ -17,7 +17,8 @@ invariant_of-self c =
     let written = cell_written rows c.args.entry c.args.thing c.place-row.result c.place-place.result c.index_mut.result.now _ c.args.amount c.index_mut.ensures.value c.place-row.ensures.place c.place-place.ensures.place (to_z-of_z w64 c.args.amount c.ranges.amount) there in
     subst IsGrid (sym written) (IsGrid-with_cell rows c.self.invariant c.args.entry c.args.thing c.args.amount there)
 
--- the books have the amount under its entry and thing, and are else as before (`with_amount`)
+-- after the call the books have the amount under its entry and thing, and each other amount is what it was
+-- (`with_amount`)
 pub returns : goal.returns
 returns c =
     let rows = c.self.inside.rows.items in

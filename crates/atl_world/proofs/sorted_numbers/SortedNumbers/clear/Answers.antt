@@ -4,7 +4,7 @@ use Rattle.atl_world.specs.RoomySets.{RoomySet}
 use Rattle.atl_world.proofs.SortedListLaws.{rising-empty}
 use Rattle.atl_world.proofs.sorted_numbers.SortedNumbers.clear.Goals as goal
 
--- the empty list is sorted
+-- the list is sorted after the call, since it is empty
 pub invariant_of-self : goal.invariant_of-self
 invariant_of-self c = rw c.clear.ensures.items rising-empty
 

@@ -23,7 +23,7 @@ returns-in-None-clause-value c =
     let size = ap length c.deref.ensures.value in
     omega (arith, all, seen, size, c.in-None.ensures.item.3)
 
--- where the list has a last number, which is below 2^32, all numbers of the set are
+-- where the list has a last number, which is below 2^32, all numbers of the set are below 2^32
 pub returns-in-Some-clause-low : goal.returns-in-Some-clause-low
 returns-in-Some-clause-low c n there =
     let items = c.self.inside.numbers.items in
