@@ -238,7 +238,7 @@ module _ (w : WorldValue) (c : CampaignValue) (n : ℕ) (u : Unit) (to : ℕ) (i
 
 -- ---- an order
 
--- if no fault of a list applies, each of their tests is false
+-- if `first_fault` finds none in a list of faults, as in that of MOVE, the test of each fault in the list is false
 pub none_fit : (faults : List (Bool × EventFault)) → first_fault faults ≡ None → AllByRecursion (λ fault. fault.0 ≡ false) faults
 none_fit [] is = tt
 none_fit ((fits, fault) ∷ more) is = let (none, others) = none_fits fits fault more is in (none, none_fit more others)

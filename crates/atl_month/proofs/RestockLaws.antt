@@ -99,7 +99,7 @@ module _ (w : WorldValue) (c : CampaignValue) (n i : ℕ) (m : Market) (r : Regi
   limit_is : stock_limit w n i ≡ m.limit
   limit_is = ap (λ o. option_map_or (λ (k : Market). k.limit) o most_amount) market
 
-  -- the stock of the market is at most its limit
+  -- before restocking, region `n` has in stock of the market's item `i` at most the market's limit
   pub stock_small : stock ≤ m.limit
   stock_small = by_option (get r.stocks i) refl
     where

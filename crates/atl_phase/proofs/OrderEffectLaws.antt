@@ -64,7 +64,7 @@ room_drawn r s a b h room = record { above = omega (arith, ints, h.above, room.a
 pub well_same : {holds : Condition} {reserve : RemainingBound} (w : WorldValue) (c : CampaignValue) → holds w c → StepsWell holds reserve w c c
 well_same {holds} {reserve} w c h = record { holds_still = h; same_month = same_month c; balances = λ b. b; drawn = λ e t. drawn_same (reserve c e t) (amount_in c.books e t) }
 
--- two steps in turn, each of which keeps `holds`, month and balance within the remaining bound, do so together
+-- two steps in turn, which each keep `holds`, month and balance and move the books within their bound, do so together
 -- (`StepsWell`)
 pub well_twice : {holds : Condition} {reserve : RemainingBound} (w : WorldValue) (a b c : CampaignValue) → StepsWell holds reserve w a b → StepsWell holds reserve w b c → StepsWell holds reserve w a c
 well_twice {holds} {reserve} w a b c one two = record {

@@ -25,7 +25,7 @@ module _ {V : Type 0} (f : V → V) (m : FinMap nat_cmp V) (k : ℕ) where
   abbrev pub at_number : ℕ → V → V
   at_number q v = if q == k then f v else v
 
-  -- for `get-changed`: if q is k, `at_number` maps what a look-up of q found as f does
+  -- for `get-changed`, where q is the changed number k: `at_number q` makes of the value found what the change f does
   mapped_here : (q : ℕ) → (q == k) ≡ true → (o : Option V) → option_map f o ≡ option_map (at_number q) o
   mapped_here q t None = refl
   mapped_here q t (Some v) = ap (λ b. Some (if b then f v else v)) (sym t)

@@ -60,7 +60,8 @@ pub record ClosesUnmailed (meaning : Meaning) (keeps : Frame) : Type 0 where
   pub left : (w : WorldValue) (c : CampaignValue) (m : MonthValue) → keeps w m c (meaning w c m).0 →
       Every (λ n u. get m.readings u.faction ≡ None → IsLeft (starved_in (meaning w c m).1.events n - starved_in m.events n) (meaning w c m).0 n u) c.units
 
--- a unit with y - x men less, and then z - y less, has z - x less
+-- if a unit has y - x men less after one phase and then z - y less after the next, it has z - x less (`IsLessBy`):
+-- of its men x had starved before the two phases, y by their middle and z by their end
 less_twice : (x y z : ℕ) (u v t : Unit) → x ≤ y → y ≤ z → IsLessBy (y - x) u v → IsLessBy (z - y) v t → IsLessBy (z - x) u t
 less_twice x y z u v t l k one two = record {
   faction = two.faction ∙ one.faction;

@@ -337,7 +337,7 @@ module _ {S : Type 0} (g : Ghosts S) where
 
   -- ---- by the format
 
-  -- if SELECTs found a value (with `P`), they found it paired with `b` too (with `Q`, which `P` implies) (`Found`)
+  -- for `reads_first`: what SELECTs found with P (`Found`), they found with Q once paired with b, if P a gives Q (a, b)
   found_with : {A B : Type 0} (old : Held S) (selects : List (List ℕ × List Form)) (P : A → Type 0) (Q : A × B → Type 0) (b : B) → ((a : A) → P a → Q (a, b)) → (o : Option A) → Found g old selects P o → Found g old selects Q (option_zip o (Some b))
   found_with old selects P Q b weaker (Some a) found = (found.0, weaker a found.1)
   found_with old selects P Q b weaker None found = found

@@ -64,7 +64,7 @@ two_same a b c d same = (cc, cc)
 
 -- ---- indexes within bounds
 
--- an index in a range is within the bounds of the range
+-- for `things_apart`: a number in the list `range_with_len from count` is at least `from` and below from + count
 pub range_has : (from count i : ℕ) → Has (range_with_len from count) i → (from ≤ i) × (i < from + count)
 range_has from zero i there = absurd there
 range_has from (suc count) i (inl same) = (omega (arith, same), omega (arith, same))

@@ -100,7 +100,7 @@ fn changes_region(campaign: &mut Campaign, region: u32, change: OfRegion) -> Res
     Ok(())
 }
 
-/// Changes the holding that a unit has lent as `change` says, if the unit is there.
+/// Changes the holding that `unit_mut` lent, as `change` says; does nothing if no unit was there.
 fn changes_lent(lent: Option<&mut Holding>, change: OfUnit) -> Result<(), Fail> {
     let Some(holding) = lent else {
         return Ok(());
