@@ -340,11 +340,10 @@ fn write_market(
     match world.item(seen.item) {
         Some(item) => write_trade(out, seen, market, item),
         None => Ok(()),
-        /// Writes the lines of a list of markets of one region, in their order.
     }
 }
 
-/// Writes the lines of some markets of a region, in their order.
+/// Writes the lines of a list of markets of one region, in their order.
 fn write_markets(
     out: &mut String,
     world: &World,
