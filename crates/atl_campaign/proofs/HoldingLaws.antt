@@ -1,6 +1,6 @@
 -- Laws of a unit that gets another holding and does not begin to guard: steadiness, totals and marks.
-use Rattle.std.proofs.Common.{◌≡◌, ◌≢◌, ◌==◌, ℕ, ◌+◌, ◌*◌, ◌≤◌, ◌<◌, Bool, true, Option, Some, None, length, refl, sym, ap, ◌∙◌, arith}
-use Rattle.std.specs.Prelude.{IsTrue, option_map}
+use Rattle.std.proofs.Common.{◌≡◌, ◌≢◌, ◌==◌, ℕ, ◌+◌, ◌*◌, ◌≤◌, ◌<◌, Bool, true, false, Option, Some, None, length, refl, sym, ap, subst, ◌∙◌, arith}
+use Rattle.std.specs.Prelude.{IsTrue, option_map, if◌then◌else◌}
 use Rattle.std.specs.Ordering.{nat_cmp}
 use Rattle.std.specs.Cmp.{ranked}
 use Rattle.std.specs.declared.cmp.Ordering.TheVariants.{Less, Equal, Greater}
@@ -9,7 +9,7 @@ use Rattle.atl_world.specs.Names.{name_ok}
 use Rattle.atl_world.specs.Worlds.{WorldValue}
 use Rattle.atl_world.specs.Sums.{sum_over}
 use Rattle.atl_world.specs.Tracking.{marked_with}
-use Rattle.atl_world.proofs.SumLaws.{numbers_where-insert_known, sum_over-insert_known}
+use Rattle.atl_world.proofs.SumLaws.{numbers_where-insert_known, put_same, sum_over-insert_known}
 use Rattle.atl_campaign.specs.Covers.{MarksChanges, bare, days_under, items_under}
 use Rattle.atl_records.specs.Limits.{holding_limit, most_days}
 use Rattle.atl_records.specs.declared.books.Thing.{Thing}
@@ -17,16 +17,17 @@ use Rattle.atl_records.specs.declared.records.Region.{Region}
 use Rattle.atl_records.specs.declared.records.Unit.{Unit}
 use Rattle.atl_records.specs.Every.{Every}
 use Rattle.atl_campaign.specs.Good.{AreAfloat, AreInRange, AreKnown, AreNumbered, AreOfOneFaction, AreOwned, GoneHaveNone, IsPlaced, IsSteady, guards}
-use Rattle.atl_records.specs.Holdings.{HoldingValue, IsHolding, with_amount_of}
+use Rattle.atl_records.specs.Holdings.{HoldingValue, IsHolding, has_amount, with_amount_of}
 use Rattle.atl_campaign.specs.Lending.{lent, with_held}
 use Rattle.atl_campaign.specs.Marking.{mark_item, mark_skill, mark_unit_row, whole_marked}
 use Rattle.atl_campaign.specs.Marks.{thing_marked}
+use Rattle.atl_campaign.specs.Roster.{unless_has}
 use Rattle.atl_campaign.specs.Campaign.{MarkedCampaign, CampaignValue, unit_changed, with_item, with_skill}
 use Rattle.atl_records.specs.Amounts.{region_amount, unit_amount}
 use Rattle.atl_campaign.specs.Totals.{total}
 use Rattle.atl_campaign.proofs.CoverLaws.{Items, Rows, Skills, Stays, KeepsUnmarked, Units, apart_by, apart_by_thing, changed_there, marks-refl, marks-unit, part_by_part, put_stays, shown_still, thing_stays}
 use Rattle.atl_records.proofs.EveryLaws.{every-insert, get-insert_other, none_some, there-insert}
-use Rattle.atl_records.proofs.HoldingLaws.{get-set_other}
+use Rattle.atl_records.proofs.HoldingLaws.{get-set_other, set_again}
 use Rattle.atl_campaign.proofs.RegionLaws.{get-insert_same, same_len}
 
 -- a holding that a unit may get: within the limits, of the world's items and skills, and guarding only if the unit did
@@ -212,21 +213,39 @@ marks-unit_row f same c n =
       | _ ↦ λ k free. refl
     ]))
 
--- setting an item of a unit, with its mark, marks all that changes (MarksChanges)
-pub marks-item : (c : MarkedCampaign) (n item amount : ℕ) → MarksChanges c (record { value = with_item c.value n item amount; marks = mark_item c n item })
-marks-item c n item amount =
-    let with_other : Unit → Unit = λ u. record u { holding = record u.holding { items = with_amount_of u.holding.items item amount } } in
-    let after : FinMap nat_cmp Unit → Option Unit → MarkedCampaign = λ m o. record { value = record c.value { units = m }; marks = record c.marks { units = marked_with c.marks.units n o; items = thing_marked c.marks.items n item o } } in
-    changed_there (λ m o. MarksChanges c (after m o)) with_other c.value.units n (marks-refl c) (λ u is.
-    let next = after (insert c.value.units n (with_other u)) (Some u) in
-    part_by_part c next
-    (λ p. elim p as (Stays c.marks next.marks) [ Units ↦ put_stays c.marks.units n | Items ↦ λ k h. thing_stays c.marks.goods c.marks.items n item k.0 k.1 h | _ ↦ λ k h. h ])
-    (λ p. elim p as (KeepsUnmarked next.marks c.value next.value) [
-      | Rows ↦ λ k free. shown_still (option_map bare) c.value.units n k u (with_other u) is (λ _. refl)
-      | Items ↦ λ k free. shown_still (λ o. get (items_under o) k.1) c.value.units n k.0 u (with_other u) is (λ here. get-set_other u.holding.items item amount k.1 (apart_by_thing c.marks.goods c.marks.items n item k.0 k.1 free here))
-      | Skills ↦ λ k free. shown_still (λ o. get (days_under o) k.1) c.value.units n k.0 u (with_other u) is (λ _. refl)
-      | _ ↦ λ k free. refl
-    ]))
+module _ (c : MarkedCampaign) (n item amount : ℕ) where
+  -- the unit with the amount of the item set
+  abbrev with_other : Unit → Unit
+  with_other u = record u { holding = record u.holding { items = with_amount_of u.holding.items item amount } }
+
+  -- the campaign with the given units, and the item of unit n marked, unless None is given for the unit
+  abbrev after_item : FinMap nat_cmp Unit → Option Unit → MarkedCampaign
+  after_item units o = record { value = record c.value { units = units }; marks = record c.marks { units = marked_with c.marks.units n o; items = thing_marked c.marks.items n item o } }
+
+  -- setting an item of unit u, which is n, with its mark, marks all that changes (MarksChanges)
+  other_amount : (u : Unit) → get c.value.units n ≡ Some u → MarksChanges c (after_item (insert c.value.units n (with_other u)) (Some u))
+  other_amount u is =
+      let next = after_item (insert c.value.units n (with_other u)) (Some u) in
+      part_by_part c next
+      (λ p. elim p as (Stays c.marks next.marks) [ Units ↦ put_stays c.marks.units n | Items ↦ λ k h. thing_stays c.marks.goods c.marks.items n item k.0 k.1 h | _ ↦ λ k h. h ])
+      (λ p. elim p as (KeepsUnmarked next.marks c.value next.value) [
+        | Rows ↦ λ k free. shown_still (option_map bare) c.value.units n k u (with_other u) is (λ _. refl)
+        | Items ↦ λ k free. shown_still (λ o. get (items_under o) k.1) c.value.units n k.0 u (with_other u) is (λ here. get-set_other u.holding.items item amount k.1 (apart_by_thing c.marks.goods c.marks.items n item k.0 k.1 free here))
+        | Skills ↦ λ k free. shown_still (λ o. get (days_under o) k.1) c.value.units n k.0 u (with_other u) is (λ _. refl)
+        | _ ↦ λ k free. refl
+      ])
+
+  -- setting an item of a unit, with its mark if the amount is another than before, marks all that changes
+  -- (MarksChanges)
+  pub marks-item : MarksChanges c (record { value = with_item c.value n item amount; marks = mark_item c n item amount })
+  marks-item = changed_there (λ units o. MarksChanges c (after_item units (unless_has item amount o))) with_other c.value.units n (marks-refl c) (λ u is. by_amount u is (has_amount u.holding.items item amount) refl)
+    where
+      -- the same for unit u, which is n, whether it has the amount already (b) or not
+      by_amount : (u : Unit) → get c.value.units n ≡ Some u → (b : Bool) → has_amount u.holding.items item amount ≡ b → MarksChanges c (after_item (insert c.value.units n (with_other u)) (if b then None else Some u))
+      by_amount u is true has =
+          let same : with_other u ≡ u = ap (λ items. record u { holding = record u.holding { items = items } }) (set_again u.holding.items item amount has) in
+          subst (λ units. MarksChanges c (after_item units None)) (sym (put_same c.value.units n u (with_other u) is same)) (marks-refl c)
+      by_amount u is false other = other_amount u is
 
 -- setting the days of a skill of a unit, with its mark, marks all that changes (MarksChanges)
 pub marks-skill : (c : MarkedCampaign) (n skill days : ℕ) → MarksChanges c (record { value = with_skill c.value n skill days; marks = mark_skill c n skill })

@@ -13,7 +13,7 @@ use Rattle.atl_campaign.specs.Marks.{Marks, amount_marked, thing_marked}
 use Rattle.atl_campaign.specs.Owners.{heir, is_owned_by, placed}
 use Rattle.atl_campaign.specs.Campaign.{MarkedCampaign, with_owner}
 use Rattle.atl_campaign.specs.Regions.{MarkedRegions, region_to_restock}
-use Rattle.atl_campaign.specs.Roster.{Roster}
+use Rattle.atl_campaign.specs.Roster.{Roster, unit_to_supply}
 
 -- the marks of a campaign, put together from those of its factions, regions, units and so on, and of the campaign row
 abbrev pub marks_of_parts : (factions : FinSet nat_cmp) → MarkedRegions → Roster → (structures mail reports books : FinSet nat_cmp) → Bool → Marks
@@ -55,17 +55,21 @@ mark_unit_begun c = record (mark_unit_added c c.value.next_unit) { row = true }
 abbrev pub mark_unit_row : MarkedCampaign → ℕ → Marks
 mark_unit_row c n = record c.marks { units = marked_with c.marks.units n (get c.value.units n); rows = marked_with c.marks.rows n (get c.value.units n) }
 
--- the marks after an item of unit n changed, if the unit is there: the unit and that item are marked too, not its row
-abbrev pub mark_item : MarkedCampaign → ℕ → ℕ → Marks
-mark_item c n item = record c.marks { units = marked_with c.marks.units n (get c.value.units n); items = thing_marked c.marks.items n item (get c.value.units n) }
+-- the marks after an amount of an item of unit n was set: if the unit is there and had another amount of it, the unit
+-- and that item are marked too, not its row
+abbrev pub mark_item : MarkedCampaign → (unit item : ℕ) → ℕ → Marks
+mark_item c n item amount =
+    let unit = unit_to_supply c.value.units n item amount in
+    record c.marks { units = marked_with c.marks.units n unit; items = thing_marked c.marks.items n item unit }
 
 -- the marks after a skill of unit n changed, if the unit is there: the unit and that skill are marked too, not its row
 abbrev pub mark_skill : MarkedCampaign → ℕ → ℕ → Marks
 mark_skill c n skill = record c.marks { units = marked_with c.marks.units n (get c.value.units n); skills = thing_marked c.marks.skills n skill (get c.value.units n) }
 
--- the campaign with an item of unit n marked, if there is such a unit, and nothing else changed
-abbrev pub item_marked : MarkedCampaign → ℕ → ℕ → MarkedCampaign
-item_marked c n item = record c { marks = mark_item c n item }
+-- the campaign with an item of unit n marked, if there is such a unit and it has another amount of it than `amount`,
+-- and nothing else changed
+abbrev pub item_marked : MarkedCampaign → (unit item : ℕ) → ℕ → MarkedCampaign
+item_marked c n item amount = record c { marks = mark_item c n item amount }
 
 -- the campaign with a skill of unit n marked, if there is such a unit, and nothing else changed
 abbrev pub skill_marked : MarkedCampaign → ℕ → ℕ → MarkedCampaign

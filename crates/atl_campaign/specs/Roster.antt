@@ -1,5 +1,5 @@
 -- The units of a campaign with marks: on units, their rows, all goods of a unit, and single items and skills.
-use Rattle.std.specs.Prelude.{ℕ, refl, Option, Some, None}
+use Rattle.std.specs.Prelude.{ℕ, refl, Option, Some, None, if◌then◌else◌}
 use Rattle.std.specs.Ordering.{nat_cmp}
 use Rattle.std.specs.Coded.{Coded, code_by, coded×, coded_ℕ}
 use Rattle.std.specs.FinMap as map
@@ -8,6 +8,7 @@ use Rattle.atl_world.specs.Sums.{changed}
 use Rattle.atl_world.specs.Tracking.{marked_with}
 use Rattle.atl_records.specs.declared.records.Unit.{Unit}
 use Rattle.atl_records.specs.contracts.records.Unit as unit
+use Rattle.atl_records.specs.Holdings.{has_amount}
 use Rattle.atl_campaign.specs.Marks.{Things, things_code, thing_marked}
 
 -- The units by number, with marks on units (`marks`), their rows, all goods of a unit, and single items and skills.
@@ -56,17 +57,30 @@ with_unit_at r n u = record (all_marked r n) { values = map.insert r.values n u 
 abbrev pub with_unit_row : (Unit → Unit) → Roster → ℕ → Roster
 with_unit_row f r n = record r { values = changed f r.values n; marks = marked_with r.marks n (map.get r.values n); rows = marked_with r.rows n (map.get r.values n) }
 
--- the roster with f applied to unit n, if there is one, and the unit and one of its items marked, but not its row
-abbrev pub with_item_at : (Unit → Unit) → Roster → ℕ → ℕ → Roster
-with_item_at f r n item = record r { values = changed f r.values n; marks = marked_with r.marks n (map.get r.values n); items = thing_marked r.items n item (map.get r.values n) }
+-- the unit given, if it has another amount of an item than `amount`; else None
+abbrev pub unless_has : (item amount : ℕ) → Option Unit → Option Unit
+unless_has item amount None = None
+unless_has item amount (Some u) = if has_amount u.holding.items item amount then None else Some u
+
+-- unit n, if there is one and it has another amount of an item than `amount`; else None
+abbrev pub unit_to_supply : map.FinMap nat_cmp Unit → (unit item : ℕ) → ℕ → Option Unit
+unit_to_supply values n item amount = unless_has item amount (map.get values n)
+
+-- The roster with unit n and one of its items marked, if the unit has another amount of it than `amount`.
+-- The units stay as they are.
+abbrev pub item_marked_at : Roster → (unit item : ℕ) → ℕ → Roster
+item_marked_at r n item amount =
+    let unit = unit_to_supply r.values n item amount in
+    record r { marks = marked_with r.marks n unit; items = thing_marked r.items n item unit }
+
+-- The roster with f applied to unit n, if there is one.
+-- If the unit has another amount of an item than `amount`, it and that item are marked, but not its row.
+abbrev pub with_item_at : (Unit → Unit) → Roster → (unit item : ℕ) → ℕ → Roster
+with_item_at f r n item amount = record (item_marked_at r n item amount) { values = changed f r.values n }
 
 -- the roster with f applied to unit n, if there is one, and the unit and one of its skills marked, but not its row
 abbrev pub with_skill_at : (Unit → Unit) → Roster → ℕ → ℕ → Roster
 with_skill_at f r n skill = record r { values = changed f r.values n; marks = marked_with r.marks n (map.get r.values n); skills = thing_marked r.skills n skill (map.get r.values n) }
-
--- the roster with unit n and one of its items marked, if there is such a unit; the units stay as they are
-abbrev pub item_marked_at : Roster → ℕ → ℕ → Roster
-item_marked_at r n item = record r { marks = marked_with r.marks n (map.get r.values n); items = thing_marked r.items n item (map.get r.values n) }
 
 -- the roster with unit n and one of its skills marked, if there is such a unit; the units stay as they are
 abbrev pub skill_marked_at : Roster → ℕ → ℕ → Roster

@@ -241,8 +241,9 @@ impl Units {
         }
     }
 
-    /// Sets how many pieces of an item a unit has, at most 999,999,999, and marks that item, not
-    /// the unit's row. Without memory the units are as they were, but that mark may be set.
+    /// Sets how many pieces of an item a unit has, at most 999,999,999. If it had more or fewer,
+    /// that item is marked, and never the unit's row. Without memory the units are as they were,
+    /// but that mark may be set.
     pub(crate) fn set_item(
         &mut self,
         alloc: Global,
@@ -256,13 +257,16 @@ impl Units {
             (λ u. record u {
               holding = record u.holding
                   { items = with_amount_of u.holding.items item amount };
-            }) self.old number item) }
+            }) self.old number item amount) }
         ensures err { OnErr result
-            ((self.new ≡ self.old) ⊎ (self.new ≡ item_marked_at self.old number item)) }
+            ((self.new ≡ self.old) ⊎ (self.new ≡ item_marked_at self.old number item amount)) }
     {
         let Some(unit) = self.units.get_mut(number) else {
             return Ok(());
         };
+        if unit.holding.has_amount(item, amount) {
+            return Ok(());
+        }
         self.items.insert_under(alloc, number, item, ())?;
         self.marks.add(number);
         unit.holding.set_amount(item, amount)

@@ -104,10 +104,10 @@ pub money_changes : (c d : MarkedCampaign) (n money : ℕ) → d.value ≡ with_
 money_changes c d n money = row_changes (λ h. record h { money = money }) (λ h. refl) c d n
 
 -- setting a unit's amount of one item changes nothing else of its holding, and marks the change (`ChangesHolding`)
-pub item_changes : (c d : MarkedCampaign) (n item amount : ℕ) → d.value ≡ with_item c.value n item amount → d.marks ≡ mark_item c n item → ChangesHolding c d n (λ h. record h { items = with_amount_of h.items item amount })
+pub item_changes : (c d : MarkedCampaign) (n item amount : ℕ) → d.value ≡ with_item c.value n item amount → d.marks ≡ mark_item c n item amount → ChangesHolding c d n (λ h. record h { items = with_amount_of h.items item amount })
 item_changes c d n item amount what marks = record {
   value = what;
-  marks = marks_by c d (record { value = with_item c.value n item amount; marks = mark_item c n item }) what marks (marks-item c n item amount);
+  marks = marks_by c d (record { value = with_item c.value n item amount; marks = mark_item c n item amount }) what marks (marks-item c n item amount);
   goods = ap (λ (m : Marks). m.goods) marks;
 }
 

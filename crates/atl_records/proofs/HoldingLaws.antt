@@ -1,13 +1,15 @@
 -- Laws of amounts by numbers (items, days), once one of them is set.
 use Rattle.std.proofs.Common.{◌≡◌, ◌≢◌, ◌==◌, ℕ, ◌≤◌, Bool, true, false, cond, Option, Some, None, refl, ap, subst, sym, ◌∙◌, inl, inr, arith}
 use Rattle.std.specs.Prelude.{Result, Ok, Err, OnOk, OnErr, unwrap_or, if◌then◌else◌}
-use Rattle.std.proofs.lemmas.Bool.{cases_Bool}
+use Rattle.std.proofs.lemmas.Bool.{and_parts, cases_Bool, not-true}
 use Rattle.std.proofs.lemmas.Bool.Decides.{nat_tests}
 use Rattle.std.specs.Ordering.{nat_cmp, eq_by_cmp}
 use Rattle.std.specs.Cmp.{nat_cmp_total, unsigned_ties}
 use Rattle.std.specs.FinMap.{FinMap, get, get-insert, get-remove, insert, remove}
+use Rattle.atl_world.proofs.SumLaws.{put_same}
+use Rattle.atl_world.proofs.TrackLaws.{remove_none}
 use Rattle.atl_records.specs.Every.{Every}
-use Rattle.atl_records.specs.Holdings.{AreAmounts, HoldingValue, IsHolding, amount_of, with_amount_of}
+use Rattle.atl_records.specs.Holdings.{AreAmounts, HoldingValue, IsHolding, amount_of, has_amount, is_listed, with_amount_of}
 use Rattle.atl_records.specs.Limits.{holding_limit}
 use Rattle.atl_records.proofs.EveryLaws.{every-insert, get-insert_other}
 use Rattle.atl_records.proofs.RemovedLaws.{every-remove, get-remove_other}
@@ -79,6 +81,18 @@ module _ (items : FinMap nat_cmp ℕ) (i amount : ℕ) where
       by_zero : (b : Bool) → get (if b then remove items i else insert items i amount) j ≡ get items j
       by_zero true = get-remove_other items i j apart
       by_zero false = get-insert_other items i j amount apart
+
+  -- setting the amount that is there already leaves all amounts as they were
+  pub set_again : has_amount items i amount ≡ true → with_amount_of items i amount ≡ items
+  set_again has = by_entry (get items i) refl has
+    where
+      -- the amount is there already, whether none is listed under i or one is
+      by_entry : (listed : Option ℕ) → get items i ≡ listed → is_listed listed amount ≡ true → with_amount_of items i amount ≡ items
+      by_entry None is none = ap (λ b. if b then remove items i else insert items i amount) none ∙ remove_none items i is
+      by_entry (Some listed) is same =
+          let parts = and_parts _ _ same in
+          let equal : amount ≡ listed = let test = parts.1 in grind (arith, nat_tests) in
+          ap (λ b. if b then remove items i else insert items i amount) (not-true _ parts.0) ∙ put_same items i listed amount is equal
 
 -- ---- a unit's amounts stay within the limits, whether there was memory or not
 

@@ -1,5 +1,5 @@
 -- The value of a holding in contracts: name, men, money, guard flag, items and days.
-use Rattle.std.specs.Prelude.{◌≡◌, ◌≤◌, ◌==◌, List, ℕ, Bool, refl, unwrap_or, Some, if◌then◌else◌}
+use Rattle.std.specs.Prelude.{◌≡◌, ◌≤◌, ◌==◌, ◌&&◌, List, ℕ, Bool, not, refl, unwrap_or, Option, None, Some, if◌then◌else◌}
 use Rattle.std.specs.Ordering.{nat_cmp}
 use Rattle.std.specs.Coded.{Coded, code_by, coded×, coded_ℕ, coded_list, coded_bool}
 use Rattle.std.specs.FinMap.{FinMap, code, get, insert, remove}
@@ -32,6 +32,15 @@ holding_code =
 -- the amount under a number (pieces of an item, days of a skill), 0 where none is listed
 abbrev pub amount_of : FinMap nat_cmp ℕ → ℕ → ℕ
 amount_of items item = unwrap_or (get items item) 0
+
+-- whether an amount is the listed one; 0 is the amount where none is listed
+abbrev pub is_listed : Option ℕ → ℕ → Bool
+is_listed None amount = amount == 0
+is_listed (Some listed) amount = not (amount == 0) && listed == amount
+
+-- whether the amount under a number (the first ℕ) is the given one (the second); it is 0 where none is listed
+abbrev pub has_amount : FinMap nat_cmp ℕ → ℕ → ℕ → Bool
+has_amount items item amount = is_listed (get items item) amount
 
 -- the amounts with the one under a number (the first ℕ) set to another amount (the second); an amount of 0 is not
 -- listed

@@ -2,7 +2,7 @@
 ghost use Rattle.std.specs.Prelude.{◌≡◌, ◌≤◌, ℕ, OnOk, OnErr, IsOk, false};
 ghost use Rattle.std.specs.FinMap as map;
 ghost use Rattle.atl_records.specs.Limits.{men_limit, holding_limit};
-ghost use Rattle.atl_records.specs.Holdings.{amount_of, with_amount_of, AreAmounts};
+ghost use Rattle.atl_records.specs.Holdings.{amount_of, has_amount, with_amount_of, AreAmounts};
 
 use atl_world::{Entries, Numbered, Text, let_go};
 use std::alloc::AllocError;
@@ -131,6 +131,16 @@ impl Holding {
         ensures { result ≡ amount_of self.now.items item }
     {
         amount_under(&self.items, item)
+    }
+
+    /// Whether the unit holds exactly this many pieces of an item.
+    pub fn has_amount(&self, item: u32, amount: u32) -> bool
+        ensures { result ≡ has_amount self.now.items item amount }
+    {
+        match self.items.get(item) {
+            Some(listed) => amount != 0 && *listed == amount,
+            None => amount == 0,
+        }
     }
 
     /// How many pieces the unit holds of each item, where they are not 0, sorted by item number.

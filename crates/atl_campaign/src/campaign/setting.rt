@@ -104,15 +104,15 @@ impl Campaign {
         self.units.set_money(unit, money);
     }
 
-    /// Sets how many pieces of an item a unit has, at most HOLDING_LIMIT, and marks that item, not
-    /// the unit's row or another of its goods. AllocError without memory, and then the campaign is
-    /// as it was, but that mark may be set.
+    /// Sets how many pieces of an item a unit has, at most HOLDING_LIMIT. If it had more or fewer,
+    /// that item is marked, and never the unit's row or another of its goods. AllocError without
+    /// memory, and then the campaign is as it was, but that mark may be set.
     pub fn set_item(&mut self, unit: u32, item: u32, amount: u32) -> Result<(), AllocError>
         requires { amount ≤ holding_limit }
         ensures ok { OnOk result (self.new.value ≡ with_item self.old.value unit item amount) }
         ensures err { OnErr result
-            ((self.new ≡ self.old) ⊎ (self.new ≡ item_marked self.old unit item)) }
-        ensures marks { OnOk result (self.new.marks ≡ mark_item self.old unit item) }
+            ((self.new ≡ self.old) ⊎ (self.new ≡ item_marked self.old unit item amount)) }
+        ensures marks { OnOk result (self.new.marks ≡ mark_item self.old unit item amount) }
     {
         self.units.set_item(self.alloc, unit, item, amount)
     }

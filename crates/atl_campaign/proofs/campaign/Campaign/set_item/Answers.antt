@@ -7,16 +7,16 @@ use Rattle.atl_campaign.proofs.ListLaws.{AreUnitLists-set}
 use Rattle.atl_campaign.proofs.campaign.Campaign.set_item.Goals as goal
 
 -- for invariant_of-self: rosters r and s have the same units, if s is r, or is r with an item of unit n marked
-same_values : (r s : Roster) (n item : ℕ) → (s ≡ r) ⊎ (s ≡ item_marked_at r n item) → s.values ≡ r.values
-same_values r s n item (inl e) = ap (λ (t : Roster). t.values) e
-same_values r s n item (inr e) = ap (λ (t : Roster). t.values) e
+same_values : (r s : Roster) (n item amount : ℕ) → (s ≡ r) ⊎ (s ≡ item_marked_at r n item amount) → s.values ≡ r.values
+same_values r s n item amount (inl e) = ap (λ (t : Roster). t.values) e
+same_values r s n item amount (inr e) = ap (λ (t : Roster). t.values) e
 
 -- after set_item the lists by region, faction and structure are still those of the units: none of these three changed
 pub invariant_of-self : goal.invariant_of-self
 invariant_of-self c = record {
   unit_lists =
       AreUnitLists-set c.set_item.result (λ (u : Unit). record u { holding = record u.holding { items = with_amount_of u.holding.items c.args.item c.args.amount } }) (λ u. refl) c.self.inside.units.values c.set_item.new.self.values c.self.inside.lists c.args.unit
-      (on_ok_weaker c.set_item.result (ap (λ (r : Roster). r.values)) c.set_item.ensures.ok) (on_err_weaker c.set_item.result (same_values c.self.inside.units c.set_item.new.self c.args.unit c.args.item) c.set_item.ensures.err) c.self.invariant.unit_lists;
+      (on_ok_weaker c.set_item.result (ap (λ (r : Roster). r.values)) c.set_item.ensures.ok) (on_err_weaker c.set_item.result (same_values c.self.inside.units c.set_item.new.self c.args.unit c.args.item c.args.amount) c.set_item.ensures.err) c.self.invariant.unit_lists;
   amounts = c.self.invariant.amounts;
 }
 
