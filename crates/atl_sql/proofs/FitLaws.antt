@@ -104,7 +104,7 @@ module _ (tree : ℕ) (name key_name : List ℕ) (columns : List Column) (unique
     abbrev its_row : Row
     its_row = int n ∷ Null ∷ values
 
-    -- the terms of the parameters after the first give the values
+    -- the terms that read the parameters after the first, which is the number, give the values
     of_parameters : (more : Row) (rows : List Row) → eval_all (map (col 0) (range_with_len 1 width)) ((int n ∷ (values ++ more)) ∷ rows) ≡ values
     of_parameters more rows = map-map (λ (t : Term). eval t ((int n ∷ (values ++ more)) ∷ rows)) (col 0) (range_with_len 1 width) ∙ each_later (int n) values more
 

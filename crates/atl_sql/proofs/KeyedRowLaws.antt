@@ -89,7 +89,7 @@ pub record HasKey (t : Table) (at : ℕ) (places : List ℕ) : Type 0 where
   pub unique : (indexes : List Index) (rows : List Row) (r : Row)
       → list_all (λ i. not (guards i t && clashes i.order i.columns rows r)) (all_indexes ++ indexes) ≡ true
       → list_any (λ y. agree_at places y r && differ (rowid y) (rowid r)) rows ≡ false
-  -- row `x` conflicts with `new` in this key if they are equal in its columns, or share values of a further index
+  -- row `x` conflicts with `new` in the key exactly if both agree in its columns or share values of a further index
   pub hits : (indexes : List Index) (new x : Row)
       → conflicts (Some places) (all_indexes ++ indexes) t new x ≡ (agree_at places x new || list_any (shares (Some places) t new x) indexes)
 

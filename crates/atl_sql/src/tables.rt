@@ -216,7 +216,8 @@ pub(crate) fn are_first_tables(tables: &[Table], count: usize) -> bool
 
 // ---- the tables are made
 
-/// Makes the ten tables by these texts, each without a row, in a database that has no table.
+/// Makes the ten tables by the texts of these definitions, each table without a row, in a database
+/// that has no table.
 fn create_each<S: Alter>(
     tx: &mut Transaction<'_, S>,
     tables: &[TableDefinition],
