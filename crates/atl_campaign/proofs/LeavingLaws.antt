@@ -31,7 +31,7 @@ use Rattle.atl_campaign.proofs.RegionLaws.{changed-known, get-insert_same, same_
 use Rattle.atl_records.proofs.RemovedLaws.{every-insert_other, every-remove, fewer, get-remove_other, still, sum_over-remove}
 use Rattle.atl_campaign.proofs.NumberListLaws.{IsListed, first_of, none_passing, nothing_listed}
 
--- a structure with the given owner
+-- a structure with the given owner in place of its own
 abbrev pub owned_by : ℕ → Structure → Structure
 owned_by n s = record s { owner = n }
 
@@ -337,19 +337,20 @@ module _ (w : WorldValue) (c : CampaignValue) (n : ℕ) (u : Unit) (is : get c.u
       by_test true = regrouped _ _ _ _ (sum_over-remove c.units n (λ (x : Unit). unit_amount t x.holding) u is)
       by_test false = regrouped _ _ _ _ (sum_over-remove c.units n (λ (x : Unit). unit_amount t x.holding) u is)
 
-  -- the campaign d has the units of c without n, and the factions, regions, books, month and reports of c
+  -- the campaign d has the units of the campaign c but unit n, and the same factions, regions, books, month and reports
+  -- as c
   pub record IsOnlyReduced (d : CampaignValue) : Type 0 where
     -- the campaign d has the units of c, but not unit n
     pub units : d.units ≡ remove c.units n
-    -- the campaign d has the factions of c, from which unit n was removed
+    -- the campaign d, which lacks unit n, has the same factions as the campaign c, which has the unit
     pub factions : d.factions ≡ c.factions
-    -- the campaign d has the regions of c, from which unit n was removed
+    -- the campaign d, which lacks unit n, has the same regions as the campaign c, which has the unit
     pub regions : d.regions ≡ c.regions
-    -- the campaign d has the books of c, from which unit n was removed
+    -- the campaign d, which lacks unit n, has the same books as the campaign c, which has the unit
     pub books : d.books ≡ c.books
-    -- the campaign d has the month of c, from which unit n was removed
+    -- the campaign d, which lacks unit n, has the same month as the campaign c, which has the unit
     pub month : d.month ≡ c.month
-    -- the campaign d has the reports of c, from which unit n was removed
+    -- the campaign d, which lacks unit n, has the same reports as the campaign c, which has the unit
     pub reports : d.reports ≡ c.reports
 
   -- removing unit n changes no faction, region, report or amount of the books, and not the month
