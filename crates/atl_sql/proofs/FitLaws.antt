@@ -87,7 +87,7 @@ pub record MakesRow (t : Table) (width number : ℕ) (values : Row) : Type 0 whe
   pub casted : cast_row t (int number ∷ Null ∷ values) ≡ int number ∷ Null ∷ values
   -- of the row as stored, SQL shows the number and the values
   pub shown : visible t (int number ∷ Null ∷ values) ≡ int number ∷ values
-  -- the column after the number and the values is the rowid of the row to change
+  -- of what the UPDATE reads, the column after the number and the values is `x`, the rowid of the row to change
   pub aimed : (x : Value) (more : Row) → column ((int number ∷ values) ++ x ∷ more) (width + 1) ≡ x
 
 module _ (tree : ℕ) (name key_name : List ℕ) (columns : List Column) (uniques : List (List ℕ)) where

@@ -115,7 +115,7 @@ pub record MakesValues (t : Table) (places : List ℕ) (width : ℕ) (terms : Li
   pub shown : (n : ℤ) → visible t (Int n ∷ values) ≡ values
   -- a row of these values, with any rowid `n`, has integers in the columns of the key
   pub ints : (n : ℤ) → AreInts places (Int n ∷ values)
-  -- the column at the index `hole` is the one after the values, which is the rowid of the row to change
+  -- of what the UPDATE reads, the column at the index `hole`, after the values, is `x`, the rowid of the row to change
   pub aimed : (x : Value) (more : Row) → column (values ++ x ∷ more) hole ≡ x
   -- of a row with the key of these values, the UPDATE makes a row of which SQL shows these values
   pub changed : (more r : Row) → at_places places r ≡ take (length places) values

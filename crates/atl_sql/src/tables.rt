@@ -24,7 +24,8 @@ pub(crate) struct TableDefinition {
     pub(crate) columns: &'static [(&'static [u8], Kind)],
 }
 
-/// A list of columns in their order: a kind, and the names of all that follow each other with it.
+/// Lists the columns of a table in their order: each kind, and then the names of the columns of
+/// that kind that follow one another.
 macro_rules! columns {
     ($($kind:ident: $($name:literal)*);*) => {
         &[$($(($name, Kind::$kind),)*)*]
