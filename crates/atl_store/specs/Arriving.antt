@@ -34,7 +34,7 @@ pub record HasArrival (c : CampaignValue) (number : ℕ) : Type 0 where
   -- the campaign has the faction's report
   pub report : IsSome (get c.reports number)
 
--- the campaign has this faction, this report and this unit, whose number `place` is the last, `next_unit - 1`
+-- The campaign has this faction, this report, and this unit, whose number `place` is the last (`next_unit - 1`).
 -- The books have money and people among their things.
 pub record IsFound (c : CampaignValue) (number : ℕ) (faction : Faction) (place : ℕ) (unit : Unit) (report : List ℕ) : Type 0 where
   -- the unit's number `place` is the last: the next one is `next_unit`

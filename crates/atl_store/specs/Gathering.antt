@@ -121,7 +121,7 @@ JudgesFormat f rows r = (IsOther f rows × (r ≡ Err OtherFormat)) ⊎ ((¬ IsO
 abbrev pub ReadRows : Type 0
 ReadRows = List (Part × List Row)
 
--- these are all rows of the part's table, if the schema begins with the tables of the first format that has the part
+-- these are all rows of the part's table, if the schema begins with the tables of the earliest format that has the part
 abbrev pub AreRows : Database → Part → List Row → Type 0
 AreRows db part rows = HasTablesOf (listing_of part).since db.schema → IsPermutation ((listing_of part).in_table db.trees) rows
 
@@ -195,11 +195,11 @@ module _ {S : Type 0} (g : Ghosts S) (old : Held S) where
   -- Reading these tables gives what `Found` says, or a fault (`FailsToRead`), if the disk is clean.
   -- The connection is as after reads: the tables are as they were (`AfterReads`).
   pub record ReadsSome {A : Type 0} (selects : List (List ℕ × List Form)) (P : A → Type 0) (result : Result (Option A) LoadFault) (new : Held S) : Type 0 where
-    -- if the reads succeed, the connection was open before them
+    -- if the reads succeed, and the disk is clean, the connection was open before them
     pub was_open : HasCleanDisk (state g new) → IfOk result (λ _. IsTrue (state g old).is_open)
-    -- if the reads succeed, the result is what the SELECTs found (`Found`)
+    -- if the reads succeed, and the disk is clean, the result is what the SELECTs found (`Found`)
     pub found : HasCleanDisk (state g new) → IfOk result (Found selects P)
-    -- if the reads fail, the fault is one that they may return (`FailsToRead`)
+    -- if the reads fail, and the disk is clean, the fault is one that they may return (`FailsToRead`)
     pub fails : HasCleanDisk (state g new) → IfErr result (FailsToRead selects)
     -- the reads leave the tables as they were
     pub leaves : AfterReads g old new

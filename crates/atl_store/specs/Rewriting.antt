@@ -27,11 +27,11 @@ Rewrites table is_chosen Wanted old new = Alters table (rows_after_rewrite is_ch
 
 -- ---- which rows a step rewrites
 
--- whether `k` is the number `n`
+-- whether the second number is the first one, `n`
 abbrev pub is_number : ℕ → ℕ → Bool
 is_number n k = eq_by_cmp nat_cmp k n
 
--- whether `k` is one of these numbers
+-- whether a number is in a list of numbers
 abbrev pub is_among : List ℕ → ℕ → Bool
 is_among ns k = list_any (eq_by_cmp nat_cmp k) ns
 
@@ -92,7 +92,7 @@ marked_things marks Skill = marks.skills
 abbrev pub RewritesGoods : MarkedCampaign → Database → Database → Type 0
 RewritesGoods c old new = Rewrites has_table (goods_marked c.marks) (HasRowsOf c.value.units) old new
 
--- the rows of `books` of the marked amounts of these entries and things become those that the campaign has
+-- the rows of `books` of the marked amounts whose entry passes `entries` and thing `things` become the campaign's
 abbrev pub RewritesAmounts : MarkedCampaign → (ℕ → Bool) → (ℕ → Bool) → Database → Database → Type 0
 RewritesAmounts c entries things old new = Rewrites books_table (of_amounts c.marks.books entries things) (BooksRowsOf c.value.books) old new
 
