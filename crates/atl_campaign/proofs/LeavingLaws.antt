@@ -170,7 +170,7 @@ module _ (w : WorldValue) (c : CampaignValue) (n : ℕ) (u : Unit) (is : get c.u
   -- ---- who owns the structures
 
   module _ (old : AreOwned c) (low : Every (λ k v. 1 ≤ k) c.units) where
-    -- a structure that unit n owns is the one that it is inside
+    -- a structure that unit n owns is the one that n is inside, if owners are inside their structures (AreOwned)
     owns_own : (k : ℕ) (x : Structure) → get c.structures k ≡ Some x → x.owner ≡ n → u.structure ≡ k
     owns_own k x there own =
         let least = low n u is in
@@ -187,8 +187,8 @@ module _ (w : WorldValue) (c : CampaignValue) (n : ℕ) (u : Unit) (is : get c.u
           ownerless = λ none. every-remove c.units n (λ m v. v.structure ≢ k) (o.ownerless none);
         }
 
-    -- if unit n does not own the structure that it is inside, each structure has its owner inside, or nobody, once n is
-    -- removed (AreReowned)
+    -- if unit n does not own the structure that it is inside, each structure still has its owner inside, or no unit
+    -- inside, once n is removed (AreReowned)
     as_they_were : is_owned_by (get c.structures u.structure) n ≡ false → AreReowned c.structures
     as_they_were free = record {
       count = refl;
@@ -242,7 +242,7 @@ module _ (w : WorldValue) (c : CampaignValue) (n : ℕ) (u : Unit) (is : get c.u
       is_same : (k : ℕ) → not (k == n) ≡ false → k ≡ n
       is_same k t = let e : (k == n) ≡ true = not-false (k == n) t in grind (arith, nat_tests)
 
-      -- the units inside unit n's structure have numbers from 1 on
+      -- the units inside unit n's structure have numbers from 1 on, as all units have
       listed_low : (k : ℕ) → IsListed k among → 1 ≤ k
       listed_low k h = let (v, at, inside) = listed_is_inside u.structure c.units k h in low k v at
 
@@ -260,8 +260,8 @@ module _ (w : WorldValue) (c : CampaignValue) (n : ℕ) (u : Unit) (is : get c.u
                 apart (is_same k (first.1 none k (inside_is_listed u.structure c.units some_place k v at within)));
           }
 
-      -- once unit n's structure has its next owner, each structure is owned by a unit left inside, or by nobody where
-      -- none is left (AreReowned)
+      -- once unit n's structure has its next owner, each structure is still owned by a unit left inside, or by nobody
+      -- where none is left (AreReowned)
       as_handed_on : AreReowned handed_on
       as_handed_on = record {
         count = same_len c.structures u.structure mine (owned_by next mine) here;
