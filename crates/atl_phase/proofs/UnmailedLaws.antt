@@ -51,7 +51,7 @@ pub record LeavesUnmailed (meaning : Meaning) (keeps : Frame) : Type 0 where
   pub left : (w : WorldValue) (c : CampaignValue) (m : MonthValue) → keeps w m c (meaning w c m).0 →
       Every (λ n u. get m.readings u.faction ≡ None → IsUnaffected (IsLessBy (starved_in (meaning w c m).1.events n - starved_in m.events n)) (meaning w c m).0 n u) c.units
 
--- After the phase each unit of a faction without a mailing of which not all men starve is there, with its faction and
+-- After the phase each unit of a faction without a mailing, unless all its men starve, is there, with its faction and
 -- name, no less of any item, and its men less exactly those who starve. The phase takes back no Starved event, and may
 -- change the mailings.
 pub record ClosesUnmailed (meaning : Meaning) (keeps : Frame) : Type 0 where
@@ -249,7 +249,8 @@ told_of_order events t outcome n =
     by_unit true x = omega arith
     by_unit false x = omega arith
 
--- each unit of another faction than this one is in the campaign after, with exactly as many men as in the one before
+-- each unit of another faction than the given one is in the campaign after, with its faction and exactly as many men as
+-- in the campaign before
 abbrev pub OthersHaveMen : (faction : ℕ) → CampaignValue → CampaignValue → Type 0
 OthersHaveMen f c d = Every (λ n u. f ≢ u.faction → IsUnaffected HasItsMen d n u) c.units
 
@@ -257,7 +258,7 @@ OthersHaveMen f c d = Every (λ n u. f ≢ u.faction → IsUnaffected HasItsMen 
 pub others_men : (f : ℕ) (c d : CampaignValue) → HaveTheirMen c d → OthersHaveMen f c d
 others_men f c d men n u there other = men n u there
 
--- after each order of the phase, every unit of another faction than the one that wrote it has its men (`OthersHaveMen`)
+-- the effect of each order leaves every unit of another faction than the order's writer its men (`OthersHaveMen`)
 abbrev pub SparesMen : OrderMeaning → Type 0
 SparesMen step = (w : WorldValue) (a : Aliases) (c : CampaignValue) (t : Task) (x : Unit) → IsUnitOf c t x → IfSome (step w a t) (λ deed. OthersHaveMen t.faction c (deed c x).0)
 

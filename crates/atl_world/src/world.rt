@@ -81,7 +81,7 @@ pub struct Item {
     pub carry: u32,
     /// The number of the skill that makes the item. Without one nobody can make it.
     pub skill: Option<u16>,
-    /// The level of its skill that making the item takes, from 1 to `LAST_LEVEL`.
+    /// The level of the item's skill that making the item takes, from 1 to `LAST_LEVEL`.
     pub level: u32,
     /// The number of the item that this item is made of, another one. Without one, this item comes
     /// out of the output of terrains.
@@ -114,7 +114,7 @@ pub struct Kind {
     pub size: u32,
     /// The number of the skill that builds the structure.
     pub skill: u16,
-    /// The level of its skill that building the structure takes, from 1 to `LAST_LEVEL`.
+    /// The level of the kind's skill that building the structure takes, from 1 to `LAST_LEVEL`.
     pub level: u32,
     /// The most weight of men and goods with which a ship sails, at most `MOST_AMOUNT`.
     pub capacity: u32,
