@@ -132,7 +132,8 @@ module _ (marks : FinSet nat_cmp) where
       inside : (e t n : ℕ) → entry_count * t + e < entry_count * n → t < n
       inside e t n h = omega (arith, h)
 
-      -- for `all_amounts`: the test for an entry's index, one of the things and a mark is the test for a marked amount
+      -- for `all_amounts`: the test for an index of an entry, for a thing of the range and for a mark is
+      -- `is_marked_amount`
       same : (e t : ℕ)
           → (is_among (map entry_index all_entries) e && (is_among (range_with_len 0 things) t && marked e t)) ≡ is_marked_amount marks e t
       same e t = elim (cases_Bool (marked e t)) [

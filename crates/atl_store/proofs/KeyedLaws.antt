@@ -179,7 +179,7 @@ module _ (part : Part) (db : Trees) (rows : List Row) where
 pub record IsPlacedAs {A : Type 0} (part : Part) (stored : RowWithId A → Row) (values : A → Row) : Type 0 where
   -- the first columns of a row as it is shown are the values of the row that was read
   pub values_are : (s : RowWithId A) → take (width part) (stored s) ≡ values s.row
-  -- the column after these values is the rowid of the row that was read
+  -- the column after the values is the rowid of the row that was read
   pub place_is : (s : RowWithId A) → column (stored s) (width part) ≡ Int s.rowid
 
 module _ {A : Type 0} {part : Part} {stored : RowWithId A → Row} {values : A → Row} (is : IsPlacedAs part stored values) (placed : List (RowWithId A)) where

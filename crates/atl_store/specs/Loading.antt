@@ -158,7 +158,7 @@ pub record AfterReads {S : Type 0} (g : Ghosts S) (old new : Held S) : Type 0 wh
   pub idle : new.in_transaction ≡ false
 
 module _ {S : Type 0} (g : Ghosts S) (old : Held S) where
-  -- the SELECT, asked of the tables of `old`, shows these rows
+  -- the SELECT `sql`, asked of the tables of `old`, shows the rows `rows`
   pub record SelectShows (sql : List ℕ) (rows : List Row) : Type 0 where
     -- a connection on which the SELECT is asked
     pub before : Held S
@@ -212,7 +212,7 @@ module _ {S : Type 0} (g : Ghosts S) (old : Held S) where
   pub record FailedMeanwhile : Type 0 where
     -- the connection after the reads in which the disk failed
     pub after : Held S
-    -- these reads left the tables as they were, if the disk is clean
+    -- the reads in which the disk failed left the tables as they were, if the disk is clean
     pub leaves : AfterReads g old after
     -- the disk failed during the reads
     pub failed : MoreFaults (state g old).faults (state g after).faults
@@ -321,7 +321,7 @@ module _ (f : Format) {S : Type 0} (g : Ghosts S) (old : Held S) where
   CannotConfirm = AllSelectsShowTyped g old (other_selects f) × ((¬ AreMade) ⊎ (FailedMeanwhile g old ⊎ RefusesAgain g old false))
 
   -- When Store may be returned: in a transaction, or if the SELECT of the campaign row could not go on (`is_failure`).
-  -- Also, if that row keeps the first rule, if another table can't be read or the tables can't be confirmed.
+  -- Also, where that row keeps the first rule, if another table can't be read or the tables can't be confirmed.
   abbrev pub MayReturnStore : Type 0
   MayReturnStore = (old.in_transaction ≡ true) ⊎ (RefusesToSelect g (selection campaign_table 1) old read.Store ⊎ (KeepsOneRow × (CannotRead ⊎ CannotConfirm)))
 

@@ -59,8 +59,8 @@ static ONE_BY_ONE: [Row; 11] = [
     ),
 ];
 
-/// The wanted marks of a unit, an item and a skill of which were set, once `unit_mut` lends its
-/// holding or it is removed.
+/// The wanted marks after an item and a skill of unit 1 were set, and `unit_mut` then lent its
+/// holding or the unit was removed.
 const WHOLE: &str = "1, units [1], rows [1], goods [1], item 7 of unit 1, skill 3 of unit 1";
 
 /// Steps that set an item and a skill of unit 1, and then change its money through `unit_mut`,
