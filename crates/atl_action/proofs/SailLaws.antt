@@ -507,8 +507,8 @@ module _ (w : WorldValue) (begun : CampaignValue) (number faction : ℕ) where
       list = sailed_list w c ship to same.steady x at s ∙ same.list;
     }
 
-    -- if `c` is as begun (`IsAsBegun`), so is the campaign after an order of SAIL with operands `o` for unit n of
-    -- faction f, if by it the structure of unit `number` wouldn't have sailed at the start
+    -- If `c` is as begun (`IsAsBegun`), so is the campaign after an order of SAIL with operands `o` for unit n of
+    -- faction f. This supposes that by the order the structure of unit `number` wouldn't have sailed at the start.
     order_stays : (f n : ℕ) (o : OperandsValue) → (inside begun n ≡ s → (order_result (by_direction (sail w n) o) begun f n).1 ≡ Some (Done 0) → ⊥) → IsAsBegun (order_result (by_direction (sail w n) o) c f n).0
     order_stays f n (operands.Direction direction) apart =
         carried_cases (λ p. (inside begun n ≡ s → p.1 ≡ Done 0 → ⊥) → IsAsBegun p.0) (sail w n direction) c f n (λ apart. same)

@@ -120,8 +120,8 @@ module _ (w : WorldValue) (c : CampaignValue) (n : ℕ) (u : Unit) (s cost days 
       (let fallen = less in grind arith)
       (booked-near c.books Study Money (neg_ℤ (pos cost)) cost (within-neg cost cost (omega arith)) e t)
 
-  -- If a unit pays and reaches at most 450 days for each man, a steady campaign stays steady, with the same month,
-  -- reports and set of factions, and with balanced books still balanced (`StepsWell`).
+  -- A unit that pays and reaches at most 450 days for each man keeps a steady campaign steady and balanced books
+  -- balanced (`StepsWell`). The month, the reports and the set of factions stay.
   studied_well : s < length w.skills → days ≤ most_days * u.holding.men → StepsWell IsSteady study_reserve w c behind
   studied_well known most = record {
     holds_still = steady_behind known most;

@@ -155,8 +155,8 @@ module _ (w : WorldValue) (c : CampaignValue) (n : ℕ) (u : Unit) (to : ℕ) (i
         guarding = λ k x there. guards_stay 0 to (k == n) x;
       }
 
-      -- A walk keeps a steady campaign steady, with the same month, reports and set of factions, and with balanced
-      -- books still balanced (`StepsWell`), if each structure keeps all but its owner and has its right owner.
+      -- A walk keeps a steady campaign steady and balanced books balanced (`StepsWell`), and the month, the reports and
+      -- the set of factions stay. This supposes that each structure keeps all but its owner, and has its right owner.
       behind_well : StepsWell IsSteady nothing_remaining w c behind
       behind_well =
           stays_well IsSteady w c behind (steady-travelled w c units structures f g are steady)
@@ -227,8 +227,8 @@ module _ (w : WorldValue) (c : CampaignValue) (n : ℕ) (u : Unit) (to : ℕ) (i
 
   -- ---- both
 
-  -- For `walked_well`: a walk keeps a steady campaign steady, with the same month, reports and set of factions, and
-  -- with balanced books still balanced (`StepsWell`), whether the unit was inside no structure (`b`) or in one.
+  -- For `walked_well`: a walk keeps a steady campaign steady and balanced books balanced (`StepsWell`), whether the
+  -- unit was inside no structure (`b`) or in one. The month, the reports and the set of factions stay.
   by_place : (b : Bool) → (old_place == 0) ≡ b → StepsWell IsSteady nothing_remaining w c (with_guard (if b then begun else gone_off) n false)
   by_place true t = subst (StepsWell IsSteady nothing_remaining w c) (sym (elsewhere_is 0 to c n)) (outside_well (is_equal old_place 0 t))
   by_place false t =

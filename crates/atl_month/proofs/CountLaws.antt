@@ -38,8 +38,8 @@ module _ {V : Type 0} where
   at_least zero a b count all = omega arith
   at_least (suc k) a b count all = by_entries (λ c d less has. at_least k c d less has) (entries b) refl
     where
-      -- For `at_least`: if map `b` has size `k + 1`, and map `a` has each number of `b`, `a` has at least size `k + 1`,
-      -- given the law for all maps of size `k`.
+      -- For `at_least`: a map `a` that has each number of map `b`, whose size is `k + 1`, has at least size `k + 1`.
+      -- The law is given for all maps of size `k`.
       by_entries : ((c d : FinMap nat_cmp V) → len d ≡ k → HasAllNumbers c d → k ≤ len c) → (es : List (ℕ × V)) → entries b ≡ es → suc k ≤ len a
       by_entries step [] is = absurd (omega (arith, count, len-entries b ∙ ap length is))
       by_entries step (e ∷ es) is =

@@ -143,7 +143,7 @@ none_read f ms none = get-from_entries nat_cmp_total (map (λ r. (r.faction, r))
         ] refl
 
 -- After phases of `ClosesUnmailed` each unit of a faction without a mailing has its items and all men but those whom
--- the events report as starved (`IsLeft`). The month begins without events.
+-- the events report as starved (`IsLeft`). This supposes that the month begins without events.
 left_behind : (phases : Meaning) (keeps : Frame) → ClosesUnmailed phases keeps → (w : WorldValue) (c d : CampaignValue) (m : MonthValue) (events : List Event) → m.events ≡ [] → ◌≡◌ {A = CampaignValue × List Event} (d, events) ((phases w c m).0, (phases w c m).1.events) → keeps w m c d
     → Every (λ n u. get m.readings u.faction ≡ None → IsLeft (starved_in events n) d n u) c.units
 left_behind phases keeps closes w c d m events begins is kept n u there none some =

@@ -62,7 +62,7 @@ module _ {V : Type 0} (p : V → Bool) where
   PassesIn m k = (v : V) × (get m k ≡ Some v) × (p v ≡ true)
 
   -- If each number that passes in map `o` passes in map `m`, and some number passes in `o`, then the first in `m` is no
-  -- greater than the first in `o`. The numbers of `m` begin at 1.
+  -- greater than the first in `o`. This supposes that the numbers of `m` begin at 1.
   first_below : (m o : FinMap nat_cmp V) → Every (λ k v. 1 ≤ k) m → ((k : ℕ) → PassesIn o k → PassesIn m k) → first_or_zero (numbers_where p o) ≢ 0
       → (first_or_zero (numbers_where p m) ≢ 0) × (first_or_zero (numbers_where p m) ≤ first_or_zero (numbers_where p o))
   first_below m o low also some =
@@ -143,7 +143,7 @@ module _ (m : ReceiverMap) (n : ℕ) (u : Unit) (es : List (ℕ × Unit)) (low :
     where
       -- Noting unit `n` keeps the receiver of a faction in a region: `o`, which the map has, else `next`, the first of
       -- the units after `n`. Tests `p`, `q` and `k` say whether unit `n` is in the region, is of the faction, and has
-      -- men; `x` is the receiver that the map has of the faction of unit `n` in its region.
+      -- men. The map has receiver `x` for the faction of unit `n` in its region.
       goes_on : (p q k : Bool) (o : Option ℕ) (x next : ℕ) → (p ≡ true → q ≡ true → unwrap_or o 0 ≡ x)
           → or_if_zero (unwrap_or (cond ((k && (x == 0)) && (p && q)) (Some n) o) 0) next ≡ or_if_zero (unwrap_or o 0) (cond (p && (q && k)) n next)
       goes_on p q k o x next same = grind (arith, nat_tests, low)

@@ -141,7 +141,7 @@ module _ (w : WorldValue) (c : CampaignValue) (n i : ℕ) (m : Market) (r : Regi
       ∙ sym (booked-after_booking c.books Stocked (Item i) (pos more) t)
     where
       -- For `balanced`: if the total of a thing is what the books account for, it still is with the new goods added to
-      -- both, where the thing is the item (`b`), or to neither.
+      -- both. They are added only where the thing is the item (`b`).
       added : (b : Bool) (x : ℕ) (z : ℤ) → pos x ≡ z → pos (x + cond b more 0) ≡ z +ℤ cond b (pos more) (pos 0)
       added b x z e = grind (arith, ints, e)
 

@@ -75,8 +75,8 @@ module _ {R : Type 0} (thing amount : R → ℕ) (mine : R → Bool) (m : FinMap
   abbrev IsIn : FinMap nat_cmp ℕ → R → Type 0
   IsIn k r = get k (thing r) ≡ Some (amount r)
 
-  -- the map `m` is read back from the rows that pass the test `mine`, if these have distinct things and amounts that m
-  -- has too, and each amount of m has such a row
+  -- The map `m` is read back from the rows that pass the test `mine`. This supposes that their things are distinct,
+  -- that `m` has their amounts, and that each amount of `m` has such a row.
   pub amounts_back : Apart thing (filter mine rows) → AllByRecursion (λ r. mine r ≡ true → IsIn m r) listed
       → ((P : R → Type 0) → AllByRecursion (λ r. mine r ≡ true → P r) listed → Every (λ i a. (r : R) × (thing r ≡ i) × (amount r ≡ a) × P r) m) → by_number thing amount (filter mine rows) ≡ m
   amounts_back apart of there =
