@@ -25,8 +25,8 @@ module _ (w : WorldValue) (c : CampaignValue) where
   abbrev with_skill : Learning → Task → Option ℕ → Learning
   with_skill learning t skill = option_map_or (λ s. if learns w s t.faction (get c.units t.unit) then insert learning t.unit s else learning) skill learning
 
-  -- Q holds of the map after an order of STUDY, if it holds of the map before, and of that with the order's unit under
-  -- a skill that the unit learns by the order
+  -- Q holds of the map after an order of STUDY, if it holds of the map before. Where the unit of the order learns by
+  -- it, Q has to hold with the unit and its skill added.
   learner_cases : (Q : Learning → Type 0) (t : Task) (learning : Learning) → Q learning → IfLearns (λ n s. Q (insert learning n s)) t → Q (with_learner w c learning t)
   learner_cases Q t learning same added = by_skill (skill_of t.order_value.operands) refl
     where
@@ -35,8 +35,8 @@ module _ (w : WorldValue) (c : CampaignValue) where
       by_skill None says = same
       by_skill (Some s) says = cond_both (learns w s t.faction (get c.units t.unit)) (insert learning t.unit s) learning Q (added s says) (λ _. same)
 
-  -- if P holds of all units that are learning, and of each that learns by one of some orders, it holds of all with
-  -- these added
+  -- P holds of each unit and skill in the map once the units of some orders are added. It has to hold of those that
+  -- were in the map, and of those that learn by one of the orders.
   only_all : (P : ℕ → ℕ → Type 0) (ts : List Task) (learning : Learning) → AllByRecursion (IfLearns P) ts → Every P learning → Every P (fold (with_learner w c) learning ts)
   only_all P [] learning so old = old
   only_all P (t ∷ ts) learning so old =
@@ -53,7 +53,7 @@ module _ (w : WorldValue) (c : CampaignValue) where
       subst (λ o. IsThere (with_skill learning t o) t.unit) (sym says)
       (subst (λ b. IsThere (if b then insert learning t.unit s else learning) t.unit) (sym can) (s, get-insert_same learning t.unit s))
 
-  -- each unit that learns by one of some orders is learning after them
+  -- each unit that learns by one of some orders of STUDY is in the map once the units of these orders are added
   each_all : (ts : List Task) (learning : Learning) → AllByRecursion (IfLearns (λ n s. IsThere (fold (with_learner w c) learning ts) n)) ts
   each_all [] learning = tt
   each_all (t ∷ ts) learning =

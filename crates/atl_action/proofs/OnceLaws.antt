@@ -28,7 +28,8 @@ module _ (c : CampaignValue) where
       let below = filter (is_below c learning t.unit) pupils in
       by_fault (first_mentions below) (teach_fault c t pupils below)
     where
-      -- of no unit more men were taught than it has, whether the order has a fault or not
+      -- For `once_taught`: after an order of TEACH, of no unit more men were taught than it has, whether the order has
+      -- a fault or not.
       by_fault : (ns : List ℕ) (o : Option EventFault)
           → AreTaughtOnce c (option_map_or (λ fault. (taught, Fault (event_fault_number fault))) o (lesson c taught (pupils_per_teacher * men_at c t.unit) ns)).0
       by_fault ns (Some fault) = old

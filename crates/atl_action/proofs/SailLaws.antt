@@ -95,7 +95,8 @@ module _ (ship to : ℕ) where
   mapped_both : (a b : Bool) (o : Option Unit) → option_map (gone_if ship to b) (option_map (gone_if ship to a) o) ≡ option_map (gone_if ship to (a || b)) o
   mapped_both a b o = grind rules
 
-  -- a look-up of a unit, after those of a list went along with the ship, finds it gone too if listed, else unchanged
+  -- A look-up of a unit, after the units of a list went along with the ship, finds it gone along if listed, else
+  -- unchanged.
   all_at : (m : FinMap nat_cmp Unit) (ns : List ℕ) (k : ℕ) → get (fold (elsewhere ship to) m ns) k ≡ option_map (gone_if ship to (list_any (λ n. k == n) ns)) (get m k)
   all_at m [] k = sym (option_map_id (get m k))
   all_at m (n ∷ ns) k =
@@ -290,8 +291,8 @@ module _ (w : WorldValue) (c : CampaignValue) (ship to : ℕ) (steady : IsSteady
       guarding = λ k v there. guards_stay ship to (v.structure == ship) v;
     }
 
-    -- if a complete ship sails to a region that is there, the campaign stays steady,
-    -- in its month and with balanced books (`StepsWell`)
+    -- If a complete ship sails to a region that is there, a steady campaign stays steady, with the same month, reports
+    -- and set of factions, and with balanced books still balanced (`StepsWell`).
     pub sailed_well : StepsWell IsSteady nothing_remaining w c (after_sailing c ship to)
     sailed_well =
         subst (StepsWell IsSteady nothing_remaining w c) (sym sailed_is)
@@ -398,7 +399,8 @@ sail_cases P w c n u direction same gone_off =
         let fine = none_fit (faults w n u to ship (sum_inside (crew_of w) c u.structure) (sum_inside (load_of w) c u.structure)) e in
         by_ship to ship refl fine.1.1.1.0 fine.1.1.1.1.0
 
--- an order of SAIL keeps a steady campaign steady, in its month and with balanced books (`StepsWell`)
+-- An order of SAIL keeps a steady campaign steady, with the same month, reports and set of factions, and with balanced
+-- books still balanced (`StepsWell`).
 sail_well : (w : WorldValue) (c : CampaignValue) (n : ℕ) (u : Unit) (direction : Direction) → IsSteady w c → StepsWell IsSteady nothing_remaining w c (sail w n direction c u).0
 sail_well w c n u direction steady =
     sail_cases (λ p. StepsWell IsSteady nothing_remaining w c p.0) w c n u direction (λ outcome. well_same w c steady)
@@ -419,7 +421,8 @@ sail_orderly = record {
   bounded = λ w c steady e t. omega arith;
 }
 
--- if every unit that no order of SAIL concerns at most went along, every unit did: no order of SAIL concerns a unit
+-- Every unit at most went along, if each unit that no order of SAIL concerns did: by `concerns_nobody` these are all
+-- units.
 pub all_carried : (w : WorldValue) (m : MonthValue) (c d : CampaignValue) → spares_others concerns_nobody IsAtMostMoved is_sailing w m c d → AreAtMostMoved c d
 all_carried w m c d keeps n u there = keeps n u there (λ k d l nobody. nobody)
 
@@ -504,8 +507,8 @@ module _ (w : WorldValue) (begun : CampaignValue) (number faction : ℕ) where
       list = sailed_list w c ship to same.steady x at s ∙ same.list;
     }
 
-    -- if `c` is as begun (`IsAsBegun`), so is the campaign after an order of SAIL with operands `o` for unit n of
-    -- faction f, if by it the structure of unit `number` wouldn't have sailed at the start
+    -- If `c` is as begun (`IsAsBegun`), so is the campaign after an order of SAIL with operands `o` for unit n of
+    -- faction f. This supposes that by the order the structure of unit `number` wouldn't have sailed at the start.
     order_stays : (f n : ℕ) (o : OperandsValue) → (inside begun n ≡ s → (order_result (by_direction (sail w n) o) begun f n).1 ≡ Some (Done 0) → ⊥) → IsAsBegun (order_result (by_direction (sail w n) o) c f n).0
     order_stays f n (operands.Direction direction) apart =
         carried_cases (λ p. (inside begun n ≡ s → p.1 ≡ Done 0 → ⊥) → IsAsBegun p.0) (sail w n direction) c f n (λ apart. same)

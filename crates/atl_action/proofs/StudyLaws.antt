@@ -120,8 +120,8 @@ module _ (w : WorldValue) (c : CampaignValue) (n : ℕ) (u : Unit) (s cost days 
       (let fallen = less in grind arith)
       (booked-near c.books Study Money (neg_ℤ (pos cost)) cost (within-neg cost cost (omega arith)) e t)
 
-  -- if a unit pays and reaches at most 450 days for each man, the campaign stays steady,
-  -- in its month and with balanced books (`StepsWell`)
+  -- A unit that pays and reaches at most 450 days for each man keeps a steady campaign steady and balanced books
+  -- balanced (`StepsWell`). The month, the reports and the set of factions stay.
   studied_well : s < length w.skills → days ≤ most_days * u.holding.men → StepsWell IsSteady study_reserve w c behind
   studied_well known most = record {
     holds_still = steady_behind known most;
@@ -160,7 +160,8 @@ study_cases P w taught c n s u same learned =
     by_fault days done most (Some fault) e = same
     by_fault days done most None e = learned days (payable_fee u.holding (fee_of w s * u.holding.men) e) most
 
--- an order of STUDY keeps a steady campaign steady, in its month and with balanced books (`StepsWell`)
+-- An order of STUDY keeps a steady campaign steady, with the same month, reports and set of factions, and with balanced
+-- books still balanced (`StepsWell`).
 study_well : (w : WorldValue) (taught : ℕ) (c : CampaignValue) (n s : ℕ) (u : Unit) → get c.units n ≡ Some u → IsSteady w c → s < length w.skills → StepsWell IsSteady study_reserve w c (study w taught n s c u).0
 study_well w taught c n s u is steady known =
     study_cases (λ d. StepsWell IsSteady study_reserve w c d) w taught c n s u (well_same w c steady)

@@ -40,8 +40,8 @@ unfolding IsDistinct
 mentions_distinct [] = tt
 mentions_distinct (n ∷ ns) = (without n (first_mentions ns), filtered_distinct (λ k. not (k == n)) (first_mentions ns) (mentions_distinct ns))
 
--- What stands ahead of the first number that passes a test, in a list that begins with n: nothing if n passes,
--- and else n and what stands ahead of it in the rest of the list.
+-- What stands ahead of the first number that passes a test, in a list that begins with n, is nothing if n passes.
+-- Otherwise it is n, and then what stands ahead of the first such number in the rest.
 before_cons : (p : ℕ → Bool) (n : ℕ) (ns : List ℕ) → before_first p (n ∷ ns) ≡ if p n then [] else n ∷ before_first p ns
 before_cons p n ns = grind rules
 
@@ -79,8 +79,8 @@ module _ (c : CampaignValue) (taught after : TaughtMen) (n given : ℕ) (here : 
       | inr apart ↦ at_other k apart
     ]
 
--- with `left` places left, the men taught so far and those whom these places allow to be taught make `total`;
--- they still do after the first unit, in which `want` men aren't taught yet, got `given` of the places
+-- With `left` places left, the men taught so far and those whom these places allow to be taught make `total`. They
+-- still do after the first unit, which has `want` untaught men, got `given` of the places.
 pub men_so_far : (places left given want rest total : ℕ) → left ≤ places → given ≡ min left want → (places - left) + min (want + rest) left ≡ total
     → (places - (left - given)) + min rest (left - given) ≡ total
 men_so_far places left given want rest total few is all = grind (arith, few, is, all)

@@ -110,7 +110,8 @@ module _ (w : WorldValue) (c : CampaignValue) (n : ℕ) (u : Unit) (to : ℕ) (i
     still_owned : (q : ℕ) (y : Structure) → get c.structures q ≡ Some y → y.owner ≢ n → IsOwned behind q y
     still_owned q y there other = owner_stays c behind n away q y (steady.owners q y there) other (λ none v at inside. not_first q y there (sym inside ∙ outside v at))
 
-    -- the structure that unit n left has its right owner after the walk: the lowest of the other units inside, or none
+    -- The structure that unit n left, given to its next owner, has its right owner after the walk: the lowest of the
+    -- other units inside, or none.
     left_owned : old_place ≢ 0 → (y : Structure) → IsOwned behind old_place (owned_by next y)
     left_owned some = heir_owns c behind n away old_place some low (λ v at inside. some (sym inside ∙ outside v at))
 
@@ -154,7 +155,8 @@ module _ (w : WorldValue) (c : CampaignValue) (n : ℕ) (u : Unit) (to : ℕ) (i
         guarding = λ k x there. guards_stay 0 to (k == n) x;
       }
 
-      -- the walk keeps a steady campaign steady, in its month and with balanced books (`StepsWell`)
+      -- A walk keeps a steady campaign steady and balanced books balanced (`StepsWell`), and the month, the reports and
+      -- the set of factions stay. This supposes that each structure keeps all but its owner, and has its right owner.
       behind_well : StepsWell IsSteady nothing_remaining w c behind
       behind_well =
           stays_well IsSteady w c behind (steady-travelled w c units structures f g are steady)
@@ -166,7 +168,8 @@ module _ (w : WorldValue) (c : CampaignValue) (n : ℕ) (u : Unit) (to : ℕ) (i
   unowned : old_place ≡ 0 → (q : ℕ) (y : Structure) → get c.structures q ≡ Some y → IsOwned (behind c.structures) q y
   unowned outside q y there = still_owned c.structures q y there (owns_no_other w c n u is steady q y there (λ same. not_first q y there (same ∙ outside)))
 
-  -- the campaign stays steady, in its month and with balanced books (`StepsWell`), if the unit was inside no structure
+  -- If the unit was inside no structure, a walk keeps a steady campaign steady, with the same month, reports and set of
+  -- factions, and with balanced books still balanced (`StepsWell`).
   outside_well : old_place ≡ 0 → StepsWell IsSteady nothing_remaining w c (behind c.structures)
   outside_well outside =
       behind_well c.structures (λ q y. y) (λ k. sym (option_map_id (get c.structures k))) refl
@@ -186,7 +189,8 @@ module _ (w : WorldValue) (c : CampaignValue) (n : ℕ) (u : Unit) (to : ℕ) (i
   abbrev gone_off : CampaignValue
   gone_off = after_handover gone_out 0 0 n
 
-  -- a structure with its owner after both handovers: of the structure that the unit left, and of structure 0
+  -- A structure with its owner after both handovers. Tests `a` and `b` say whether its number is that of the structure
+  -- which the unit left, and whether it is 0; `e`, whether the unit owned it.
   abbrev given : (a e b : Bool) → Structure → Structure
   given a e b y = let x = if a && e then owned_by next y else y in if b && x.owner == 0 then owned_by n x else x
 
@@ -208,7 +212,8 @@ module _ (w : WorldValue) (c : CampaignValue) (n : ℕ) (u : Unit) (to : ℕ) (i
       get-after_handover gone_out 0 0 n q ∙ ap (option_map (handed_on 0 0 n q)) (get-after_handover begun old_place n next q)
       ∙ mapped_twice (handed_on 0 0 n q) (handed_on old_place n next q) (get c.structures q)
 
-  -- the campaign stays steady, in its month and with balanced books (`StepsWell`), if the unit was inside a structure
+  -- If the unit was inside a structure, a walk keeps a steady campaign steady, with the same month, reports and set of
+  -- factions, and with balanced books still balanced (`StepsWell`).
   inside_well : old_place ≢ 0 → StepsWell IsSteady nothing_remaining w c (behind gone_off.structures)
   inside_well some =
       behind_well gone_off.structures (λ q y. handed_on 0 0 n q (handed_on old_place n next q y)) given_at
@@ -222,23 +227,23 @@ module _ (w : WorldValue) (c : CampaignValue) (n : ℕ) (u : Unit) (to : ℕ) (i
 
   -- ---- both
 
-  -- the campaign after the walk stays steady, in its month and with balanced books (`StepsWell`),
-  -- whether the unit was inside a structure or not
+  -- For `walked_well`: a walk keeps a steady campaign steady and balanced books balanced (`StepsWell`), whether the
+  -- unit was inside no structure (`b`) or in one. The month, the reports and the set of factions stay.
   by_place : (b : Bool) → (old_place == 0) ≡ b → StepsWell IsSteady nothing_remaining w c (with_guard (if b then begun else gone_off) n false)
   by_place true t = subst (StepsWell IsSteady nothing_remaining w c) (sym (elsewhere_is 0 to c n)) (outside_well (is_equal old_place 0 t))
   by_place false t =
       subst (λ d. StepsWell IsSteady nothing_remaining w c (with_guard d n false)) (sym off_is)
       (subst (λ (d : CampaignValue). StepsWell IsSteady nothing_remaining w c (record d { structures = gone_off.structures })) (sym (elsewhere_is 0 to c n)) (inside_well (is_unequal old_place 0 t)))
 
-  -- if a unit walks to a region with land, the campaign stays steady,
-  -- in its month and with balanced books (`StepsWell`)
+  -- If a unit walks to a region with land, a steady campaign stays steady, with the same month, reports and set of
+  -- factions, and with balanced books still balanced (`StepsWell`).
   pub walked_well : StepsWell IsSteady nothing_remaining w c (with_unit_moved 0 to c n)
   unfolding with_place
   walked_well = subst (λ o. StepsWell IsSteady nothing_remaining w c (with_guard (with_place_at c n to 0 o) n false)) (sym is) (by_place (old_place == 0) refl)
 
 -- ---- an order
 
--- if `first_fault` finds none in a list of faults, as in that of MOVE, the test of each fault in the list is false
+-- if `first_fault` finds no fault in a list of faults with their tests, the test of each fault in the list is false
 pub none_fit : (faults : List (Bool × EventFault)) → first_fault faults ≡ None → AllByRecursion (λ fault. fault.0 ≡ false) faults
 none_fit [] is = tt
 none_fit ((fits, fault) ∷ more) is = let (none, others) = none_fits fits fault more is in (none, none_fit more others)
@@ -266,7 +271,8 @@ walk_cases P w c n u direction same gone = by_fault (neighbour w u.region direct
         let fine = none_fit ((u.holding.men == 0, NoMen) ∷ (not (is_land_at w u.region), AtSea) ∷ no_way) e in
         gone (unwrap_or to 0) (land_to w to fine.1.1.0)
 
--- an order of MOVE keeps a steady campaign steady, in its month and with balanced books (`StepsWell`)
+-- An order of MOVE keeps a steady campaign steady, with the same month, reports and set of factions, and with balanced
+-- books still balanced (`StepsWell`).
 walk_well : (w : WorldValue) (c : CampaignValue) (n : ℕ) (u : Unit) → get c.units n ≡ Some u → (direction : Direction) → IsSteady w c → StepsWell IsSteady nothing_remaining w c (walk w n direction c u).0
 walk_well w c n u is direction steady = walk_cases (λ d. StepsWell IsSteady nothing_remaining w c d) w c n u direction (well_same w c steady) (λ to land. walked_well w c n u to is steady land)
 

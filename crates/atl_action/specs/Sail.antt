@@ -64,7 +64,7 @@ sum_inside f c s = sum_by (λ n. option_map_or (λ u. f u.holding) (get c.units 
 
 -- ---- SAIL
 
--- whether ships sail from a region to its neighbour: the world has that region, and the two aren't both land
+-- whether a ship can sail from a region to its neighbour: the world has that neighbour, and the two aren't both land
 abbrev pub is_way : WorldValue → (from : ℕ) → (neighbour : Option ℕ) → Bool
 is_way w from neighbour = option_map_or (λ to. is_some (get w.regions to) && not (is_land_at w from && is_land_at w to)) neighbour false
 
@@ -125,11 +125,11 @@ pub record IsAtMostMoved (before after : Unit) : Type 0 where
 abbrev pub AreAtMostMoved : CampaignValue → CampaignValue → Type 0
 AreAtMostMoved before after = Every (λ n u. IsUnaffected IsAtMostMoved after n u) before.units
 
--- an order of SAIL concerns no unit: what `IsAtMostMoved` says holds of every unit
+-- an order of SAIL concerns no unit, so that what SAIL keeps of units (`IsAtMostMoved`) is kept of every unit
 abbrev pub concerns_nobody : Affects
 concerns_nobody t n f = ⊥
 
--- By order t the ship that unit n is inside sails, as things are when the phase begins.
+-- By order t the ship that unit n, of faction f, is inside sails, as things are when the phase begins.
 -- The order is for a unit inside the same ship, of the faction that wrote it, and has no fault.
 pub record SailsWith (w : WorldValue) (begun : CampaignValue) (t : Task) (n f : ℕ) : Type 0 where
   -- the order is for a unit inside the same structure as unit n

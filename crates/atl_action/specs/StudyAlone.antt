@@ -34,13 +34,13 @@ pub record IsOwnStudy (m : MonthValue) (n faction skill : ℕ) : Type 0 where
 abbrev pub taught_men : WorldValue → CampaignValue → MonthValue → (n : ℕ) → ℕ
 taught_men w c m n = (after_lessons c (learners w c m) m).0 n
 
--- what STUDY of this skill makes of unit n, whose value is given, in the campaign as the phase began, with as many of
--- its men taught as all lessons of the phase teach; None where the unit isn't there
+-- What STUDY of this skill makes of unit n, whose value is given, in the campaign as the phase began; None where the
+-- unit isn't there. As many of its men are taught as all lessons of the phase teach.
 abbrev pub unit_after_own_study : WorldValue → CampaignValue → MonthValue → (n skill : ℕ) → Unit → Option Unit
 unit_after_own_study w c m n skill u = get (study w (taught_men w c m n) n skill c u).0.units n
 
--- A law: after the phase a unit is as its own faction's order of STUDY that counts for it alone makes it.
--- The order works on the campaign as the phase began; the mailings can be read with the world.
+-- A law: after the phase a unit with an order of STUDY of its own faction that counts is what this order alone makes of
+-- it in the campaign as the phase began. This supposes that the mailings can be read with the world.
 abbrev pub UnitsStudyAsBegun : Type 0
 UnitsStudyAsBegun =
     (w : WorldValue) (c : CampaignValue) (m : MonthValue) → AreFit w m.readings →

@@ -56,7 +56,7 @@ pupils_of c aliases learning t = filter (is_pupil c learning (region_of c t.unit
 abbrev pub is_below : CampaignValue → Learning → (teacher n : ℕ) → Bool
 is_below c learning teacher n = option_map_or (λ s. nat_lt (level_at c n s) (level_at c teacher s)) (get learning n) false
 
--- the list of numbers without repetitions: each where it is first listed
+-- a list of numbers without repetitions: each number stays only where it is first listed
 abbrev pub first_mentions : List ℕ → List ℕ
 first_mentions [] = []
 first_mentions (n ∷ ns) = n ∷ filter (λ k. not (k == n)) (first_mentions ns)

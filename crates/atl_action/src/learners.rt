@@ -87,8 +87,8 @@ pub(crate) fn learners(
     Ok(learning)
 }
 
-/// The law that exactly those units learn for which an order of STUDY of their own faction counts,
-/// and which have men and the fee for all of them; each learns the skill of such an order. Does
+/// The law that exactly those units learn that have men and the fee for all of them, and for which
+/// an order of STUDY of their own faction counts. Each learns the skill of such an order. Does
 /// nothing. See docs/RULES.md, "Learning".
 pub fn units_learn_by_orders()
     ensures { UnitsLearnByOrders }

@@ -77,8 +77,8 @@ fn crew_and_load(world: &World, campaign: &Campaign, structure: u32) -> (u128, u
     (crew, weight)
 }
 
-/// Whether ships sail from region `from` to its neighbour `to`: the world has `to`, and the two
-/// aren't both land.
+/// Whether a ship can sail from region `from` to its neighbour `to`: the world has `to`, and the
+/// two aren't both land.
 fn is_way(world: &World, from: u32, to: Option<u32>) -> bool
     ensures { result ≡ is_way world.now from to }
 {
@@ -173,8 +173,8 @@ impl PhaseVerbs for SailPhase {
     }
 }
 
-/// Sails a ship in a direction by SAIL. An order with other operands is passed over. No order
-/// concerns a unit: each may go along with its ship, and loses nothing.
+/// Sails a ship in a direction by SAIL; an order with other operands is passed over. Each unit
+/// inside goes along, whoever gave the order, and no unit loses anything.
 impl OrderPhase for SailPhase {
     ghost step = { λ _. sail_step };
 

@@ -151,8 +151,8 @@ fn untaught_men(campaign: &Campaign, taught: &Numbered<u32>, unit: u32) -> u32
     men_at(campaign, unit).saturating_sub(taught_at(taught, unit))
 }
 
-/// Teaches at most `places` men who weren't taught yet of these units, each listed once, in their
-/// order. Enters them in `taught`, and returns how many they are.
+/// Teaches men of the given units, in the units' order, at most `places` men and none twice; each
+/// unit is listed once. Enters the men in `taught`, and returns how many they are.
 fn teach_men(
     campaign: &Campaign,
     taught: &mut Numbered<u32>,
@@ -174,8 +174,8 @@ fn teach_men(
     Ok(places - left)
 }
 
-/// Teaches at most `places` men who weren't taught yet of these units, each where it is first
-/// listed. Returns the outcome: how many men were taught.
+/// Teaches men of the given units, each unit where it is first listed, at most `places` men and
+/// none twice. Returns the outcome: how many men were taught.
 fn give_lesson(
     alloc: Global,
     campaign: &Campaign,

@@ -36,11 +36,12 @@ unheld items count i known l = ap (λ o. unwrap_or o 0) (free_from items i (λ t
 
 module _ (w : WorldValue) (c : CampaignValue) (world : IsWorld w) (are : AreBooks (things_of w) c.books) (known : Every (λ n u. Every (λ i amount. i < length w.items) u.holding.items) c.units)
     (stocks : Every (λ n r. AreOfMarkets w n r.stocks) c.regions) where
-  -- no region has an item in stock that is not in the world
+  -- no region has an item in stock that is not in the world, if regions stock only items that have a market there
   none_kept : (i : ℕ) → length w.items ≤ i → EachOf (λ _ r. region_amount (Item i) r ≡ 0) (entries c.regions)
   none_kept i l = each-from_every (λ _ r. region_amount (Item i) r ≡ 0) c.regions (λ n r is. unheld r.stocks (length w.items) i (λ k amount at. market_known w world n k (stocks n r is k amount at)) l)
 
-  -- the total of an item not in the world is 0
+  -- the total of an item not in the world is 0, if units hold only items of the world, and regions stock only items
+  -- that have a market there
   unknown_total : (i : ℕ) → length w.items ≤ i → total c (Item i) ≡ 0
   unfolding total
   unknown_total i l =
@@ -48,11 +49,12 @@ module _ (w : WorldValue) (c : CampaignValue) (world : IsWorld w) (are : AreBook
       let regions = none_weighed (λ (r : Region). region_amount (Item i) r) (entries c.regions) (none_kept i l) in
       ap (λ n. n + sum_over (λ (r : Region). region_amount (Item i) r) c.regions) units ∙ ap (λ n. 0 + n) regions
 
-  -- the sum booked of an item not in the world is 0
+  -- the sum booked of an item not in the world is 0, if the books are of the world's things (AreBooks)
   unknown_booked : (i : ℕ) → length w.items ≤ i → booked c.books (Item i) ≡ pos 0
   unknown_booked i l = booked_past (things_of w) c.books are (Item i) (omega arith)
 
-  -- the books balance for all things if they do for money, for people, and for each item of the world
+  -- the books balance for all things if they do for money, for people, and for each item of the world, and if units,
+  -- regions and books list no other items
   pub all_balance : (pos (total c Money) ≡ booked c.books Money) × (pos (total c People) ≡ booked c.books People) → ((i : ℕ) → i < length w.items → pos (total c (Item i)) ≡ booked c.books (Item i)) → Balances c
   all_balance both items Money = both.0
   all_balance both items People = both.1

@@ -29,16 +29,19 @@ or_there n k there P h itself others = elim (nat_cmp k n) as (λ r. nat_cmp k n 
 number_small : (things : ℕ) (e : Entry) (t : Thing) → thing_index t < things → amount_number e t < entry_count * things
 number_small things e t small = omega (arith, small, entry_small e)
 
--- an empty dirty set with room for all amounts of the first `things` things has only such amounts (MarksAmounts)
+-- an empty dirty set with room for all amounts of the first `things` things has no amount of another thing
+-- (MarksAmounts)
 pub none_marked : (things room : ℕ) → entry_count * things ≤ room → MarksAmounts things (record { numbers = set.empty; room = room })
 none_marked things room enough = record { room = enough; numbers = λ k there. absurd (false≢true (sym (set.contains-empty nat_cmp k) ∙ there)) }
 
--- a dirty set with only amounts of the first `things` things still has only such once such an amount is added
+-- a dirty set with only amounts of the first `things` things still has no others once an amount of one of these things
+-- is added
 more_of_things : (things : ℕ) (s : set.FinSet nat_cmp) (e : Entry) (t : Thing) → thing_index t < things → AreOfThings things s → AreOfThings things (amount_marked s e t)
 more_of_things things s e t small are k there =
     or_there (amount_number e t) k (set.contains s k) (λ n. n < entry_count * things) (sym (set.contains-insert nat_cmp_total s (amount_number e t) k) ∙ there) (number_small things e t small) (are k)
 
--- a dirty set still has only amounts of the first `things` things, and room for all, once one is added (MarksAmounts)
+-- a dirty set still has only amounts of the first `things` things, and room for all (MarksAmounts), once an amount of
+-- one of these things is added
 pub more_marked : (things : ℕ) (marks : RoomySet) (e : Entry) (t : Thing) → thing_index t < things → MarksAmounts things marks → MarksAmounts things (record marks { numbers = amount_marked marks.numbers e t })
 more_marked things marks e t small are = record { room = are.room; numbers = more_of_things things marks.numbers e t small are.numbers }
 

@@ -35,7 +35,8 @@ get_other m k n v h = get-insert nat_cmp_total m k v n ∙ ap (λ b. cond b (Som
 -- ---- what units have, and regions in stock
 
 module _ {R : Type 0} (thing amount : R → ℕ) (test : R → Bool) where
-  -- putting those of the rows r ∷ rows that pass a test puts in r, if it passes (b), and then those of `rows` that pass
+  -- putting the rows of r ∷ rows that pass a test into a map puts in r first, if r passes (b), and then the rows of
+  -- `rows` that pass
   pub taken_or_not : (r : R) (rows : List R) (b : Bool) (m : FinMap nat_cmp ℕ) → test r ≡ b → put_rows thing amount (filter test (r ∷ rows)) m ≡ put_rows thing amount (filter test rows) (cond b (insert m (thing r) (amount r)) m)
   taken_or_not r rows true m h = ap (λ b. put_rows thing amount (cond b (r ∷ filter test rows) (filter test rows)) m) h
   taken_or_not r rows false m h = ap (λ b. put_rows thing amount (cond b (r ∷ filter test rows) (filter test rows)) m) h
@@ -131,7 +132,8 @@ AreAmounts-had n rows h = put_in_range n rows empty h none_held
 
 -- ---- texts
 
--- if what an Ok result holds is `some` once `some` is UTF-8, it is `bytes`, which is UTF-8 and equal to `some`
+-- if an Ok result holds `some` whenever `some` is UTF-8, and `some` equals `bytes`, which is UTF-8, the result holds
+-- `bytes`
 pub IfOk-text : {E : Type 0} (r : Result (List ℕ) E) (some bytes : List ℕ) → some ≡ bytes → IsUtf8 bytes → IfOk r (λ made. IsUtf8 some → made ≡ some) → IfOk r (λ made. made ≡ bytes)
 IfOk-text (Ok made) some bytes e h f = f (subst IsUtf8 (sym e) h) ∙ e
 IfOk-text (Err x) some bytes e h f = tt

@@ -65,7 +65,8 @@ module _ (w : WorldValue) (c : CampaignValue) (s : Structure) (fresh : IsFresh w
   one_more : len structures ≡ len c.structures + 1
   one_more = len-insert nat_cmp_total c.structures next s ∙ ap (λ o. cond (is_some o) (len c.structures) (len c.structures + 1)) free
 
-  -- once a structure is begun, the campaign's counts and numbers are still in their ranges (AreInRange)
+  -- once a structure is begun, the campaign's counts and numbers are still in their ranges (AreInRange), if its number
+  -- is at most most_structures
   numbers_kept : AreInRange w raised
   numbers_kept = record {
     month = old.numbers.month;
@@ -133,7 +134,8 @@ module _ (w : WorldValue) (c : CampaignValue) (s : Structure) (fresh : IsFresh w
     structures = every-insert (λ k x. is_land_at w x.region ≡ false → (is_ship w x ≡ true) × (x.done ≡ size_of w x.kind)) c.structures next s (λ wet. absurd (true≢false (sym fresh.land ∙ wet))) old.water.structures;
   }
 
-  -- a steady campaign stays steady once a structure that can be begun (IsFresh) is begun
+  -- a steady campaign stays steady once a structure that can be begun (IsFresh) is begun, if its number is at most
+  -- most_structures
   pub steady_raised : IsSteady w raised
   steady_raised = record {
     numbers = numbers_kept;

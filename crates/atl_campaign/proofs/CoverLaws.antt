@@ -121,13 +121,15 @@ pub apart_by_whole : (goods : FinSet nat_cmp) (things : Things) (n k t : ℕ) �
 apart_by_whole goods things n k t free = apart_by goods n k (neither (contains (insert goods n) k) (is_some (get (group_of things k) t)) free).0
 
 module _ (goods : FinSet nat_cmp) (things : Things) (n thing : ℕ) where
-  -- once `thing` of unit or region n is marked, thing t of k has a mark of its own if it is that one or had one before
+  -- once `thing` of unit or region n is marked, thing t of unit or region k has a mark of its own exactly if it is that
+  -- thing or had such a mark before
   put_in : (k t : ℕ) → is_some (get (group_of (with_thing things n thing) k) t) ≡ cond (eq_by_cmp nat_cmp k n) (eq_by_cmp nat_cmp t thing || is_some (get (group_of things n) t)) (is_some (get (group_of things k) t))
   put_in k t =
       ap (λ (o : Option (FinMap nat_cmp (Prim.Unit {0}))). is_some (get (unwrap_or o map.empty) t)) (get-insert nat_cmp_total things n (map.insert (group_of things n) thing tt) k)
       ∙ by_unit (eq_by_cmp nat_cmp k n)
     where
-      -- for by_unit: if b is true, a mark takes the place of o; so there is a mark then if b is true, or o was one
+      -- for by_unit: once a new mark replaces the mark o where b is true, there is a mark exactly if b is true or o was
+      -- one
       by_thing : (b : Bool) (o : Option (Prim.Unit {0})) → is_some (cond b (Some tt) o) ≡ (b || is_some o)
       by_thing true o = refl
       by_thing false o = refl
@@ -177,7 +179,8 @@ pub data MarkedPart : Type 0 where
   Units : MarkedPart
   -- the rows of units, without their goods, marked by the units' numbers
   Rows : MarkedPart
-  -- the units all of whose items and days are marked; these themselves are the parts Items and Skills
+  -- the units all of whose items and days are marked at once; their single items and days are the parts Items and
+  -- Skills
   Goods : MarkedPart
   -- the items of units, marked by unit and item
   Items : MarkedPart
@@ -309,8 +312,8 @@ part_by_part a b stays tells = record {
 pub marks-refl : (a : MarkedCampaign) → MarksChanges a a
 marks-refl a = part_by_part a a (λ p k h. h) (λ p k free. refl)
 
--- P holds of the map with f applied to n's value, and of that value as it was (None or Some), if it holds of the map as
--- it is with None, and of the changed map with Some
+-- P holds of the map with f applied to n's value, and of the old value, if it does both where n has no value and where
+-- n has one
 pub changed_there : {V : Type 0} (P : FinMap nat_cmp V → Option V → Type 0) (f : V → V) (values : FinMap nat_cmp V) (n : ℕ)
     → P values None → ((v : V) → get values n ≡ Some v → P (map.insert values n (f v)) (Some v)) → P (changed f values n) (get values n)
 changed_there {V} P f values n none some = by_value (get values n) refl
@@ -331,8 +334,7 @@ marks-faction f c n =
     (λ p. elim p as (Stays c.marks next.marks) [ Factions ↦ put_stays c.marks.factions n | _ ↦ λ k h. h ])
     (λ p. elim p as (KeepsUnmarked next.marks c.value next.value) [ Factions ↦ λ k free. get-insert_other c.value.factions n k (f v) (apart_by c.marks.factions n k free) | _ ↦ λ k free. refl ]))
 
--- if `shows` gives the same of w as of n's value v, it gives the same of each number's value once w replaces v as
--- before
+-- replacing n's value v by w changes what `shows` gives of no number's value, if `shows` gives the same of w as of v
 pub shown_still : {V X : Type 0} (shows : Option V → X) (values : FinMap nat_cmp V) (n k : ℕ) (v w : V) → get values n ≡ Some v → (k ≡ n → shows (Some w) ≡ shows (Some v)) → shows (get (map.insert values n w) k) ≡ shows (get values k)
 shown_still shows values n k v w is same = ap shows (get-insert nat_cmp_total values n w k) ∙ by_number (eq_by_cmp nat_cmp k n) refl
   where

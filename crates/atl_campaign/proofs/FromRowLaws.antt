@@ -95,8 +95,8 @@ from_le m n h = grind (arith, nat_tests)
 
 -- ---- the books
 
--- books of `things` things (AreBooks) still are such once a row's amount is put in, or left out if its thing isn't
--- theirs
+-- books of `things` things (AreBooks) are still such books once a row's amount is put in (b), or left out because the
+-- row's thing is none of theirs
 row_put : (things : ℕ) (books : BooksValue) (e : Entry) (r : StoredBooks) (b : Bool) → nat_lt (as_u32 r.thing) books.things ≡ b → AreBooks things books → AreBooks things (cond b (with_amount books e (thing_at (as_u32 r.thing)) r.amount) books)
 row_put things books e r true inside are =
     let few : as_u32 r.thing < books.things = grind (arith, nat_tests) in

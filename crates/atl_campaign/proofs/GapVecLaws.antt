@@ -3,8 +3,8 @@ use Rattle.std.proofs.Common.{◌≡◌, ℕ, suc, ◌+◌, ◌-◌, ◌<◌, �
 use Rattle.std.proofs.lemmas.List.{drop_at, drop-drop, drop-take, drop-append-le, drop-set-add, drop_more, length-take-le, set_at}
 use Rattle.std.specs.List.{insert, remove, copy_within}
 
--- once the elements of xs at index `from` to `to` are copied to `at`, xs from `at` on is these, and then what was
--- behind their new place before
+-- once the elements of xs from index `from` to `to` are copied to index `at`, xs from `at` on is the copies, and then
+-- the old elements behind their new place
 copied : {A : Type 0} (xs : List A) (from to at : ℕ) → at ≤ length xs → drop at (copy_within xs from to at) ≡ take (to - from) (drop from xs) ++ drop (at + (to - from)) xs
 copied xs from to at l =
     ap (drop at) (append_assoc (take at xs) (take (to - from) (drop from xs)) (drop (at + (to - from)) xs))

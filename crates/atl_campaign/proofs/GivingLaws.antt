@@ -66,7 +66,8 @@ module _ {R V : Type 0} (owner : R → ℕ) (more : R → V → V) where
     abbrev Becomes : FinMap nat_cmp V → FinMap nat_cmp V → Type 0
     Becomes m l = (n : ℕ) → option_map (given n rows) (get m n) ≡ get l n
 
-    -- if adding the rows to m gives l (Becomes), it still does once t is put into both: into l with its rows added
+    -- if adding the rows to m gives l (Becomes), it also does once t is put into m without its rows, and into l with
+    -- them
     put_one : (t : T) (m l : FinMap nat_cmp V) → Becomes m l → Becomes (insert m (number t) (before t)) (insert l (number t) (after t))
     put_one t m l all n =
         let k = number t in
@@ -77,8 +78,8 @@ module _ {R V : Type 0} (owner : R → ℕ) (more : R → V → V) where
           | inr apart ↦ ap (option_map (given n rows)) (get_other m k n (before t) (λ e. apart (sym e))) ∙ all n ∙ sym (get_other l k n (after t) (λ e. apart (sym e)))
         ]
 
-    -- if adding the rows to m gives l (Becomes), it still does once all ts are put into both: into l with their rows
-    -- added
+    -- if adding the rows to m gives l (Becomes), it also does once all ts are put into m without their rows, and into l
+    -- with them
     put_each : (ts : List T) (m l : FinMap nat_cmp V) → Becomes m l → Becomes (put_rows number before ts m) (put_rows number after ts l)
     put_each [] m l all = all
     put_each (t ∷ ts) m l all = put_each ts (insert m (number t) (before t)) (insert l (number t) (after t)) (put_one t m l all)

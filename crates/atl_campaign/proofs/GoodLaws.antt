@@ -20,7 +20,8 @@ use Rattle.atl_records.proofs.EveryLaws.{every-empty, every-insert, there-new, t
 
 -- ---- mail and reports
 
--- mail and reports of factions that are there (AreOfFactions) still are, if each faction that is there is there later
+-- mail and reports that are of factions of one map (AreOfFactions) are of factions of a later map too, if the later one
+-- has all factions of the first
 pub posted-there : {factions later : FinMap nat_cmp Faction} {mail reports : FinMap nat_cmp (List ℕ)} → ((n : ℕ) → IsThere factions n → IsThere later n) → AreOfFactions factions mail reports → AreOfFactions later mail reports
 posted-there stays posts = record { mail = λ n text is. stays n (posts.mail n text is); reports = λ n text is. stays n (posts.reports n text is) }
 
@@ -139,13 +140,13 @@ IsGood-joined w name pass word c d faction unit text is good sound =
 set_guards : (flag : Bool) (men : ℕ) → 1 ≤ men → flag ≡ true → (flag && nat_lt 0 men) ≡ true
 set_guards flag men h set = let some : nat_lt 0 men ≡ true = grind (arith, nat_tests) in both_true set some
 
--- a sound campaign is early
+-- each sound campaign is early: in each region all guard flags set are of one faction
 pub sound_early : SoundAreEarly
 sound_early w c sound = record {
   steady = sound.steady;
   flags = λ n u is m v there e f. sound.steady.guarded n u is m v there (set_guards u.holding.guard u.holding.men (sound.men n u is) e) (set_guards v.holding.guard v.holding.men (sound.men m v there) f);
 }
 
--- a good campaign is early
+-- each good campaign is early: in each region all guard flags set are of one faction
 pub IsEarly-good : GoodAreEarly
 IsEarly-good w c good = sound_early w c good.sound

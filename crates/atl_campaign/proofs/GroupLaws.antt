@@ -151,7 +151,7 @@ module _ {R K : Type 0} (key : R → K) (same : K → K → Bool) (itself : (k :
 
   -- if rows of one thing have one key, no thing occurs twice among rows with different keys
   module _ (same_key : (r s : R) → IsMine r → IsMine s → thing r ≡ thing s → ◌≡◌ {A = K} (key s) (key r)) where
-    -- rows of the group with different keys are of different things
+    -- rows of the group with different keys are of different things, if rows of one thing have one key
     other_thing : (r s : R) → IsMine r → IsMine s → same (key s) (key r) ≡ false → thing r ≢ thing s
     other_thing r s a b d e = false≢true (sym (ap (same (key s)) (same_key r s a b e) ∙ d) ∙ itself (key s))
 

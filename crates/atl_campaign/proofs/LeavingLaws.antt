@@ -31,7 +31,7 @@ use Rattle.atl_campaign.proofs.RegionLaws.{changed-known, get-insert_same, same_
 use Rattle.atl_records.proofs.RemovedLaws.{every-insert_other, every-remove, fewer, get-remove_other, still, sum_over-remove}
 use Rattle.atl_campaign.proofs.NumberListLaws.{IsListed, first_of, none_passing, nothing_listed}
 
--- a structure with the given owner
+-- a structure with the given owner in place of its own
 abbrev pub owned_by : ℕ → Structure → Structure
 owned_by n s = record s { owner = n }
 
@@ -170,7 +170,7 @@ module _ (w : WorldValue) (c : CampaignValue) (n : ℕ) (u : Unit) (is : get c.u
   -- ---- who owns the structures
 
   module _ (old : AreOwned c) (low : Every (λ k v. 1 ≤ k) c.units) where
-    -- a structure that unit n owns is the one that it is inside
+    -- a structure that unit n owns is the one that n is inside, if owners are inside their structures (AreOwned)
     owns_own : (k : ℕ) (x : Structure) → get c.structures k ≡ Some x → x.owner ≡ n → u.structure ≡ k
     owns_own k x there own =
         let least = low n u is in
@@ -187,8 +187,8 @@ module _ (w : WorldValue) (c : CampaignValue) (n : ℕ) (u : Unit) (is : get c.u
           ownerless = λ none. every-remove c.units n (λ m v. v.structure ≢ k) (o.ownerless none);
         }
 
-    -- if unit n does not own the structure that it is inside, each structure has its owner inside, or nobody, once n is
-    -- removed (AreReowned)
+    -- if unit n does not own the structure that it is inside, each structure still has its owner inside, or no unit
+    -- inside, once n is removed (AreReowned)
     as_they_were : is_owned_by (get c.structures u.structure) n ≡ false → AreReowned c.structures
     as_they_were free = record {
       count = refl;
@@ -242,7 +242,7 @@ module _ (w : WorldValue) (c : CampaignValue) (n : ℕ) (u : Unit) (is : get c.u
       is_same : (k : ℕ) → not (k == n) ≡ false → k ≡ n
       is_same k t = let e : (k == n) ≡ true = not-false (k == n) t in grind (arith, nat_tests)
 
-      -- the units inside unit n's structure have numbers from 1 on
+      -- the units inside unit n's structure have numbers from 1 on, as all units have
       listed_low : (k : ℕ) → IsListed k among → 1 ≤ k
       listed_low k h = let (v, at, inside) = listed_is_inside u.structure c.units k h in low k v at
 
@@ -260,8 +260,8 @@ module _ (w : WorldValue) (c : CampaignValue) (n : ℕ) (u : Unit) (is : get c.u
                 apart (is_same k (first.1 none k (inside_is_listed u.structure c.units some_place k v at within)));
           }
 
-      -- once unit n's structure has its next owner, each structure is owned by a unit left inside, or by nobody where
-      -- none is left (AreReowned)
+      -- once unit n's structure has its next owner, each structure is still owned by a unit left inside, or by nobody
+      -- where none is left (AreReowned)
       as_handed_on : AreReowned handed_on
       as_handed_on = record {
         count = same_len c.structures u.structure mine (owned_by next mine) here;
@@ -337,19 +337,20 @@ module _ (w : WorldValue) (c : CampaignValue) (n : ℕ) (u : Unit) (is : get c.u
       by_test true = regrouped _ _ _ _ (sum_over-remove c.units n (λ (x : Unit). unit_amount t x.holding) u is)
       by_test false = regrouped _ _ _ _ (sum_over-remove c.units n (λ (x : Unit). unit_amount t x.holding) u is)
 
-  -- the campaign d has the units of c without n, and the factions, regions, books, month and reports of c
+  -- the campaign d has the units of the campaign c but unit n, and the same factions, regions, books, month and reports
+  -- as c
   pub record IsOnlyReduced (d : CampaignValue) : Type 0 where
     -- the campaign d has the units of c, but not unit n
     pub units : d.units ≡ remove c.units n
-    -- the campaign d has the factions of c, from which unit n was removed
+    -- the campaign d, which lacks unit n, has the same factions as the campaign c, which has the unit
     pub factions : d.factions ≡ c.factions
-    -- the campaign d has the regions of c, from which unit n was removed
+    -- the campaign d, which lacks unit n, has the same regions as the campaign c, which has the unit
     pub regions : d.regions ≡ c.regions
-    -- the campaign d has the books of c, from which unit n was removed
+    -- the campaign d, which lacks unit n, has the same books as the campaign c, which has the unit
     pub books : d.books ≡ c.books
-    -- the campaign d has the month of c, from which unit n was removed
+    -- the campaign d, which lacks unit n, has the same month as the campaign c, which has the unit
     pub month : d.month ≡ c.month
-    -- the campaign d has the reports of c, from which unit n was removed
+    -- the campaign d, which lacks unit n, has the same reports as the campaign c, which has the unit
     pub reports : d.reports ≡ c.reports
 
   -- removing unit n changes no faction, region, report or amount of the books, and not the month

@@ -78,14 +78,14 @@ pub AreLists-same : (belongs_to : Unit → ℕ) (units : FinMap nat_cmp Unit) (o
 AreLists-same belongs_to units old new same is k = same k ∙ is k
 
 module _ (belongs_to : Unit → ℕ) (units : FinMap nat_cmp Unit) (old new : FinMap nat_cmp (List ℕ)) (n key : ℕ) where
-  -- if the lists `new` are `old` with a new unit's number put into the list of its key, `key`, they have just the units
-  -- of each key (AreLists)
+  -- if the lists `old` have just the units of each key (AreLists), so do the lists `new`, which are `old` with a new
+  -- unit put into the list of its key, `key`
   pub AreLists-came : (u : Unit) → belongs_to u ≡ key → get units n ≡ None → new ≡ insert old key (put_number n (list_of old key)) → AreLists belongs_to units old → AreLists belongs_to (insert units n u) new
   AreLists-came u own fresh put is =
       subst (λ l. AreLists belongs_to (insert units n u) l) (sym (put ∙ ap (λ k. insert old k (put_number n (list_of old k))) (sym own))) (AreLists-added belongs_to units old n u fresh is)
 
-  -- if the lists `new` are `old` with a removed unit's number taken out of the list of its key, `key`, they have just
-  -- the units of each key (AreLists)
+  -- if the lists `old` have just the units of each key (AreLists), so do the lists `new`, which are `old` with a
+  -- removed unit taken out of the list of its key, `key`
   pub AreLists-went : (u : Unit) → belongs_to u ≡ key → get units n ≡ Some u → SameLists new (insert old key (take_number n (list_of old key))) → AreLists belongs_to units old → AreLists belongs_to (remove units n) new
   AreLists-went u own there same is =
       AreLists-same belongs_to (remove units n) (insert old key (take_number n (list_of old key))) new same
@@ -226,7 +226,8 @@ AreUnitLists-back units n u l old mid new fresh own puts takes is =
 -- ---- a unit that is listed elsewhere
 
 module _ (belongs_to : Unit → ℕ) where
-  -- the lists have just the units of each key (AreLists) once a unit whose key changed is moved to its new key's list
+  -- the lists still have just the units of each key (AreLists) once a unit whose key changed is moved to its new key's
+  -- list
   AreLists-moved : (units : FinMap nat_cmp Unit) (lists : FinMap nat_cmp (List ℕ)) (k : ℕ) (u v : Unit) → get units k ≡ Some u → belongs_to u ≢ belongs_to v → AreLists belongs_to units lists
       → AreLists belongs_to (insert units k v) (insert (insert lists (belongs_to v) (put_number k (list_of lists (belongs_to v)))) (belongs_to u) (take_number k (list_of lists (belongs_to u))))
   AreLists-moved units lists k u v is apart old =
@@ -238,8 +239,8 @@ module _ (belongs_to : Unit → ℕ) where
       (λ _. ap (put_number k) (old to) ∙ sym (numbers_where-gained (λ w. belongs_to w == to) units k u v is (other_number from to apart) (same_number to)))
       (λ q ne2 ne3. old q ∙ sym (numbers_where-insert_known (λ w. belongs_to w == q) units k u v is (other_number from q ne3 ∙ sym (other_number to q ne2)))) r ne)
 
-  -- the lists have just the units of each key (AreLists) once a changed unit is moved to its new key's list, whether
-  -- that key differs from the old one or not
+  -- the lists still have just the units of each key (AreLists) once a changed unit is moved to its new key's list,
+  -- whether that key differs from the old one or not
   relisted : (units : FinMap nat_cmp Unit) (lists : FinMap nat_cmp (List ℕ)) (k : ℕ) (u v : Unit) → get units k ≡ Some u → AreLists belongs_to units lists
       → AreLists belongs_to (insert units k v) (unlisted_apart (listed_apart lists k (belongs_to v) (belongs_to u)) k (belongs_to u) (belongs_to v))
   relisted units lists k u v is old =
@@ -250,8 +251,8 @@ module _ (belongs_to : Unit → ℕ) where
         | inr apart ↦ rw (other_number from to apart, other_number to from (λ e. apart (sym e)), listed_else lists to (put_number k (list_of lists to)) from (λ e. apart (sym e))) (AreLists-moved units lists k u v is apart old)
       ]
 
-  -- if the lists `new` are `old` with a changed unit moved from the list of its old key to that of its new one, they
-  -- have just the units of each key (AreLists)
+  -- if the lists `old` have just the units of each key (AreLists), so do the lists `new`, which are `old` with a
+  -- changed unit moved from the list of its old key to that of its new one
   pub AreLists-relisted : (units : FinMap nat_cmp Unit) (old mid new : FinMap nat_cmp (List ℕ)) (n from to : ℕ) (u v : Unit) → get units n ≡ Some u → belongs_to u ≡ from → belongs_to v ≡ to → mid ≡ listed_apart old n to from → SameLists new (unlisted_apart mid n from to)
       → AreLists belongs_to units old → AreLists belongs_to (insert units n v) new
   AreLists-relisted units old mid new n from to u v is own goes put same lists =
@@ -269,8 +270,8 @@ module _ (belongs_to : Unit → ℕ) where
         | false ↦ λ p s. AreLists-undone_at belongs_to units old mid new n key p s is
       ] put same
 
--- the lists by structure have just the units inside (AreInsideLists) once a unit is moved from its old structure's list
--- to its new one's
+-- the lists by structure still have just the units inside (AreInsideLists) once a unit is moved from its old
+-- structure's list to its new one's
 pub AreInsideLists-relisted : (units : FinMap nat_cmp Unit) (old new : FinMap nat_cmp (List ℕ)) (n from to : ℕ) (u v : Unit) → get units n ≡ Some u → u.structure ≡ from → v.structure ≡ to → SameLists new (relisted_inside old n from to)
     → AreInsideLists units old → AreInsideLists (insert units n v) new
 AreInsideLists-relisted units old new n from to u v is own goes same lists =

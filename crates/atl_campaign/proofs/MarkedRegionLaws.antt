@@ -43,7 +43,7 @@ pub AreRegions-of : (regions : FinMap nat_cmp Region) → AreRegions regions (no
 AreRegions-of regions = record { within = within-none; rows_fit = Room-of regions; markets_fit = Room-of regions; stocks_fit = Room-of regions }
 
 module _ (regions : FinMap nat_cmp Region) (rows markets stocks : RoomySet) (items : Things) (h : AreRegions regions rows markets stocks items) where
-  -- once all dirty sets are emptied, there is room for all marks, and no stock is marked without its region
+  -- once all dirty sets are emptied, there is still room for all marks, and no stock is marked without its region
   -- (AreRegions)
   pub AreRegions-without_marks : AreRegions regions (cleared rows) (cleared markets) (cleared stocks) empty
   AreRegions-without_marks = record {
@@ -53,13 +53,14 @@ module _ (regions : FinMap nat_cmp Region) (rows markets stocks : RoomySet) (ite
     stocks_fit = Room-unmarked regions stocks.numbers stocks.room h.stocks_fit;
   }
 
-  -- once a region's row is marked, there is room for all marks, and no stock is marked without its region (AreRegions)
+  -- once a region's row is marked, there is still room for all marks, and still no stock is marked without its region
+  -- (AreRegions)
   pub AreRegions-row : (n : ℕ) → AreRegions regions (marking regions rows n) markets stocks items
   AreRegions-row n = record { within = h.within; rows_fit = Room-put regions rows.numbers rows.room n (get regions n) refl h.rows_fit; markets_fit = h.markets_fit; stocks_fit = h.stocks_fit }
 
   module _ (n : ℕ) (r : Region) (is : get regions n ≡ Some r) where
-    -- once one stock of a region, and so the region, is marked, there is room for all marks, and no stock is marked
-    -- without its region (AreRegions)
+    -- once one stock of a region, and so the region, is marked, there is still room for all marks, and still no stock
+    -- is marked without its region (AreRegions)
     pub AreRegions-item : (group : FinMap nat_cmp (Prim.Unit {0})) → AreRegions regions rows (marking regions markets n) stocks (insert items n group)
     AreRegions-item group = record {
       within = subst (λ o. AreStocksWithin (marked_with markets.numbers n o) stocks.numbers (insert items n group)) (sym is) (record {
@@ -71,8 +72,8 @@ module _ (regions : FinMap nat_cmp Region) (rows markets stocks : RoomySet) (ite
       stocks_fit = h.stocks_fit;
     }
 
-    -- once all stocks of a region, and so the region, are marked, there is room for all marks, and no stock is marked
-    -- without its region (AreRegions)
+    -- once all stocks of a region, and so the region, are marked, there is still room for all marks, and still no stock
+    -- is marked without its region (AreRegions)
     pub AreRegions-stocks : AreRegions regions rows (marking regions markets n) (marking regions stocks n) items
     AreRegions-stocks = record {
       within = subst (λ o. AreStocksWithin (marked_with markets.numbers n o) (marked_with stocks.numbers n o) items) (sym is) (record {
@@ -84,8 +85,8 @@ module _ (regions : FinMap nat_cmp Region) (rows markets stocks : RoomySet) (ite
       stocks_fit = Room-put regions stocks.numbers stocks.room n (get regions n) refl h.stocks_fit;
     }
 
-  -- once the region under a number is replaced by another, there is room for all marks, and no stock is marked without
-  -- its region (AreRegions)
+  -- once the region under a number is replaced by another, there is still room for all marks, and still no stock is
+  -- marked without its region (AreRegions)
   pub AreRegions-over : (n : ℕ) (r s : Region) → get regions n ≡ Some r → AreRegions (insert regions n s) rows markets stocks items
   AreRegions-over n r s is = record {
     within = h.within;

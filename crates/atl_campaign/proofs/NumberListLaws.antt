@@ -9,7 +9,7 @@ use Rattle.atl_records.specs.Every.{EachOf, Every}
 use Rattle.atl_campaign.specs.Owners.{first_or_zero}
 use Rattle.atl_records.proofs.EveryLaws.{every-from_each, passes-listed}
 
--- the number k is on a list
+-- a number is on a list of numbers
 abbrev pub IsListed : ℕ → List ℕ → Type 0
 IsListed k [] = ⊥
 IsListed k (n ∷ ns) = (k ≡ n) ⊎ IsListed k ns

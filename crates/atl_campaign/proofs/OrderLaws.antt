@@ -105,13 +105,15 @@ module _ {R V : Type 0} (number : R → ℕ) (value : R → V) where
 
 -- ---- rows with keys
 
--- if different keys of two rows mean different numbers, rows whose keys differ from r's have numbers other than r's
+-- if P and a key other than r's mean a number other than r's, rows of which P holds and whose keys differ from r's have
+-- other numbers than r
 each_apart : {R K : Type 0} (key : R → K) (number : R → ℕ) (same : K → K → Bool) (P : R → Type 0) (r : R) → ((s : R) → P s → same (key r) (key s) ≡ false → number s ≢ number r)
     → (rows : List R) → AllByRecursion P rows → AllByRecursion (λ y. same (key r) y ≡ false) (map key rows) → AllByRecursion (λ s. number s ≢ number r) rows
 each_apart key number same P r apart [] h d = tt
 each_apart key number same P r apart (s ∷ rows) h d = (apart s h.0 d.0, each_apart key number same P r apart rows h.1 d.1)
 
--- if different keys of two rows mean different numbers, no two rows of a list with distinct keys have the same number
+-- if P for two rows and different keys mean different numbers, no two rows of a list with distinct keys, of which P
+-- holds, have the same number
 pub Apart-keys : {R K : Type 0} (key : R → K) (number : R → ℕ) (same : K → K → Bool) (P : R → Type 0) → ((r s : R) → P r → P s → same (key r) (key s) ≡ false → number s ≢ number r)
     → (rows : List R) → AllByRecursion P rows → IsDistinct same (map key rows) → Apart number rows
 unfolding IsDistinct

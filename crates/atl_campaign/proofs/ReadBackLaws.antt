@@ -219,7 +219,8 @@ module _ {A : Type 0} (e : A → A → Bool) where
     all_against x xs [] mine h = tt
     all_against x xs (a ∷ rows) mine h = (against x a xs mine.0 h, all_against x xs rows mine.1 h)
 
-    -- if the elements of a list are in order (InOrder), the rows that f makes of them, joined, are distinct by e
+    -- if the elements of a list are in order (InOrder), and e is false of rows of two elements in order and of two rows
+    -- of one, all rows that f makes are distinct by e
     pub flat_apart : (xs : List X) → InOrder Before xs → IsDistinct e (flat_map f xs)
     unfolding IsDistinct
     flat_apart [] h = tt
@@ -252,7 +253,8 @@ module _ {V R : Type 0} (row : ℕ → V → R) (e : R → R → Bool) (apart : 
   others n v [] h = tt
   others n v (f ∷ es) h = (apart n f.0 v f.1 h.0, others n v es h.1)
 
-  -- the rows of entries with strictly rising numbers are distinct by e
+  -- the rows of entries with strictly rising numbers are distinct by e, if e is false of the rows of a lower and a
+  -- higher number
   pub rows_apart : (es : List (ℕ × V)) → Rise es → IsDistinct e (rows_by row es)
   unfolding IsDistinct
   rows_apart [] h = tt

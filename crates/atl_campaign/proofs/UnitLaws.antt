@@ -118,7 +118,8 @@ module _ (units : FinMap nat_cmp Unit) (marks rows goods : RoomySet) (items skil
   abbrev Before : Type 0
   Before = AreUnits units marks rows goods items skills
 
-  -- once all dirty sets are emptied, there is room for all marks, and no part of a unit is marked without it (AreUnits)
+  -- once all dirty sets are emptied, there is still room for all marks, and no part of a unit is marked without the
+  -- unit (AreUnits)
   pub AreUnits-without_marks : Before → AreUnits units (cleared marks) (cleared rows) (cleared goods) empty empty
   AreUnits-without_marks h = record {
     within = within-none;
@@ -127,8 +128,8 @@ module _ (units : FinMap nat_cmp Unit) (marks rows goods : RoomySet) (items skil
     goods_fit = Room-unmarked units goods.numbers goods.room h.goods_fit;
   }
 
-  -- once a lent unit is replaced, and marked with its row and its goods, there is room for all marks, and no part of a
-  -- unit is marked without the unit (AreUnits)
+  -- once a lent unit is replaced, and marked with its row and its goods, there is still room for all marks, and still
+  -- no part of a unit is marked without the unit (AreUnits)
   pub AreUnits-lent : (n : ℕ) (u w : Unit) → get units n ≡ Some u → Before → AreUnits (insert units n w) (marking marks n) (marking rows n) (marking goods n) items skills
   AreUnits-lent n u w is h = record {
     within = within-whole marks.numbers rows.numbers goods.numbers items skills n h.within;
@@ -137,8 +138,8 @@ module _ (units : FinMap nat_cmp Unit) (marks rows goods : RoomySet) (items skil
     goods_fit = Room-lent units goods.numbers goods.room n (Some u) w is refl h.goods_fit;
   }
 
-  -- once a unit's row is changed and marked, there is room for all marks, and no part of a unit is marked without the
-  -- unit (AreUnits)
+  -- once a unit's row is changed and marked, there is still room for all marks, and still no part of a unit is marked
+  -- without the unit (AreUnits)
   pub AreUnits-row : (n : ℕ) (u w : Unit) → get units n ≡ Some u → Before → AreUnits (insert units n w) (marking marks n) (marking rows n) goods items skills
   AreUnits-row n u w is h = record {
     within = within-row marks.numbers rows.numbers goods.numbers items skills n h.within;
@@ -147,8 +148,8 @@ module _ (units : FinMap nat_cmp Unit) (marks rows goods : RoomySet) (items skil
     goods_fit = Room-over units goods.numbers goods.room n w (ap is_some is) h.goods_fit;
   }
 
-  -- once an item of a unit is changed and marked, there is room for all marks, and no part of a unit is marked without
-  -- the unit (AreUnits)
+  -- once an item of a unit is changed and marked, there is still room for all marks, and still no part of a unit is
+  -- marked without the unit (AreUnits)
   pub AreUnits-item : (n : ℕ) (u w : Unit) (group : FinMap nat_cmp (Prim.Unit {0})) → get units n ≡ Some u → Before → AreUnits (insert units n w) (marking marks n) rows goods (insert items n group) skills
   AreUnits-item n u w group is h = record {
     within = within-item marks.numbers rows.numbers goods.numbers items skills n h.within group;
@@ -157,8 +158,8 @@ module _ (units : FinMap nat_cmp Unit) (marks rows goods : RoomySet) (items skil
     goods_fit = Room-over units goods.numbers goods.room n w (ap is_some is) h.goods_fit;
   }
 
-  -- once a skill of a unit is changed and marked, there is room for all marks, and no part of a unit is marked without
-  -- the unit (AreUnits)
+  -- once a skill of a unit is changed and marked, there is still room for all marks, and still no part of a unit is
+  -- marked without the unit (AreUnits)
   pub AreUnits-skill : (n : ℕ) (u w : Unit) (group : FinMap nat_cmp (Prim.Unit {0})) → get units n ≡ Some u → Before → AreUnits (insert units n w) (marking marks n) rows goods items (insert skills n group)
   AreUnits-skill n u w group is h = record {
     within = within-skill marks.numbers rows.numbers goods.numbers items skills n h.within group;
@@ -167,8 +168,8 @@ module _ (units : FinMap nat_cmp Unit) (marks rows goods : RoomySet) (items skil
     goods_fit = Room-over units goods.numbers goods.room n w (ap is_some is) h.goods_fit;
   }
 
-  -- once unit n, found as `o`, is removed and marked, there is room for all marks, and no part of a unit is marked
-  -- without the unit (AreUnits)
+  -- once unit n, found as `o`, is removed and marked, there is still room for all marks, and still no part of a unit is
+  -- marked without the unit (AreUnits)
   gone_at : (n : ℕ) (o : Option Unit) → get units n ≡ o → is_some o ≡ true → Before → AreUnits (remove units n) (marking marks n) (marking rows n) (marking goods n) items skills
   gone_at n None is there h = absurd (false≢true there)
   gone_at n (Some u) is there h = record {
@@ -178,8 +179,8 @@ module _ (units : FinMap nat_cmp Unit) (marks rows goods : RoomySet) (items skil
     goods_fit = Room-without units goods.numbers goods.room n (Some u) is h.goods_fit;
   }
 
-  -- once a unit is removed and marked, there is room for all marks, and no part of a unit is marked without the unit
-  -- (AreUnits)
+  -- once a unit is removed and marked, there is still room for all marks, and still no part of a unit is marked without
+  -- the unit (AreUnits)
   pub AreUnits-gone : (n : ℕ) → is_some (get units n) ≡ true → Before → AreUnits (remove units n) (marking marks n) (marking rows n) (marking goods n) items skills
   AreUnits-gone n there h = gone_at n (get units n) refl there h
 
@@ -204,8 +205,8 @@ fits-new units marks more n w h = fits-inserted units more.numbers more.room n w
 HasRoom-added : (units : FinMap nat_cmp Unit) (marks more : RoomySet) (n : ℕ) (w : Unit) → IsWider units marks more → HasRoomForMarks (insert units n w) (marking more n)
 HasRoom-added units marks more n w h = Room-inserted units more.numbers more.room n w (room_inserted units marks more n w h)
 
--- once a new unit is added, and marked in dirty sets with room for one more, there is room for all marks, and no part
--- of a unit is marked without the unit (AreUnits)
+-- once a new unit is added, and marked in dirty sets with room for one more, there is still room for all marks, and
+-- still no part of a unit is marked without the unit (AreUnits)
 pub AreUnits-added : (units : FinMap nat_cmp Unit) (marks rows goods marks2 rows2 goods2 : RoomySet) (items skills : Things) (n : ℕ) (w : Unit) → IsWider units marks marks2 → IsWider units rows rows2 → IsWider units goods goods2
     → AreUnits units marks rows goods items skills → AreUnits (insert units n w) (marking marks2 n) (marking rows2 n) (marking goods2 n) items skills
 AreUnits-added units marks rows goods marks2 rows2 goods2 items skills n w wider wider2 wider3 h = record {

@@ -59,9 +59,9 @@ pub record Covers (m : Marks) (before after : CampaignValue) : Type 0 where
   pub reports : SameBut m.reports before.reports after.reports
   -- A unit whose row is not marked is the same in the campaigns before and after but for its goods, or is in neither.
   pub units : (n : ℕ) → contains m.rows n ≡ false → option_map bare (get after.units n) ≡ option_map bare (get before.units n)
-  -- what a unit has of an item that is not marked is the same in the campaigns before and after, or is in neither
+  -- what a unit has of an item that is not marked is the same in the campaigns before and after, or listed in neither
   pub items : SameThings m.goods m.items items_under before.units after.units
-  -- the days that a unit has of a skill that is not marked are the same in the campaigns before and after, or are in
+  -- the days that a unit has of a skill that is not marked are the same in the campaigns before and after, or listed in
   -- neither
   pub days : SameThings m.goods m.skills days_under before.units after.units
   -- an amount of the books that is not marked is the same in the campaigns before and after

@@ -9,7 +9,7 @@ use Rattle.atl_records.specs.declared.records.Unit.{Unit}
 use Rattle.atl_campaign.specs.contracts.campaign.Campaign.{the_row}
 use Rattle.atl_records.specs.contracts.holding.Holding as holding
 
--- `with_holding` once unit n is looked up: it gets the holding h; nothing changes if it is None
+-- `with_holding` where unit n is looked up: n gets the holding h; for None nothing changes
 abbrev pub with_held : CampaignValue → ℕ → HoldingValue → Option Unit → CampaignValue
 with_held c n h None = c
 with_held c n h (Some u) = record c { units = insert c.units n (record u { holding = h }) }

@@ -83,14 +83,15 @@ mark_faction c n = record c.marks { factions = marked_with c.marks.factions n (g
 abbrev pub mark_region : MarkedCampaign → ℕ → Marks
 mark_region c n = record c.marks { regions = marked_with c.marks.regions n (get c.value.regions n) }
 
--- the marks after a stock was set: if its amount was another before, that stock is marked too, and no other stock
+-- the marks after a stock of a region was set: if the region is there and had another amount, that stock is marked too,
+-- and no other stock
 abbrev pub mark_stock : MarkedCampaign → (region item : ℕ) → ℕ → Marks
 mark_stock c n item amount =
     let region = region_to_restock c.value.regions n item amount in
     record c.marks { markets = marked_with c.marks.markets n region; stock_items = thing_marked c.marks.stock_items n item region }
 
--- the marks after a stock was set without memory for a mark of its own: if its amount was another before, all stocks of
--- its region are marked too
+-- the marks after a stock of a region was set without memory for a mark of its own: if the region is there and had
+-- another amount, all its stocks are marked too
 abbrev pub mark_all_stocks : MarkedCampaign → (region item : ℕ) → ℕ → Marks
 mark_all_stocks c n item amount =
     let region = region_to_restock c.value.regions n item amount in
@@ -130,7 +131,8 @@ handed_marked c s from to = if is_owned_by (get c.value.structures s) from then 
 abbrev pub put_marked : MarkedCampaign → ℕ → ℕ → ℕ → MarkedCampaign
 put_marked c n r s = record { value = placed c.value n r s; marks = mark_unit_row c n }
 
--- `place_marked` once unit n is looked up: unit n is put in region r and structure s; nothing changes if it is None
+-- `place_marked` where unit n is looked up: n is put in region r and structure s, structures left and entered may get
+-- other owners, and changes are marked; for None nothing changes
 abbrev pub place_marked_at : MarkedCampaign → ℕ → ℕ → ℕ → Option Unit → MarkedCampaign
 place_marked_at c n r s None = c
 place_marked_at c n r s (Some u) = if u.structure == s then put_marked c n r s else handed_marked (handed_marked (put_marked c n r s) u.structure n (heir c.value u.structure n)) s 0 n
@@ -143,7 +145,8 @@ place_marked c n r s = place_marked_at c n r s (get c.value.units n)
 abbrev pub taken_marked : MarkedCampaign → ℕ → MarkedCampaign
 taken_marked c n = record { value = record c.value { units = remove c.value.units n }; marks = mark_unit c n }
 
--- `gone_marked` once unit n is looked up: it is removed, and its structure handed over; nothing changes if it is None
+-- `gone_marked` where unit n is looked up: n is removed, a structure that it owned gets its next owner, and changes are
+-- marked; for None nothing changes
 abbrev pub gone_marked_at : MarkedCampaign → ℕ → Option Unit → MarkedCampaign
 gone_marked_at c n None = c
 gone_marked_at c n (Some u) = handed_marked (taken_marked c n) u.structure n (heir c.value u.structure n)

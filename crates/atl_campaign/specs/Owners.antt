@@ -18,7 +18,7 @@ first_other ns leaving = first_or_zero (filter (λ n. not (n == leaving)) ns)
 abbrev pub heir : CampaignValue → ℕ → ℕ → ℕ
 heir c s leaving = first_other (numbers_inside s c.units) leaving
 
--- `owner_after` once structure s is looked up: its owner once unit `leaving` has left it; 0 if it is None
+-- `owner_after` where structure s is looked up: the owner of s once unit `leaving` has left it; for None 0
 abbrev pub owner_after_at : CampaignValue → ℕ → ℕ → Option Structure → ℕ
 owner_after_at c s leaving None = 0
 owner_after_at c s leaving (Some x) = if x.owner == leaving then heir c s leaving else x.owner
@@ -40,7 +40,8 @@ after_handover c s from to = if is_owned_by (get c.structures s) from then with_
 abbrev pub placed : CampaignValue → ℕ → ℕ → ℕ → CampaignValue
 placed c n r s = unit_changed (λ u. record u { region = r; structure = s }) c n
 
--- `with_place` once unit n is looked up: unit n is put in region r and structure s; nothing changes if it is None
+-- `with_place` where unit n is looked up: n is put in region r and structure s, and structures left and entered may get
+-- other owners; for None nothing changes
 abbrev pub with_place_at : CampaignValue → ℕ → ℕ → ℕ → Option Unit → CampaignValue
 with_place_at c n r s None = c
 with_place_at c n r s (Some u) = if u.structure == s then placed c n r s else after_handover (after_handover (placed c n r s) u.structure n (heir c u.structure n)) s 0 n
@@ -50,7 +51,8 @@ with_place_at c n r s (Some u) = if u.structure == s then placed c n r s else af
 unfoldable pub with_place : CampaignValue → ℕ → ℕ → ℕ → CampaignValue
 with_place c n r s = with_place_at c n r s (get c.units n)
 
--- `without_unit` once unit n is looked up: a structure that it owned gets its next owner; nothing changes if it is None
+-- `without_unit` where unit n is looked up: n is removed, and a structure that it owned gets its next owner; for None
+-- nothing changes
 abbrev pub without_unit_at : CampaignValue → ℕ → Option Unit → CampaignValue
 without_unit_at c n None = c
 without_unit_at c n (Some u) = after_handover (record c { units = remove c.units n }) u.structure n (heir c u.structure n)

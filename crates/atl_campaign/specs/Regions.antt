@@ -45,7 +45,8 @@ unmarked_regions values = record { values = values; rows = set.empty; markets = 
 abbrev pub with_region_row : (Region → Region) → MarkedRegions → ℕ → MarkedRegions
 with_region_row f r n = record r { values = changed f r.values n; rows = marked_with r.rows n (map.get r.values n) }
 
--- the regions with another stock of an item in region n, if there is such a region
+-- the regions in which region n, if there is one, has the amount given last of an item in stock; 0 of an item isn't
+-- listed
 abbrev pub with_stock_at : map.FinMap nat_cmp Region → (region item : ℕ) → ℕ → map.FinMap nat_cmp Region
 with_stock_at values n item amount = changed (λ r. record r { stocks = with_amount_of r.stocks item amount }) values n
 
@@ -69,7 +70,8 @@ with_stocks_marked r n = with_stocks_marked_in r n (map.get r.values n)
 abbrev pub region_to_restock : map.FinMap nat_cmp Region → (region item : ℕ) → ℕ → Option Region
 region_to_restock values n item amount = if stock_in values n item == amount then None else map.get values n
 
--- What setting a stock marks, if its amount changes: that stock alone, or all stocks of its region, and nothing else.
+-- `after` has the marks of `before`, and a mark on a stock that was set if its amount changed: on that stock alone, or
+-- on all stocks of its region
 abbrev pub MarksStockAt : (before after : MarkedRegions) → (region item : ℕ) → ℕ → Type 0
 MarksStockAt before after n item amount =
     let region = region_to_restock before.values n item amount in

@@ -86,8 +86,8 @@ with_skill_at f r n skill = record r { values = changed f r.values n; marks = ma
 abbrev pub skill_marked_at : Roster → ℕ → ℕ → Roster
 skill_marked_at r n skill = record r { marks = marked_with r.marks n (map.get r.values n); skills = thing_marked r.skills n skill (map.get r.values n) }
 
--- `without_unit_at` once unit n is looked up: it is removed, and it, its row and all its goods are marked; nothing
--- changes if it is None
+-- `without_unit_at` where unit n is looked up: n is removed, and it, its row and all its goods are marked; for None
+-- nothing changes
 abbrev pub gone_at : Roster → ℕ → Option Unit → Roster
 gone_at r n None = r
 gone_at r n (Some u) = record (all_marked r n) { values = map.remove r.values n }

@@ -68,7 +68,8 @@ faction_in_range r = is_from 1 last_faction r.number && is_from 0 1 r.gone
 abbrev pub region_in_range : StoredRegion → Bool
 region_in_range r = is_from 0 most_amount r.peasants && is_from 0 most_amount r.money
 
--- whether a unit row's number is 1 to 999,999,999, its men 1 to 999,999, its money 0 to 999,999,999, its flag 0 or 1
+-- whether a unit row's number is 1 to 999,999,999, its men 1 to 999,999, its money 0 to 999,999,999, and its guard flag
+-- 0 or 1
 abbrev pub unit_in_range : StoredUnit → Bool
 unit_in_range r = ((is_from 1 last_unit r.number && is_from 1 men_limit r.men) && is_from 0 holding_limit r.money) && is_from 0 1 r.guard
 

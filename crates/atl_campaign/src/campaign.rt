@@ -50,7 +50,7 @@ pub struct Campaign {
     amounts_marked: Marks,
     // Whether the campaign row is marked: the month or a next number changed.
     row_marked: bool,
-    // The numbers of the units by what they belong to.
+    // The numbers of the units of each region, each faction and each structure.
     lists: UnitLists,
 }
 
@@ -292,7 +292,7 @@ impl Campaign {
     }
 
     /// The amount booked of a thing under an entry: what came in less what went. It counts money,
-    /// men and peasants, or pieces of an item.
+    /// men and peasants, or pieces of an item. The thing has to be one of the books' things.
     pub fn booked(&self, entry: Entry, thing: Thing) -> i64
         requires { thing_index thing < self.now.value.books.things }
         ensures { result ≡ amount_in self.now.value.books entry thing }
@@ -364,7 +364,8 @@ impl Campaign {
     }
 
     /// How much there is of a thing in all units and regions, with their stocks. It counts money,
-    /// men and peasants, or pieces of an item. It takes no memory.
+    /// men and peasants, or pieces of an item. There have to be at most 1,000,000 units and regions
+    /// together. It takes no memory.
     #[tactic(auto, unfolding(crate::specs::Totals::total))]
     pub fn total(&self, thing: Thing) -> u64
         requires { IsCountable self.now.value }

@@ -22,7 +22,7 @@ pub(crate) struct IndexEntry {
 /// A map from numbers to slots, as a vector of entries in the order of their numbers.
 #[derive(Drop)]
 pub(crate) struct Index {
-    // Sorted by number, and no number twice.
+    // The entries, sorted by number; no number is there twice.
     places: GapVec<IndexEntry>,
 }
 

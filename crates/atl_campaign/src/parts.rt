@@ -39,7 +39,7 @@ impl Drop for Parts {
 /// The campaign row without its world text: id, format, month, next numbers, moderator's pass text.
 #[derive(Debug)]
 pub struct StoredCampaignRow {
-    /// Always 1.
+    /// The id of the campaign row, always 1.
     pub id: i64,
     /// The number of the tables' format.
     pub format: i64,
@@ -187,7 +187,7 @@ impl Drop for StoredReport {
 pub struct StoredHas {
     /// The unit's number.
     pub unit: i64,
-    /// 0 of an item, 1 of a skill.
+    /// Whether the row is of an item (0) or of a skill (1).
     pub sort: i64,
     /// The index of the item, or of the skill, in the world's list of them, from 0.
     pub thing: i64,
@@ -210,7 +210,7 @@ pub struct StoredBooks {
 /// A row of the table `market`: the stock of an item in a region.
 #[derive(Debug, Drop)]
 pub struct StoredMarket {
-    /// The number of the region.
+    /// The number of the region that has the stock.
     pub region: i64,
     /// The index of the item in the world's list of them, from 0.
     pub item: i64,

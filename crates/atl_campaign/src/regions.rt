@@ -17,12 +17,13 @@ use std::marker::Model;
 /// and single stocks can be marked, each for itself.
 pub(crate) struct Regions {
     values: Numbered<Region>,
-    // The regions whose rows are marked, those of which a stock is, and those all of whose stocks
-    // are, each with room for every region.
+    // The numbers of the regions whose rows are marked, with room for every region.
     rows: Marks,
+    // The numbers of the regions of which a stock is marked, with room for every region.
     markets: Marks,
+    // The numbers of the regions all of whose stocks are marked, with room for every region.
     stocks: Marks,
-    // The single stocks that are marked, by region and item.
+    // The stocks that are marked one by one: the items' numbers, by the region's number.
     items: Numbered<Numbered<()>>,
 }
 

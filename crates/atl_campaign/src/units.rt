@@ -18,13 +18,15 @@ use std::marker::Model;
 /// skills. A unit of which a part is marked is marked itself.
 pub(crate) struct Units {
     units: Arena<Unit>,
-    // The units of which something is marked, those whose rows are, and those all of whose goods
-    // are, each with room for every unit.
+    // The numbers of the units of which something is marked, with room for every unit.
     marks: Marks,
+    // The numbers of the units whose rows are marked, with room for every unit.
     rows: Marks,
+    // The numbers of the units all of whose goods are marked, with room for every unit.
     goods: Marks,
-    // The single items and skills that are marked, by unit.
+    // The items that are marked one by one: their numbers, by the unit's number.
     items: Numbered<Numbered<()>>,
+    // The skills that are marked one by one: their numbers, by the unit's number.
     skills: Numbered<Numbered<()>>,
 }
 
@@ -298,8 +300,8 @@ impl Units {
         unit.holding.set_days(skill, days)
     }
 
-    /// Puts a unit under a number that has none, and marks its row and all its goods. Without
-    /// memory for it nothing changes.
+    /// Puts a unit under a number that has none, and marks the unit, its row and all its goods.
+    /// Without memory for it nothing changes.
     pub(crate) fn insert(&mut self, number: u32, unit: Unit) -> Result<(), AllocError>
         requires { map.get self.old.values number ≡ None }
         ensures ok { OnOk result (self.new ≡ with_unit_at self.old number unit) }
@@ -316,7 +318,8 @@ impl Units {
         Ok(())
     }
 
-    /// Removes a unit, where there is one, and marks its row and all its goods. It takes no memory.
+    /// Removes a unit, where there is one, and marks it, its row and all its goods. It takes no
+    /// memory.
     pub(crate) fn remove(&mut self, number: u32)
         ensures { self.new ≡ without_unit_at self.old number }
     {

@@ -158,8 +158,8 @@ impl Failure {
         }
     }
 
-    /// Prints the failure in one line and returns the status: 2 for a bad command line, else 1. A
-    /// bad command line is printed in the words of its parser.
+    /// Prints the failure on standard error and returns the status: 1, or 2 for a bad command line.
+    /// A bad command line is printed in the words of its parser; the failure Output isn't printed.
     pub fn report<R: Eprint>(self, rt: &R) -> ExitCode {
         let _ = match &self {
             Failure::CommandLine(error) => eprint!(rt; "{error}"),

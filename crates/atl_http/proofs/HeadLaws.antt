@@ -64,11 +64,13 @@ verdict_is input headers spans head rest at = rw (at.version, at.method, at.path
 
 -- ---- a refused head
 
--- an input whose head exceeds 32 fields still does so when more bytes follow
+-- if a beginning of the input, with an empty line after it, is a head of more than 32 fields, the same is true when
+-- more bytes follow (`RequestExceeds`)
 exceeds_stays : (input more : List ℕ) → RequestExceeds most_fields input → RequestExceeds most_fields (input ++ more)
 exceeds_stays input more (front, rest, e, head, reads, over) = (front, rest ++ more, ap (λ l. l ++ more) e ∙ append_assoc front rest more, head, reads, over)
 
--- an input whose every head has more than 32 fields still is one when more bytes follow
+-- if each head that the input may begin with, whatever bytes follow, has more than 32 fields, the same is true of the
+-- input with more bytes behind it (`RequestOverflows`)
 overflows_stays : (input more : List ℕ) → RequestOverflows most_fields input → RequestOverflows most_fields (input ++ more)
 overflows_stays input more over again head rest reads = over (more ++ again) head rest (subst (λ l. ReadsRequest l head rest) (append_assoc input more again) reads)
 

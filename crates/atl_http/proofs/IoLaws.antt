@@ -71,7 +71,7 @@ read_so_far between after seen new count h (piece, is, few, more, same) = inr (s
 pub lacks : (seen items : List ℕ) (told : Progress) (count : ℕ) → seen ≡ items → told ≡ Lacks count → ComesTo seen told → ComesTo items (Lacks count)
 lacks seen items told count e f h = subst (λ l. ComesTo l (Lacks count)) e (subst (ComesTo seen) f h)
 
--- received bytes with the progress `Lacks`, of which some are missing still, have the verdict More
+-- if received bytes lack at least `count` further ones (their progress is `Lacks`), the verdict on them is More
 pub no_outcome : (items : List ℕ) (count : ℕ) → ComesTo items (Lacks count) → Judges items More
 no_outcome items count (some, short) = subst (λ l. Judges l More) (append-nil items) (short [] some)
 

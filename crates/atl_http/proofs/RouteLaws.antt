@@ -322,7 +322,8 @@ route_by path e text h (nowhere at is) = (let none = kept_first path None at in 
 found : (path : List ℕ) (e : RouteOf RouteKey) → IsUtf8 path → first kept path ≡ Some e → Says path e
 found path e text h = route_by path e text h (leads path)
 
--- `r` is the result of looking up the parameter `number` among the parameters taken from a path, if these are UTF-8.
+-- A lookup gives the text of the parameter `number` among the parameters taken from a path, or None if there is none.
+-- This is so if all of them are UTF-8.
 abbrev Gets : {A : Type 0} → (A → List ℕ) → Option A → List (List ℕ × List ℕ) → Type 0
 Gets view r taken = AllText taken → MatchOption r (named number_text taken ≡ None) (λ text. named number_text taken ≡ Some (view text))
 

@@ -37,7 +37,7 @@ IsReadOutcome (Err e) came.Interrupted = error_kind e ≡ kind.Interrupted
 IsReadOutcome (Err e) came.Failed = error_kind e ≢ kind.Interrupted
 
 -- What one read does, by its outcome: a piece goes from the remaining bytes to the front of `room`. Any other outcome
--- takes no bytes.
+-- takes no bytes, and End comes only at the end of the input.
 abbrev pub GivesBytes : (before after : Option (List ℕ)) → (room : List ℕ) → ReadOutcome → Type 0
 GivesBytes before after room (came.Piece count) = (0 < count) × (count ≤ length room) × Consumes before after (take count room)
 GivesBytes before after room came.End = Keeps before after × IsAtEnd after

@@ -64,7 +64,8 @@ unless_coded (coding ∷ more) size = Err NoLength
 unfoldable pub posted_size : (optional : Bool) → List Pair → Result ℕ Problem
 posted_size optional fields = unless_coded (values_of (codes "Transfer-Encoding") fields) (declared optional (values_of (codes "Content-Length") fields))
 
--- the number of body bytes that are read: none for a GET; for `/close` Content-Length may be missing
+-- the number of body bytes that are read: what Content-Length declares, which may be missing for `/close` (0); none for
+-- a GET
 abbrev pub size_of : Route → List Pair → Result ℕ Problem
 size_of Join fields = posted_size false fields
 size_of (Orders faction) fields = posted_size false fields

@@ -1,4 +1,5 @@
--- Laws of `amounts_for`, which makes a map from a list of numbers: the amount of each number, and when two are equal.
+-- Laws of `amounts_for`, which makes a map from a list of numbers: the amount of each number, and when two maps of
+-- amounts are equal.
 use Rattle.std.proofs.Common.{◌≡◌, ◌==◌, ℕ, ◌≤◌, Bool, true, false, not, ◌||◌, cond, List, [], ◌∷◌, map, filter, Option, Some, None, refl, sym, ap, ◌∙◌, arith}
 use Rattle.std.specs.Prelude.{unwrap_or}
 use Rattle.std.specs.List.{list_any}
@@ -17,11 +18,12 @@ at_least_one : (n : ℕ) → (n == 0) ≡ false → 1 ≤ n
 at_least_one n some = grind (arith, nat_tests)
 
 module _ (f : ℕ → ℕ) where
-  -- an amount of number n is the one that f gives n, and isn't 0
+  -- the amount that is listed for a number is f of the number, and isn't 0
   abbrev IsSome : ℕ → ℕ → Type 0
   IsSome n amount = (1 ≤ amount) × (amount ≡ f n)
 
-  -- the entries from which `amounts_for` makes its map
+  -- each number of a list with the amount that f gives it, without the amounts of 0: the entries of the map of
+  -- `amounts_for`
   abbrev listed : List ℕ → List (ℕ × ℕ)
   listed ns = filter (λ e. not (e.1 == 0)) (map (λ n. (n, f n)) ns)
 
@@ -53,12 +55,14 @@ module _ (f : ℕ → ℕ) where
   found_said q [] = refl
   found_said q (n ∷ ns) = by_tests (found_said q ns) (f n == 0) (eq_by_cmp nat_cmp q n) refl refl
     where
-      -- for `by_tests`: where the amount of q is 0 (f q), it is f q whether q is among the numbers (`b`) or not
+      -- for `by_tests`: where f gives 0 to q, the choice between f q and 0 is f q, whether q is among the numbers (`b`)
+      -- or not
       both : (b : Bool) → 0 ≡ f q → cond b (f q) 0 ≡ f q
       both true none = refl
       both false none = none
 
-      -- for `found_said`: if it holds of ns, it does of n ∷ ns, whose entries have f q for q, or 0 if q isn't in n ∷ ns
+      -- for `found_said`: the amount that the entries of n ∷ ns have for q is f q if q is in n ∷ ns, and else 0, if the
+      -- same holds of ns
       by_tests : found q ns ≡ cond (is_among q ns) (f q) 0 → (b k : Bool) → (f n == 0) ≡ b → eq_by_cmp nat_cmp q n ≡ k → unwrap_or (find nat_cmp q (cond (not b) ((n, f n) ∷ listed ns) (listed ns))) 0 ≡ cond (k || is_among q ns) (f q) 0
       by_tests rest true true none same = rest ∙ both (is_among q ns) (sym (ap f (same_key q n same) ∙ is_equal (f n) 0 none))
       by_tests rest true false none other = rest

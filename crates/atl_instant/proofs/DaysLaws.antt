@@ -34,7 +34,7 @@ module _ (days : FinMap nat_cmp ℕ) (f : ℕ → ℕ → ℕ) (s : ℕ) where
       ∙ ap (cond (is_among es) (f s (amount_of days s))) (set_amount left k (f k v) s)
       ∙ by_key (eq_by_cmp nat_cmp s k) refl
     where
-      -- for `by_key`: if both choices are x, the result is x
+      -- for `by_key`: a choice between x and x, by any test b, is x
       both : (b : Bool) (x : ℕ) → cond b x x ≡ x
       both true x = refl
       both false x = refl
@@ -48,8 +48,8 @@ module _ (days : FinMap nat_cmp ℕ) (f : ℕ → ℕ → ℕ) (s : ℕ) where
           ap (cond (is_among es) (f s (amount_of days s))) here ∙ both (is_among es) (f s (amount_of days s))
       by_key false is = refl
 
-  -- after each skill of the map `days` is set to f of its days there, skill s has f of its days there; where `days` has
-  -- 0 of s, s must have had f of 0 before
+  -- after each skill that the map `days` lists is set to f of its days, skill s has f of its days in `days`; if these
+  -- are 0, s must have had f of 0 before
   pub set_each : (left : FinMap nat_cmp ℕ) → (amount_of days s ≡ 0 → amount_of left s ≡ f s 0) → amount_of (set_all left (entries days)) s ≡ f s (amount_of days s)
   set_each left others =
       set_among (entries days) left (each-from_every (λ k v. amount_of days k ≡ v) days (λ k v there. ap (λ (o : Option ℕ). unwrap_or o 0) there))

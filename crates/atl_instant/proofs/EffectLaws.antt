@@ -50,7 +50,8 @@ pub record IsSpared (f : ℕ) (before after : Unit) : Type 0 where
 pub record Keeps (holds : Condition) (fit : Type 0) (w : WorldValue) (c : CampaignValue) (n f : ℕ) (d : CampaignValue) : Type 0 where
   -- where `holds` is true of c and the order fits (`fit`), `holds` is true of d, and month, books and balance are kept
   pub well : holds w c → fit → StepsWell holds nothing_remaining w c d
-  -- each unit but n is in d, no worse off than in c, and with exactly its men if it is of another faction than f
+  -- each unit but n is in d, no worse off than in c, and has exactly as many men as in c if it is of another faction
+  -- than f
   pub others : (k : ℕ) (v : Unit) → get c.units k ≡ Some v → k ≢ n → IsUnaffected (IsSpared f) d k v
 
 module _ {holds : Condition} {fit : Type 0} (w : WorldValue) (c : CampaignValue) (n f : ℕ) where
@@ -65,7 +66,8 @@ module _ {holds : Condition} {fit : Type 0} (w : WorldValue) (c : CampaignValue)
   pub keeps_all : Keeps holds fit w c n f c
   keeps_all = keeps_others c (λ h fits. well_same w c h) (λ k apart. refl)
 
-  -- an order keeps `holds`, the books and the other units (`Keeps`), with a fault or without, if it does without one
+  -- an order, with a fault or without, keeps `holds`, the books and the other units (`Keeps`), if its effect without a
+  -- fault does
   pub keeps_unless : (fault : Option EventFault) (d : CampaignValue) (o : Outcome) → (fault ≡ None → Keeps holds fit w c n f d) → Keeps holds fit w c n f (unless c fault (d, o)).0
   keeps_unless (Some fault) d o keeps = keeps_all
   keeps_unless None d o keeps = keeps refl
@@ -155,8 +157,8 @@ module _ (c : CampaignValue) (from to : ℕ) (u v : Unit) (h k : HoldingValue) (
         record { unit = x; there = get-insert_other between.units to n (record v { holding = k }) away ∙ get-insert_other c.units from n (record u { holding = h }) other ∙ there; spared = record { better = no_worse x; men = λ apart. refl } }
   ]
 
--- P holds of the campaign after an order that moves something from unit `from` to unit `to`, if P holds of the campaign
--- before, and of the one after the move where the units are two, and the order has no fault
+-- for an order that moves something from unit `from` to `to`: P holds of the campaign after the order, if P holds of
+-- that before and, where no fault applies and `from` isn't `to`, of that after the move
 pub moved_cases : (P : CampaignValue → Type 0) (c : CampaignValue) (from to : ℕ) (u v : Unit) (h k : HoldingValue) (fault : Bool → Option EventFault) (o : Outcome) → P c
     → (to ≢ from → fault false ≡ None → P (with_held (with_held c from h (Some u)) to k (Some v)))
     → P (unless c (fault (to == from)) (if to == from then c else with_held (with_held c from h (Some u)) to k (Some v), o)).0

@@ -170,7 +170,7 @@ give_keeps w a c t x own = by_operands t.order_value.operands
     by_operands (operands.UnitAndNumber to n) = gift_kept w c t.unit (unit_of a t.faction to) Money n x own.there (λ fit. tt)
     by_operands other = tt
 
--- GIVE and PAY keep an early campaign early and book nothing,
--- and a unit without an own order of these is no worse off (`IsOrderly`)
+-- GIVE and PAY keep an early campaign early and book nothing, and a unit is no worse off unless its own faction wrote
+-- one of these orders for it (`IsOrderly`)
 pub give_orderly : IsOrderly give_step IsEarly nothing_remaining moves_nothing IsOwnOrder IsNoWorse
 give_orderly = orderly_by give_keeps (λ w a t n f own other. absurd (other own))

@@ -52,7 +52,7 @@ none_of p (n ∷ ns) is k listed = by_test (p n) refl is (λ e h. none_of p ns e
     by_test false t e rest (inl same) = ap p same ∙ t
     by_test false t e rest (inr h) = rest e h
 
--- if no other faction guards a region, each unit that guards there is of this faction
+-- if no faction but the given one guards a region, each unit that guards the region is of the given faction
 pub own_guards : (c : CampaignValue) (region faction : ℕ) → is_guarded_against c region faction ≡ false → Every (λ m v. guards v ≡ true → v.region ≡ region → v.faction ≡ faction) c.units
 own_guards c region faction none m v there guarding here =
     let inside : (v.region == region) ≡ true = grind (arith, nat_tests) in
@@ -164,8 +164,8 @@ guard_keeps w a c t x own = by_operands t.order_value.operands
     by_operands (operands.Flag true) = guard_kept w c t.unit x own.there
     by_operands other = tt
 
--- GUARD 1 keeps a steady campaign steady and books nothing,
--- and a unit without an own GUARD 1 is no worse off (`IsOrderly`)
+-- GUARD 1 keeps a steady campaign steady and books nothing, and a unit is no worse off unless its own faction wrote
+-- GUARD 1 for it
 pub guard_orderly : IsOrderly guard_step IsSteady nothing_remaining moves_nothing guard_concerns IsNoWorse
 guard_orderly = orderly_by guard_keeps (λ w a t n f own other. passed t.unit t.order_value.operands (λ sets. other (own, sets)))
   where

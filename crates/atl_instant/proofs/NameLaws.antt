@@ -1,4 +1,5 @@
--- Laws of NAME and GUARD 0: the campaign stays early, and a unit without an own order of these is no worse off.
+-- Laws of NAME and GUARD 0: the campaign stays early, and a unit is no worse off unless its own faction wrote one of
+-- these orders for it.
 use Rattle.std.proofs.Common.{◌≡◌, ◌≢◌, ◌==◌, ℕ, Bool, true, false, List, Some, None, refl, sym, subst}
 use Rattle.std.specs.Prelude.{IfSome, IsTrue, if◌then◌else◌}
 use Rattle.std.specs.FinMap.{get}
@@ -129,8 +130,8 @@ name_keeps w a c t x own = by_operands t.order_value.operands
     by_operands (operands.Flag false) = flag_cleared (AreOperandsOf w (operands.Flag false)) w c t.unit x own.there
     by_operands other = tt
 
--- NAME and GUARD 0 keep an early campaign early and book nothing,
--- and a unit without an own order of these is no worse off (`IsOrderly`)
+-- NAME and GUARD 0 keep an early campaign early and book nothing, and a unit is no worse off unless its own faction
+-- wrote one of these orders for it (`IsOrderly`)
 pub name_orderly : IsOrderly name_step IsEarly nothing_remaining moves_nothing name_concerns IsNoWorse
 name_orderly = orderly_by name_keeps (λ w a t n f own other. passed w t.unit t.order_value.operands (λ names. other (own, names)))
   where

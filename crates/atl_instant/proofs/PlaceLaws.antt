@@ -1,4 +1,5 @@
--- Laws of LEAVE, ENTER and PROMOTE: the campaign stays early, and a unit without an own order of these is no worse off.
+-- Laws of LEAVE, ENTER and PROMOTE: the campaign stays early, and a unit is no worse off unless its own faction wrote
+-- one of these orders for it.
 use Rattle.std.proofs.Common.{◌≡◌, ◌≢◌, ◌==◌, ℕ, Bool, true, false, not, List, [], ◌∷◌, Option, Some, None, refl, sym, ap, ◌∙◌, arith}
 use Rattle.std.proofs.lemmas.Bool.{true≢false}
 use Rattle.std.specs.Prelude.{IfSome, if◌then◌else◌}
@@ -142,7 +143,7 @@ place_keeps w a c t x own = by_operands t.order_value.operands
     by_operands (operands.Unit to) = promoted (AreOperandsOf w (operands.Unit to)) w c t.unit x own.there (unit_of a t.faction to)
     by_operands other = tt
 
--- LEAVE, ENTER and PROMOTE keep an early campaign early and book nothing,
--- and units without an own order of these are no worse off (`IsOrderly`)
+-- LEAVE, ENTER and PROMOTE keep an early campaign early and book nothing, and a unit is no worse off unless its own
+-- faction wrote one of these orders for it (`IsOrderly`)
 pub place_orderly : IsOrderly place_step IsEarly nothing_remaining moves_nothing IsOwnOrder IsNoWorse
 place_orderly = orderly_by place_keeps (λ w a t n f own other. absurd (other own))

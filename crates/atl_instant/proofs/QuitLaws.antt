@@ -67,7 +67,7 @@ use Rattle.atl_phase.specs.declared.phase_order.Arrangement.TheVariants.{ByUnit}
 abbrev pub part_of : Thing → Thing → ℕ → ℕ
 part_of s t amount = cond (thing_index s == thing_index t) amount 0
 
--- n if the entry is the one under which the loss of the thing is booked, and 0 otherwise
+-- the given amount if the entry is the one under which the loss of the thing is booked, and 0 otherwise
 abbrev under : Entry → Thing → ℕ → ℕ
 under e t n = if entry_index e == entry_index (loss_entry t) then n else 0
 
@@ -178,20 +178,20 @@ held_moves h = both_move (moves_only h.men Left People) (both_move (moves_only h
 all_owed : (h : HoldingValue) (s : Thing) → owing h s ≡ unit_amount s h
 all_owed h Money = sum h.money (owing_items (entries h.items) Money) (no_money (entries h.items))
   where
-    -- for `all_owed`: of money a holding owes its money m, no men (0), and none by its items (n)
+    -- for `all_owed`: what a holding has of money is its money m alone: its men add 0, and its items n, which is 0
     sum : (m n : ℕ) → n ≡ 0 → 0 + (m + n) ≡ m
     sum m n e = omega (arith, e)
 all_owed h People = sum h.men (owing_items (entries h.items) People) (no_people (entries h.items))
   where
-    -- for `all_owed`: of men a holding owes its men m, none by its money (0), and none by its items (n)
+    -- for `all_owed`: what a holding has of people is its men m alone: its money adds 0, and its items n, which is 0
     sum : (m n : ℕ) → n ≡ 0 → m + (0 + n) ≡ m
     sum m n e = omega (arith, e)
 all_owed h (Item j) =
     sum (2 + j == 1) (2 + j == 0) h.men h.money (owing_items (entries h.items) (Item j)) (let t : (2 + j == 1) ≡ false = grind (arith, nat_tests) in t) (let t : (2 + j == 0) ≡ false = grind (arith, nat_tests) in t)
     ∙ of_item j (entries h.items) (sorted h.items) ∙ ap (λ (o : Option ℕ). unwrap_or o 0) (sym (get-entries h.items j))
   where
-    -- for `all_owed`: of an item a holding owes what its items have (k); its men m and money n, with tests b and d that
-    -- are false, add nothing
+    -- for `all_owed`: what a holding has of an item is k, the amount of its items: men m and money n add nothing, since
+    -- the tests b and d, whether the thing is people or money, are false
     sum : (b d : Bool) (m n k : ℕ) → b ≡ false → d ≡ false → cond b m 0 + (cond d n 0 + k) ≡ k
     sum false false m n k e f = omega arith
     sum true d m n k e f = cc
@@ -245,8 +245,8 @@ off_one w c t amount inside steady = record {
   same = refl;
 }
   where
-    -- for `off_one`: an amount z of the books is z with a taken and added again, where b is true (a is booked of it),
-    -- or with 0 taken and added
+    -- for `off_one`: an amount z of the books from which a (if b is true, else 0) is taken, and to which the same is
+    -- then added, is z
     less : (z : ℤ) (b : Bool) (a : ℕ) → z ≡ (z +ℤ cond b (neg_ℤ (pos a)) (pos 0)) +ℤ pos (cond b a 0)
     less z true a = omega (arith, ints)
     less z false a = omega (arith, ints)
@@ -517,7 +517,7 @@ quit_orderly = record {
 
 -- ---- no unit comes, and none changes
 
--- campaign d has no units but unchanged ones of c
+-- the second campaign has only units that the first has too, unchanged
 abbrev HasSomeOf : CampaignValue → CampaignValue → Type 0
 HasSomeOf c d = Every (λ k u. get c.units k ≡ Some u) d.units
 

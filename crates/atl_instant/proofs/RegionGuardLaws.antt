@@ -79,8 +79,8 @@ module _ (c : CampaignValue) where
   held_of m (e ∷ es) are old = held_of (with_guard_of m e.1) es are.1 (λ r f. held_more r f m e.0 e.1 are.0 (old r f))
 
   module _ (one : AreOfOneFaction guards c) where
-    -- if the guards of each region are of one faction,
-    -- units of a list that guard the region of guard n are of its faction
+    -- if the guards of each region are of one faction, each unit of a list that guards the region of guard n is of the
+    -- faction of n
     own_of : (n : ℕ) (u : Unit) → get c.units n ≡ Some u → guards u ≡ true → (es : List (ℕ × Unit)) → AreUnits es → EachOf (λ k v. IsOwn u.region u.faction v) es
     own_of n u is on [] are = tt
     own_of n u is on (e ∷ es) are = (λ also same. one e.0 e.1 are.0 n u is also on same, own_of n u is on es are.1)

@@ -34,16 +34,19 @@ is_naming verb = false
 abbrev pub is_of_kind : WorldValue → (ship : Bool) → Structure → Bool
 is_of_kind w ship s = if ship then is_ship w s else not (is_ship w s)
 
--- why unit n can't name the structure that it is inside: NotInside or NotOwner; None where it can
+-- why unit n can't name a ship (where `ship` is true) or a building: NotInside where it is inside no such structure, or
+-- NotOwner; None where it can
 abbrev pub structure_fault : WorldValue → ℕ → (ship : Bool) → Option Structure → Option EventFault
 structure_fault w n ship None = Some NotInside
 structure_fault w n ship (Some s) = first_fault ((not (is_of_kind w ship s), NotInside) ∷ (not (s.owner == n), NotOwner) ∷ [])
 
--- the campaign and the outcome as unit n names the ship or the building that it is inside
+-- the campaign and the outcome as unit n gives a name to the ship (where `ship` is true) or the building that it is
+-- inside
 abbrev pub structure_name_result : WorldValue → CampaignValue → (n inside : ℕ) → (ship : Bool) → List ℕ → CampaignValue × Outcome
 structure_name_result w c n inside ship name = unless c (structure_fault w n ship (get c.structures inside)) (with_structure_name c inside name, Done 0)
 
--- the campaign and the outcome as unit n of faction f, inside a structure or none (0), gives a name of this kind
+-- the campaign and the outcome after an order of NAME by unit n: the unit, its faction, or the structure `inside` (0:
+-- none) that it is inside gets the name, by the kind of name
 abbrev pub name_result : WorldValue → CampaignValue → (n faction inside : ℕ) → NameKind → List ℕ → CampaignValue × Outcome
 name_result w c n f s kinds.Unit name = (with_unit_name c n name, Done 0)
 name_result w c n f s kinds.Faction name = (with_faction_name c f name, Done 0)
@@ -64,7 +67,7 @@ name_effect w n (operands.Name what name) = Some (naming w n what name)
 name_effect w n (operands.Flag false) = Some (leave_guard n)
 name_effect w n other = None
 
--- what the phase does at one order: the effect of an order of NAME or GUARD; None for GUARD 1
+-- what the phase does at one order: the effect of NAME or GUARD 0; None for GUARD 1
 abbrev pub name_step : OrderMeaning
 name_step w a t = name_effect w t.unit t.order_value.operands
 

@@ -55,16 +55,16 @@ with_more n other h = record h { men = h.men + n; days = amounts_for (raised_of 
 
 -- ---- a law: the days that both units have of each skill after n men went
 
--- after n men went from one unit to another, the one has the days of a skill that stay, and the other those that it had
--- and those that came
+-- after n men went from a sender with holding `other` to a receiver with holding h, the sender has the days of the
+-- skill that stay, and the receiver those that it had and those that came
 pub record HaveDaysOf (n : ℕ) (other h : HoldingValue) (skill : ℕ) : Type 0 where
-  -- the unit that the men left has the days of the skill that stay
+  -- the sender has the days of the skill that stay
   pub stay : amount_of (with_fewer n other).days skill ≡ staying_of n other skill
-  -- the unit that the men came to has the days of the skill that it had and those that came
+  -- the receiver has the days of the skill that it had, and those that came
   pub come : amount_of (with_more n other h).days skill ≡ raised_of n other h skill
 
--- the law that, however many men go from one unit to another, the one keeps the days of each skill that stay, and the
--- other has its own and those that came
+-- the law that, however many men go, the sender keeps the days of each skill that stay, and the receiver has its own
+-- and those that came
 abbrev pub DaysGoWithMen : Type 0
 DaysGoWithMen = (n : ℕ) (other h : HoldingValue) (skill : ℕ) → HaveDaysOf n other h skill
 

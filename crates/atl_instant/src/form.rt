@@ -184,10 +184,11 @@ fn form_one(
     })
 }
 
-/// Has the verb FORM.
+/// The phase of FORM carries out the orders of one verb, FORM.
 impl PhaseVerbs for FormPhase {
     ghost is_of = { is_forming };
 
+    /// Whether a verb is FORM.
     fn has(&self, verb: Verb) -> bool {
         matches!(verb, Verb::Form)
     }

@@ -80,7 +80,8 @@ fn set_held(campaign: &mut Campaign, number: u32, gift: Gift, amount: u32) -> Re
     }
 }
 
-/// Moves this amount of the money or the item from one unit to another, if both are there.
+/// Moves this amount of money or of an item from one unit to another, if both are there. The giver
+/// must hold the amount, and the receiver have room for it.
 fn hand_over(
     campaign: &mut Campaign,
     from: u32,
@@ -137,10 +138,11 @@ fn give(
     Ok(Outcome::Done(u64::from(amount)))
 }
 
-/// Has the verbs GIVE and PAY.
+/// The phase of GIVE and PAY carries out the orders of these two verbs.
 impl PhaseVerbs for GivePhase {
     ghost is_of = { is_giving };
 
+    /// Whether a verb is GIVE or PAY.
     fn has(&self, verb: Verb) -> bool {
         matches!(verb, Verb::Give | Verb::Pay)
     }

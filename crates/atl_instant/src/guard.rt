@@ -106,10 +106,11 @@ fn guard_one(
     Ok(())
 }
 
-/// Has the verb GUARD; an order of GUARD 0 is passed over when it is carried out.
+/// The phase of GUARD 1 gets all orders of the verb GUARD, and passes over those that are GUARD 0.
 impl PhaseVerbs for GuardPhase {
     ghost is_of = { is_guarding };
 
+    /// Whether a verb is GUARD.
     fn has(&self, verb: Verb) -> bool {
         matches!(verb, Verb::Guard)
     }

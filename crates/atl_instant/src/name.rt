@@ -37,8 +37,9 @@ fn is_of_kind(world: &World, ship: bool, structure: &Structure) -> bool
     kind.is_some_and(|kind| kind.ship) == ship
 }
 
-/// Why a unit can't name the ship or building that it is inside: NotInside or NotOwner; None where
-/// it can.
+/// Why a unit can't name the ship (where `ship` is true) or the building that it is inside:
+/// NotInside where the structure `inside` isn't there or is of the other sort, or NotOwner; None
+/// where it can.
 fn structure_fault(
     world: &World,
     campaign: &Campaign,
@@ -57,7 +58,8 @@ fn structure_fault(
     }
 }
 
-/// Sets the name of the structure that a unit is inside, or changes nothing where a fault applies.
+/// Sets the name of the ship (where `ship` is true) or the building that a unit is inside, or
+/// changes nothing where a fault applies.
 fn name_structure(
     world: &World,
     campaign: &mut Campaign,
@@ -144,10 +146,12 @@ fn give_name(
     Ok(name(world, campaign, order.unit, faction, inside, what, given))
 }
 
-/// Has the verbs NAME and GUARD; an order of GUARD 1 is passed over when it is carried out.
+/// The phase of NAME and GUARD 0 gets all orders of the verbs NAME and GUARD, and passes over those
+/// that are GUARD 1.
 impl PhaseVerbs for NamePhase {
     ghost is_of = { is_naming };
 
+    /// Whether a verb is NAME or GUARD.
     fn has(&self, verb: Verb) -> bool {
         matches!(verb, Verb::Name | Verb::Guard)
     }

@@ -132,10 +132,11 @@ fn promote(campaign: &mut Campaign, order: PhaseOrder<'_>, to: u32) -> Outcome
     Outcome::Done(0)
 }
 
-/// Has the verbs LEAVE, ENTER and PROMOTE.
+/// The phase of LEAVE, ENTER and PROMOTE carries out the orders of these three verbs.
 impl PhaseVerbs for PlacePhase {
     ghost is_of = { is_placing };
 
+    /// Whether a verb is LEAVE, ENTER or PROMOTE.
     fn has(&self, verb: Verb) -> bool {
         matches!(verb, Verb::Leave | Verb::Enter | Verb::Promote)
     }

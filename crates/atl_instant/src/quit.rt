@@ -37,7 +37,7 @@ fn loss_entry(thing: Thing) -> Entry
     }
 }
 
-/// Books this amount of a thing as gone: men under left, money and items under lost.
+/// Books an amount of a thing as gone: men under left, money and items under lost.
 fn book_loss(campaign: &mut Campaign, thing: Thing, amount: u32)
     requires there { thing_index thing < campaign.old.value.books.things }
     requires room { HasRoom amount (amount_in campaign.old.value.books (loss_entry thing) thing) }
@@ -47,7 +47,7 @@ fn book_loss(campaign: &mut Campaign, thing: Thing, amount: u32)
     book_taken(campaign, loss_entry(thing), thing, amount);
 }
 
-/// Books these amounts of items as lost.
+/// Books each item of a list, with its amount, as lost.
 fn book_items(world: &World, campaign: &mut Campaign, items: &[(u16, u32)])
     requires things { campaign.old.value.books.things ≡ things_of world.now }
     requires known { EachOf (λ i amount. i < length world.now.items) items.now }
@@ -101,7 +101,7 @@ fn leave(
     Ok(())
 }
 
-/// Removes these units one after another, and books all that they have as gone.
+/// Removes the units of a list one after another, and books all that they have as gone.
 fn leave_all(
     alloc: Global,
     world: &World,
@@ -148,10 +148,11 @@ fn quit(
     Ok(Outcome::Done(0))
 }
 
-/// Has the verb QUIT.
+/// The phase of QUIT carries out the orders of one verb, QUIT.
 impl PhaseVerbs for QuitPhase {
     ghost is_of = { is_quitting };
 
+    /// Whether a verb is QUIT.
     fn has(&self, verb: Verb) -> bool {
         matches!(verb, Verb::Quit)
     }
@@ -191,7 +192,8 @@ impl OrderPhase for QuitPhase {
 }
 
 /// Carries out the orders of QUIT (`carry_out_orders`), and does nothing else. It isn't a
-/// `PlainPhase`, since it keeps more than its steps say one by one.
+/// `PlainPhase`, since what it keeps (`quit_keeps`) depends on whose the units were as the phase
+/// began.
 impl Phase for QuitPhase {
     ghost meaning = { quit_meaning };
 

@@ -74,7 +74,8 @@ fn days_raised(
     Ok(list)
 }
 
-/// Moves `going` men with their days from one unit to another, if both are there.
+/// Moves `going` men with their days from one unit to another, if both are there. The sender must
+/// have these men, and the receiver room for them.
 fn send(
     alloc: Global,
     campaign: &mut Campaign,
@@ -159,10 +160,11 @@ fn transfer(
     Ok(Outcome::Done(u64::from(going)))
 }
 
-/// Has the verb TRANSFER.
+/// The phase of TRANSFER carries out the orders of one verb, TRANSFER.
 impl PhaseVerbs for TransferPhase {
     ghost is_of = { is_transferring };
 
+    /// Whether a verb is TRANSFER.
     fn has(&self, verb: Verb) -> bool {
         matches!(verb, Verb::Transfer)
     }
@@ -206,8 +208,8 @@ impl PlainPhase for TransferPhase {
     fn is_plain(&self) {}
 }
 
-/// The law that, as men go, the days of each skill that go with them leave the one unit and come to
-/// the other. Does nothing.
+/// The law that the days of each skill that go with men leave the sender and come to the receiver.
+/// Does nothing.
 pub fn days_go_with_men()
     ensures { DaysGoWithMen }
 {}

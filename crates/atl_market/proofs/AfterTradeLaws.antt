@@ -177,7 +177,8 @@ module _ (trade : Trade) (items : FinMap nat_cmp ℕ) (w : WorldValue) (units : 
       amounts = λ i. undrawn r i (amount_of q.stocks i) (draws r i ∙ ap (λ b. b && m.item == i) (other_number u.region r (λ same. apart (sym same))));
     }
 
-  -- the trade of a unit changes the stocks of each region as `IsTraded` says, if the share is 0 without a market
+  -- the trade of a unit changes each stock by what the unit draws of the item (`IsTraded`), if the share is 0 without a
+  -- market
   region_traded : IsWorld w → (market_for w u (get items e.0) ≡ None → e.1 ≡ 0) → (r : ℕ) (q : Region) → get d.regions r ≡ Some q → IsTraded r q
   region_traded world none r q around = by_market (market_for w u (get items e.0)) refl
     where
@@ -220,7 +221,8 @@ module _ (trade : Trade) (items : FinMap nat_cmp ℕ) (w : WorldValue) where
     abbrev Trades : ℕ × ℕ → Type 0
     Trades e = (u : Unit) × (get c.units e.0 ≡ Some u) × (market_for w u (get items e.0) ≡ None → e.1 ≡ 0)
 
-    -- after trades in the order of unit numbers the stocks of each region have changed by what its units traded
+    -- After trades in the order of unit numbers, by units that are there (`Trades`), each stock has changed by what its
+    -- region's units traded of the item.
     regions_traded : IsWorld w → (d : CampaignValue) (es : List (ℕ × ℕ)) → Rise es → AreUntouched c d es → AllByRecursion Trades es → (r : ℕ) (q : Region) → get d.regions r ≡ Some q
         → HasNewStocks q (stock_after trade) (λ i. drawn (draws_item c.units items (r, i)) es) (get (fold (after_trade trade items w) d es).regions r)
     regions_traded world d [] rise same all r q around = record { stocks = q.stocks; region = around; amounts = λ i. sym (none_traded trade (amount_of q.stocks i)) }
@@ -251,7 +253,7 @@ module _ (trade : Trade) (w : WorldValue) (c : CampaignValue) (os : List Task) w
   none_left : (share : ℕ) → share ≤ 0 → share ≡ 0
   none_left share low = omega (arith, low)
 
-  -- a unit whose region has no market for its order's item has a share of 0
+  -- a share that is at most the unit's want is 0 where the unit's region has no market for its order's item
   without_share : (n share : ℕ) (u : Unit) (asked : ℕ) (s : Option ℕ) → share ≤ trade_want trade u.holding asked (market_for w u s)
       → ((i : ℕ) → s ≡ Some i → get named n ≡ Some i) → market_for w u (get named n) ≡ None → share ≡ 0
   without_share n share u asked None low told at = none_left share low

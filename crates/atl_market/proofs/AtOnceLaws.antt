@@ -143,7 +143,8 @@ drawn_is draws (e ∷ es) = by_test (draws e.0) (drawn_is draws es)
 abbrev pub GivesWhoIsThere : Bool → PotMeaning → WorldValue → CampaignValue → List Task → Type 0
 GivesWhoIsThere needs p w c os = (n share : ℕ) → get (given_by p w c os) n ≡ Some share → (u : Unit) × (get c.units n ≡ Some u) × Around needs c u
 
--- a phase whose payments change their own unit and region alone pays all units at once
+-- A phase pays all units at once if each payment changes its own unit and region alone (`Pays`), and all units that get
+-- something are there (`GivesWhoIsThere`).
 pub all_at_once : {needs : Bool} (p : PotMeaning) (w : WorldValue) (gets : ℕ → UnitChange) (gives : RegionChange) (c : CampaignValue) (os : List Task)
     → Pays needs (p.paid (items_by p w c os) w) gets gives → GivesWhoIsThere needs p w c os → PaysAtOnce p w gets gives c os
 unfolding after_sharing

@@ -64,11 +64,12 @@ more_than a b is = grind (arith, nat_tests)
 
 -- ---- structures are numbered from 1 without a gap
 
--- where fewer than 10,000 structures are there, the next number is at most 10,000
+-- where structures are numbered from 1 without a gap and are fewer than 10,000, the next one's number is at most 10,000
 pub next_within : (c : CampaignValue) → IsNumbered c.structures c.next_structure → len c.structures < most_structures → c.next_structure ≤ most_structures
 next_within c numbered room = omega (arith, numbered.count, room)
 
--- no further structure may be begun exactly if the next number is above 10,000
+-- Where structures are numbered from 1 without a gap, no further structure may be begun exactly if the next structure's
+-- number is above 10,000.
 pub limit_by_next : (c : CampaignValue) → IsNumbered c.structures c.next_structure → nat_lt most_structures c.next_structure ≡ is_structure_limit c
 limit_by_next c numbered = rw numbered.count (by_count most_structures (len c.structures))
   where
@@ -91,7 +92,8 @@ pub record CanBegin (w : WorldValue) (c : CampaignValue) (u : Unit) (k : Kind) :
   -- the campaign has fewer than 10,000 structures
   pub room : len c.structures < most_structures
 
--- a unit without a fault of `BUILD kind` can begin: it has men, level and material, is on land, and has room for it
+-- A unit without a fault of `BUILD kind` can begin a structure: it has men, level and material, is on land, and the
+-- campaign has room for the structure.
 pub can_begin : (w : WorldValue) (c : CampaignValue) (u : Unit) (k : Kind) → begin_fault w c u k ≡ None → CanBegin w c u k
 can_begin w c u k is =
     let limit = (is_structure_limit c, StructureLimit) ∷ [] in
@@ -204,7 +206,7 @@ module _ (w : WorldValue) (c : CampaignValue) (n kind : ℕ) (u : Unit) (k : Kin
     good : IsKind (length w.items) (length w.skills) k
     good = can.kinds kind k kind_is
 
-    -- the next number of structures is at most 10,000, if the unit can begin one
+    -- the number of the next structure is at most 10,000, as the unit can begin a structure
     room : c.next_structure ≤ most_structures
     room = next_within c can.steady.next.structures fit.room
 

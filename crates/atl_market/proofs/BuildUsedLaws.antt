@@ -83,7 +83,8 @@ only_used item amount e t = by_number (amount_number e t == amount_number Used (
     places : (i j p q : ℕ) → entry_count * i + p ≡ entry_count * j + q → p < entry_count → q < entry_count → (i ≡ j) × (p ≡ q)
     places i j p q e l m = (omega (arith, e, l, m), omega (arith, e, l, m))
 
-    -- `used_of` gives at least `amount` for a thing `s` whose amount has the number of Used of the item
+    -- if the amount of entry `e` and thing `s` is in the books under the number of Used of the item, `used_of` gives at
+    -- least `amount` for `e` and `s`
     by_thing : (s : Thing) → entry_count * thing_index s + entry_index e ≡ entry_count * thing_index (Item item) + entry_index Used → amount ≤ used_of item amount e s
     by_thing Money same = let p = places 0 (2 + item) (entry_index e) (entry_index Used) same (entry_small e) (entry_small Used) in absurd (omega (arith, p.0))
     by_thing People same = let p = places 1 (2 + item) (entry_index e) (entry_index Used) same (entry_small e) (entry_small Used) in absurd (omega (arith, p.0))

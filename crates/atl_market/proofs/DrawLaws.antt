@@ -53,7 +53,8 @@ module _ (draws : Drawers) where
   drawn (e ∷ es) = cond (draws e.0) e.1 0 + drawn es
 
   module _ (amount : ℕ → ℕ) where
-    -- if the unit of an entry (unit, share) draws from the pot, it is on a list, and its share is its `amount`
+    -- if the unit of a pair (unit, share) draws from the pot, the unit is on a list, and the share is what `amount` has
+    -- for it
     abbrev pub Listed : List ℕ → ℕ × ℕ → Type 0
     Listed ns e = draws e.0 ≡ true → IsListed e.0 ns × (amount e.0 ≡ e.1)
 
@@ -172,8 +173,8 @@ module _ {K : Type 0} (pots : DrawnPots K) where
     no_less : (a : ℕ) → a + 0 ≡ a
     no_less a = omega arith
 
-    -- The pots change by a unit's turn as `Drains` says if one region changes, its pots lose the share of a unit that
-    -- draws from them, and the unit draws from no pot of another region.
+    -- All pots lose just what a unit draws (`Drains`), if one region alone changes, its pots lose the share where the
+    -- unit draws, and the unit draws in no other region.
     pub region_drains : (r : ℕ) (q : Region) → get d.regions r ≡ Some q → (f : Region → Region) → after.regions ≡ (region_changed f d r).regions
         → ((k : K) → pots.pot_region k ≡ r → pots.left k (f q) + cond (pots.draws k e.0) e.1 0 ≡ pots.left k q)
         → ((k : K) → pots.pot_region k ≢ r → pots.draws k e.0 ≡ false) → Drains d e after
@@ -190,7 +191,8 @@ module _ {K : Type 0} (pots : DrawnPots K) where
         put : get (insert d.regions r (f q)) (pots.pot_region k) ≡ Some x
         put = sym (ap (λ m. get m (pots.pot_region k)) (changed ∙ changed-known f d.regions r q around)) ∙ found
 
-    -- the pots change by a unit's turn as `Drains` says, that is not at all, if its share is 0 and no region changes
+    -- if a unit's share is 0 and no region changes, each pot keeps what it has, as it should by the unit's turn
+    -- (`Drains`)
     pub nothing_drains : after.regions ≡ d.regions → e.1 ≡ 0 → Drains d e after
     nothing_drains same none k x found = (x, sym (ap (λ m. get m (pots.pot_region k)) same) ∙ found, ap (λ s. pots.left k x + cond (pots.draws k e.0) s 0) none ∙ neither (pots.draws k e.0) (pots.left k x))
       where
@@ -211,7 +213,8 @@ module _ (units : FinMap nat_cmp Unit) (left : Region → ℕ) where
   region_pots = record { pot_region = λ r. r; draws = draws_region units; left = λ r q. left q }
 
   module _ (d : CampaignValue) (e : ℕ × ℕ) (u : Unit) (q : Region) (there : get units e.0 ≡ Some u) (around : get d.regions u.region ≡ Some q) where
-    -- the pots of regions change as `Drains` says if the unit's own region changes alone, and has the unit's share less
+    -- if the unit's own region alone changes, and its pot loses the share, all pots of regions lose just what the unit
+    -- draws (`Drains`)
     pub one_drains : (after : CampaignValue) (f : Region → Region) → after.regions ≡ (region_changed f d u.region).regions → left (f q) + e.1 ≡ left q → Drains region_pots d e after
     one_drains after f changed less =
         region_drains region_pots d e after u.region q around f changed
@@ -232,7 +235,8 @@ module _ (pot_of : ℕ → ℕ) (wants : FinMap nat_cmp ℕ) (c : CampaignValue)
   abbrev takers : List ℕ
   takers = takers_in wants c.units r
 
-  -- each unit that draws from the pot of region `r` is there, and its share is one of that pot
+  -- Each unit with a share in `given` that draws from the pot is in region `r`, and its share is the one that
+  -- `pot_shares` gives it.
   abbrev pub DrawShares : Type 0
   DrawShares = (n share : ℕ) → get given n ≡ Some share → draws n ≡ true → (get (pot_shares pot_of wants c) n ≡ Some share) × (is_in_region r (get c.units n) ≡ true)
 

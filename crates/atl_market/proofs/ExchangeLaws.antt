@@ -75,7 +75,8 @@ module _ (w : WorldValue) (c : CampaignValue) (n : ℕ) (u : Unit) (q : Region) 
           ap pos (same (total exchanged (Item i)) (total left (Item i)) (total supplied (Item i)) (total c (Item i)) (amount_of q.stocks i) (amount_of (f q).stocks i) (amount_of u.holding.items i) (amount_of more.items i) s a b (keeps.items i))
           ∙ sym (none_booked (total c (Item i)) i)
 
-  -- an exchange that keeps goods together and books the money keeps an early campaign early and its books balanced
+  -- An exchange that keeps goods together, breaks no rule of unit or region, and books at most `limit` money keeps an
+  -- early campaign early and its books balanced.
   pub exchange_well : (limit : ℕ) → MayHave w more → (more.guard ≡ true → u.holding.guard ≡ true) → (IsSteady w supplied → IsSteady w left) → KeepsTogether u q f more z → IsWithin limit z → IsEarly w c → LeavesWell IsEarly (moves_only limit entry Money) w c exchanged
   exchange_well limit may flag region keeps small early =
       let before = early-having w c n u more is may flag early in

@@ -46,7 +46,7 @@ unmoved x y t k e f = omega (arith, ints, e, f)
 abbrev pub item_held : CampaignValue → ℕ → Unit → (item amount : ℕ) → CampaignValue
 item_held c n u i amount = with_held c n (record u.holding { items = with_amount_of u.holding.items i amount }) (Some u)
 
--- setting the item of a unit that is there gives the campaign `item_held`
+-- setting how much of item `i` a unit has (`with_item`), where the unit is there, gives the campaign `item_held`
 item_is : (c : CampaignValue) (n : ℕ) (u : Unit) (i amount : ℕ) → get c.units n ≡ Some u → with_item c n i amount ≡ item_held c n u i amount
 item_is c n u i amount is = changed_held (λ h. record h { items = with_amount_of h.items i amount }) c (with_item c n i amount) n refl u is
 
@@ -189,7 +189,8 @@ no_more h r i k = subst (λ a. a ≤ amount_of h.items i) (sym (set_amount h.ite
     less : (a b k : ℕ) → b ≡ a → a - k ≤ b
     less a b k e = omega (arith, e)
 
-    -- the holding has no more of item `i` than before, whether `i` is the item `r` or another
+    -- for `no_more`: taking `k` of item `r` leaves no more of item `i` than there was, whether `i` is `r` or another
+    -- item
     by_test : (q : Bool) → eq_by_cmp nat_cmp i r ≡ q → cond q (amount_of h.items r - k) (amount_of h.items i) ≤ amount_of h.items i
     by_test true is = less (amount_of h.items r) (amount_of h.items i) k (ap (amount_of h.items) (alike r i is))
     by_test false is = omega arith

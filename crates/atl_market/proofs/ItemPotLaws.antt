@@ -73,7 +73,7 @@ module _ (item_of : ℕ → Option ℕ) (wants : FinMap nat_cmp ℕ) where
   abbrev mine : ℕ → FinMap nat_cmp ℕ
   mine i = wants_for item_of wants i
 
-  -- the want of a unit for item `i`: its want if it asks for that item
+  -- among the wants for item `i` (`mine`) a unit that asks for item `i` has its want, and any other unit has none
   mine_at : (i n : ℕ) → get (mine i) n ≡ cond (is_for i (item_of n)) (get wants n) None
   mine_at i n = get-retain_keys wants (λ k. is_for i (item_of k)) n (λ k tie. ap (λ j. is_for i (item_of j)) (sym (nat_cmp-IsAntisymmetric n k tie)))
 

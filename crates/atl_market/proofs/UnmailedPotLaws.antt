@@ -72,8 +72,8 @@ module _ (p : PotMeaning) (orders : CampaignValue → MonthValue → List Task) 
   abbrev pub shared : Meaning
   shared = pots_meaning p orders
 
-  -- a phase with pots leaves units without a mailing their men and items (`LeavesUnmailed`), if it keeps their men and
-  -- items
+  -- a phase with pots leaves units of factions without a mailing their men and items (`LeavesUnmailed`), if its meaning
+  -- keeps these men and its frame `keeps` these items
   pub shared_leave : {keeps : Frame} → ((w : WorldValue) (c : CampaignValue) (m : MonthValue) → UnmailedAre HasItsMen m c (shared w c m).0) → ((w : WorldValue) (c d : CampaignValue) (m : MonthValue) → keeps w m c d → UnmailedAre HasItsItems m c d) → LeavesUnmailed shared keeps
   shared_leave {keeps} men items =
       whole_leaves {meaning = shared} {keeps = keeps} (λ w c m. refl) (λ w c m n. pots_report_none_starved p w c m.events (orders c m) n) (λ w c m h. men w c m) (λ w c m h. items w c (shared w c m).0 m h)
@@ -136,7 +136,8 @@ module _ (is_of : Verb → Bool) (m : MonthValue) where
       let ts = orders_by_unit is_of m in
       none_listed n u.faction ts (recursion_from_All (λ t. t.faction ≢ u.faction) ts (none_ordered is_of ByUnit m u.faction none))
 
-  -- if units without an order of their own are no worse off, units of factions without a mailing keep their items
+  -- if units without an order of their own faction are no worse off, units of factions without a mailing keep their
+  -- items
   pub others_items : (c d : CampaignValue) → OthersAreNoWorse (orders_by_unit is_of m) c d → UnmailedAre HasItsItems m c d
   others_items c d h n u there none = let (v, behind, better) = h n u there (unordered n u none) in record { unit = v; there = behind; spared = items_of_no_worse u v better }
 

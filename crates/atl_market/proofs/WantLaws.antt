@@ -131,7 +131,8 @@ module _ (p : PotMeaning) (w : WorldValue) (c : CampaignValue) where
     item_elsewhere None n apart = refl
     item_elsewhere (Some i) n apart = get-insert_other items t.unit n i apart
 
-    -- with an order's want and item put into the maps, each want is of some order without a fault, if it was before
+    -- if each want in map `m` is of an order without a fault (`IsWanted`), so is each once order `t` put its want and
+    -- item into the maps
     wanted_by : (r : Result Unit EventFault) → unit_for p w c t ≡ r → Every (IsWanted items) m → Every (IsWanted (with_any items (cond (is_ok r) (named (item_in t.order_value.operands)) None))) (with_any m (wanting r))
     wanted_by (Err f) is old = old
     wanted_by (Ok u) is old = λ n want there. elim (cases_eq n t.unit) [
@@ -151,7 +152,8 @@ module _ (p : PotMeaning) (w : WorldValue) (c : CampaignValue) where
           (v, o, here, own, wanted, fine, λ i is_i. item_elsewhere (item_in t.order_value.operands) n apart ∙ names i is_i)
     ]
 
-  -- with orders' wants and items put into the maps, each want is of some order without a fault, if it was before
+  -- if each want in map `m` is of an order without a fault (`IsWanted`), so is each once the orders `ts` put their
+  -- wants and items into the maps
   all_wanted : (m items : FinMap nat_cmp ℕ) (ts : List Task) → Every (IsWanted items) m → Every (IsWanted (with_each items (filter_map (item_by p w c) ts))) (with_each m (filter_map (want_by p w c) ts))
   all_wanted m items [] old = old
   all_wanted m items (t ∷ ts) old =
@@ -187,7 +189,7 @@ module _ (p : PotMeaning) (w : WorldValue) (c : CampaignValue) where
         by_share None is h = absurd (false≢true h)
         by_share (Some share) is h = let (u, o, there, own, low) = given_is_wanted os n share is in ap is_some there
 
-    -- no more units get something than there are
+    -- the units that get something in the phase are at most as many as all units of the campaign
     pub few_given : (os : List Task) → length (entries (given_by p w c os)) ≤ len c.units
     few_given os =
         let m = given_by p w c os in

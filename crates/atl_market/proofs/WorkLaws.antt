@@ -153,7 +153,7 @@ module _ (w : WorldValue) where
   abbrev step_moves : BookBound
   step_moves = work_moves holding_limit
 
-  -- the units that have not been paid yet have room for their wages after a unit with a lower number changed
+  -- units that are still to be paid keep their room for wages (`HasRoomFor`) when a unit with a lower number changes
   still : (c d : CampaignValue) (n : ℕ) (es : List (ℕ × ℕ)) → ((k : ℕ) → k ≢ n → get d.units k ≡ get c.units k) → AllByRecursion (λ f. n < f.0) es → AllByRecursion (HasRoomFor w c) es → AllByRecursion (HasRoomFor w d) es
   still c d n [] same above all = tt
   still c d n (f ∷ es) same above ((u, there, fits), all) = ((u, same f.0 (λ e. absurd (omega (arith, e, above.0))) ∙ there, fits), still c d n es same above.1 all)

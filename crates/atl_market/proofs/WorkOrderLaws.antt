@@ -153,7 +153,8 @@ module _ (c : CampaignValue) where
     idle_each [] h = tt
     idle_each ((n, u) ∷ es) h = append_each IsIdle (idle_by writers (n, u)) (flat_map (idle_by writers) es) (idle_if n u _ refl h.0) (idle_each es h.1)
 
-    -- each order that the code adds for a unit without an order is of the unit's faction, and the unit isn't a writer
+    -- each order of WORK that the code adds is from its unit's own faction, which wrote none of `os` for the unit
+    -- (`IsIdle`)
     each_idle : AllByRecursion IsIdle (all_idle c os)
     each_idle = idle_each (entries c.units) (each-from_every (λ n u. get c.units n ≡ Some u) c.units (λ n u is. is))
 

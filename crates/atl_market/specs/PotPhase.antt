@@ -75,11 +75,11 @@ module _ (p : PotMeaning) (w : WorldValue) (c : CampaignValue) where
   abbrev pub item_by : Task → Option (ℕ × ℕ)
   item_by t = if is_ok (unit_for t) then option_map (λ item. (t.unit, item)) (item_in t.order_value.operands) else None
 
-  -- what each unit wants, of those that carry out an order
+  -- how much each unit that carries out an order wants, by unit
   abbrev pub wants_by : List Task → FinMap nat_cmp ℕ
   wants_by ts = by_unit (filter_map want_by ts)
 
-  -- the item that each unit's order names, of those that carry out an order
+  -- the item that is named in the order of each unit that carries out an order, by unit
   abbrev pub items_by : List Task → FinMap nat_cmp ℕ
   items_by ts = by_unit (filter_map item_by ts)
 

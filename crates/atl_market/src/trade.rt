@@ -25,10 +25,10 @@ use std::alloc::{AllocError, Global};
 #[derive(Drop, Clone, Copy)]
 pub struct TradePhase<const SELLS: bool>;
 
-/// The phase SELL. See docs/RULES.md, "Selling".
+/// The phase SELL: units sell items to the markets of their regions. See docs/RULES.md, "Selling".
 pub type SellPhase = TradePhase<true>;
 
-/// The phase BUY. See docs/RULES.md, "Buying".
+/// The phase BUY: units buy items from the markets of their regions. See docs/RULES.md, "Buying".
 pub type BuyPhase = TradePhase<false>;
 
 /// Whether units sell to the markets of their regions or buy from them.

@@ -74,8 +74,8 @@ static OF_AVALON: [&str; 14] = [
     "Unit 5, line 21, PRODUCE: done 15.",
 ];
 
-/// Lines that Bree's report on the month must have. Unit 10 has 4 money, earns 20 and pays 20, so
-/// it has 4 left of the 10 that unit 11 is short of.
+/// Lines that Bree's report on the month must have. Unit 11 has no money for the fee or for its
+/// upkeep of 10, and unit 10 can give it only 4: it has 4, earns 20, and pays 20 for itself.
 static OF_BREE: [&str; 2] = [
     "Unit 11, line 3, STUDY: fault 23 NoFee.",
     "Unit 11: 1 starved.",

@@ -8,14 +8,15 @@ use Rattle.atl_world.specs.Groups.{group_of}
 use Rattle.atl_world.proofs.GeneralLaws.{is_equal, key_turned}
 
 module _ {V : Type 0} (m : FinMap nat_cmp (FinMap nat_cmp V)) (r f : ℕ) (a : V) where
-  -- once value `a` is set under number `f` of group `r`, it is there, and all other values are as they were
+  -- Once `a` is set under number `f` of group `r`, a look-up there finds `a`, and any other look-up what it found
+  -- before.
   pub get-grouped : (s g : ℕ) → get (group_of (insert m r (insert (group_of m r) f a)) s) g ≡ cond ((r == s) && (f == g)) (Some a) (get (group_of m s) g)
   get-grouped s g =
       ap (λ o. get (unwrap_or o empty) g) (get-insert nat_cmp_total m r (insert (group_of m r) f a) s ∙ ap (λ b. cond b (Some (insert (group_of m r) f a)) (get m s)) (key_turned s r))
       ∙ by_group (r == s) refl
     where
-      -- under number `g` of group `s` is value `a`, if they are those that were set, and else what was there, whether
-      -- group `s` is group `r` (`b`) or not
+      -- For `get-grouped`: under number `g` of group `s` is value `a` if `s` is `r` (`b`) and `g` is `f`, and otherwise
+      -- what was there before.
       by_group : (b : Bool) → (r == s) ≡ b
           → get (unwrap_or (cond b (Some (insert (group_of m r) f a)) (get m s)) empty) g ≡ cond (b && (f == g)) (Some a) (get (group_of m s) g)
       by_group true is =

@@ -53,7 +53,8 @@ module _ (w : WorldValue) (c d : CampaignValue) (moving : BookBound) (little : M
   abbrev same : IsSameMonth c d
   same = well.same_month
 
-  -- an amount within a bound (`more`) is, after a month moved it, within one (`most`) that is greater by 2*10^14
+  -- An amount within a bound (`more`) is, once moved by at most `m`, which is at most 2*10^14, within a bound (`most`)
+  -- that is greater by at least 2*10^14.
   near_within : (a b : ℤ) (m more most : ℕ) → m ≤ 200000000000000 → more + 200000000000000 ≤ most → IsNear m a b → IsWithin more a → IsWithin most b
   near_within a b m more most l fits near within = record { most = omega (arith, ints, near.above, within.most); least = omega (arith, ints, near.below, within.least) }
 
@@ -68,7 +69,7 @@ module _ (w : WorldValue) (c d : CampaignValue) (moving : BookBound) (little : M
       near_within (amount_in c.books e t) (amount_in d.books e t) (moving e t) (amount_bound c) (amount_bound (after_month d)) (little e t)
       (bound_grows c.month d.month (len c.factions) (len d.factions) same.month same.count) (well.near e t) (old e t)
 
-  -- after the phases of a month, counted and without mail, a sound campaign is sound again
+  -- once the phases ran, the month is counted and the mail is removed, a sound campaign is sound again
   finished_sound : IsSound w c → IsSound w (after_month d)
   finished_sound old = record {
     steady = finished_steady w d (omega (arith, same.month, early)) well.leaves_it.steady;
@@ -79,7 +80,7 @@ module _ (w : WorldValue) (c d : CampaignValue) (moving : BookBound) (little : M
     mail = every-empty _;
   }
 
-  -- after the phases of a month, counted and without mail, a good campaign is good again
+  -- once the phases ran, the month is counted and the mail is removed, a good campaign is good again
   pub finished_good : IsGood w c → IsGood w (after_month d)
   finished_good old = record {
     sound = finished_sound old.sound;
@@ -101,8 +102,8 @@ module _ {leaves : Condition} (w : WorldValue) (c d : CampaignValue) (well : Lea
 pub phases_room : (w : WorldValue) (c : CampaignValue) → IsSound w c → HaveRoom phases_moving c
 phases_room w c sound = room_when_sound w c phases_moving (λ e t. omega (arith, phases_little e t)) sound
 
--- If some phases, run on month `m`, made campaign `d` and some events, they make the same of `begin`, where `m` is
--- `begin`.
+-- If some phases, run on month `m`, made campaign `d` and some events, they make the same when run on month `begin`,
+-- which is equal to `m`.
 phases_result : (phases : Meaning) (w : WorldValue) (c d : CampaignValue) (m n : MonthValue) (begin : MonthValue) (events : List Event) → (d, n) ≡ phases w c m → m ≡ begin → events ≡ n.events
     → ◌≡◌ {A = CampaignValue × List Event} (d, events) ((phases w c begin).0, (phases w c begin).1.events)
 phases_result phases w c d m n begin events meaning begins events_are = ap (λ (es : List Event). (d, es)) events_are ∙ ap (λ (p : CampaignValue × MonthValue). (p.0, p.1.events)) (meaning ∙ ap (phases w c) begins)
@@ -141,8 +142,8 @@ none_read f ms none = get-from_entries nat_cmp_total (map (λ r. (r.faction, r))
           | Greater ↦ λ o. not_found ms none.1
         ] refl
 
--- After phases that close well without a mailing (`ClosesUnmailed`), over a month that begins without events, each unit
--- of a faction without a mailing has its items and all men but those whom the events report as starved (`IsLeft`).
+-- After phases of `ClosesUnmailed` each unit of a faction without a mailing has its items and all men but those whom
+-- the events report as starved (`IsLeft`). This supposes that the month begins without events.
 left_behind : (phases : Meaning) (keeps : Frame) → ClosesUnmailed phases keeps → (w : WorldValue) (c d : CampaignValue) (m : MonthValue) (events : List Event) → m.events ≡ [] → ◌≡◌ {A = CampaignValue × List Event} (d, events) ((phases w c m).0, (phases w c m).1.events) → keeps w m c d
     → Every (λ n u. get m.readings u.faction ≡ None → IsLeft (starved_in events n) d n u) c.units
 left_behind phases keeps closes w c d m events begins is kept n u there none some =

@@ -65,9 +65,9 @@ kept-with u money items more all = record {
 
 -- ---- what passing on does
 
--- Campaign `d` is campaign `c` after something of unit `n` was passed on: the total of each thing is above the books by
--- `owing` more than before, the books moved by at most `moving`, unit `n` itself is unchanged, and nothing is taken
--- from any unit.
+-- Campaign `d` is campaign `c` after something of unit `n` was passed on, which leaves unit `n` unchanged and takes
+-- nothing from any unit. The total of each thing is above the books by `owing` more than before, and the books moved by
+-- at most `moving`.
 pub record PassesOn (w : WorldValue) (n : ℕ) (owing : Thing → ℕ) (moving : BookBound) (c d : CampaignValue) : Type 0 where
   -- the campaign is steady after something was passed on
   pub steady : IsSteady w d
@@ -109,14 +109,14 @@ passes-trans {o} {p} {i} {j} w n a b c one two = record {
   back = λ m x is. let (v, there, more) = two.back m x is in let (u, before, kept) = one.back m v there in (u, before, kept-trans u v x kept more);
 }
 
--- After `taken` was given and `lost` booked as lost, of a thing for which test `b` holds, the total is above the books
--- by both together more than before; of any other thing by as much as before.
+-- Giving `taken` and booking `lost` as lost, of a thing for which test `b` holds, puts the total above the books by
+-- both together more than before. The total of any other thing is above the books by as much as before.
 owed : (b : Bool) (taken lost x before after : ℕ) (books : ℤ) → after ≡ before + cond b taken 0 → pos before ≡ books +ℤ pos x
     → pos after ≡ (books +ℤ cond b (neg_ℤ (pos lost)) (pos 0)) +ℤ pos (x + cond b (taken + lost) 0)
 owed b taken lost x before after books e h = grind (arith, ints, e, h)
 
--- after `lost` was booked as lost, of a thing for which test `b` holds, the total is above the books by `lost` more
--- than before; of any other thing by as much as before
+-- Booking `lost` as lost, of a thing for which test `b` holds, puts the total above the books by `lost` more than
+-- before. The total of any other thing is above the books by as much as before.
 owed_all : (b : Bool) (lost x all : ℕ) (books : ℤ) → pos all ≡ books +ℤ pos x
     → pos all ≡ (books +ℤ cond b (neg_ℤ (pos lost)) (pos 0)) +ℤ pos (x + cond b lost 0)
 owed_all b lost x all books h = grind (arith, ints, h)

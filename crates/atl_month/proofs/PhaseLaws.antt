@@ -63,8 +63,8 @@ people_alone k e Money = grind (arith, nat_tests, entry_small e)
 people_alone k e People = grind (arith, nat_tests)
 people_alone k e (Item i) = grind (arith, nat_tests, entry_small k)
 
--- A phase that moves money under `k` and people under `j` moves only the entries that it lists (`MovesAlone`), if these
--- are those two.
+-- A phase that moves money under `k` and people under `j` moves only the entries that it lists (`MovesAlone`), if it
+-- lists `k` for money and `j` for people.
 money_and_people : (k j : Entry) → MovesAlone (both_move (moves_only most_moved k Money) (moves_only most_moved j People)) (record { money = k ∷ []; people = j ∷ []; items = [] })
 money_and_people k j e Money = omega (arith, money_alone k e Money, people_alone j e Money)
 money_and_people k j e People = omega (arith, money_alone k e People, people_alone j e People)
@@ -118,7 +118,7 @@ pub record IsPhase (phase : PhaseSpec) : Type 0 where
   -- the phase leaves units of factions without a mailing their items, and their men less the starved
   pub leaves : PhaseLeavesUnmailed phase
 
--- `IsPhase` of a phase follows from its law of the books and its law of units without a mailing
+-- a phase that keeps the law of the books and the law of units without a mailing keeps both together (`IsPhase`)
 is_phase : (phase : PhaseSpec) → MovesItsOwn phase → PhaseLeavesUnmailed phase → IsPhase phase
 is_phase phase moves leaves = record { moves = moves; leaves = leaves }
 

@@ -28,8 +28,8 @@ use Rattle.atl_world.proofs.GeneralLaws.{is_equal}
 -- ---- the first number whose value passes a test
 
 module _ {V : Type 0} (p : V → Bool) where
-  -- for `below_listed`: what follows if `k` is `n`, and also if `k` is listed in `ns`, follows if `k` is listed in `ns`
-  -- with `n` in front (if `b`) or without
+  -- For `below_listed`: P follows from `k` being listed in `ns`, with `n` in front (if `b`) or without, if it follows
+  -- from `k` being `n`, and from `k` being listed in `ns`.
   either_listed : {P : Type 0} (b : Bool) (n k : ℕ) (ns : List ℕ) → (k ≡ n → P) → (IsListed k ns → P) → IsListed k (cond b (n ∷ ns) ns) → P
   either_listed true n k ns here rest (inl same) = here same
   either_listed true n k ns here rest (inr h) = rest h
@@ -61,8 +61,8 @@ module _ {V : Type 0} (p : V → Bool) where
   abbrev PassesIn : FinMap nat_cmp V → ℕ → Type 0
   PassesIn m k = (v : V) × (get m k ≡ Some v) × (p v ≡ true)
 
-  -- If each number that passes in map `o` passes in map `m`, and some number passes in `o`, the first in `m` is no
-  -- greater than the first in `o`.
+  -- If each number that passes in map `o` passes in map `m`, and some number passes in `o`, then the first in `m` is no
+  -- greater than the first in `o`. This supposes that the numbers of `m` begin at 1.
   first_below : (m o : FinMap nat_cmp V) → Every (λ k v. 1 ≤ k) m → ((k : ℕ) → PassesIn o k → PassesIn m k) → first_or_zero (numbers_where p o) ≢ 0
       → (first_or_zero (numbers_where p m) ≢ 0) × (first_or_zero (numbers_where p m) ≤ first_or_zero (numbers_where p o))
   first_below m o low also some =
@@ -76,7 +76,7 @@ module _ {V : Type 0} (p : V → Bool) where
       there [] least k h = absurd h
       there (n ∷ ns) least k h = let l = least n (inl refl) in λ zero. absurd (omega (arith, zero, l))
 
-  -- maps in which the same numbers pass the test have the same first of them
+  -- maps whose numbers begin at 1, in which the same numbers pass the test, have the same first number that passes
   pub same_first : (m o : FinMap nat_cmp V) → Every (λ k v. 1 ≤ k) m → Every (λ k v. 1 ≤ k) o → ((k : ℕ) → PassesIn o k → PassesIn m k) → ((k : ℕ) → PassesIn m k → PassesIn o k)
       → first_or_zero (numbers_where p m) ≡ first_or_zero (numbers_where p o)
   same_first m o low deep there back =
@@ -124,15 +124,15 @@ module _ (m : ReceiverMap) (n : ℕ) (u : Unit) (es : List (ℕ × Unit)) (low :
       first_of_cond : (b : Bool) (ns : List ℕ) → first_or_zero (cond b (n ∷ ns) ns) ≡ cond b n (first_or_zero ns)
       first_of_cond b ns = grind arith
 
-  -- after unit `n` was noted for its faction in its region, if test `b` says so, it is the receiver there, and any other
-  -- faction or region has the receiver that it had
+  -- Noting unit `n` for its faction in its region, if test `b` says so, makes unit `n` the receiver there, and leaves
+  -- every other faction and region its receiver.
   noted : (b : Bool) (r f : ℕ) → receiver_in (if b then with_receiver m u.region u.faction n else m) r f
       ≡ unwrap_or (cond (b && ((u.region == r) && (u.faction == f))) (Some n) (get (group_of m r) f)) 0
   noted true r f = ap (λ o. unwrap_or o 0) (get-grouped m u.region u.faction n r f)
   noted false r f = refl
 
-  -- noting unit `n` keeps the receiver of each faction in each region: the one in the map, else the first of the units
-  -- to come
+  -- Noting unit `n` keeps the receiver of each faction in each region: the one in the map, else the first that receives
+  -- among the units not noted yet.
   pub noted_goes_on : (r f : ℕ) → or_if_zero (receiver_in (with_receiver_of m n u) r f) (behind r f)
       ≡ or_if_zero (receiver_in m r f) (first_or_zero (numbers_among (receives r f) ((n, u) ∷ es)))
   noted_goes_on r f =
@@ -143,7 +143,7 @@ module _ (m : ReceiverMap) (n : ℕ) (u : Unit) (es : List (ℕ × Unit)) (low :
     where
       -- Noting unit `n` keeps the receiver of a faction in a region: `o`, which the map has, else `next`, the first of
       -- the units after `n`. Tests `p`, `q` and `k` say whether unit `n` is in the region, is of the faction, and has
-      -- men; `x` is the receiver of its own faction in its own region.
+      -- men. The map has receiver `x` for the faction of unit `n` in its region.
       goes_on : (p q k : Bool) (o : Option ℕ) (x next : ℕ) → (p ≡ true → q ≡ true → unwrap_or o 0 ≡ x)
           → or_if_zero (unwrap_or (cond ((k && (x == 0)) && (p && q)) (Some n) o) 0) next ≡ or_if_zero (unwrap_or o 0) (cond (p && (q && k)) n next)
       goes_on p q k o x next same = grind (arith, nat_tests, low)

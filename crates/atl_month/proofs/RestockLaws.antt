@@ -140,8 +140,8 @@ module _ (w : WorldValue) (c : CampaignValue) (n i : ℕ) (m : Market) (r : Regi
       ap pos (total-amount filled Stocked (Item i) t (pos more)) ∙ ap pos (filled_total t) ∙ added (thing_index t == 2 + i) (total c t) (booked c.books t) (old t)
       ∙ sym (booked-after_booking c.books Stocked (Item i) (pos more) t)
     where
-      -- if the total of a thing is what the books account for, it is so with the new goods in both, if the thing is the
-      -- item (`b`)
+      -- For `balanced`: if the total of a thing is what the books account for, it still is with the new goods added to
+      -- both. They are added only where the thing is the item (`b`).
       added : (b : Bool) (x : ℕ) (z : ℤ) → pos x ≡ z → pos (x + cond b more 0) ≡ z +ℤ cond b (pos more) (pos 0)
       added b x z e = grind (arith, ints, e)
 
@@ -233,8 +233,8 @@ room_alone c i room =
 pub room_for_market : (x : ℕ × Market) (xs : List (ℕ × Market)) (c : CampaignValue) → HaveRoom (stocking (x ∷ xs)) c → HaveRoom (moves_only most_amount Stocked (Item x.0)) c
 room_for_market x xs c room = room_less (moves_only most_amount Stocked (Item x.0)) (stocking (x ∷ xs)) c (λ e t. omega arith) room
 
--- If the books have room for the new goods of all markets, they have room, after those of the first, for those of the
--- others.
+-- If the books have room for the new goods of all markets, they have room for those of the other markets after the
+-- first market got its own.
 pub room_behind_market : (w : WorldValue) (n : ℕ) → IsThere w.regions n → (x : ℕ × Market) (xs : List (ℕ × Market)) (c : CampaignValue) → IsMarketOf w n x.0 x.1 → IsSteady w c → HaveRoom (stocking (x ∷ xs)) c → HaveRoom (stocking xs) (after_market_restock n c x)
 room_behind_market w n there x xs c of steady room = room_behind (moves_only most_amount Stocked (Item x.0)) (stocking xs) w c (after_market_restock n c x) (one_leaves_well w n there c x of steady) room
 

@@ -91,8 +91,8 @@ module _ (w : WorldValue) (c : CampaignValue) (n : ℕ) (r : Region) (born earne
       total_of t (total-amount counted Income Money t (pos earned)) (total-amount paid Births People t (pos born))
       (total-region more_people c n r is t) (total-region more_money peopled n (more_people r) peopled_there t)
     where
-      -- the total of thing `t` grows by the births and the income, from how each step changes it: births, income, and
-      -- their booking
+      -- For `total_grown`: the total of thing `t` grows by its part of the births and the income, given how each step
+      -- (births, income, their booking) changes the total.
       total_of : (t : Thing) → total (with_growth c n r.peasants r.money born earned) t ≡ total counted t → total counted t ≡ total paid t
           → total peopled t + region_amount t r ≡ total c t + region_amount t (more_people r) → total paid t + region_amount t (more_people r) ≡ total peopled t + region_amount t (more_money (more_people r))
           → pos (total (with_growth c n r.peasants r.money born earned) t) ≡ (pos (total c t) +ℤ share_of t People (pos born)) +ℤ share_of t Money (pos earned)
@@ -247,13 +247,14 @@ season_keeps_units w c words = each_keeps w c (zip (map (λ (e : ℕ × RegionPl
 
 -- ---- the season region by region
 
--- after the season of the first region, that of the others gives the same campaign as the season of all
+-- after the season of the first region, the season of the other regions gives the campaign that the season of all gives
 pub season_goes_on : (w : WorldValue) (c d all : CampaignValue) (regions rest : List (ℕ × RegionPlan)) (words tail : List ℕ) (n word : ℕ) (plan : RegionPlan)
     → regions ≡ (n, plan) ∷ rest → words ≡ word ∷ tail → d ≡ season_at w c (n, word)
     → fold (season_at w) c (zip (map (λ e. e.0) regions) words) ≡ all → fold (season_at w) d (zip (map (λ e. e.0) rest) tail) ≡ all
 season_goes_on w c d all regions rest words tail n word plan listed given is whole = rw is (rw (listed, given) at whole)
 
--- if the books have room for the season of all regions, they have room, after that of the first, for that of the others
+-- If the books have room for the season of all regions, they have room for the season of the other regions after that
+-- of the first.
 pub room_goes_on : (w : WorldValue) → IsWorld w → (c d : CampaignValue) (regions rest : List (ℕ × RegionPlan)) (n word : ℕ) (plan : RegionPlan)
     → regions ≡ (n, plan) ∷ rest → d ≡ season_at w c (n, word) → IsSteady w c → HaveRoom (moved_times (length regions) (season_moves most_amount)) c → HaveRoom (moved_times (length rest) (season_moves most_amount)) d
 room_goes_on w world c d regions rest n word plan listed is steady room =

@@ -37,8 +37,8 @@ use Rattle.std.proofs.lemmas.List.Sums.{count_by-le-length, length-filter}
 -- ---- one unit
 
 module _ (c : CampaignValue) (n : ℕ) where
-  -- The property P holds after unit `n` was swept if it holds, where no unit `n` without men is there, of the campaign
-  -- as it was, and else of the campaign in which unit `n` passed on what it has and was removed.
+  -- P holds of the campaign after sweeping unit `n`, if it holds in each case. Where no unit `n` without men is there,
+  -- nothing changes; else unit `n` passes on what it has and is removed.
   by_sweeping : (P : CampaignValue → Type 0) → (((u : Unit) → get c.units n ≡ Some u → u.holding.men ≢ 0) → P c)
       → ((u : Unit) → get c.units n ≡ Some u → u.holding.men ≡ 0 → P (without_unit (after_passing_all c (receiver c u.region u.faction) u) n))
       → P (after_sweeping_unit c n)
@@ -120,8 +120,8 @@ module _ (w : WorldValue) where
 -- ---- factions
 
 module _ (c : CampaignValue) (n : ℕ) where
-  -- The property P holds after faction `n` was swept if it holds, where the faction isn't there or has a unit, of the
-  -- campaign as it was, and else of the campaign in which it is gone.
+  -- P holds of the campaign after sweeping faction `n`, if it holds in each case. Where the faction isn't there or has
+  -- a unit, nothing changes; else the faction is gone.
   by_gone : (P : CampaignValue → Type 0) → (((f : Faction) → get c.factions n ≡ Some f → numbers_of n c.units ≢ []) → P c)
       → ((f : Faction) → get c.factions n ≡ Some f → numbers_of n c.units ≡ [] → P (with_gone c n)) → P (after_sweeping_faction c n)
   by_gone P stays gone = by_units (numbers_of n c.units) refl

@@ -34,7 +34,7 @@ less_plus a b u v x one two = record {
   items = λ i. omega (arith, one.items i, two.items i);
 }
 
--- each unit has no men less than itself
+-- a unit that stays as it is has 0 men less (`IsLessBy`)
 nobody_less : (u : Unit) → IsLessBy 0 u u
 nobody_less u = record { faction = refl; name = refl; men = omega arith; items = λ i. omega arith }
 
@@ -85,8 +85,8 @@ starved_are_reported : (ss : List UpkeepResult) (n : ℕ) → starved_reported n
 starved_are_reported [] n = refl
 starved_are_reported (s ∷ ss) n = by_test (starved_are_reported ss n) (s.starved == 0) refl ∙ sym (sum_by-cons (among n) s ss)
   where
-    -- the events report all men of the unit who starve, with one result more, whether nobody starves by it (`b`) or
-    -- some do
+    -- For `starved_are_reported`: with one result more, the events report all men of unit `n` who starve, whether
+    -- nobody starves by this result (`b`) or some do.
     by_test : starved_reported n (filter starves ss) ≡ sum_by (among n) ss → (b : Bool) → (s.starved == 0) ≡ b → starved_reported n (cond (not b) (s ∷ filter starves ss) (filter starves ss)) ≡ among n s + sum_by (among n) ss
     by_test rest true is = let none = is_equal s.starved 0 is in grind (arith, rest, none)
     by_test rest false is = sum_by-cons (by_event n) (starved_event s) (map starved_event (filter starves ss)) ∙ ap (λ x. among n s + x) rest

@@ -81,7 +81,7 @@ module _ (w : WorldValue) (h : HoldingValue) (left : ℕ) (fewer : left ≤ h.me
       let (some, said) = each_said (going_of left h) (keys h.days) k d is in
       by_option (get h.days k) refl some said
     where
-      -- for `studied_left`: of 0 days 0 stay
+      -- for `studied_left`: a unit with 0 days of a skill keeps 0 days, however many men are left
       nothing : 0 * left / h.men ≡ 0
       nothing = ap (λ n. n / h.men) (zero-mul left) ∙ zero-div h.men
 
@@ -97,7 +97,7 @@ module _ (w : WorldValue) (h : HoldingValue) (left : ℕ) (fewer : left ≤ h.me
   abbrev IsWithMen : HoldingValue → Type 0
   IsWithMen k = (k.men ≡ left) × Every (IsStudied w left) k.days × (k.name ≡ h.name) × (k.guard ≡ h.guard) × (k.items ≡ h.items)
 
-  -- a holding with fewer men has the days of those, and its name, guard flag and items as they were
+  -- the holding with `left` of its men has days that these may have, and its name, guard flag and items as they were
   less_men : IsWithMen (with_men_left left h)
   less_men = by_men (left == h.men) refl
     where
@@ -111,7 +111,7 @@ module _ (w : WorldValue) (h : HoldingValue) (left : ℕ) (fewer : left ≤ h.me
 
 -- ---- the upkeep of a unit that is there
 
--- a campaign after the upkeep of the unit that a look-up found, which is booked; unchanged where it found none
+-- a campaign after the upkeep, with its booking, of the unit that a look-up found; unchanged where it found none
 abbrev pub upkeep_in : CampaignValue → UpkeepResult → Option Unit → CampaignValue
 upkeep_in c s o = option_map_or (λ u.
     let held = with_held c s.unit (after_upkeep s u.holding) (Some u) in
@@ -192,8 +192,8 @@ module _ (w : WorldValue) (c : CampaignValue) (s : UpkeepResult) (u : Unit) (is 
       total_of t (total-amount paid_off Starved People t (neg_ℤ (pos s.starved))) (total-amount held_back Upkeep Money t (neg_ℤ (pos s.paid)))
       (total-unit_amount w c s.unit u now is t)
     where
-      -- the total of thing `t` falls by what the unit paid or by those who starved, or stays, from how each step
-      -- changes it
+      -- For `total_after`: the total of thing `t` falls by what the unit paid or by those who starved, or stays, given
+      -- how each step (holding, booking of money, of people) changes it.
       total_of : (t : Thing) → total after t ≡ total paid_off t → total paid_off t ≡ total held_back t
           → total held_back t + unit_amount t old ≡ total c t + unit_amount t now
           → pos (total after t) ≡ (pos (total c t) +ℤ share_of t Money (neg_ℤ (pos s.paid))) +ℤ share_of t People (neg_ℤ (pos s.starved))
@@ -264,8 +264,8 @@ other_unit c s n apart = by_unit (get c.units s.unit)
     by_unit None = refl
     by_unit (Some u) = get-insert_other c.units s.unit n (record u { holding = after_upkeep s u.holding }) apart
 
--- If the campaign has the listed units, all with higher numbers than the one that pays, it has them as listed also
--- after that one paid.
+-- If the campaign has the listed units, all with higher numbers than the unit that pays, it has them as listed also
+-- after that unit paid.
 pub each_still : (c : CampaignValue) (s : UpkeepResult) (es : List (ℕ × Unit)) → AllByRecursion (λ e. s.unit < e.0) es
     → EachOf (λ n u. get c.units n ≡ Some u) es → EachOf (λ n u. get (upkeep_at c s).units n ≡ Some u) es
 each_still c s [] above there = tt
@@ -360,7 +360,7 @@ men_stay h left is = grind (arith, nat_tests, is)
 pub paid_alone : (s : UpkeepResult) (h : HoldingValue) → s.starved ≡ 0 → after_upkeep s h ≡ record h { money = h.money - s.paid }
 paid_alone s h fed = ap (λ (k : HoldingValue). record k { money = h.money - s.paid }) (men_stay h (h.men - s.starved) (omega (arith, fed)))
 
--- where a unit pays nothing and nobody starves, nothing changes
+-- giving a unit the holding that upkeep leaves it changes nothing, if the unit pays nothing and nobody starves
 pub pays_nothing : (c : CampaignValue) (s : UpkeepResult) (u : Unit) → get c.units s.unit ≡ Some u → s.starved ≡ 0 → s.paid ≡ 0
     → c ≡ with_held c s.unit (after_upkeep s u.holding) (Some u)
 pays_nothing c s u is fed none =
@@ -391,7 +391,7 @@ days_set left h listed =
     stays : ℕ → ℕ → ℕ
     stays k d = d * left / h.men
 
-    -- for `days_set`: of 0 days 0 stay
+    -- for `days_set`: a unit with 0 days of a skill keeps 0 days
     none : (k : ℕ) → stays k 0 ≡ 0
     none k = ap (λ d. d / h.men) (zero-mul left) ∙ zero-div h.men
 

@@ -32,7 +32,8 @@ module _ (amount : UpkeepInput → ℕ) (xs : List UpkeepInput) (p : UpkeepInput
       ap (sum_by amount) (filter-append (is_input_of s g) xs (p ∷ [])) ∙ sum_by-append amount (peers_of s g xs) (peers_of s g (p ∷ []))
       ∙ ap (λ n. sum_by amount (peers_of s g xs) + n) (one (is_input_of s g p))
     where
-      -- for `more_among`: the sum over one more unit is its amount if it is one of the units (`b`), and else 0
+      -- For `more_among`: the sum over one more unit alone is its amount if it is of the faction in the region (`b`),
+      -- else 0.
       one : (b : Bool) → sum_by amount (cond b (p ∷ []) []) ≡ cond b (amount p) 0
       one true = omega arith
       one false = refl
@@ -47,7 +48,7 @@ module _ (amount : UpkeepInput → ℕ) (xs : List UpkeepInput) (p : UpkeepInput
 
 -- ---- an account is set in the map
 
--- an account by its four amounts
+-- the account with these amounts of money: left, short, given and covered
 abbrev account : (left short given covered : ℕ) → Account
 account left short given covered = record { left = left; short = short; given = given; covered = covered }
 
@@ -61,7 +62,8 @@ pub each_account : (P : ℕ → ℕ → Account → Type 0) (m : FactionAccounts
     → (s g : ℕ) → P s g (account_at (with_account m p.region p.faction a) s g)
 each_account P m p a here others s g = by_test (is_input_of s g p) refl
   where
-    -- for `each_account`: the account of faction `g` in region `s` is new if the unit is of both (`test`), else the old
+    -- For `each_account`: a look-up of faction `g` in region `s` finds account `a` if unit `p` is of both (`test`),
+    -- else the account that was there.
     at : (test : Bool) → is_input_of s g p ≡ test
         → account_at (with_account m p.region p.faction a) s g ≡ unwrap_or (cond test (Some a) (get (group_of m s) g)) no_account
     at test is = ap (λ o. unwrap_or o no_account) (get-grouped m p.region p.faction a s g ∙ ap (λ b. cond b (Some a) (get (group_of m s) g)) is)
@@ -131,7 +133,7 @@ module _ {A : Type 0} where
   none_pass t [] h = refl
   none_pass t (x ∷ xs) h = rw (h 0 x (omega arith)) (none_pass t xs (λ k d l. h (suc k) d (omega (arith, l))))
 
--- whether a unit's number is below another
+-- whether a unit's number is below the given number
 abbrev is_lower : ℕ → UpkeepInput → Bool
 is_lower n p = nat_lt p.unit n
 
@@ -161,7 +163,8 @@ lower_first (p ∷ ps) (suc i) d order l =
 next_dealt : (before want amount : ℕ) → min before amount + min (amount - min before amount) want ≡ min (before + want) amount
 next_dealt before want amount = omega arith
 
--- for `settled_is`: what a unit gives or gets in turn is what all did up to and with it, less what those before it did
+-- For `settled_is`: what a unit gives or gets in turn is what all units up to and with this one give or get together,
+-- less what the units before it do.
 is_dealt : (before want amount : ℕ) → min (amount - min before amount) want ≡ min (before + want) amount - min before amount
 is_dealt before want amount = omega arith
 

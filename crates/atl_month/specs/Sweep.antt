@@ -24,7 +24,7 @@ use Rattle.atl_phase.specs.There.{at_unit}
 
 -- ---- who gets what a unit leaves
 
--- whether a unit is of this faction, in this region, and has men
+-- whether a unit can receive for a faction in a region: it is of the faction, in the region, and has men
 abbrev pub receives : (region faction : ℕ) → Unit → Bool
 receives region faction v = (v.region == region) && ((v.faction == faction) && nat_lt 0 v.holding.men)
 
@@ -38,7 +38,7 @@ receiver c region faction = first_or_zero (numbers_where (receives region factio
 abbrev pub with_lost : CampaignValue → Thing → ℕ → CampaignValue
 with_lost c t amount = with_amount c Lost t (neg_ℤ (pos amount))
 
--- how much of an amount a unit can take that holds `have` already, up to 999,999,999 together
+-- how much of an amount a unit that holds `have` accepts: as much as leaves it at most 999,999,999
 abbrev pub accepted_of : (amount have : ℕ) → ℕ
 accepted_of amount have = min amount (holding_limit - have)
 

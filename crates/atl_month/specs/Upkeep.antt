@@ -44,7 +44,7 @@ upkeep_at c s = at_unit c s.unit (λ u.
 
 -- ---- all units
 
--- what upkeep reads of a unit, given with its number
+-- what upkeep reads of a unit, given with its number: the number, region, faction, men and money
 abbrev pub upkeep_input_of : ℕ × Unit → UpkeepInput
 upkeep_input_of (n, u) = record { unit = n; region = u.region; faction = u.faction; men = u.holding.men; money = u.holding.money }
 

@@ -54,7 +54,8 @@ given_among maintenance peers =
 abbrev pub starved_of : (maintenance short : ℕ) → ℕ
 starved_of maintenance short = (short + (maintenance - 1)) / maintenance
 
--- what upkeep takes from a unit among its peers: peers with lower numbers give first, and are covered first
+-- What upkeep takes from a unit, where `peers` are the units of its faction in its region: peers with lower numbers
+-- give first, and are covered first.
 abbrev pub upkeep_result_among : ℕ → (peers : List UpkeepInput) → UpkeepInput → UpkeepResult
 upkeep_result_among maintenance peers input =
     let given = given_among maintenance peers in

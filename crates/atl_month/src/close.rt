@@ -27,10 +27,10 @@ use std::alloc::{AllocError, Global};
 /// It takes the mailings of the factions and one word of the dice for each region. The month isn't
 /// counted and the mail is still there: with these done the campaign is good again. A unit whose
 /// faction sent no mailing is there afterwards with its name, no less of any item, and all its men
-/// but those in its Starved event; it is gone only where all starved. The factions and the reports
-/// stay. No amount of the books moves further than the phases may move it; founding and joining
-/// stay. AllocError without memory; the campaign is then given up. See docs/RULES.md, "Closing a
-/// month".
+/// but those in its Starved event. It is gone only where all its men starved. The factions and the
+/// reports stay. No amount of the books moves further than the phases may move it; founding and
+/// joining stay. AllocError without memory; the campaign is then given up. See docs/RULES.md,
+/// "Closing a month".
 pub fn close_month(
     alloc: Global,
     world: &World,

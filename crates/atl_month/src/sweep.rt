@@ -25,7 +25,8 @@ use std::alloc::{AllocError, Global};
 #[derive(Drop, Clone, Copy)]
 pub struct SweepPhase;
 
-/// How much of an amount a unit accepts that holds `have` already, up to 999,999,999 together.
+/// How much of an amount a unit that holds `have` accepts: as much as leaves it at most
+/// 999,999,999.
 fn accepted_of(amount: u32, have: u32) -> u32
     ensures { result ≡ accepted_of amount have }
 {

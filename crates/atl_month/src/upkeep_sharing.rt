@@ -72,8 +72,9 @@ fn open_accounts(
     Ok(accounts)
 }
 
-/// What upkeep takes from a unit: the money that it pays and the men who starve, by the account of
-/// its faction in its region, to which what the unit gives or is covered by is added.
+/// What upkeep takes from a unit, by the account of its faction in its region: the money that it
+/// pays and the men who starve. What the unit gives to others or gets from them is added to the
+/// account.
 fn payment_of(maintenance: u32, account: &mut Account, input: &UpkeepInput) -> UpkeepResult
     requires some { 1 ≤ maintenance }
     requires most { maintenance ≤ most_per_head }

@@ -26,7 +26,8 @@ use Rattle.atl_orders.specs.Bounds.{IsWithin, IsNumber, IsAlias, IsUnitRef, IsOr
 
 -- ---- lines
 
--- the unit of a reader's state, if any, has a number from 1 to 999,999,999, and the alias is from 1 to 9,999
+-- the units and the alias of a reader's state, where it has any, are in range: units from 1 to 999,999,999, the alias
+-- from 1 to 9,999
 abbrev IsStateInBounds : ReaderState → Type 0
 IsStateInBounds Nowhere = Unit {0}
 IsStateInBounds (At n) = IsNumber n
@@ -144,7 +145,8 @@ faction_within [] n h = cc
 faction_within (w ∷ []) n h = cc
 faction_within (w ∷ v ∷ ws) n h = from_one last_faction (number_of last_faction v.bytes) n (number_within last_faction v.bytes) h
 
--- what a header line gives, if no fault, has a faction from 1 to 9,999 (`IsHeaded`), if the faction that it names is so
+-- what a header line gives, if no fault, has a faction from 1 to 9,999 (`IsHeaded`), if the number f that the line
+-- names, if any, is in this range
 line_headed : (n : ℕ) (rest : List (List ℕ)) (f : Option ℕ) → ((k : ℕ) → f ≡ Some k → IsWithin last_faction k) → Holds IsHeaded (header_line n rest f)
 line_headed n rest None h = tt
 line_headed n rest (Some k) h = (h k refl, omega arith)

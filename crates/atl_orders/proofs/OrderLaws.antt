@@ -23,12 +23,13 @@ use Rattle.atl_orders.specs.Verbs.{row_of}
 use Rattle.atl_orders.specs.Orders.{OperandsValue, OrderValue, kind_of_name, read_flag, read_units, read_unit_and_number, read_unit_and_goods, read_name, read_kind, read_operands, said_by}
 use Rattle.atl_orders.specs.Bounds.{IsWithin, IsNumber, IsAlias, IsUnitRef, AreOperandsOf, IsOrderOf}
 
--- P holds of the value of a result, if the result is no fault
+-- a condition holds of the value of a result, or the result is a fault
 abbrev pub Holds : {X E : Type 0} → (X → Type 0) → Result X E → Type 0
 Holds P (Ok x) = P x
 Holds P (Err e) = Unit {0}
 
--- if P holds of what is read first (r), and Q of what is then read (f) after a value with P, Q holds of what both give
+-- if P holds of the value of the result r, and Q of what the step f reads after any value with P, then Q holds of what
+-- r and then f give
 after : {A B : Type 0} (P : A → Type 0) (Q : B → Type 0) (r : Result A LineFault) (f : A → Result B LineFault) → Holds P r → ((x : A) → P x → Holds Q (f x)) → Holds Q (r >>= f)
 after P Q (Ok x) f h g = g x h
 after P Q (Err e) f h g = tt

@@ -45,7 +45,8 @@ more n line rest h e (one above header below is f) =
     one (line ∷ above) header below (record { whole = ap (λ l. line ∷ l) is.whole; leads = is.leads; first = All-cons IsOutside line above h is.first })
     (e ∙ f ∙ ap (λ k. header_line k below (faction_of (words header))) (later n (length above)))
 
--- lines have no header or a first one (`Found`), whether line n is one or not, if this holds of the lines after it
+-- lines have no header or a first one (`Found`), whether their first line, line n, is a header or not, if this holds of
+-- the lines after it
 tested : (t : Bool) (n : ℕ) (line : List ℕ) (rest : List (List ℕ)) → is_header line ≡ t → header_from n (line ∷ rest) ≡ cond t (header_line n rest (faction_of (words line))) (header_from (n + 1) rest) → Found (n + 1) rest → Found n (line ∷ rest)
 tested true n line rest h e f = one [] line rest (record { whole = refl; leads = h; first = All-nil IsOutside }) (e ∙ ap (λ k. header_line k rest (faction_of (words line))) (sym (from_none n)))
 tested false n line rest h e f = more n line rest h e f

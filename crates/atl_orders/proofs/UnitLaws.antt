@@ -28,8 +28,8 @@ found u rest = Ok (u, rest)
 abbrev pub then_units : UnitRef × List WordText → Result (List UnitRef) LineFault
 then_units x = units_of x.1 >>= λ us. Ok (x.0 ∷ us)
 
--- reading a unit (c of the number `o`, or else the fault f), put in front of the units of the words after it, is
--- reading it and then these units
+-- for `units_step`: a unit that is read (c of the number `o`, or else the fault f), put in front of the units of the
+-- words ws, is what `then_units` makes of this unit and ws
 ref_step : (o : Option ℕ) (f : LineFault) (c : ℕ → UnitRef) (ws : List WordText) → and_then_units (or_fault f o >>= λ n. Ok (c n)) (units_of ws) ≡ (or_fault f o >>= paired ws >>= as_unit c) >>= then_units
 ref_step None f c ws = refl
 ref_step (Some n) f c ws = refl
@@ -50,7 +50,8 @@ started : (units : Result (List UnitRef) LineFault) (front : List UnitRef) (u : 
 started (Ok us) front u = ap (λ l. Ok l) (append_assoc front (u ∷ []) us)
 started (Err f) front u = refl
 
--- the units read so far, then u, then those of `rest` are those read so far and those of the words left, u and `rest`
+-- if the words ws begin with unit u and go on with `rest`, the units read so far, then u and the units of `rest`, are
+-- the units read so far and those of ws
 pub one_more : (front : List UnitRef) (ws : List WordText) (u : UnitRef) (rest : List WordText) → unit_at ws ≡ found u rest → with_units (front ++ u ∷ []) (units_of rest) ≡ with_units front (units_of ws)
 unfolding unit_at
 one_more front [] u rest h = cc

@@ -5,6 +5,6 @@ use Rattle.std.specs.Prelude.{ℕ, Bool, false, ◌||◌, ◌==◌}
 abbrev pub no_alias : ℕ → Bool
 no_alias k = false
 
--- a set of aliases with one alias more, as a test of the last number
+-- whether a number, the last argument, is in a set of aliases to which one alias more was added
 abbrev pub with_alias : (ℕ → Bool) → ℕ → ℕ → Bool
 with_alias given alias k = k == alias || given k

@@ -122,7 +122,7 @@ pub record HaveHeader (lines above : List (List ℕ)) (header : List ℕ) (below
   pub whole : lines ≡ above ++ header ∷ below
   -- the line `header` is a header: its first word is `#ATLANTIS`
   pub leads : is_header header ≡ true
-  -- no line above it is a header
+  -- no line above `header` is a header
   pub first : HaveNoHeader above
 
 -- the rules for a whole text: it is read as `read`, a mailing or a fault

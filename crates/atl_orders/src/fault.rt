@@ -41,14 +41,14 @@ pub enum LineFault {
 impl LineFault {
     ghost use Rattle.atl_orders.specs.Faulting.{fault_number, fault_name};
 
-    /// The fault's number, from 1 to 11.
+    /// The number of the line fault, from 1 to 11.
     pub fn number(self) -> u8
         ensures { result ≡ fault_number self }
     {
         self as u8
     }
 
-    /// The name of the fault, such as `BadNumber`, as reports print it.
+    /// The name of the line fault, such as `BadNumber`, as reports print it.
     pub fn name(self) -> &'static str
         ensures { result.now ≡ fault_name self }
     {
@@ -97,7 +97,7 @@ pub enum MailFault {
 impl MailFault {
     ghost use Rattle.atl_orders.specs.Faulting.{mail_fault_number};
 
-    /// The number of the fault, from 1 to 3; `Memory` has none.
+    /// The number of the mail fault, from 1 to 3; `Memory` has none.
     pub fn number(self) -> Option<u8>
         ensures { result ≡ mail_fault_number self }
     {

@@ -86,11 +86,11 @@ pub enum Slot {
 /// a month".
 #[derive(Drop, Clone, Copy, Debug)]
 pub struct Row {
-    /// The keyword in capitals, as reports print it.
+    /// The keyword of the verb in capitals, as reports print it.
     pub keyword: &'static str,
     /// What the words after the keyword name.
     pub shape: Shape,
-    /// The slot that an order takes, if it takes one.
+    /// The slot that an order of the verb takes, if it takes one.
     pub slot: Option<Slot>,
 }
 
@@ -144,7 +144,7 @@ impl Verb {
         }
     }
 
-    /// The keyword in capitals, as reports print it.
+    /// The verb's keyword in capitals, as reports print it.
     pub fn keyword(self) -> &'static str
         ensures { result.now ≡ keyword self }
     {

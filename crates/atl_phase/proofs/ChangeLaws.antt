@@ -18,11 +18,11 @@ use Rattle.atl_campaign.proofs.RegionLaws.{get-insert_same}
 use Rattle.atl_phase.specs.Holdings.{ChangesHolding}
 use Rattle.atl_phase.proofs.MarkLaws.{marks_by}
 
--- to change a unit by f and then by g is to change it by f and g at once
+-- to change a unit by f and then by g is to change it once, by g after f
 pub changed_twice : (f g : Unit → Unit) (c : CampaignValue) (n : ℕ) → unit_changed g (unit_changed f c n) n ≡ unit_changed (λ u. g (f u)) c n
 changed_twice f g c n = by_unit (get c.units n) refl
   where
-    -- to change unit n by f and then by g is to change it by both at once, whether the unit is there or not
+    -- to change unit n by f and then by g is to change it once, by g after f, whether the unit is there or not
     by_unit : (o : Option Unit) → get c.units n ≡ o → unit_changed g (record c { units = changed_at f c.units n o }) n ≡ record c { units = changed_at (λ u. g (f u)) c.units n o }
     by_unit None is = ap (λ o. record c { units = changed_at g c.units n o }) is
     by_unit (Some u) is =

@@ -66,7 +66,7 @@ module _ {K X : Type 0} {R : K → K → Ordering} (o : IsTotalOrder R) where
     put_first e [] h = refl
     put_first e (x ∷ xs) h = rw h.0
 
-    -- elements that are strictly sorted by their keys are what the map of them lists
+    -- the map made of the entries of elements that are strictly sorted by key lists these entries in this order
     pub entries_of : (xs : List A) → IsStrictlySortedBy (λ x y. R (entry x).0 (entry y).0) xs → entries (from_entries {R = R} (map entry xs)) ≡ map entry xs
     unfolding IsStrictlySortedBy
     entries_of [] h = no_entries R
@@ -108,7 +108,8 @@ module _ {K X : Type 0} {R : K → K → Ordering} (o : IsTotalOrder R) where
     abbrev passing : (X → Bool) → List (K × X) → List (K × X)
     passing p es = filter (λ e. p e.1) es
 
-    -- a search among the entries that pass the test finds what the one among all finds, if that passes; otherwise None
+    -- if no two entries have the same key, a search by key among those whose values pass a test finds the value that a
+    -- search among all finds, if this value passes, and else None
     find-passing : (p : X → Bool) (es : List (K × X)) → IsDistinct same_entry_key es → (q : K) → find R q (passing p es) ≡ option_filter p (find R q es)
     find-passing p es apart q =
         find_is q (passing p es) ∙ lookup-filter-values (eq_by_cmp_equiv o) p q es (keys_apart es apart) ∙ ap (option_filter p) (sym (find_is q es))
@@ -125,7 +126,8 @@ module _ {K X : Type 0} {R : K → K → Ordering} (o : IsTotalOrder R) where
         ∙ sym (find-passing p fs (IsDistinct-from_sorted by_key fs rise) q) ∙ sym (get-from_entries o (passing p fs) q)))
         ∙ subst (λ es. entries (from_entries {R = R} es) ≡ es) (map-id (passing p fs)) (entries_of (λ e. e) (passing p fs) (IsStrictlySortedBy-filter by_key (λ e. p e.1) fs rise))
 
-    -- elements sorted by key, no two with the same key, are what the map of them lists
+    -- the map made of the entries of elements in any order lists the entries of these elements sorted by key, if no two
+    -- elements have the same key
     pub entries-sorted : {A : Type 0} (entry : A → K × X) (os list : List A) → IsPermutation os list → IsDistinct (λ x y. same_entry_key (entry x) (entry y)) os
         → IsSortedBy (λ x y. is_lt (R (entry x).0 (entry y).0)) list → entries (from_entries {R = R} (map entry os)) ≡ map entry list
     entries-sorted entry os list p apart up =

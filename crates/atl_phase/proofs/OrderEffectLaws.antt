@@ -110,17 +110,18 @@ carried_cases P deed c faction n other own = by_unit (get c.units n) refl
     by_unit None there = other
     by_unit (Some u) there = by_faction u there (u.faction == faction) refl
 
--- P holds of the campaign after an order, if it holds of the campaign before, and of what the order's effect makes of
--- that for a unit of the faction that wrote the order
+-- P holds of the campaign after an order, if P holds of the campaign before the order, and of the campaign that the
+-- order's effect on a unit of its writer's faction makes
 pub ordered_cases : (P : CampaignValue → Type 0) (step : Option OrderEffect) (c : CampaignValue) (t : Task) → P c → ((x : Unit) → IsUnitOf c t x → IfSome step (λ deed. P (deed c x).0)) → P (order_result step c t.faction t.unit).0
 ordered_cases P None c t same done = same
 ordered_cases P (Some deed) c t same done = carried_cases (λ p. P p.0) deed c t.faction t.unit same (λ x there faction. done x (record { there = there; faction = faction }))
 
--- a campaign and an outcome as an order that isn't passed over has them in its result: the outcome in `Some`
+-- the result of an order that isn't passed over, given as a campaign and an outcome: the outcome is put in `Some`
 abbrev with_some : CampaignValue × Outcome → CampaignValue × Option Outcome
 with_some p = (p.0, Some p.1)
 
--- a campaign and an outcome that are the effect of an order are its result, if the phase doesn't pass it over
+-- the campaign and the outcome that an order's effect makes are the order's result, with the outcome in `Some`, if the
+-- phase doesn't pass the order over
 pub told_some : (deed : OrderEffect) (c d : CampaignValue) (faction n : ℕ) (o : Outcome) → (d, o) ≡ faction_effect deed c faction n → (d, Some o) ≡ order_result (Some deed) c faction n
 told_some deed c d faction n o is = ap with_some is
 
@@ -130,14 +131,14 @@ module _ (step : OrderMeaning) {holds : Condition} {reserve : RemainingBound} {m
   pub order_well : (a : Aliases) (c : CampaignValue) (t : Task) → holds w c → IsOrderOf w t.order_value → StepsWell holds reserve w c (order_result (step w a t) c t.faction t.unit).0
   order_well a c t h fit = ordered_cases (StepsWell holds reserve w c) (step w a t) c t (well_same w c h) (λ x own. orderly.well w a c t x h fit own)
 
-  -- each unit that an order doesn't concern is there after it, and `spares` relates what it was to what it is then,
-  -- if the order's phase is `IsOrderly`
+  -- each unit that an order doesn't concern is there after it, and `spares` relates what it was to what it is then, if
+  -- `holds` is true before the order, and its phase is `IsOrderly`
   order_spares : (a : Aliases) (c : CampaignValue) (t : Task) → holds w c → (n : ℕ) (u : Unit) → get c.units n ≡ Some u → (concerns t n u.faction → ⊥) → IsUnaffected spares (order_result (step w a t) c t.faction t.unit).0 n u
   order_spares a c t h n u there other =
       ordered_cases (λ d. IsUnaffected spares d n u) (step w a t) c t (record { unit = u; there = there; spared = orderly.sparing.same u }) (λ x own. orderly.spared w a c t x h own n u there other)
 
   -- a unit that none of some orders concerns is there after them, and `spares` relates what it was to what it is then,
-  -- if their phase is `IsOrderly`
+  -- if `holds` is true before, the orders can be read with the world, and their phase is `IsOrderly`
   orders_spare_one : (c : CampaignValue) (m : MonthValue) (ts : List Task) → holds w c → AllByRecursion (λ t. IsOrderOf w t.order_value) ts → (n : ℕ) (u : Unit) → get c.units n ≡ Some u → AllByRecursion (λ t. concerns t n u.faction → ⊥) ts
       → IsUnaffected spares (fold (one_order step w) (c, m) ts).0 n u
   orders_spare_one c m [] h fit n u there others = record { unit = u; there = there; spared = orderly.sparing.same u }
@@ -149,7 +150,7 @@ module _ (step : OrderMeaning) {holds : Condition} {reserve : RemainingBound} {m
       record { unit = rest.unit; there = rest.there; spared = orderly.sparing.again u one.unit rest.unit one.spared rest.spared }
 
   -- each unit that none of some orders concerns is there after them, and `spares` relates what it was to what it is
-  -- then, if their phase is `IsOrderly`
+  -- then, if `holds` is true before, the orders can be read with the world, and their phase is `IsOrderly`
   pub orders_spare : (c : CampaignValue) (m : MonthValue) (ts : List Task) → holds w c → All (λ t. IsOrderOf w t.order_value) ts → AreUnaffected concerns spares ts c (fold (one_order step w) (c, m) ts).0
   orders_spare c m ts h fit n u there others =
       orders_spare_one c m ts h (recursion_from_All (λ t. IsOrderOf w t.order_value) ts fit) n u there (recursion_from_All (λ t. concerns t n u.faction → ⊥) ts others)

@@ -91,7 +91,8 @@ pub listed_tasks : (key : Task → List ℕ) (os list : List PhaseOrder) (ts : L
     → IsSortedByKey (λ o. key (task_of o)) (slice_cmp nat_cmp) list → map task_of list ≡ values (from_entries {R = slice_cmp nat_cmp} (map (λ t. (key t, t)) ts))
 listed_tasks = listed task_of
 
--- the orders that count of all mailings are those of the readings in their map, if the mailings are sorted by faction
+-- the orders that count of all mailings, mailing by mailing, are those of the readings in the map by faction, if the
+-- mailings are sorted by faction
 all_tasks_are : (aliases : Aliases) (ms : List Mailing) → AreByFaction ms → all_tasks aliases ms ≡ flat_map (λ e. tasks_for every_verb (tasks_of aliases e.0 e.1)) (entries (by_faction (map reading_of ms)))
 all_tasks_are aliases ms h =
     let of_reading : ℕ × Reading → List Task = λ e. tasks_for every_verb (tasks_of aliases e.0 e.1) in

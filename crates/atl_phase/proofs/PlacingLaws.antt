@@ -71,7 +71,8 @@ module _ (w : WorldValue) (c : CampaignValue) (n : ℕ) (u : Unit) (s : ℕ) (is
   abbrev after_leaving : CampaignValue
   after_leaving = after_handover begun old_place n next
 
-  -- the campaign after unit n went: what it left has its next owner, and what it entered is its own if nobody owned it
+  -- the campaign after unit n went: the structure that unit n left has its next owner, and the one that unit n entered
+  -- is owned by unit n if nobody owned it
   abbrev after_entering : CampaignValue
   after_entering = after_handover after_leaving s 0 n
 
@@ -118,7 +119,7 @@ module _ (w : WorldValue) (c : CampaignValue) (n : ℕ) (u : Unit) (s : ℕ) (is
   low : Every (λ k v. 1 ≤ k) c.units
   low k v there = (steady.numbers.units k v there).0
 
-  -- every unit but n is as it was after unit n went
+  -- after unit n went, every other unit is as it was before
   away : (k : ℕ) → k ≢ n → get behind.units k ≡ get c.units k
   away k other = get-insert_other c.units n k moved other
 
@@ -131,7 +132,7 @@ module _ (w : WorldValue) (c : CampaignValue) (n : ℕ) (u : Unit) (s : ℕ) (is
   still_owned : (q : ℕ) (y : Structure) → get c.structures q ≡ Some y → y.owner ≢ n → (y.owner ≡ 0 → s ≢ q) → IsOwned behind q y
   still_owned q y there other free = owner_stays c behind n away q y (steady.owners q y there) other (λ none v here inside. free none (sym (stands v here) ∙ inside))
 
-  -- the structure that the unit of a look-up is inside; that of the unit v where the look-up found none
+  -- the structure that a unit is inside, given as `Some x`; given None, the structure that another unit v is inside
   structure_in : Option Unit → Unit → ℕ
   structure_in (Some x) v = x.structure
   structure_in None v = v.structure
@@ -173,11 +174,13 @@ module _ (w : WorldValue) (c : CampaignValue) (n : ℕ) (u : Unit) (s : ℕ) (is
       afloat = afloat;
     }
 
-    -- after unit n went, a steady campaign is steady, if s is 0 or in the unit's region, and on water is a ship
+    -- a steady campaign is steady after unit n went inside structure s, if s is none (0) or a structure of the unit's
+    -- region, and a ship where the region is water
     pub placed_steady : IsSteady w behind
     placed_steady = steady-refitted w c n u s is after_entering.structures owner_behind refit steady
 
-    -- after unit n went, an early campaign is early, if s is 0 or in the unit's region, and on water is a ship
+    -- an early campaign is early after unit n went inside structure s, if s is none (0) or a structure of the unit's
+    -- region, and a ship where the region is water
     pub placed_early : IsEarly w c → IsEarly w behind
     placed_early early = early-refitted w c n u s is after_entering.structures owner_behind refit early
 

@@ -162,7 +162,7 @@ module _ (w : WorldValue) (c : CampaignValue) (n : ℕ) (u : Unit) (s : ℕ) (is
     gone_kept : GoneHaveNone c → GoneHaveNone refitted
     gone_kept old m f there gone = numbers_where-insert_known (λ x. x.faction == m) c.units n u moved_unit is refl ∙ old m f there gone
 
-    -- a structure that was there and a ship is so after the refit, too
+    -- a structure that was there as a ship before the refit is there as a ship after it
     still_aboard : (j : ℕ) → (x : Structure) × (get c.structures j ≡ Some x) × (is_ship w x ≡ true) → (x : Structure) × (get structures j ≡ Some x) × (is_ship w x ≡ true)
     still_aboard j (x, there, ship) = (g j x, forth j x there, rw ((refit.same j x there).kind) ship)
 
@@ -208,7 +208,8 @@ module _ (w : WorldValue) (c : CampaignValue) (n : ℕ) (u : Unit) (s : ℕ) (is
     pub early-refitted : IsEarly w c → IsEarly w refitted
     early-refitted old = record { steady = steady-refitted old.steady; flags = of_one_faction_refitted (λ x. x.holding.guard) (λ g. g) old.flags }
 
-  -- for `total-refitted`: the units' totals a and b, equal if h is added to both, are so too if the regions' r is
+  -- for `total-refitted`: if the units' totals a and b are equal once h is added to each, they are equal once the
+  -- regions' total r is added to each
   cancelled : (a b h r : ℕ) → a + h ≡ b + h → a + r ≡ b + r
   cancelled a b h r e = omega arith
 
@@ -224,7 +225,7 @@ module _ (w : WorldValue) (c : CampaignValue) (n : ℕ) (u : Unit) (s : ℕ) (is
 module _ (w : WorldValue) (c : CampaignValue) (n : ℕ) (u : Unit) (is : get c.units n ≡ Some u) (structures : FinMap nat_cmp Structure) (g : ℕ → Structure → Structure)
     (at : (k : ℕ) → get structures k ≡ option_map (g k) (get c.structures k)) (count : len structures ≡ len c.structures)
     (same : Every (λ k y. IsRelabelled y (g k y)) c.structures) (owned : Every (λ k y. IsOwned c k (g k y)) c.structures) where
-  -- the unit with the structure that it is inside already, which is the unit as it was
+  -- unit n put inside the structure that it is inside already, so it is the same unit
   abbrev as_it_was : Unit
   as_it_was = record u { structure = u.structure }
 

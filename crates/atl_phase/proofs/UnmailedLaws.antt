@@ -46,17 +46,19 @@ pub record LeavesUnmailed (meaning : Meaning) (keeps : Frame) : Type 0 where
   pub readings : (w : WorldValue) (c : CampaignValue) (m : MonthValue) → (meaning w c m).1.readings ≡ m.readings
   -- after the phase the events report no fewer men of a unit as starved than before it
   pub starved_reported : (w : WorldValue) (c : CampaignValue) (m : MonthValue) (n : ℕ) → starved_in m.events n ≤ starved_in (meaning w c m).1.events n
-  -- each unit of a faction without a mailing loses just the men whom the new events report as starved
+  -- each unit of a faction without a mailing keeps its faction, its name and no less of any item, and loses just the
+  -- men whom the new events report as starved
   pub left : (w : WorldValue) (c : CampaignValue) (m : MonthValue) → keeps w m c (meaning w c m).0 →
       Every (λ n u. get m.readings u.faction ≡ None → IsUnaffected (IsLessBy (starved_in (meaning w c m).1.events n - starved_in m.events n)) (meaning w c m).0 n u) c.units
 
--- After the phase each unit of a faction without a mailing of which not all men starve is there, with its faction and
+-- After the phase each unit of a faction without a mailing, unless all its men starve, is there, with its faction and
 -- name, no less of any item, and its men less exactly those who starve. The phase takes back no Starved event, and may
 -- change the mailings.
 pub record ClosesUnmailed (meaning : Meaning) (keeps : Frame) : Type 0 where
   -- after the phase the events report no fewer men of a unit as starved than before it
   pub starved_reported : (w : WorldValue) (c : CampaignValue) (m : MonthValue) (n : ℕ) → starved_in m.events n ≤ starved_in (meaning w c m).1.events n
-  -- each unit of a faction without a mailing, unless all its men starved, loses just those whom the new events report
+  -- each unit of a faction without a mailing, unless all its men starved, keeps its faction, its name and no less of
+  -- any item, and loses just the men whom the new events report as starved
   pub left : (w : WorldValue) (c : CampaignValue) (m : MonthValue) → keeps w m c (meaning w c m).0 →
       Every (λ n u. get m.readings u.faction ≡ None → IsLeft (starved_in (meaning w c m).1.events n - starved_in m.events n) (meaning w c m).0 n u) c.units
 
@@ -70,8 +72,8 @@ less_twice x y z u v t l k one two = record {
   items = λ i. omega (arith, one.items i, two.items i);
 }
   where
-    -- for `less_twice`: with x, then y, then z starved, men d that are b less z - y, where b are a less y - x, are a
-    -- less z - x
+    -- for `less_twice`: if b is a less y - x, and d is b less z - y, then d is a less z - x, where x, y and z count the
+    -- men who starved in turn
     less : (a b d : ℕ) → b ≡ a - (y - x) → d ≡ b - (z - y) → d ≡ a - (z - x)
     less a b d e f = omega (arith, l, k)
 
@@ -99,8 +101,8 @@ module _ {first second : Meaning} {early late : Frame} where
   }
 
   -- a phase that leaves units of factions without a mailing their items, and their men less the starved
-  -- (`LeavesUnmailed`), and then one that does so but may let a unit starve out (`ClosesUnmailed`), are together one of
-  -- the second kind
+  -- (`LeavesUnmailed`), and then one that may also let a unit starve out (`ClosesUnmailed`), together do as
+  -- `ClosesUnmailed` says
   pub then_closes : LeavesUnmailed first early → ClosesUnmailed second late → ClosesUnmailed (then_also first second) (both_keep first early late)
   then_closes one two = record {
     starved_reported = λ w c m n. omega (arith, one.starved_reported w c m n, two.starved_reported w (first w c m).0 (first w c m).1 n);
@@ -247,7 +249,8 @@ told_of_order events t outcome n =
     by_unit true x = omega arith
     by_unit false x = omega arith
 
--- each unit of another faction than this one is in the campaign after, with exactly as many men as in the one before
+-- each unit of another faction than the given one is in the campaign after, with its faction and exactly as many men as
+-- in the campaign before
 abbrev pub OthersHaveMen : (faction : ℕ) → CampaignValue → CampaignValue → Type 0
 OthersHaveMen f c d = Every (λ n u. f ≢ u.faction → IsUnaffected HasItsMen d n u) c.units
 
@@ -255,7 +258,7 @@ OthersHaveMen f c d = Every (λ n u. f ≢ u.faction → IsUnaffected HasItsMen 
 pub others_men : (f : ℕ) (c d : CampaignValue) → HaveTheirMen c d → OthersHaveMen f c d
 others_men f c d men n u there other = men n u there
 
--- after each order of the phase, every unit of another faction than the one that wrote it has its men (`OthersHaveMen`)
+-- the effect of each order leaves every unit of another faction than the order's writer its men (`OthersHaveMen`)
 abbrev pub SparesMen : OrderMeaning → Type 0
 SparesMen step = (w : WorldValue) (a : Aliases) (c : CampaignValue) (t : Task) (x : Unit) → IsUnitOf c t x → IfSome (step w a t) (λ deed. OthersHaveMen t.faction c (deed c x).0)
 

@@ -84,13 +84,14 @@ pub record IsUnitOf (c : CampaignValue) (t : Task) (u : Unit) : Type 0 where
 -- remaining bound (`StepsWell`), `spares` relates each unit that an order doesn't concern to what it is after it, and
 -- no remaining bound is above the bound of the phase.
 pub record IsOrderly (step : OrderMeaning) (holds : Condition) (reserve : RemainingBound) (moving : BookBound) (concerns : Affects) (spares : Unaffected) : Type 0 where
-  -- each order for a unit of its writer's faction keeps `holds` true, the month, and the books' balance, and moves no
-  -- amount further than its remaining bound falls (`StepsWell`)
+  -- each order that can be read with the world, for a unit of its writer's faction, keeps `holds` true, the month, and
+  -- the books' balance, and moves no amount further than its remaining bound falls (`StepsWell`)
   pub well : (w : WorldValue) (a : Aliases) (c : CampaignValue) (t : Task) (x : Unit) → holds w c → IsOrderOf w t.order_value → IsUnitOf c t x →
       IfSome (step w a t) (λ deed. StepsWell holds reserve w c (deed c x).0)
   -- `spares` can be used over several orders: it is reflexive, transitive, and keeps the faction
   pub sparing : IsUnaffectedRelation spares
-  -- each unit that an order doesn't concern is there after it, and `spares` relates what it was to what it is then
+  -- each unit that an order for a unit of its writer's faction doesn't concern is there after the order, and `spares`
+  -- relates what it was to what it is then
   pub spared : (w : WorldValue) (a : Aliases) (c : CampaignValue) (t : Task) (x : Unit) → holds w c → IsUnitOf c t x →
       (n : ℕ) (u : Unit) → get c.units n ≡ Some u → (concerns t n u.faction → ⊥) → IfSome (step w a t) (λ deed. IsUnaffected spares (deed c x).0 n u)
   -- for no amount of the books is the remaining bound above the bound of the phase

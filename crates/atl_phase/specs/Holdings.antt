@@ -17,14 +17,16 @@ pub record ChangesHolding (before after : MarkedCampaign) (n : ℕ) (change : Ho
   -- the marks of goods, each for all items and days of a unit at once, are those from before
   pub goods : after.marks.goods ≡ before.marks.goods
 
--- before and after the same units have all their items and days marked, and the same single items are marked
+-- a change marks no items: the marks of single items, and those of all items and days of a unit at once, stay as they
+-- were
 pub record MarksNoItems (before after : Marks) : Type 0 where
   -- the marks of goods, each for all items and days of a unit at once, are those from before
   pub goods : after.goods ≡ before.goods
   -- the marks of single items are those from before
   pub items : after.items ≡ before.items
 
--- before and after the same units have all their items and days marked, and the same single items and skills are marked
+-- a change marks no items and no days: the marks of single items and skills, and those of all items and days of a unit
+-- at once, stay as they were
 abbrev pub MarksNoGoods : Marks → Marks → Type 0
 MarksNoGoods before after = MarksNoItems before after × (after.skills ≡ before.skills)
 

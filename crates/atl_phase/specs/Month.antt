@@ -72,7 +72,8 @@ month_code =
 abbrev pub alias_unit : Aliases → ℕ → ℕ → Option ℕ
 alias_unit aliases faction alias = get (group_of aliases faction) alias
 
--- the aliases with one more; the numbers are the faction's, the alias, and that of the unit that FORM made under it
+-- the aliases with one set, new or in place of an old one; the numbers are the faction's, the alias, and that of the
+-- unit that FORM made under it
 abbrev pub with_alias : Aliases → ℕ → ℕ → ℕ → Aliases
 with_alias aliases faction alias unit = insert aliases faction (insert (group_of aliases faction) alias unit)
 

@@ -23,8 +23,8 @@ use Rattle.atl_phase.specs.PhaseOrders.{Task, orders_by_unit}
 abbrev pub OrderEffect : Type 0
 OrderEffect = CampaignValue → Unit → CampaignValue × Outcome
 
--- the step of a phase: the effect of an order for a unit of the faction that wrote it;
--- None for one that the phase passes over
+-- what a phase does for an order: its effect on a unit of the faction that wrote it; None where the phase passes the
+-- order over
 abbrev pub OrderMeaning : Type 0
 OrderMeaning = WorldValue → Aliases → Task → Option OrderEffect
 
@@ -76,7 +76,7 @@ meaning_by_orders step is_of w c m = fold (one_order step w) (c, m) (orders_by_u
 
 -- ---- what stays
 
--- a statement that an order concerns the unit of this number and this faction
+-- whether an order concerns a unit, as a statement about the order, the unit's number and the unit's faction
 abbrev pub Affects : Type 1
 Affects = Task → ℕ → ℕ → Type 0
 

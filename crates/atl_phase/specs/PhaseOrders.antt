@@ -72,7 +72,7 @@ is_same_slot slot (Some other) = slot_number slot == slot_number other
 abbrev pub is_month_long : Verb → Bool
 is_month_long verb = is_same_slot MonthLong (row_of verb).slot
 
--- the greatest line of those of these orders that are in a slot and for a unit; 0 where there is none
+-- the greatest line among those orders of a list that are in a slot and for a unit; 0 where there is no such order
 abbrev pub last_line : Slot → ℕ → List Task → ℕ
 last_line slot unit [] = 0
 last_line slot unit (t ∷ ts) =

@@ -7,8 +7,8 @@ use atl_campaign::Holding;
 use atl_world::World;
 use std::alloc::{AllocError, Global};
 
-/// Each item that a unit holds, by its number, with its amount, in rising order of the numbers.
-/// It takes memory for each of them.
+/// Each item that a unit holds, by its number, with its amount, in rising order of the numbers. All
+/// must be items of the world. It takes memory for each of them.
 pub fn items_of(
     alloc: Global,
     world: &World,

@@ -30,6 +30,7 @@ pub struct MonthLongVerbs;
 impl PhaseVerbs for MonthLongVerbs {
     ghost is_of = { is_month_long };
 
+    /// Whether a verb takes the whole month.
     fn has(&self, verb: Verb) -> bool {
         is_same_slot(Slot::MonthLong, verb.row().slot)
     }

@@ -6,7 +6,7 @@ ghost use Rattle.atl_phase.specs.OrderEffects.{event_for};
 use atl_campaign::{Event, EventVerb, Outcome};
 use atl_orders::{Mailing, Order};
 
-/// The order in which a phase carries out its orders.
+/// What the orders of a phase are sorted by first: their units or their factions.
 #[derive(Drop, Clone, Copy, Debug, PartialEq, Eq)]
 pub enum Arrangement {
     /// By unit, then by line, then by faction.
@@ -26,7 +26,8 @@ pub struct PhaseOrder<'m> {
     pub faction: u32,
     /// The index of the order among those of its mailing, from 0 on.
     pub place: usize,
-    /// The mailing, which has the name that the order gives.
+    /// The mailing that has the order; its text has the name that the order gives, if the order
+    /// gives one.
     pub mailing: &'m Mailing,
     /// What the unit is to do.
     pub order: &'m Order,

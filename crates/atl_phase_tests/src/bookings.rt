@@ -49,7 +49,8 @@ fn booked(campaign: &Campaign, entry: Entry, place: usize, thing: Thing) -> i64
     }
 }
 
-/// Appends a line for each entry of the books under which the amount of a thing changed.
+/// Appends a line for each entry of the books under which the amount of a thing changed: by how
+/// much it rose, negative where it fell.
 fn tell_thing(
     alloc: Global,
     of: &str,

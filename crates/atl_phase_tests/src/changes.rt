@@ -126,7 +126,8 @@ fn tell_units(
     Ok(())
 }
 
-/// Appends the name, numbers, items and skills of each unit that wasn't there before.
+/// Appends, for each unit that wasn't there before, its name and each of its numbers, items and
+/// skills that isn't 0.
 fn tell_new_units(
     alloc: Global,
     world: &World,

@@ -72,7 +72,7 @@ module _ (books : BooksValue) (e : Entry) (t : Thing) (z : ℤ) where
   pub other_amount : (f : Entry) (u : Thing) → eq_by_cmp account_cmp (f, u) (e, t) ≡ false → amount_in (with_amount books e t z) f u ≡ amount_in books f u
   other_amount f u apart = amount-with_amount f u ∙ ap (λ b. cond b z (amount_in books f u)) apart
 
-  -- books of `things` things (`AreBooks`) still are that once an amount of one of these things is set
+  -- books of `things` things are still such books (`AreBooks`) after an amount of one of these things is set
   pub AreBooks-with_amount : (things : ℕ) → AreBooks things books → thing_index t < things → AreBooks things (with_amount books e t z)
   AreBooks-with_amount things old there =
       record {
@@ -86,7 +86,7 @@ module _ (books : BooksValue) (e : Entry) (t : Thing) (z : ℤ) where
         ];
       }
 
--- books of `things` things (`AreBooks`) still are that once an amount of one of these things is booked
+-- books of `things` things are still such books (`AreBooks`) after an amount of one of these things is booked
 pub AreBooks-after_booking : (things : ℕ) (books : BooksValue) (e : Entry) (t : Thing) (n : ℤ) → AreBooks things books → thing_index t < things → AreBooks things (after_booking books e t n)
 AreBooks-after_booking things books e t n old there = AreBooks-with_amount books e t (amount_in books e t +ℤ n) things old there
 
@@ -211,7 +211,7 @@ module _ (things : ℕ) (books : BooksValue) (are : AreBooks things books) where
 pub same_value : (a b : BooksValue) → a.things ≡ b.things → a.amounts ≡ b.amounts → a ≡ b
 same_value a b things amounts i = record { things = things i; amounts = amounts i }
 
--- books of as many things with the same amounts are equal
+-- two books of equally many things, with the same amount of each thing under each entry, are equal
 pub same_books : (things : ℕ) (a b : BooksValue) → AreBooks things a → AreBooks things b → ((e : Entry) (t : Thing) → amount_in a e t ≡ amount_in b e t) → a ≡ b
 same_books things a b are also same =
     same_value a b (are.count ∙ sym also.count) (same_map account_total account_same a.amounts b.amounts (λ c.

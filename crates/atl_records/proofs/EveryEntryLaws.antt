@@ -1,4 +1,5 @@
--- Laws of the 16 entries: each is in all_entries at its index, and a test that all_entries pass is passed by each.
+-- Laws of the 16 entries of the books: each is in the list all_entries at its index, so a test that the whole list
+-- passes is passed by each entry.
 use Rattle.std.proofs.Common.{◌≡◌, ◌+◌, ◌<◌, ℕ, Bool, true, get_or, Some, refl, sym, ap, ◌∙◌, inl, inr, arith}
 use Rattle.std.specs.List.{list_all, slice_get}
 use Rattle.std.proofs.lemmas.Bool.{cases_Bool, true≢false}
@@ -35,7 +36,7 @@ entry_in_place n l =
 pub entry_at : (n : ℕ) → n < entry_count → (e : Entry) × (entry_index e ≡ n)
 entry_at n l = (get_or all_entries n Founding, entry_in_place n l)
 
--- a test that all_entries pass is passed by each entry
+-- a test that every element of the list all_entries passes is passed by each entry
 pub each_entry : (test : Entry → Bool) → list_all test all_entries ≡ true → (e : Entry) → test e ≡ true
 each_entry test all e = elim (cases_Bool (test e)) [
   | inl is ↦ is

@@ -3,7 +3,7 @@ use Rattle.std.specs.Prelude.{◌≡◌, ℕ, List, [], ◌∷◌, ⊤, Some}
 use Rattle.std.specs.Ordering.{nat_cmp}
 use Rattle.std.specs.FinMap.{FinMap, get}
 
--- P holds of each number of a map together with its value
+-- a condition on a number and its value holds of each number of a map with the value under it
 abbrev pub Every : {V : Type 0} → (ℕ → V → Type 0) → FinMap nat_cmp V → Type 0
 Every P m = (n : ℕ) → (v : _) → get m n ≡ Some v → P n v
 
@@ -11,7 +11,7 @@ Every P m = (n : ℕ) → (v : _) → get m n ≡ Some v → P n v
 abbrev pub IsThere : {V : Type 0} → FinMap nat_cmp V → ℕ → Type 0
 IsThere {V} m n = (v : V) × (get m n ≡ Some v)
 
--- P holds of each entry of a list, which is a number with its value
+-- a condition on a number and its value holds of each entry of a list
 abbrev pub EachOf : {V : Type 0} → (ℕ → V → Type 0) → List (ℕ × V) → Type 0
 EachOf P [] = ⊤
 EachOf P (e ∷ es) = P e.0 e.1 × EachOf P es

@@ -33,7 +33,7 @@ accounts_under things e = map (λ i. (e, thing_at i)) (range_with_len 0 things)
 abbrev pub accounts : ℕ → List Account
 accounts things = flat_map (accounts_under things) all_entries
 
--- the books with the amount of each account (an entry with a thing) of a list set to what `amount` gives
+-- the books with the amount of each account (an entry with a thing) of a list set to what a function of accounts gives
 abbrev pub filled : (Account → ℤ) → List Account → BooksValue → BooksValue
 filled amount [] books = books
 filled amount (a ∷ others) books = with_amount (filled amount others books) a.0 a.1 (amount a)

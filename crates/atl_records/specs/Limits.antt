@@ -57,7 +57,7 @@ possible_things = 2 + (most_u16 + 1)
 abbrev pub most_map_entries : ℕ
 most_map_entries = most_u32 + 1
 
--- a bound on the money, and one on the peasants, of all regions together at founding
+-- a bound on the money of all regions together at founding, and the same bound on all peasants together
 abbrev pub most_founded : ℕ
 most_founded = 100000000000000
 

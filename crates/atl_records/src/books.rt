@@ -205,7 +205,7 @@ impl Books {
     }
 
     /// What came in of a thing under an entry so far, less what went: money, men and peasants, or
-    /// pieces of an item.
+    /// pieces of an item. The books must have the thing.
     pub fn amount(&self, entry: Entry, thing: Thing) -> i64
         requires { thing_index thing < self.now.things }
         ensures { result ≡ amount_in self.now entry thing }
@@ -213,7 +213,8 @@ impl Books {
         self.rows[thing.place()][entry.place()]
     }
 
-    /// Sets the amount of a thing under an entry. It takes no memory.
+    /// Sets the amount of a thing under an entry. The books must have the thing. It takes no
+    /// memory.
     pub fn put(&mut self, entry: Entry, thing: Thing, amount: i64)
         requires { thing_index thing < self.old.things }
         ensures { self.new ≡ with_amount self.old entry thing amount }
@@ -223,7 +224,7 @@ impl Books {
         self.rows[row][place] = amount;
     }
 
-    /// The sum of a thing's amounts over all entries.
+    /// The sum of a thing's amounts over all entries. The books must have the thing.
     pub fn sum(&self, thing: Thing) -> i128
         requires { thing_index thing < self.now.things }
         ensures { result ≡ booked self.now thing }
@@ -231,7 +232,8 @@ impl Books {
         row_sum(&self.rows[thing.place()])
     }
 
-    /// Adds an amount of a thing, of either sign, under an entry. It takes no memory.
+    /// Adds `amount`, of either sign, to what the books have of a thing under an entry. The books
+    /// must have the thing, and the sum must fit 64 bits. It takes no memory.
     pub fn book(&mut self, entry: Entry, thing: Thing, amount: i64)
         requires there { thing_index thing < self.old.things }
         requires fits { FitsSigned w64 (amount_in self.old entry thing +ℤ amount) }

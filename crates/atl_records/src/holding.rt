@@ -205,7 +205,7 @@ impl Holding {
         put_amount(&mut self.days, skill, days)
     }
 
-    /// Sets how many pieces of an item are held, at least 1, as a stored row says.
+    /// Sets how many pieces of an item are held, from 1 to HOLDING_LIMIT, as a stored row says.
     /// Without memory nothing changes.
     pub fn put_item(&mut self, item: u32, amount: u32) -> Result<(), AllocError>
         requires { (1 ≤ amount) × (amount ≤ holding_limit) }

@@ -9,13 +9,13 @@ use std::fmt;
 pub struct Faction {
     /// The faction's number, from 1 to atl_orders' LAST_FACTION, in the order of joining.
     pub number: u32,
-    /// The name that it joined under, under which no other faction ever joins.
+    /// The name that the faction joined under; no other faction ever joins under it.
     pub joined_as: Text,
-    /// The name that reports show.
+    /// The faction's name, as reports show it.
     pub name: Text,
-    /// The pass text that its player sends with each command.
+    /// The pass text that the faction's player sends with each command.
     pub pass: Text,
-    /// Whether it has no unit left. It never comes back.
+    /// Whether the faction is gone: it has no unit left, and never comes back.
     pub gone: bool,
 }
 
@@ -30,9 +30,9 @@ impl Drop for Faction {
 pub struct Unit {
     /// The number of the unit's faction.
     pub faction: u32,
-    /// The number of the region where it is.
+    /// The number of the region where the unit is.
     pub region: u32,
-    /// The number of the structure that it is inside, or 0 where it is inside none.
+    /// The number of the structure that the unit is inside, or 0 where it is inside none.
     pub structure: u32,
     /// What the unit holds: its name, men, money, guard flag, items and days of study.
     pub holding: Holding,
@@ -47,12 +47,12 @@ impl Drop for Unit {
 
 /// What a region holds besides its units: peasants, money, and the stocks of its markets.
 pub struct Region {
-    /// The people that are of no faction, from 0 to atl_world's MOST_AMOUNT.
+    /// The people in the region that are of no faction, from 0 to atl_world's MOST_AMOUNT.
     pub peasants: u32,
-    /// The money that no unit has, from 0 to atl_world's MOST_AMOUNT.
+    /// The money in the region that no unit has, from 0 to atl_world's MOST_AMOUNT.
     pub money: u32,
-    /// The stocks of its markets: how many pieces of each item, where they are not 0, up to the
-    /// limit of the item's market.
+    /// The stocks of the region's markets: how many pieces of each item, where they are not 0, up
+    /// to the limit of the item's market.
     pub stocks: Numbered<u32>,
 }
 
@@ -79,15 +79,16 @@ impl Region {
 /// A building or a ship. See docs/RULES.md, "Owners".
 #[derive(Drop)]
 pub struct Structure {
-    /// The index of its kind in the list of the world's kinds.
+    /// The index of the structure's kind in the list of the world's kinds.
     pub kind: u16,
-    /// The name that reports show.
+    /// The structure's name, as reports show it.
     pub name: Text,
-    /// The number of the region where it is.
+    /// The number of the region where the structure is.
     pub region: u32,
-    /// How much of it is built, from 1 to the size of its kind, with which it is complete.
+    /// How much of the structure is built, from 1 to the size of its kind; at that size the
+    /// structure is complete.
     pub done: u32,
-    /// The number of the unit inside that owns it, or 0 where no unit is inside.
+    /// The number of the unit inside that owns the structure, or 0 where no unit is inside.
     pub owner: u32,
 }
 

@@ -15,7 +15,8 @@ none_passes : (p : Event → Bool) (es : List Event) → list_any p es ≡ false
 none_passes p [] h = refl
 none_passes p (e ∷ es) h = by_test (p e) h (none_passes p es)
   where
-    -- with the event `e` in front the text is still `None.`: `t`, whether `e` passes, is false, as no event passes
+    -- for `none_passes`: with the event `e` in front the text is still `None.`, since `e` fails the test, too (`t` is
+    -- false)
     by_test : (t : Bool) → (t || list_any p es) ≡ false → (list_any p es ≡ false → results_text [] (filter p es) ≡ codes "None.\n") → results_text [] (cond t (e ∷ filter p es) (filter p es)) ≡ codes "None.\n"
     by_test true h rest = absurd (false≢true (sym h))
     by_test false h rest = rest h

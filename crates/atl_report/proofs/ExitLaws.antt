@@ -20,7 +20,8 @@ after_commas texts = each_text (λ t. codes ", " ++ t) texts
 abbrev with_exit : (direction : List ℕ) → Option ℕ → List (List ℕ) → List (List ℕ)
 with_exit direction exit texts = cons_option (option_map (exit_text direction) exit) texts
 
--- the texts of exits, each with a comma in front, begin with the first one as `written` gives it with `is_first` false
+-- the text of one more exit and those of others, each with a comma in front, are this exit as `written` gives it (not
+-- as the first), followed by the others
 later : (direction : List ℕ) (exit : Option ℕ) (texts : List (List ℕ)) →
     after_commas (with_exit direction exit texts) ≡ written false direction exit ++ after_commas texts
 later direction None texts = refl

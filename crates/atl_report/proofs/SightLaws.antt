@@ -205,8 +205,8 @@ entries-with_all_watched c f =
 
 -- regions looked up by the numbers of chosen entries
 module _ {A : Type 0} (m : FinMap nat_cmp Region) (make : ℕ → Region → A) where
-  -- if the map `m` has each entry of `es`, then `make` gives of the regions looked up in `m` by the numbers of the
-  -- entries that pass `p` what it gives of these entries
+  -- if the map `m` has each entry of `es`, then to look up in `m` the regions of those entries that pass `p`, by
+  -- number, and apply `make` to each, gives what `make` gives of these entries
   looked_up : (p : ℕ × Region → Bool) (es : List (ℕ × Region)) → EachOf (λ n r. get m n ≡ Some r) es
       → filter_map (λ (e : ℕ × Prim.Unit {0}). option_map (make e.0) (get m e.0)) (map number_alone (filter p es)) ≡ map (λ e. make e.0 e.1) (filter p es)
   looked_up p [] h = refl
@@ -216,7 +216,7 @@ module _ {A : Type 0} (m : FinMap nat_cmp Region) (make : ℕ → Region → A) 
         | false ↦ looked_up p es h.1
       ]
 
--- `make` gives of the regions looked up in a map by the numbers of its entries that pass `p` what it gives of these
--- entries
+-- to look up in a map the regions of those entries that pass `p`, by number, and apply `make` to each, gives what
+-- `make` gives of these entries
 pub regions_looked_up : {A : Type 0} (m : FinMap nat_cmp Region) (make : ℕ → Region → A) (p : ℕ × Region → Bool) → filter_map (λ (e : ℕ × Prim.Unit {0}). option_map (make e.0) (get m e.0)) (map (λ e. (e.0, tt)) (filter p (entries m))) ≡ map (λ e. make e.0 e.1) (filter p (entries m))
 regions_looked_up m make p = looked_up m make p (entries m) (each-from_every (λ n r. get m n ≡ Some r) m (λ n r is. is))

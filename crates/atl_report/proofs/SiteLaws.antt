@@ -11,8 +11,8 @@ use Rattle.atl_records.specs.declared.records.Structure.{Structure}
 use Rattle.atl_campaign.specs.KeptLists.{list_of}
 use Rattle.atl_report.specs.Sites.{with_site}
 
--- a region's list, followed by its numbers still to come, is the same with n, if this is of the region (b), at the end
--- of the list as with n first among those still to come: for `site_goes_on`
+-- for `site_goes_on`: a region's list, followed by its numbers still to come, is the same whether n, if it is of the
+-- region (b), is last in the list or first among those still to come
 by_region : (b : Bool) (o : Option (List ℕ)) (listed rest : List ℕ) (n : ℕ) → (b ≡ true → listed ≡ unwrap_or o [])
     → unwrap_or (cond b (Some (listed ++ (n ∷ []))) o) [] ++ rest ≡ unwrap_or o [] ++ cond b (n ∷ rest) rest
 by_region true o listed rest n h = ap (λ l. (l ++ (n ∷ [])) ++ rest) (h refl) ∙ append_assoc (unwrap_or o []) (n ∷ []) rest

@@ -33,7 +33,8 @@ header_line v = codes "Atlantis report, month " ▸ decimal v.month ▸ codes ",
 
 -- ---- a unit that is seen
 
--- the beginning of a unit's line: `*` for an own unit with its money, `-` for another with its faction, and its men
+-- the start of a unit's line: number, name and men, after `*` with the money of an own unit, or after `-` with the
+-- faction of another's
 abbrev pub unit_head : UnitView → Side → List ℕ
 unit_head u (Own money items skills) = codes "* Unit " ▸ decimal u.number ▸ codes " \"" ▸ u.name ▸ codes "\": " ▸ decimal u.men ▸ codes " men, " ▸ decimal money ▸ codes " money"
 unit_head u (Other faction name) = codes "- Unit " ▸ decimal u.number ▸ codes " \"" ▸ u.name ▸ codes "\" of faction " ▸ decimal faction ▸ codes " \"" ▸ name ▸ codes "\": " ▸ decimal u.men ▸ codes " men"
@@ -80,7 +81,7 @@ unit_lines w = each_text (unit_line w)
 
 -- ---- a structure that is seen
 
--- the line of a structure, with the name and the full size of its kind
+-- the line of a structure: number, name, the kind's name, how much is done of the kind's full size, and the owner
 abbrev pub structure_text : StructureView → Kind → List ℕ
 structure_text s kind =
     codes "Structure " ▸ decimal s.number ▸ codes " \"" ▸ s.name ▸ codes "\", " ▸ kind.name ▸ codes ", " ▸ decimal s.done ▸ codes " of "
@@ -96,7 +97,7 @@ structure_lines w = each_text (structure_line w)
 
 -- ---- a region that is seen
 
--- the line of a region, with the name and the terrain that the world gives it
+-- the line of a region: its number, its name and terrain as the world gives them, its peasants and its money
 abbrev pub region_text : RegionView → RegionPlan → (terrain : List ℕ) → List ℕ
 region_text r plan terrain =
     codes "Region " ▸ decimal r.number ▸ codes " \"" ▸ plan.name ▸ codes "\", " ▸ terrain ▸ codes ": " ▸ decimal r.peasants ▸ codes " peasants, "

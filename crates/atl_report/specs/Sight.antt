@@ -42,7 +42,8 @@ item_view (item, amount) = record { item = item; amount = amount }
 abbrev pub item_views : HoldingValue → List ItemView
 item_views h = map item_view (entries h.items)
 
--- the view of a skill that an own unit studied: its index in the world, the level by its days and men, and the days
+-- `skill_view men (skill, days)`: the view of a skill in which an own unit has days: the skill's index in the world,
+-- the level by days and men, and the days
 abbrev pub skill_view : ℕ → ℕ × ℕ → SkillView
 skill_view men (skill, days) = record { skill = skill; level = level_of days men; days = days }
 

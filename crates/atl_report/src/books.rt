@@ -147,10 +147,10 @@ fn write_items(out: &mut String, world: &World, campaign: &Campaign) -> Result<(
     Ok(())
 }
 
-/// The text of the books of a campaign whose things are those of this world. For money, people and
-/// each item in the order of the world, it has a line for each entry that has an amount, and one
-/// for how much all units and regions hold. AllocError without memory. See docs/FORMATS.md,
-/// "Books".
+/// The text of the books of a campaign whose things are those of this world, with at most 1,000,000
+/// units and regions together. For money, people and each item in the order of the world, it has a
+/// line for each entry that has an amount, and one for how much all units and regions hold.
+/// AllocError without memory. See docs/FORMATS.md, "Books".
 #[tactic(auto, unfolding(crate::specs::Books::books_of))]
 pub fn books_text(alloc: Global, world: &World, campaign: &Campaign) -> Result<String, AllocError>
     requires things { campaign.now.value.books.things ≡ things_of world.now }

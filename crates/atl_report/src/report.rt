@@ -175,7 +175,8 @@ impl InReport for UnitView {
     }
 }
 
-/// Writes the line of a structure, with the name and the full size of its kind.
+/// Writes the line of a structure: number, name, the kind's name, how much is done of the kind's
+/// full size, and the owner.
 fn write_built(out: &mut String, structure: &StructureView, kind: &Kind) -> Result<(), AllocError>
     ensures { OnOk result (string_bytes out.new
         ≡ string_bytes out.old ++ structure_text structure.now kind.now) }

@@ -1,13 +1,13 @@
 //! The view of a faction: all that its report shows.
 use atl_world::{Sequence, Text, let_go};
 
-/// What a faction sees of a campaign: all that its report shows besides orders.
+/// What a faction sees of a campaign: all that its report shows, except for the part on its orders.
 pub struct View {
     /// The month last closed.
     pub month: u32,
     /// The number of the faction.
     pub faction: u32,
-    /// The name of the faction that is shown.
+    /// The faction's name, as reports show it.
     pub name: Text,
     /// The views of the regions that the faction sees, by number.
     pub regions: Sequence<RegionView>,
@@ -20,7 +20,7 @@ impl Drop for View {
     }
 }
 
-/// A region that is seen, with what is seen in it.
+/// A region that the faction sees, with all that it sees there.
 pub struct RegionView {
     pub number: u32,
     pub peasants: u32,
@@ -55,10 +55,10 @@ pub struct MarketView {
 #[derive(Drop)]
 pub struct StructureView {
     pub number: u32,
-    /// The index of the kind in the world.
+    /// The index of the structure's kind in the world.
     pub kind: u16,
     pub name: Text,
-    /// How much of the structure is built.
+    /// How much of the structure is built, in material.
     pub done: u32,
     /// The number of the unit that owns the structure; 0 if nobody does, or that unit isn't seen.
     pub owner: u32,
@@ -71,7 +71,7 @@ pub struct UnitView {
     pub men: u32,
     /// Whether the unit guards the region: its guard flag is set, and it has men.
     pub guard: bool,
-    /// The number of the structure that the unit is inside, or 0.
+    /// The number of the structure that the unit is inside; 0 if it is inside none.
     pub structure: u32,
     pub side: Side,
 }
@@ -129,6 +129,6 @@ pub struct SkillView {
     /// The index of the skill in the world.
     pub skill: u32,
     pub level: u32,
-    /// The days of study over all men.
+    /// The unit's days of study of the skill, which all its men have together.
     pub days: u32,
 }

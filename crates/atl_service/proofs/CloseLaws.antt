@@ -164,7 +164,8 @@ closed_is w c after events words faults is wrong =
 
 -- ---- the marks
 
--- what `MarksChanges` says of a campaign of this value and these marks, it says of the campaign `d`, which has them
+-- if no mark is lost from `c` to the campaign of value `what` and marks `marks`, and all that changed is marked
+-- (`MarksChanges`), the same is true of a campaign `d` with this value and these marks
 marked_as : (c d : MarkedCampaign) (what : CampaignValue) (marks : Marks) → d.value ≡ what → d.marks ≡ marks → MarksChanges c (record { value = what; marks = marks }) → MarksChanges c d
 marked_as c d what marks is m h = subst (MarksChanges c) (sym (ap₂ (λ s n. record { value = s; marks = n }) is m)) h
 
@@ -239,7 +240,8 @@ read_ends w c r rest none (mailings, all, outcome, sent) = record {
 
 -- ---- the reports, stored one after another
 
--- if a fold from index `i` on ends in `last`, so does the fold from index `i + 1` on that starts after element `i`
+-- if folding a list from index `i` on takes `old` to `last`, then folding it from index `i + 1` on takes `new` to
+-- `last`, where `new` is the step from `old` by element `i`
 pub fold_further : {A B : Type 0} (step : A → B → A) (old new last : A) (all : List B) (i : ℕ) (d : B) → i < length all → new ≡ step old (get_or all i d) → fold step old (drop i all) ≡ last → fold step new (drop (i + 1) all) ≡ last
 fold_further step old new last all i d h is whole = ap (λ a. fold step a (drop (i + 1) all)) is ∙ subst (λ l. fold step old l ≡ last) (drop_more all i d h) whole
 

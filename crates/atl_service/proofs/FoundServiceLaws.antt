@@ -54,7 +54,8 @@ module _ {S : Type 0} (g : Ghosts S) where
       leaves none.Store is = absurd (false≢true (sym (is true).2))
       leaves none.Memory is = (nothing_done conn text pass, inl refl)
 
-  -- the service of a founded (or upgraded) campaign is consistent
+  -- an open service is consistent if its connection is in no transaction, its campaign is good, and on a clean disk the
+  -- tables hold the campaign and a text of its world
   pub founded_consistent : (conn : Held S) (w : WorldValue) (c : CampaignValue) (text : List ℕ) → conn.in_transaction ≡ false → IsGood w c → world_of text ≡ Ok w → HoldsCampaign g conn text c → IsConsistent g conn w c true
   founded_consistent conn w c text idle good is holds = record {
     idle = idle;
@@ -77,8 +78,8 @@ module _ {S : Type 0} (g : Ghosts S) where
 
   -- ---- a founding whose tables could not be created
   module _ (old new : Held S) (w : WorldValue) (c : CampaignValue) (text pass : List ℕ) (made : Prepares text pass w c) (later : IsLater (state g old) (state g new)) where
-    -- if the tables could not be created, they are as before while the connection is open, and a crash leaves them so
-    -- or with the founded campaign (`FailsToFound`)
+    -- if the tables could not be created, on a clean disk they are as before while the connection is open, and a crash
+    -- leaves what it could have left before, or the founded campaign (`FailsToFound`)
     failed : FailsToCreate g text c old new → FailsToFound g old text pass new
     failed fails = record {
       tables = fails.tables;
@@ -90,8 +91,8 @@ module _ {S : Type 0} (g : Ghosts S) where
         ok_same : (a b : WorldValue) → ◌≡◌ {A = Result WorldValue WorldFault} (Ok a) (Ok b) → a ≡ b
         ok_same a b e = cc
 
-    -- a fault of creating the founded campaign's tables comes from the statements that found by this world text and
-    -- pass text
+    -- if a fault reports an error of the statements that create the tables of campaign `c` (`OfFounding`), it reports
+    -- one of those that found by the world text and the pass text (`FoundsBy`)
     told_by_founding : (fault : CreateFault) → IsFaultOfError g (OfFounding text c) create_fault old new fault → IsFaultOfError g (FoundsBy text pass) create_fault old new fault
     told_by_founding fault told = (
       told.0,

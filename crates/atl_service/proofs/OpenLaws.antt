@@ -30,7 +30,8 @@ is_busy told false is so = cc
 is_busy told true is so = refl
 
 module _ {S : Type 0} (g : Ghosts S) where
-  -- an unchanged connection is left alone (`LeavesAlone`)
+  -- a connection that isn't touched is left alone (`LeavesAlone`): its tables and what a crash may leave stay as they
+  -- were
   pub alone_itself : (conn : Held S) → LeavesAlone g conn conn
   alone_itself conn = record {
     spares = λ clean. spares_itself (state g conn);

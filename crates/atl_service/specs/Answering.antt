@@ -27,7 +27,7 @@ abbrev pub IsNoFault : Answer → Type 0
 IsNoFault (Fault _) = ⊥
 IsNoFault _ = ⊤
 
--- P holds, if the answer is a report (`Text`) or a refusal.
+-- If the answer is a report (`Text`) or a refusal, the given statement P holds.
 abbrev pub IfTextOrRefused : Answer → Type 0 → Type 0
 IfTextOrRefused (Joined _ _) P = ⊤
 IfTextOrRefused (Mailed _ _) P = ⊤

@@ -54,8 +54,9 @@ LacksMemory g own old new = (new ≡ old) ⊎ (HasCleanDisk (state g new) → Gi
 abbrev pub GivesOtherError : {S : Type 0} → Ghosts S → Statements → Held S → Held S → Type 0
 GivesOtherError g own old new = HasCleanDisk (state g new) → GivesError g own false old new
 
--- Why a command ended in this fault, by the connection before and after it. Closed has no cause here, since no command
--- ran.
+-- The fault has its cause: for Memory, the connection is unchanged, or a call of the write ran out of memory; for
+-- Store, a call gave another error. What a call gave is known on a clean disk alone. Closed has no cause here: no
+-- command ran.
 abbrev pub HasCause : {S : Type 0} → Ghosts S → Statements → Held S → Held S → Fault → Type 0
 HasCause g own old new Memory = LacksMemory g own old new
 HasCause g own old new Store = GivesOtherError g own old new

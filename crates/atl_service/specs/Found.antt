@@ -76,7 +76,7 @@ abbrev pub RefusesToWrite : {S : Type 0} → Ghosts S → Statements → Held S 
 RefusesToWrite g own old new = ((¬ IsReadyToCreate (state g old)) × (new ≡ old)) ⊎ (IsReadyToCreate (state g old) × GivesOtherError g own old new)
 
 -- What a refused founding by a world text and a pass text leaves, by its cause: nothing is changed after a failed
--- check; Store and Memory leave what `FailsToFound` says.
+-- check; Store and Memory leave what `FailsToFound` says, and have a reason (`RefusesToWrite`, `LacksMemory`).
 abbrev pub LeavesByCause : {S : Type 0} → Ghosts S → Held S → List ℕ → List ℕ → Held S → Cause → Type 0
 LeavesByCause g old text pass new (BadWorld fault) = new ≡ old
 LeavesByCause g old text pass new BadPassText = new ≡ old

@@ -19,7 +19,7 @@ use Rattle.atl_service.specs.Closing.{closed, faults_of, read_of, readings, repo
 use Rattle.atl_service.specs.Step.{step}
 
 -- A part of the mail is read: these mailings and faulty lines, followed by those of the unread `rest`, are those of the
--- whole mail. Each text in `rest` is a mailing of its faction.
+-- whole mail. Each of the mailings was read with the world, and each text in `rest` is a mailing of its faction.
 abbrev pub ReadSoFar : WorldValue → CampaignValue → List Mailing → FinMap nat_cmp (List FaultyLine) → List (ℕ × List ℕ) → Type 0
 ReadSoFar w c mailings faults rest =
     (map reading_of mailings ++ flat_map (λ e. read_of (reading w e.1)) rest ≡ readings w c)

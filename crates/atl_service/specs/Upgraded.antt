@@ -39,7 +39,7 @@ of_upgrading upgrade.Store = Store
 of_upgrading upgrade.Memory = Memory
 
 -- An upgrade was refused with the store's fault. If the disk is clean, the tables are as before while the connection is
--- open; a crash leaves them as before, or upgraded.
+-- open; a crash leaves what it could have left before, or the upgraded campaign.
 pub record RefusesUpgrade {S : Type 0} (g : Ghosts S) (old : Held S) (text : List ℕ) (why : Cause) (new : Held S) : Type 0 where
   -- the fault with which the store refused to upgrade the file
   pub fault : UpgradeFault

@@ -71,8 +71,8 @@ fn read_mail(alloc: Global, world: &World, campaign: &Campaign) -> Result<ReadMa
 }
 
 /// Runs the month's phases, counts the month, removes the mail, and returns what the reports need.
-/// No mark is lost, and all that changed is marked. If memory runs out, the campaign in memory is
-/// lost, and a blank one is in its place.
+/// No mark is lost, and all that changed is marked. If memory runs out, the campaign in memory may
+/// be lost, with a blank one in its place.
 fn turn_month(
     alloc: Global,
     world: &World,

@@ -99,7 +99,8 @@ all_is_given pot wants =
       | inr h ↦ ap sum (shares-enough pot wants h) ∙ omega arith
     ]
 
--- if the pot isn't enough, each share differs from `pot * want / total` by less than one
+-- if the pot isn't enough, each share differs by less than one from the pot times its want divided by the sum of all
+-- wants
 pub share_is_near : (pot : ℕ) (wants : List ℕ) (i : ℕ) → pot < sum wants → IsNearPart pot (sum wants) (get_or wants i 0) (get_or (shares pot wants) i 0)
 share_is_near pot wants i h =
     rw (shares-short pot wants h) (each_later (IsNearPart pot (sum wants)) pot (sum wants)

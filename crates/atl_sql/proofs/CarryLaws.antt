@@ -21,7 +21,7 @@ use Rattle.atl_sql.proofs.ListLaws.{has_map}
 
 -- ---- tables without a foreign key refer to nothing
 
--- if no table of the list has a foreign key, `f` is asked of no reference, and so no work comes of checking references
+-- if no table of the list has a foreign key, checking the list's foreign keys, by any `f`, gives no work to do
 none_refer : (tables : List Table) (f : Table → Reference → Option Work) → AllByRecursion (λ t. t.references ≡ []) tables → flat_map (λ child. filter_map (f child) child.references) tables ≡ []
 none_refer [] f free = refl
 none_refer (t ∷ tables) f free = rw (free.0) (none_refer tables f free.1)
@@ -43,7 +43,7 @@ none_share t target new r (i ∷ indexes) plain = rw (plain i (inl refl)) (none_
 pub among_all : (tables : List Table) (t : Table) → Has all_tables t → Has (all_tables ++ tables) t
 among_all tables t there = has_left all_tables tables t there
 
--- the trees of a database with a campaign's tables are sound under its schema, told as `all_and` of its other tables
+-- the trees of a database with a campaign's tables are sound under the schema of these and of all other tables in it
 pub sound_under : (db : Database) (has : HasTables db) → IsSoundDatabase (all_and has.begins.tables has.begins.indexes) db.trees
 sound_under db has = subst (λ s. IsSoundDatabase s db.trees) has.begins.is has.sound
 
@@ -63,7 +63,7 @@ module _ (t : Table) (old new : Database) (has : HasTables old) (ours : Has all_
     sound = subst (λ s. IsSoundDatabase s new.trees) (sym is) sound;
   }
 
-  -- if schema and all tables but `t` are unchanged, all tables and indexes but the campaign's are kept (`Carries`)
+  -- if schema and all tables but `t` are unchanged, no table or index is gone, and tables but the ten stay (`Carries`)
   pub carried : new.schema ≡ schema → OthersStay → Carries old new
   carried is others =
       let same : new.schema ≡ old.schema = is ∙ sym has.begins.is in
@@ -87,7 +87,7 @@ module _ (t : Table) (old new : Database) (has : HasTables old) (ours : Has all_
 pub carries_none : (a : Database) → Carries a a
 carries_none a = record { tables = λ t there. there; indexes = λ i there. there; others = λ t there free. refl }
 
--- two steps that each keep what isn't a campaign's keep it together (`Carries` is transitive)
+-- two steps that each keep all tables and indexes, as `Carries` says, keep them together (`Carries` is transitive)
 pub carries_then : (a b c : Database) → Carries a b → Carries b c → Carries a c
 carries_then a b c one two = record {
   tables = λ t there. two.tables t (one.tables t there);

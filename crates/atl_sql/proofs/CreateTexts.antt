@@ -117,6 +117,6 @@ module _ {S A : Type 0} (g : Ghosts S) {r : Result A Error} {a b : MutBor (Held 
   pub creating : {Does : State → State → Type 0} {before after : Schema} (text : List ℕ) → MakesNextTable before after text → Writes g (Only text []) Does r a b → Writes g Creations Does r a b
   creating text makes one = among_only g text [] (makes.0, refl) one
 
-  -- a step that runs a part's CREATE text runs only such texts (`Creations`), and makes an empty table more (`Extends`)
+  -- a step that runs a part's CREATE text runs only such texts (`Creations`), and adds one empty table (`Extends`)
   pub made_by : {before after : Schema} (text : List ℕ) → MakesNextTable before after text → Writes g (Only text []) (RunsStatement text []) r a b → Writes g Creations (Extends before after) r a b
   made_by text makes one = weaker g makes.1 (creating text makes one)

@@ -92,7 +92,7 @@ module _ (schema : Schema) (table : Table) (unlinked : (olds news : List Row) â†
   -- ---- INSERT OR REPLACE of one row
 
   module _ (limit : Option â„•) (params : Row) where
-    -- what a statement on the table is run with: the limit, the schema, the table and the parameters
+    -- what a statement on the table is run with: the step limit, the schema, the table and the parameters
     abbrev task : Task
     task = record { limit = limit; keys = Enforced; schema = schema; table = table; params = params }
 

@@ -87,7 +87,7 @@ pub record MakesRow (t : Table) (width number : ℕ) (values : Row) : Type 0 whe
   pub casted : cast_row t (int number ∷ Null ∷ values) ≡ int number ∷ Null ∷ values
   -- of the row as stored, SQL shows the number and the values
   pub shown : visible t (int number ∷ Null ∷ values) ≡ int number ∷ values
-  -- the column after the number and the values is the rowid of the row to change
+  -- of what the UPDATE reads, the column after the number and the values is `x`, the rowid of the row to change
   pub aimed : (x : Value) (more : Row) → column ((int number ∷ values) ++ x ∷ more) (width + 1) ≡ x
 
 module _ (tree : ℕ) (name key_name : List ℕ) (columns : List Column) (uniques : List (List ℕ)) where
@@ -104,7 +104,7 @@ module _ (tree : ℕ) (name key_name : List ℕ) (columns : List Column) (unique
     abbrev its_row : Row
     its_row = int n ∷ Null ∷ values
 
-    -- the terms of the parameters after the first give the values
+    -- the terms that read the parameters after the first, which is the number, give the values
     of_parameters : (more : Row) (rows : List Row) → eval_all (map (col 0) (range_with_len 1 width)) ((int n ∷ (values ++ more)) ∷ rows) ≡ values
     of_parameters more rows = map-map (λ (t : Term). eval t ((int n ∷ (values ++ more)) ∷ rows)) (col 0) (range_with_len 1 width) ∙ each_later (int n) values more
 

@@ -1,4 +1,4 @@
--- Small laws for tables whose key has several columns and whose rowid is hidden.
+-- Laws on integer columns, equal rows and a test joined by "or", for tables whose key has several columns.
 use Rattle.std.proofs.Common.{◌≡◌, ◌||◌, Bool, true, false, ◌∷◌, refl, sym, true≢false}
 use Rattle.sqlite.specs.declared.types.Value.{Value}
 use Rattle.sqlite.specs.declared.types.Value.TheVariants.{Null, Int, Real, Text, Blob}

@@ -89,7 +89,7 @@ pub record HasKey (t : Table) (at : ℕ) (places : List ℕ) : Type 0 where
   pub unique : (indexes : List Index) (rows : List Row) (r : Row)
       → list_all (λ i. not (guards i t && clashes i.order i.columns rows r)) (all_indexes ++ indexes) ≡ true
       → list_any (λ y. agree_at places y r && differ (rowid y) (rowid r)) rows ≡ false
-  -- row `x` conflicts with `new` in this key if they are equal in its columns, or share values of a further index
+  -- row `x` conflicts with `new` in the key exactly if both agree in its columns or share values of a further index
   pub hits : (indexes : List Index) (new x : Row)
       → conflicts (Some places) (all_indexes ++ indexes) t new x ≡ (agree_at places x new || list_any (shares (Some places) t new x) indexes)
 
@@ -115,7 +115,7 @@ pub record MakesValues (t : Table) (places : List ℕ) (width : ℕ) (terms : Li
   pub shown : (n : ℤ) → visible t (Int n ∷ values) ≡ values
   -- a row of these values, with any rowid `n`, has integers in the columns of the key
   pub ints : (n : ℤ) → AreInts places (Int n ∷ values)
-  -- the column at the index `hole` is the one after the values, which is the rowid of the row to change
+  -- of what the UPDATE reads, the column at the index `hole`, after the values, is `x`, the rowid of the row to change
   pub aimed : (x : Value) (more : Row) → column (values ++ x ∷ more) hole ≡ x
   -- of a row with the key of these values, the UPDATE makes a row of which SQL shows these values
   pub changed : (more r : Row) → at_places places r ≡ take (length places) values

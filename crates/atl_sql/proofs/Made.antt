@@ -38,6 +38,7 @@ pub record AreBare (schema : Schema) (db : Database) : Type 0 where
   -- each table of the schema is empty
   pub empty : (t : Table) → Has schema.tables t → db.trees t.tree ≡ []
 
--- inside a transaction, which remains open, empty tables of the first schema become empty tables of the second
+-- a database of the first schema, without rows, becomes a sound one of the second, without rows;
+-- a transaction goes on exactly if there was one
 abbrev pub Extends : Schema → Schema → State → State → Type 0
 Extends before after old new = (new.in_transaction ≡ old.in_transaction) × (AreBare before old.now → AreBare after new.now × IsDatabase new.now)

@@ -1,4 +1,4 @@
--- Laws on putting the rows of a list, one after another, into a table: some rows put, then others, put them all.
+-- Laws on putting the rows of a list, one after another, into a table: putting some and then the rest puts them all.
 use Rattle.std.proofs.Common.{◌≡◌, ◌≢◌, ◌↔◌, ◌++◌, ℕ, List, [], ◌∷◌, refl, sym, ◌∙◌, subst, inl, inr}
 use Rattle.sqlite.specs.Order.{Row}
 use Rattle.sqlite.specs.Table.{Table}

@@ -1,4 +1,4 @@
--- Laws on writing the rows of a list step by step: all steps together, or up to an error, write the whole list.
+-- Laws on writing the rows of a list step by step: the steps together write the whole list, or end with an error.
 use Rattle.std.proofs.Common.{◌≡◌, ◌++◌, ℕ, List, [], ◌∷◌, Result, Ok, Err, refl, sym, subst, inl}
 use Rattle.std.specs.Borrow.{MutBor}
 use Rattle.sqlite_trees.specs.declared.store.Store.{Ghosts}

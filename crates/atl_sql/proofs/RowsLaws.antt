@@ -1,4 +1,4 @@
--- Laws from what a SELECT shows to the rows of a table.
+-- Laws by which the rows that a SELECT shows are all rows of its table.
 use Rattle.std.proofs.Common.{ℕ, List, [], length, map, IsPermutation, Result, sym, subst}
 use Rattle.std.specs.declared.vec.Vec.{Vec}
 use Rattle.sqlite_trees.specs.declared.store.Store.{Ghosts}

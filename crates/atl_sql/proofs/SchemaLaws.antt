@@ -77,11 +77,13 @@ module _ (count keys : ℕ) (schema : Schema) where
     plain = λ i there. all_has (IsHarmless count) indexes.others i indexes.plain there;
   }
 
-  -- in a schema that begins with a campaign's tables, none after the first `count` has a foreign key (`AreTables`)
+  -- the tables of a schema that begins with a campaign's are the first `count`, then others without a foreign key
+  -- (`AreTables`)
   pub its_tables : Begins count keys schema → AreTables count schema.tables
   its_tables begins = record { others = begins.tables; is = ap (λ (s : Schema). s.tables) begins.is; free = begins.free }
 
-  -- in a schema that begins with a campaign's tables, no index after the first `keys` makes anything unique in them
+  -- the indexes of a schema that begins with a campaign's tables are the first `keys` of the four, and then others,
+  -- which make nothing unique in the first `count` tables (`AreIndexes`)
   pub its_indexes : Begins count keys schema → AreIndexes count keys schema.indexes
   its_indexes begins = record { others = begins.indexes; is = ap (λ (s : Schema). s.indexes) begins.is; plain = all_from (IsHarmless count) begins.indexes begins.plain }
 
@@ -90,7 +92,7 @@ module _ (count keys : ℕ) (schema : Schema) where
   no_views begins = ap (λ (s : Schema). s.views) begins.is
 
   -- A schema that begins with some tables and indexes begins with fewer of them too.
-  -- Premises: the tables between have no foreign key, and the indexes between make nothing unique in the fewer tables.
+  -- Premises: the tables left out have no foreign key; the indexes left out make nothing unique in the fewer tables.
   pub begins_with_fewer : (fewer fewer_keys : ℕ) (tables : List Table) (indexes : List Index)
       → take count all_tables ≡ take fewer all_tables ++ tables → take keys all_indexes ≡ take fewer_keys all_indexes ++ indexes
       → AllByRecursion (λ t. t.references ≡ []) tables → AllByRecursion (IsHarmless fewer) indexes → Begins count keys schema → Begins fewer fewer_keys schema

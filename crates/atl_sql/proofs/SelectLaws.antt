@@ -68,7 +68,7 @@ key_of part = 1
 -- ---- a SELECT of all rows
 
 -- the SELECT of a part means its columns (`columns_of`) of all rows, in the key's order, whatever other tables follow
--- The rows of its listing are just these.
+-- These rows are those that `listing_of` says of the part.
 record IsMeant (part : Part) : Type 0 where
   -- the text means the query of the part's columns (`columns_of`) of all rows of its table, in the order of the key
   command : (more : List Table) (indexes : List Index)
@@ -76,13 +76,13 @@ record IsMeant (part : Part) : Type 0 where
       ≡ Select (record { lets = []; body = all_query (table_of part).tree (columns_of part) (map (λ column. (column, ascending Binary)) (first (table_of part) (key_of part))) }) (listing_of part).names
   -- the SELECT has no RETURNING and doesn't read the time
   plain : (more : List Table) (indexes : List Index) → IsPlain (understood (first_and (table_count_in (listing_of part).since) (index_count_in (listing_of part).since) more indexes) (listing_of part).select)
-  -- the SELECT doesn't read the list of the schema's own tables
+  -- the SELECT doesn't read `sqlite_schema`, the table in which the database lists its tables
   unlisted : (more : List Table) (indexes : List Index) → reads_listing (first_and (table_count_in (listing_of part).since) (index_count_in (listing_of part).since) more indexes) (listing_of part).select ≡ false
   -- the table's tree is one of the file, not that of a temporary table
   same : (db : Trees) → overlay db [] (table_of part).tree ≡ db (table_of part).tree
-  -- the rows that the query shows of the table are those of the part's listing
+  -- the rows that the query shows of the table are those that `listing_of` says of the part
   rows : (db : Trees) → map (λ r. eval_all (columns_of part) ([] ∷ r ∷ [])) (db (table_of part).tree) ≡ (listing_of part).in_table db
-  -- a row that the query shows has just the columns that the listing names
+  -- a row that the query shows has just the columns that `listing_of` names for the part
   whole : (r : Row) → first_columns (length (listing_of part).names) (eval_all (columns_of part) ([] ∷ r ∷ [])) ≡ eval_all (columns_of part) ([] ∷ r ∷ [])
 
 -- the SELECT of each part means the columns of all rows, in the order of the key (`IsMeant`)
@@ -103,6 +103,6 @@ reads_part part count same old new rows h has =
     let told : IsPermutation (listing.in_table old.now.trees) (map cut rows) = subst (λ was. IsPermutation was (map cut rows)) (is.rows old.now.trees) (whole_shown shown cut is.whole (old.now.trees (table_of part).tree) rows all) in
     subst (λ n. IsPermutation (listing.in_table old.now.trees) (map (first_columns n) rows)) (sym same) told
 
--- the SELECT of each part is plain: it has no RETURNING and doesn't read the time (`IsPlain`)
+-- under the tables of its format the SELECT of a part has no RETURNING and doesn't read the time (`IsPlain`)
 pub part_plain : (part : Part) (schema : Schema) → HasTablesOf (listing_of part).since schema → IsPlain (understood schema (listing_of part).select)
 part_plain part schema has = subst (λ s. IsPlain (understood s (listing_of part).select)) (sym has.is) ((meant part).plain has.tables has.indexes)

@@ -1,4 +1,4 @@
--- Laws from the rows that a SELECT answers to the values that are read of them.
+-- Laws on the values read of the rows that a SELECT shows: they are of all rows, and of their columns' forms.
 use Rattle.std.proofs.Common.{◌≡◌, ◌<◌, ℕ, ℤ, IsUtf8, true, false, not, IsTrue, if◌then◌else◌, List, [], ◌∷◌, ◌++◌, ◌+◌, map, length, get_or, take, ap, ◌∙◌, refl, sym, subst, inl, inr}
 use Rattle.std.specs.List.Sorted.{IsPermutation}
 use Rattle.std.proofs.lemmas.List.Sorted.{IsPermutation-map}

@@ -51,11 +51,11 @@ module _ (schema : Schema) (tree : ℕ) (name : List ℕ) (columns : List Column
   abbrev t : Table
   t = table tree name columns key primary uniques checks
 
-  -- for values (second argument), the row that INSERT OR REPLACE stores if the trees are the given ones (first one)
+  -- the row that INSERT OR REPLACE stores for the values that are the second argument, where the trees are the first
   abbrev pub made : Trees → Row → Row
   made db src = with_rowid Chosen (db tree) (cast_row t (mended Replace t src))
 
-  -- what a statement on the table `u` is run with: the limit, the schema, the table and the parameters
+  -- what a statement on the table `u` is run with: the step limit, the schema, the table and the parameters
   abbrev task : Option ℕ → Row → Table → Task
   task limit params u = record { limit = limit; keys = Enforced; schema = schema; table = u; params = params }
 
@@ -86,7 +86,7 @@ module _ (schema : Schema) (tree : ℕ) (name : List ℕ) (columns : List Column
 
   -- ---- INSERT .. ON CONFLICT DO UPDATE
 
-  -- for values (second argument), the row that an upsert would insert if the trees are the given ones (first one)
+  -- the row that an upsert would insert for the values that are the second argument, where the trees are the first
   abbrev pub made_up : Trees → Row → Row
   made_up db src = with_rowid Chosen (db tree) (cast_row t src)
 

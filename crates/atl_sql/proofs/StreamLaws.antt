@@ -95,7 +95,7 @@ map_at_end f (y ∷ xs) x = ap (λ ys. f y ∷ ys) (map_at_end f xs x)
 pub record IsGiving {S : Type 0} (g : Ghosts S) (sql : List ℕ) (old : Held S) (given : List Row) (now : Held S) : Type 0 where
   -- the connection on which the query runs is in no transaction
   pub idle : now.in_transaction ≡ false
-  -- the query has so far done what `Survives` says, with nothing committed: a crash leaves only what it could before
+  -- so far the query has committed nothing: a crash leaves only what it could have left before the query (`Survives`)
   pub survives : Survives (state g old) (state g now) (λ _. ⊥)
   -- if the disk is clean, the query has given the rows `given`, and the connection is unchanged
   pub given_so : HasCleanDisk (state g now) → HasGiven g sql [] now given × IsUnchanged (state g old) (state g now)
@@ -216,7 +216,7 @@ module _ {S A Z : Type 0} (g : Ghosts S) (sql : List ℕ) (old : Held S) (forms 
     idle = streams.idle;
   }
 
-  -- if reading the rows one by one gives None, the result of a read after it is one of a read before it (`ReadsRows`)
+  -- after reading the rows one by one gave None, a second read gives what a read at the start would (`ReadsRows`)
   pub read_again : (mid new : Held S) (r : Result (Vec A Z) ReadFault) → Streams g sql old {Z = Z} forms shown (Ok None) mid → ReadsRows g sql mid forms shown r new → ReadsRows g sql old forms shown r new
   read_again mid new r streams reads = record {
     rows = λ clean. if_ok r (λ all told. (told.0, selects clean told.0 told.1, told.2, told.3)) (reads.rows clean);

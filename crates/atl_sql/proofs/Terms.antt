@@ -39,14 +39,14 @@ bare false rest none = none
 pub head_is : (a b : Value) (xs ys : Row) → ◌≡◌ {A = Row} (a ∷ xs) (b ∷ ys) → a ≡ b
 head_is a b xs ys e = cc
 
--- the upsert's test of a key that is the row's number finds the rows with this number
+-- an upsert's test of the key, which is the row's number `a`, is true exactly if `a` is `n`
 pub by_number : (a : Value) (n : ℕ) (rest : Bool) → rest ≡ false → is_int a ≡ true → (((equal Binary a (int n) && true) || rest) ≡ true → ◌≡◌ {A = Row} (a ∷ []) (int n ∷ [])) × (◌≡◌ {A = Row} (a ∷ []) (int n ∷ []) → ((equal Binary a (int n) && true) || rest) ≡ true)
 by_number a n rest none integer = (
   λ hit. ap (λ v. v ∷ []) (equal_is a (int n) integer refl (sym (bare _ rest none) ∙ hit)),
   λ same. bare _ rest none ∙ ap (λ v. equal Binary v (int n)) (head_is _ _ _ _ same) ∙ is_equal (int n) refl,
 )
 
--- a DELETE's test of a key that is the row's number finds the rows with this number
+-- a DELETE's test of the key, which is the row's number `a`, is true exactly if `a` is `n`
 pub at_number : (a : Value) (n : ℕ) → is_int a ≡ true → ((equal Binary a (int n) && true) ≡ true → ◌≡◌ {A = Row} (a ∷ []) (int n ∷ [])) × (◌≡◌ {A = Row} (a ∷ []) (int n ∷ []) → (equal Binary a (int n) && true) ≡ true)
 at_number a n integer = (
   λ hit. ap (λ v. v ∷ []) (equal_is a (int n) integer refl (sym (whole _) ∙ hit)),

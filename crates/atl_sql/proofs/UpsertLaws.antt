@@ -109,7 +109,7 @@ differ_not (Blob x) b p q h = absurd (true≢false (sym p))
 
 -- ---- the query of the update: the one row that has the rowid
 
--- the query of an upsert's UPDATE: the row of the tree with the rowid in column `place` of the parameters, what to set
+-- the query of an upsert's UPDATE: the row whose rowid is column `place` of the parameters, with the values to set
 abbrev pub update_query : ℕ → ℕ → List Term → Query
 update_query tree place project = record (delete_query tree (op2 (Compare Eq Binary) (col 1 0) (col 0 place) ∷ [])) { project = col 1 0 ∷ project }
 
@@ -168,7 +168,7 @@ clause_on target q = record { target = Some target; update = Some q }
 
 module _ (schema : Schema) (t : Table) (unlinked : (olds news : List Row) → works schema Enforced 0 t.tree olds news ≡ []) (limit : Option ℕ) (params : Row)
     (target : List ℕ) (place : ℕ) (project : List Term) (plain : (db : Trees) → overlay db [] t.tree ≡ db t.tree) where
-  -- what the upsert is run with: the limit, the schema, the table and the parameters
+  -- what the upsert is run with: the step limit, the schema, the table and the parameters
   abbrev upsert_task : Task
   upsert_task = record { limit = limit; keys = Enforced; schema = schema; table = t; params = params }
 

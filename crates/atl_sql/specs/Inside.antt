@@ -70,7 +70,7 @@ InTurn Does (part ∷ parts) old new = (mid : Database) × Does part old mid × 
 abbrev pub Puts : Table → ℕ → Row → Database → Database → Type 0
 Puts table key row old new = Alters table (put key row (Has (rows_in table old.trees))) old new
 
--- the row whose first `key` columns are `k` is deleted; all other rows and tables are as they were
+-- the rows whose first `key` columns are `k` are deleted; all other rows and tables are as they were
 abbrev pub Drops : Table → ℕ → Row → Database → Database → Type 0
 Drops table key k old new = Alters table (drop_key key k (Has (rows_in table old.trees))) old new
 

@@ -11,9 +11,9 @@ use Rattle.atl_sql.specs.Inside.{Puts}
 pub record PutsCampaignRow (head : CampaignRowValue) (world : List ℕ) (old new : Database) : Type 0 where
   -- without a campaign row, the row of the values `head` and the world text `world` is inserted
   pub first : rows_in campaign_table old.trees ≡ [] → Puts campaign_table 1 (campaign_row head world) old new
-  -- a campaign row that is there becomes the row of the values `head`, with its own world text
+  -- a campaign row of the second format that is there becomes the row of the values `head`, with its own world text
   pub again : (before : CampaignRowValue) (text : List ℕ) → Is (rows_in campaign_table old.trees) (λ r. r ≡ campaign_row before text) → Puts campaign_table 1 (campaign_row head text) old new
 
--- a campaign row of the values `head`, in the first format, with any world text, becomes that of the second with `text`
+-- a campaign row of the values `head` in the first format becomes the one in the second, with the world text `text`
 abbrev pub UpgradesCampaignRow : CampaignRowValue → List ℕ → Database → Database → Type 0
 UpgradesCampaignRow head text old new = (before : List ℕ) → Is (rows_in campaign_table old.trees) (λ r. r ≡ campaign_row_in First head before) → Puts campaign_table 1 (campaign_row head text) old new

@@ -99,7 +99,7 @@ module _ {S : Type 0} (g : Ghosts S) (sql : List ℕ) (old : Held S) where
     -- The connection is in no transaction afterwards.
     pub idle : new.in_transaction ≡ false
 
--- the list `new` is `old` and then one element more, read from this row, whose values are of these forms
+-- the list `new` is `old` and then one element read from this row, and the values of the row are of these forms
 abbrev pub AddsRow : {A : Type 0} → List Form → (A → Row) → List A → Row → List A → Type 0
 AddsRow forms shown old row new = (one : _) × (new ≡ old ++ one ∷ []) × (shown one ≡ first_columns (length forms) row) × IsTyped forms row
 

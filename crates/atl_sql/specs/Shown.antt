@@ -30,7 +30,7 @@ flag b = Int (if b then pos 1 else pos 0)
 
 -- the month, the next numbers and the pass text: the campaign row without its id, its format and its world text
 pub record CampaignRowValue : Type 0 where
-  -- the number of the month
+  -- the number of the month last closed, 0 before the first
   pub month : ℕ
   -- the number that the next faction gets
   pub next_faction : ℕ
@@ -38,7 +38,7 @@ pub record CampaignRowValue : Type 0 where
   pub next_unit : ℕ
   -- the number that the next structure gets
   pub next_structure : ℕ
-  -- the bytes of the pass text
+  -- the bytes of the moderator's pass text
   pub pass : List ℕ
 
 -- the campaign row in this format: id 1, the format's number, month, next numbers, pass text, world text

@@ -54,7 +54,7 @@ abbrev pub selection_with_ids : Table → ℕ → List ℕ
 selection_with_ids t key = selection_of (column_names t ++ codes "rowid" ∷ []) t key
 
 -- the text of the INSERT of the campaign row, in the second format;
--- if the row is there, it sets all but `format` and `world`
+-- if the row is there, it sets all columns but `id`, `format` and `world`
 abbrev pub campaign_upsert : List ℕ
 campaign_upsert = codes "INSERT INTO campaign (id, format, month, next_faction, next_unit, next_structure, pass, world) VALUES (1, 2, ?1, ?2, ?3, ?4, ?5, ?6) ON CONFLICT (id) DO UPDATE SET month = ?1, next_faction = ?2, next_unit = ?3, next_structure = ?4, pass = ?5"
 

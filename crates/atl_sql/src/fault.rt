@@ -43,7 +43,7 @@ pub fn by_cause<F: Drop>(error: Error, memory: F, other: F) -> F
 }
 
 /// An error of a SELECT becomes Memory for lack of memory; Store if the disk, the connection, a
-/// size or the step limit stopped it; and else Refused.
+/// size limit or the step limit stopped the SELECT; and else Refused.
 impl From<Error> for ReadFault {
     ghost from_gives = { λ error fault. fault ≡ read_fault error };
 

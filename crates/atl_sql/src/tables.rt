@@ -24,7 +24,8 @@ pub(crate) struct TableDefinition {
     pub(crate) columns: &'static [(&'static [u8], Kind)],
 }
 
-/// A list of columns in their order: a kind, and the names of all that follow each other with it.
+/// Lists the columns of a table in their order: each kind, and then the names of the columns of
+/// that kind that follow one another.
 macro_rules! columns {
     ($($kind:ident: $($name:literal)*);*) => {
         &[$($(($name, Kind::$kind),)*)*]
@@ -216,7 +217,8 @@ pub(crate) fn are_first_tables(tables: &[Table], count: usize) -> bool
 
 // ---- the tables are made
 
-/// Makes the ten tables by these texts, each without a row, in a database that has no table.
+/// Makes the ten tables by the texts of these definitions, each table without a row, in a database
+/// that has no table.
 fn create_each<S: Alter>(
     tx: &mut Transaction<'_, S>,
     tables: &[TableDefinition],

@@ -48,7 +48,7 @@ module _ (books : BooksValue) where
 
 -- ---- books whose rows are the same are the same
 
--- if an amount is listed in books, it is what they have under its entry and thing
+-- an amount that books list for an entry and a thing is the books' amount of this entry and thing (`amount_in`)
 pub amount_is : (books : BooksValue) (e : Entry) (t : Thing) (z : ℤ) → get books.amounts (e, t) ≡ Some z → amount_in books e t ≡ z
 amount_is books e t z is = ap (λ o. unwrap_or o (pos 0)) is
 
@@ -104,7 +104,7 @@ entries_apart [] h = tt
 entries_apart (x ∷ es) h = let parts = and_parts (below_all account_cmp x.0 es) (is_sorted account_cmp es) h in (others_apart x es parts.0, entries_apart es parts.1)
 
 module _ (things : ℕ) (few : things ≤ 4294967294) (books : BooksValue) (are : AreBooks things books) where
-  -- each row of the books is read as an account (an entry and a thing) of theirs, with an amount not 0 (IsBooked)
+  -- each row of books over `things` things is read as an account (an entry and a thing), its amount not 0 (IsBooked)
   pub lines_booked : AllByRecursion (IsBooked things) (books_rows books)
   lines_booked =
       lines_each books (IsBooked things) (λ e t z is.

@@ -29,21 +29,23 @@ module _ {X R : Type 0} (P : R → Type 0) (f : X → List R) where
 -- ---- the rows of all groups
 
 module _ {U R : Type 0} (f : ℕ × U → List R) (P : R → Type 0) where
-  -- if P holds of all rows that f makes of number n and value u of each entry (`EachOf`), it does of those of each pair
+  -- If P holds for all rows f (n, u) of each entry's number n and value u (`EachOf`), it holds for all rows f e of each
+  -- entry e.
   of_each : (es : List (ℕ × U)) → EachOf (λ n u. AllByRecursion P (f (n, u))) es → AllByRecursion (λ e. AllByRecursion P (f e)) es
   of_each [] h = tt
   of_each (e ∷ es) h = (h.0, of_each es h.1)
 
-  -- if P holds of all rows that f makes of each pair e, it does of those of number n and value u of each (`EachOf`)
+  -- If P holds for all rows f e of each entry e, it holds for all rows f (n, u) of each entry's number n and value u
+  -- (`EachOf`).
   each_of : (es : List (ℕ × U)) → AllByRecursion (λ e. AllByRecursion P (f e)) es → EachOf (λ n u. AllByRecursion P (f (n, u))) es
   each_of [] h = tt
   each_of (e ∷ es) h = (h.0, each_of es h.1)
 
-  -- if P holds for each row of each unit or region of a map, it holds for each of all these rows joined
+  -- if P holds for each row of each unit or region of a map, it holds for each row of the joined list of all of them
   pub groups_each : (units : FinMap nat_cmp U) → Every (λ n u. AllByRecursion P (f (n, u))) units → AllByRecursion P (flat_map f (entries units))
   groups_each units h = flat_each P f (entries units) (of_each (entries units) (each-from_every (λ n u. AllByRecursion P (f (n, u))) units h))
 
-  -- if P holds for each of the joined rows of all units or regions of a map, it holds for each row of each of them
+  -- if P holds for each row of the joined list of all units or regions of a map, it holds for each row of each of them
   pub each_group : (units : FinMap nat_cmp U) → AllByRecursion P (flat_map f (entries units)) → Every (λ n u. AllByRecursion P (f (n, u))) units
   each_group units h = every-from_each (λ n u. AllByRecursion P (f (n, u))) units (each_of (entries units) (each_flat P f (entries units) h))
 
@@ -73,8 +75,8 @@ module _ {R : Type 0} (thing amount : R → ℕ) (mine : R → Bool) (m : FinMap
   abbrev IsIn : FinMap nat_cmp ℕ → R → Type 0
   IsIn k r = get k (thing r) ≡ Some (amount r)
 
-  -- the map `m` is read back from the rows that pass the test `mine`, if these have distinct things and amounts that m
-  -- has too, and each amount of m has such a row
+  -- The map `m` is read back from the rows that pass the test `mine`. This supposes that their things are distinct,
+  -- that `m` has their amounts, and that each amount of `m` has such a row.
   pub amounts_back : Apart thing (filter mine rows) → AllByRecursion (λ r. mine r ≡ true → IsIn m r) listed
       → ((P : R → Type 0) → AllByRecursion (λ r. mine r ≡ true → P r) listed → Every (λ i a. (r : R) × (thing r ≡ i) × (amount r ≡ a) × P r) m) → by_number thing amount (filter mine rows) ≡ m
   amounts_back apart of there =

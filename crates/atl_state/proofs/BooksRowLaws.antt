@@ -28,7 +28,7 @@ use Rattle.atl_campaign.proofs.HasLaws.{IsWhole, same, ties_itself}
 
 -- ---- one more amount
 
--- putting an amount under an account that has none yet adds the pair of both to the list, whose order may differ
+-- putting an amount under an account that has none yet adds this account and amount to the list; the order may differ
 put_new : (a : Account) (z : ℤ) (es : List (Account × ℤ)) → find account_cmp a es ≡ None → IsPermutation (put account_cmp a z es) ((a, z) ∷ es)
 put_new a z [] h = IsPermutation-refl ((a, z) ∷ [])
 put_new a z (e ∷ es) h =
@@ -71,7 +71,8 @@ pub record IsBooked (things : ℕ) (r : StoredBooks) : Type 0 where
 one_up : (n i : ℕ) → 1 ≤ n → i ≡ n - 1 → i + 1 ≡ n
 one_up n i h e = omega arith
 
--- a row is read as an account (IsBooked) if its entry and thing are in range and read as they are, its amount not 0
+-- A row is read as an account (IsBooked) if its entry is from 1 to entry_count, its thing is below `things`, both fit
+-- 32 bits, and its amount is not 0.
 pub booked_row : (things : ℕ) (r : StoredBooks) → IsWhole r.entry → IsWhole r.thing → 1 ≤ as_u32 r.entry → as_u32 r.entry ≤ entry_count → as_u32 r.thing < things → r.amount ≢ pos 0 → IsBooked things r
 booked_row things r entry thing least most there some =
     let (e, at) = entry_at (as_u32 r.entry - 1) (omega arith) in

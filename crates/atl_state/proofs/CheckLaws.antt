@@ -78,7 +78,7 @@ module _ (f : Format) (w : WorldValue) (p : Parts) where
   pub below_first : KeepsRulesBelow f w p 1
   below_first r h = absurd (omega (arith, from_one r))
 
-  -- if r and all rules with lower numbers are kept, all rules below the number after that of r are
+  -- if rule r and all rules with lower numbers are kept, all rules with numbers below the number of r plus 1 are kept
   pub below_next : (r : Rule) → KeepsRulesBelow f w p (rule_number r) → KeepsRule f w p r → KeepsRulesBelow f w p (rule_number r + 1)
   below_next r before holds s h =
       elim (cases_eq (rule_number s) (rule_number r)) [
@@ -160,11 +160,13 @@ module _ (f : Format) (w : WorldValue) (p : Parts) where
 
   -- ---- facts that checking the later rules requires
 
-  -- if rows keep rules 1 to 10, the campaign read from them has few enough units and regions to count totals
+  -- If rows keep rules 1 to 10, the campaign read from them has at most 1,000,000 units and regions together
+  -- (IsCountable).
   pub few-said : KeepsRulesBelow f w p 11 → IsCountable (campaign_of w p)
   few-said k = let range = AreInRange-said w p (k Ranges (omega arith)) in omega (arith, range.few_units, range.few_regions)
 
-  -- if rows keep rules 1 to 10, the books read from them are books of the world's things
+  -- If rows keep rules 1 to 10, the books read from them have as many things as the world, and each listed amount is of
+  -- one of these and not 0.
   pub books-said : KeepsRulesBelow f w p 11 → AreBooks (things_of w) (campaign_of w p).books
   books-said k = (AreInRange-said w p (k Ranges (omega arith))).books
 
@@ -184,7 +186,7 @@ module _ (f : Format) (w : WorldValue) (p : Parts) where
   pub one-said : KeepsRulesBelow f w p 4 → length p.campaign ≡ 1
   one-said k = only_one f p.campaign (k OneRow (omega arith)).0
 
-  -- if rows keep rules 1 to 3, those of `faction`, `region`, `unit` and `has` are in their ranges
+  -- if rows keep rules 1 to 3, each row of `faction`, `region`, `unit` and `has` is in its ranges
   pub people-said : KeepsRulesBelow f w p 4 → people_in_range p ≡ true
   people-said k =
       let head = campaign_row_in_range (campaign_row_of p) in

@@ -181,8 +181,8 @@ structure_small_enough w world s k r d o =
     let size = small_size w world s.kind in
     record { kind = omega (arith, k, kinds); region = omega (arith, r); done = omega (arith, d, size); owner = omega (arith, o) }
 
--- a unit's items and skills have numbers of 32 bits, and amounts from 1 to most_u32, if all are the world's, and its
--- men, its amounts of items and its days of skills are within their limits
+-- A unit's items and skills have numbers of 32 bits, and amounts from 1 to most_u32. This supposes that they are of the
+-- world, and that its men, amounts of items and days of skills are within their limits.
 few_goods : (w : WorldValue) → IsWorld w → (u : Unit) → Every (λ i a. i < length w.items) u.holding.items → Every (λ i a. i < length w.skills) u.holding.days → AreAmounts u.holding.items → u.holding.men ≤ men_limit
     → Every (λ i a. (1 ≤ a) × (a ≤ most_days * u.holding.men)) u.holding.days → (s : ℕ) → s < 2 → Every (λ i a. (i ≤ most_u32) × (1 ≤ a) × (a ≤ most_u32)) (goods_of s u)
 few_goods w world u items skills amounts men days zero l i a is =

@@ -293,7 +293,7 @@ module _ (f : Format) (w : WorldValue) (world : IsWorld w) (c : CampaignValue) (
       let least : nat_le 1 (e + 1) ≡ true = le_true 1 (e + 1) (omega arith) in
       ap (is_entry_in f) (read_whole (e + 1) (omega arith)) ∙ and_true _ _ least (le_true (e + 1) (entries_in f) (omega (arith, few)))
 
-  -- the number of a thing of the world, as it is read from a row, is below the number of the world's things
+  -- the number of a thing of the world, as it is read from a row, is below how many things the world has
   thing_true : (t : ℕ) → t < things_of w → nat_lt (as_u32 (pos t)) (things_of w) ≡ true
   thing_true t inside =
       let few = row.few_things w world c good f fits p rows in

@@ -90,7 +90,7 @@ module _ (faction : ℕ → Option ℕ) where
   not_first m ms none n x (inl same) is = none_some x (sym none ∙ ap faction (sym same) ∙ is)
   not_first m ms none n x (inr mine) is = mine
 
-  -- if a list passes one_holder, those of its numbers that have a faction have the same (Alike)
+  -- if a list passes one_holder, all its numbers that have a faction have the same faction (Alike)
   alike : (ns : List ℕ) → one_holder faction None ns ≡ true → Alike ns
   alike [] h n k x y a b is js = absurd a
   alike (m ∷ ms) h n k x y a b is js =
@@ -108,7 +108,8 @@ module _ (faction : ℕ → Option ℕ) where
   fits_on None m ms same fits n x y mine is first = same n m x y (inr mine) (inl refl) is first
   fits_on (Some z) m ms same fits n x y mine is held = fits n x y (inr mine) is held
 
-  -- a list passes one_holder with a holder, or None, if its numbers' factions are the same (Alike) and that one (Fits)
+  -- A list passes one_holder with a holder, or None, if its numbers' factions are all the same (Alike), and the holder
+  -- if there is one (Fits).
   hold : (holder : Option ℕ) (ns : List ℕ) → Alike ns → Fits holder ns → one_holder faction holder ns ≡ true
   hold holder [] same fits = refl
   hold holder (m ∷ ms) same fits =

@@ -70,7 +70,8 @@ module _ (m : FinMap nat_cmp Faction) where
   clash : (a b : List ℕ) → a ≡ b → same_text a b ≡ false → ⊥
   clash a b e d = false≢true (sym (ap (same_text a) e ∙ d) ∙ text_itself a)
 
-  -- two factions of the map `m` with the same joined name have the same number, if the rows' joined names differ
+  -- Two factions with the same joined name have the same number, if both are read from rows (`Found`) whose joined
+  -- names differ.
   one_name : (rows : List StoredFaction) (n k : ℕ) (f g : Faction) → AreJoinedNamesDistinct rows → AllByRecursion Found rows → HasNumber number rows n → HasNumber number rows k → get m n ≡ Some f → get m k ≡ Some g → f.joined_as ≡ g.joined_as → n ≡ k
   unfolding IsDistinct
   one_name [] n k f g d all a b is at e = absurd a

@@ -55,12 +55,12 @@ use Rattle.atl_campaign.proofs.OrderLaws.{Apart, HasNumber, Apart-keys, rows_ord
 min_less : (n m : ℕ) → min n m < m → min n m ≡ n
 min_less n m h = grind arith
 
--- a number of a row that is read as one below most_u32 fits 32 bits, so it is read as it is (IsWhole)
+-- if reading a row's number gives less than most_u32, the number fits 32 bits and is read as it is (IsWhole)
 pub whole_below : (z : ℤ) → as_u32 z < most_u32 → IsWhole z
 whole_below (pos n) h = ap pos (sym (min_less n most_u32 h))
 whole_below (negsuc n) h = absurd (omega arith)
 
--- a number of a row that is read as one of 16 bits, below most_u16, is that number
+-- if reading a row's number as one of 16 bits gives less than most_u16, the number is read as it is
 whole16 : (z : ℤ) → as_u16 z < most_u16 → z ≡ pos (as_u16 z)
 whole16 (pos n) h = ap pos (sym (min_less n most_u16 h))
 whole16 (negsuc n) h = absurd (omega arith)
@@ -96,9 +96,9 @@ pub record RowsKeep (f : Format) (w : WorldValue) (p : Parts) : Type 0 where
   pub one : is_one_campaign_row f p.campaign ≡ true
   -- rule 1: there are only rows of `market` that the format may have: in the first none, in the second any
   pub format : are_of_format f p.markets ≡ true
-  -- rule 2: keys differ, and numbers are in their ranges
+  -- rule 2: keys differ, numbers are in their ranges, and there are not too many rows
   pub range : AreRowsInRange w p
-  -- rule 4: all that the campaign read from the rows names exists
+  -- rule 4: the regions read from the rows are the world's, and all that the campaign read from the rows names exists
   pub known : AreKnown w (campaign_of w p)
   -- rule 4: each row of `has` is of a unit that exists
   pub held : list_all (is_of_unit (campaign_of w p)) p.has ≡ true
@@ -124,7 +124,7 @@ small_format Second = omega arith
 abbrev head_as_read : Format → StoredCampaignRow → StoredCampaignRow
 head_as_read f h = record { id = pos 1; format = pos (format_number f); month = pos (as_u32 h.month); next_faction = pos (as_u32 h.next_faction); next_unit = pos (as_u32 h.next_unit); next_structure = pos (as_u32 h.next_structure); pass = h.pass }
 
--- if rule 1 holds and the campaign row is in range, the table has just the row that is written for what is read of it
+-- if rule 1 holds and the campaign row is in range, writing what is read of this row gives the table's one row again
 one_head : (f : Format) (rows : List StoredCampaignRow) → is_one_campaign_row f rows ≡ true → campaign_row_in_range (slice_index_or rows 0 no_campaign_row) ≡ true → head_as_read f (slice_index_or rows 0 no_campaign_row) ∷ [] ≡ rows
 one_head f [] e r = absurd (false≢true e)
 one_head f (h ∷ []) e r =
@@ -141,7 +141,7 @@ one_head f (h ∷ other ∷ rows) e r = absurd (false≢true e)
 
 -- ---- lists of facts
 
--- if for every n P n holds of each row, each row has P n for every n
+-- if, for every n, P n holds of each row, then of each row P n holds for every n
 all_forall : {R : Type 0} (P : ℕ → R → Type 0) (rows : List R) → ((n : ℕ) → AllByRecursion (P n) rows) → AllByRecursion (λ r. (n : ℕ) → P n r) rows
 all_forall P [] h = tt
 all_forall P (r ∷ rows) h = (λ n. (h n).0, all_forall P rows (λ n. (h n).1))
@@ -295,7 +295,7 @@ module _ (f : Format) (w : WorldValue) (p : Parts) (k : RowsKeep f w p) where
   few_structures = by_number-every (λ r. as_u32 r.number) structure_of (λ n s. n ≤ most_structures) (structure_in_range w) (λ r h. (structure_number r h).1) p.structures ranges.structures
 
   -- ---- units
-  -- the unit read from a row in range, if all that it names exists, is written as that row
+  -- the unit read from a row in range, if it is placed as rule 4 says (IsPlaced), is written as that row
   same_unit : (r : StoredUnit) → unit_in_range r ≡ true → IsPlaced w (campaign_of w p) (unit_of p.has r) → unit_row (as_u32 r.number) (unit_of p.has r) ≡ r
   unfolding campaign_of
   same_unit r h placed =
@@ -311,7 +311,7 @@ module _ (f : Format) (w : WorldValue) (p : Parts) (k : RowsKeep f w p) where
       let guard = flag_whole r.guard parts.guard in
       λ i. record { number = sym (unit_number r h).0 i; faction = sym faction i; name = r.name; region = sym region i; structure = sym structure i; men = sym men i; money = sym money i; guard = guard i }
 
-  -- all that each row of `unit` names exists
+  -- all that each row of `unit` names exists, and the unit's structure, unless 0, is in the unit's region (IsPlaced)
   units_placed : AllByRecursion (λ r. IsPlaced w (campaign_of w p) (unit_of p.has r)) p.units
   unfolding campaign_of
   units_placed = each_row (λ r. as_u32 r.number) (unit_of p.has) (λ n u. IsPlaced w (campaign_of w p) u) p.units units_apart k.known.units
@@ -448,7 +448,8 @@ module _ (f : Format) (w : WorldValue) (p : Parts) (k : RowsKeep f w p) where
   either_sort h (inl skill) = inl skill
   either_sort h (inr item) = inr item.0
 
-  -- unit, sort and thing of a row of `has` fit 32 bits, if its unit exists, it is in range, and its thing is there
+  -- The unit, sort and thing of a row of `has` fit 32 bits, if the row is in range, its unit exists, and its thing is
+  -- read for its unit (ThingThere).
   keyed : (h : StoredHas) → (IsThere units (as_u32 h.unit)) × (has_in_range h ≡ true) → ((n : ℕ) → (sort : ℕ) → is_of n sort h ≡ true → ThingThere n sort h) → HasWholeKey h
   keyed h (there, range) thing =
       let unit_few = there_below units (as_u32 h.unit) last_unit few_units there in
@@ -477,7 +478,8 @@ module _ (f : Format) (w : WorldValue) (p : Parts) (k : RowsKeep f w p) where
   all_found = all_forall (λ n h. (sort : ℕ) → is_of n sort h ≡ true → IsFound n sort h) p.has (λ n. all_forall (λ sort h. is_of n sort h ≡ true → IsFound n sort h) p.has (λ sort.
       unkept (is_of n sort) (IsFound n sort) p.has (rows_found (λ h. as_u32 h.thing) (λ h. as_u32 h.amount) (filter (is_of n sort) p.has) (things_apart n sort p.has all_keyed k.range.keys.has))))
 
-  -- the amount of a row of `has` fits 32 bits and isn't 0, if its unit exists, it is in range (SortOf), and it IsFound
+  -- The amount of a row of `has` fits 32 bits and isn't 0, if the row's unit exists, the row is in range (SortOf), and
+  -- its amount is found (IsFound).
   exact_of : (h : StoredHas) → IsThere units (as_u32 h.unit) → SortOf h → ((n : ℕ) → (sort : ℕ) → is_of n sort h ≡ true → IsFound n sort h) → IsWhole h.amount × (is_zero h.amount ≡ false)
   unfolding campaign_of
   exact_of h there (inl skill) found =

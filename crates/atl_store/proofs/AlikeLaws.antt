@@ -82,11 +82,11 @@ structures_tell m k n p s t is there same =
     let owner : s.owner ≡ t.owner = cc in
     (cc, λ i. record { kind = kind i; name = name i; region = region i; done = done i; owner = owner i })
 
--- mailings with equal rows have equal numbers of factions and equal texts (`Determines`)
+-- mailings with equal rows are of the same faction and have the same text (`Determines`)
 mails_tell : (m k : FinMap nat_cmp (List ℕ)) → Determines mail_row m k
 mails_tell m k n p s t is there same = (cc, cc)
 
--- reports with equal rows have equal numbers of factions and equal texts (`Determines`)
+-- reports with equal rows are of the same faction and have the same text (`Determines`)
 reports_tell : (m k : FinMap nat_cmp (List ℕ)) → Determines report_row m k
 reports_tell m k n p s t is there same = (cc, cc)
 
@@ -102,7 +102,8 @@ have_some w c good n u is Item thing amount there = let range = (good.sound.stea
 have_some w c good n u is Skill thing amount there = let range = good.sound.steady.days n u is thing amount there in λ none. omega (arith, range.0, none)
 
 module _ (rows : List Row) (m k : FinMap nat_cmp Unit) (a : Is rows (HasRowsOf m)) (b : Is rows (HasRowsOf k)) where
-  -- each item or skill of unit `n` in `m` has the same amount in `k`, if one table `has` has the rows of each map
+  -- each item or skill of unit `n` in `m` has the same amount in `k`, if one table `has` has the rows of each map, and
+  -- no amount in `m` is 0
   things_there : HaveSome m → (n : ℕ) (u v : Unit) → get m n ≡ Some u → get k n ≡ Some v → (sort : ThingKind) → Every (λ thing amount. get (things_of sort v.holding) thing ≡ Some amount) (things_of sort u.holding)
   things_there some n u v is there sort thing amount has =
       let row = has_row n (sort_number sort) thing amount in
@@ -116,7 +117,7 @@ module _ (rows : List Row) (m k : FinMap nat_cmp Unit) (a : Is rows (HasRowsOf m
       left ∙ got ∙ sym (ap Some count)
 
 module _ (rows goods : List Row) (m k : FinMap nat_cmp Unit) (a : Is rows (RowsOf unit_line m)) (b : Is rows (RowsOf unit_line k)) (h : Is goods (HasRowsOf m)) (j : Is goods (HasRowsOf k)) (some : HaveSome m) (more : HaveSome k) where
-  -- each unit of `m` is in `k`, if the tables `unit` and `has` have exactly the rows of each map
+  -- each unit of `m` is in `k`, if the tables `unit` and `has` have exactly the rows of each map, and no amount is 0
   units_there : Every (λ n u. get k n ≡ Some u) m
   units_there n u is =
       let (p, v, there, same) = other_line unit_line rows m k a b n u is in
@@ -151,7 +152,8 @@ are_in_stock : (w : WorldValue) (c : CampaignValue) → IsGood w c → AreInStoc
 are_in_stock w c good n r is item stock there = let range = (good.sound.steady.numbers.regions n r is).stocks item stock there in λ none. omega (arith, range.0, none)
 
 module _ (rows : List Row) (m k : FinMap nat_cmp Region) (a : Is rows (MarketRowsOf m)) (b : Is rows (MarketRowsOf k)) where
-  -- each stock of region `n` in `m` is the same in `k`, if one table `market` has exactly the rows of each map
+  -- each stock of region `n` in `m` is the same in `k`, if one table `market` has exactly the rows of each map, and no
+  -- stock in `m` is 0
   stocks_there : AreInStock m → (n : ℕ) (r s : Region) → get m n ≡ Some r → get k n ≡ Some s → Every (λ item stock. get s.stocks item ≡ Some stock) r.stocks
   stocks_there some n r s is there item stock has =
       let row = market_row n item stock in
@@ -164,7 +166,8 @@ module _ (rows : List Row) (m k : FinMap nat_cmp Region) (a : Is rows (MarketRow
       left ∙ got ∙ sym (ap Some count)
 
 module _ (rows stocks : List Row) (m k : FinMap nat_cmp Region) (a : Is rows (RowsOf region_line m)) (b : Is rows (RowsOf region_line k)) (h : Is stocks (MarketRowsOf m)) (j : Is stocks (MarketRowsOf k)) (some : AreInStock m) (more : AreInStock k) where
-  -- each region of `m` is in `k`, if the tables `region` and `market` have exactly the rows of each map
+  -- each region of `m` is in `k`, if the tables `region` and `market` have exactly the rows of each map, and no stock
+  -- is 0
   regions_there : Every (λ n r. get k n ≡ Some r) m
   regions_there n r is =
       let (p, s, there, same) = other_line region_line rows m k a b n r is in

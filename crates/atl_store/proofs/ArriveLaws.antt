@@ -95,7 +95,7 @@ no_goods rows units n u fresh bare was r = (
 -- ---- one amount of the books
 
 module _ (c : CampaignValue) (e : Entry) (t : Thing) where
-  -- the row of `books` with the campaign's amount of this entry and thing
+  -- the row of `books` with the campaign's amount of entry `e` and thing `t`
   abbrev row : Row
   row = books_row (entry_index e + 1) (thing_index t) (amount_in c.books e t)
 
@@ -132,7 +132,8 @@ module _ (c : CampaignValue) (e : Entry) (t : Thing) where
         | inr entries ↦ inl entries
       ]
 
-      -- for `settled_rows`: a row in `B` of another entry or thing than the written one was in `S`, and has another key
+      -- for `settled_rows`: a row of `B` of another entry or thing than `e` and `t` was among the rows `S` of `A`, and
+      -- has another key
       kept_row : (f : Entry) (u : Thing) → amount_in B f u ≢ pos 0 → r ≡ books_row (entry_index f + 1) (thing_index u) (amount_in B f u) → (entry_index f ≢ entry_index e) ⊎ (thing_index u ≢ thing_index t)
           → S r × (take 2 r ≢ books_key (entry_index e + 1) (thing_index t))
       kept_row f u some is far = (

@@ -132,7 +132,8 @@ module _ (marks : FinSet nat_cmp) where
       inside : (e t n : ℕ) → entry_count * t + e < entry_count * n → t < n
       inside e t n h = omega (arith, h)
 
-      -- for `all_amounts`: the test for an entry's index, one of the things and a mark is the test for a marked amount
+      -- for `all_amounts`: the test for an index of an entry, for a thing of the range and for a mark is
+      -- `is_marked_amount`
       same : (e t : ℕ)
           → (is_among (map entry_index all_entries) e && (is_among (range_with_len 0 things) t && marked e t)) ≡ is_marked_amount marks e t
       same e t = elim (cases_Bool (marked e t)) [
@@ -145,11 +146,11 @@ module _ (marks : FinSet nat_cmp) where
 -- ---- one amount
 
 module _ (c : MarkedCampaign) (e : Entry) (t : Thing) where
-  -- whether a row of `books` is of this entry and thing, and their amount is marked
+  -- whether a row of `books` is of entry `e` and thing `t`, and their amount is marked
   abbrev is_here : Row → Bool
   is_here r = of_amounts c.marks.books (is_number (entry_index e)) (is_number (thing_index t)) r
 
-  -- the row of `books` with the campaign's amount of this entry and thing
+  -- the row of `books` with the campaign's amount of entry `e` and thing `t`
   abbrev row : Row
   row = books_row (entry_index e + 1) (thing_index t) (amount_in c.value.books e t)
 
@@ -162,14 +163,14 @@ module _ (c : MarkedCampaign) (e : Entry) (t : Thing) where
       let row_is : r ≡ row = is ∙ ap (λ k. books_row (k + 1) (thing_index u) (amount_in books f u)) entries ∙ ap (λ k. books_row (entry_index e + 1) k (amount_in books f u)) things ∙ ap (books_row (entry_index e + 1) (thing_index t)) same in
       subst (Has (amount_lines c.value e t)) (sym row_is) (has_optional (int_eq (amount_in books e t) (pos 0)) row (is_differing (amount_in books e t) (λ none. some (same ∙ none))))
 
-  -- if the amount of this entry and thing isn't marked, no row of `books` is to be written for it (`is_here`)
+  -- if the amount of entry `e` and thing `t` isn't marked, no row of `books` is to be written for it (`is_here`)
   pub unmarked_none : contains c.marks.books (amount_number e t) ≡ false → (r : Row) → is_here r ≡ false
   unmarked_none unmarked r = accounts_none _ (λ k j. false_from_ne_true _ (λ is.
       let one = and_parts _ _ is in
       let two = and_parts _ _ one.1 in
       true≢false (sym two.1 ∙ ap (λ x. contains c.marks.books (entry_count * x + k)) (tied j (thing_index t) two.0) ∙ ap (λ x. contains c.marks.books (entry_count * thing_index t + x)) (tied k (entry_index e) one.0) ∙ unmarked))) r
 
-  -- a row of this entry and thing, whose amount is marked (`is_here`), has their key
+  -- a row of entry `e` and thing `t`, whose amount is marked (`is_here`), has the key of `e` and `t`
   key_of : (r : Row) → is_here r ≡ true → take 2 r ≡ books_key (entry_index e + 1) (thing_index t)
   key_of (Int (pos (suc place)) ∷ Int (pos thing) ∷ row) is =
       let one = and_parts _ _ is in
@@ -182,7 +183,7 @@ module _ (c : MarkedCampaign) (e : Entry) (t : Thing) where
   key_of row is = absurd (true≢false (sym is))
 
   module _ (marked : contains c.marks.books (amount_number e t) ≡ true) where
-    -- if the amount of this entry and thing is marked, a row with their key is one to be written (`is_here`)
+    -- if the amount of entry `e` and thing `t` is marked, a row with their key is one to be written (`is_here`)
     of_key : (r : Row) → take 2 r ≡ books_key (entry_index e + 1) (thing_index t) → is_here r ≡ true
     of_key [] key = absurd cc
     of_key (v ∷ []) key = absurd cc
@@ -215,7 +216,8 @@ module _ (c : MarkedCampaign) where
   abbrev wanted : Row → Type 0
   wanted r = BooksRowsOf c.value.books r
 
-  -- The entries `rest` of `all` are left: once their marked amounts are rewritten too, those of all of `all` are.
+  -- Of the entries `all`, `rest` are left to rewrite: once their marked amounts are rewritten, those of all are
+  -- (`Remaining`).
   abbrev pub NearingEntries : (ℕ → Bool) → List Entry → List Entry → Database → Database → Type 0
   NearingEntries things rest all old new = Remaining books_table wanted (λ r. of_amounts c.marks.books (is_among (map entry_index rest)) things r) (λ r. of_amounts c.marks.books (is_among (map entry_index all)) things r) old new
 
@@ -233,7 +235,8 @@ module _ (c : MarkedCampaign) where
   entries_rewritten things rest all none = all_rewritten books_table wanted (λ r. of_amounts c.marks.books (is_among (map entry_index rest)) things r) (λ r. of_amounts c.marks.books (is_among (map entry_index all)) things r) (λ r. of_amounts c.marks.books (is_among (map entry_index all)) things r)
       (no_entry c.marks.books (map entry_index rest) things (ap (map entry_index) none)) (λ r. refl)
 
-  -- The things `rest` of `all` are left: once their marked amounts are rewritten too, those of all of `all` are.
+  -- Of the things `all`, `rest` are left to rewrite: once their marked amounts are rewritten, those of all are
+  -- (`Remaining`).
   abbrev pub NearingThings : List ℕ → List ℕ → Database → Database → Type 0
   NearingThings rest all old new = Remaining books_table wanted (λ r. of_amounts c.marks.books (is_among (map entry_index all_entries)) (is_among rest) r) (λ r. of_amounts c.marks.books (is_among (map entry_index all_entries)) (is_among all) r) old new
 
@@ -245,7 +248,8 @@ module _ (c : MarkedCampaign) where
       (λ r. of_amounts c.marks.books (is_among (map entry_index all_entries)) (is_among rest) r) (λ r. of_amounts c.marks.books (is_among (map entry_index all_entries)) (is_among all) r)
       (λ r. ap (λ ts. of_amounts c.marks.books (is_among (map entry_index all_entries)) (is_among ts) r) is ∙ next_thing c.marks.books (is_among (map entry_index all_entries)) t rest r)
 
-  -- when no thing is left to rewrite, all marked amounts of the books are rewritten (`RewritesBooks`)
+  -- when no thing is left to rewrite, all marked amounts of the books are rewritten, if they are of the first `count`
+  -- things
   pub things_rewritten : (rest : List ℕ) (count : ℕ) → AreOfThings count c.marks.books → rest ≡ [] → (old new : State)
       → Inside HasTables (NearingThings rest (range_with_len 0 count)) old new → Inside HasTables (RewritesBooks c) old new
   things_rewritten rest count few none = all_rewritten books_table wanted (λ r. of_amounts c.marks.books (is_among (map entry_index all_entries)) (is_among rest) r) (λ r. of_amounts c.marks.books (is_among (map entry_index all_entries)) (is_among (range_with_len 0 count)) r) (λ r. amount_marked c.marks.books r)

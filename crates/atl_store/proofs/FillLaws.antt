@@ -61,7 +61,7 @@ module _ (c : CampaignValue) where
 
   -- ---- one after the other
 
-  -- filling some parts, the campaign row among them, and then others fills all of them
+  -- filling some parts, the campaign row among them, and then others fills all of them, if no part is in both lists
   pub own_then_filled : (text : List ℕ) (ps qs : List Part) → are_apart ps qs ≡ true → (old mid new : Database) → FillsWithOwn text c ps old mid → FillsParts c qs mid new → FillsWithOwn text c (ps ++ qs) old new
   own_then_filled text ps qs apart old mid new first second none = both_changed (Fills c (campaign_line text c)) ps qs apart old mid new (first none) (second (campaign_line text c))
 

@@ -98,7 +98,8 @@ module _ {S : Type 0} (g : Ghosts S) where
       let same = stays.same up in
       same.0 ∙ settled (omega (arith, leaves.survives.clean, clean)) (stays.was_open up) ∙ sym same.1
 
-  -- tables that are as before or as last committed (`Rests`) are as before, if all was committed (`IsSettled`)
+  -- on a clean disk, tables that are as before or as last committed (`Rests`) are as before, if all was committed
+  -- (`IsSettled`)
   rests_stays : (old new : State) → IsSettled old → HasCleanDisk old → Rests old new → Stays old new
   rests_stays old new settled clean rests = record {
     was_open = rests.was_open;
@@ -120,7 +121,8 @@ module _ {S : Type 0} (g : Ghosts S) where
     selects_open : (rows : List Row) → Selects g sql old rows → IsTrue (state g old).is_open
     selects_open rows told = told.2.was_open (shown_open sql _ _ rows told.3)
 
-    -- unless it gave a fault, the read of one table found all its rows, or a value of another type (`Found`)
+    -- on a clean disk, a read of one table without a fault found all rows, or a value of another type than its column
+    -- (`Found`)
     found_one : {Z : Type 0} (r : Result (Vec A Z) ReadFault) → ReadsRows g sql old forms shown r new → GivesTable g (listing_of part).since (listing_of part).in_table shown r old new → HasCleanDisk (state g new) → IfOk (rows_or_none r) (Found g old this_select (λ all. AreAllRows (state g old).now ((part, map shown all.items) ∷ [])))
     found_one (Ok all) reads gives clean =
         let told = reads.rows clean in
@@ -139,7 +141,7 @@ module _ {S : Type 0} (g : Ghosts S) where
     found_one (Err read.Store) reads gives clean = tt
     found_one (Err read.Refused) reads gives clean = tt
 
-    -- if the read of one table gave no fault, the connection was open before it
+    -- on a clean disk, if the read of one table gave no fault, the connection was open before it
     open_one : {Z : Type 0} (r : Result (Vec A Z) ReadFault) → ReadsRows g sql old forms shown r new → HasCleanDisk (state g new) → IfOk (rows_or_none r) (λ _. IsTrue (state g old).is_open)
     open_one (Ok all) reads clean = let told = reads.rows clean in selects_open told.0 told.1
     open_one (Err read.OtherType) reads clean = let told = reads.other clean refl in selects_open told.0 told.1
@@ -156,7 +158,7 @@ module _ {S : Type 0} (g : Ghosts S) where
     wants (inl refused) = inl (refuses read.Memory refused)
     wants (inr told) = inr (record { select = (sql, forms); one = inl refl; before = old; leaves = leaves_none old idle; rows = told.0; answered = told.1 })
 
-    -- a fault of reading one table is one that reading by its SELECT alone may return (`FailsToRead`)
+    -- on a clean disk, a fault of reading one table is one that reading by its SELECT alone may return (`FailsToRead`)
     fails_one : {Z : Type 0} (r : Result (Vec A Z) ReadFault) → ReadsRows g sql old forms shown r new → HasCleanDisk (state g new) → IfErr (rows_or_none r) (FailsToRead g old this_select)
     fails_one (Ok all) reads clean = tt
     fails_one (Err read.OtherType) reads clean = tt
@@ -189,7 +191,8 @@ module _ {S : Type 0} (g : Ghosts S) where
     all_told_then : (selects : List (List ℕ × List Form)) → AllSelectsShow g mid selects → AllSelectsShow g old selects
     all_told_then selects all select one = let told = all select one in (told.0, told_then select.0 told.0 told.1)
 
-    -- what SELECTs found in the tables of `mid` they found in those of `old`, which are equal, if `P` implies `Q`
+    -- what SELECTs found with `P` in the tables of `mid`, they found with `Q` in the equal tables of `old`, if `P`
+    -- implies `Q`
     found_then : {A : Type 0} (selects : List (List ℕ × List Form)) (P Q : A → Type 0) (o : Option A) → ((a : A) → P a → Q a) → Found g mid selects P o → Found g old selects Q o
     found_then selects P Q (Some a) weaker found = (λ select one. let told = found.0 select one in (told.0, told_then select.0 told.0 told.1, told.2), weaker a found.1)
     found_then selects P Q None weaker found = record {
@@ -266,7 +269,8 @@ module _ {S : Type 0} (g : Ghosts S) where
   found_both xs ys P Q old None (Some b) p q = other_within old xs (xs ++ ys) (has_left xs ys) (each_of_both (λ s. (rows : List Row) × SelectShows g old s.0 rows) xs ys p.all (told_of old ys q.0)) p
   found_both xs ys P Q old None None p q = other_within old xs (xs ++ ys) (has_left xs ys) (each_of_both (λ s. (rows : List Row) × SelectShows g old s.0 rows) xs ys p.all q.all) p
 
-  -- what the reads after those up to `mid` found was also in the tables of `old` (`Found`), if `P` implies `Q`
+  -- on a clean disk, what reads after `mid` found with `P` was found with `Q` in the tables of `old` (`Found`), if `P`
+  -- implies `Q`
   found_before : {A : Type 0} (old mid new : Held S) → AfterReads g old mid → (selects : List (List ℕ × List Form)) (P Q : A → Type 0) (r : Result (Option A) LoadFault) → ReadsSome g mid selects P r new → (o : Option A) → r ≡ Ok o
       → ((state g mid).now ≡ (state g old).now → (a : A) → P a → Q a) → HasCleanDisk (state g new) → Found g old selects Q o
   found_before old mid new before selects P Q r reads o was weaker clean =
@@ -337,7 +341,8 @@ module _ {S : Type 0} (g : Ghosts S) where
 
   -- ---- by the format
 
-  -- for `reads_first`: what SELECTs found with P (`Found`), they found with Q once paired with b, if P a gives Q (a, b)
+  -- for `reads_first`: what SELECTs found with `P` (`Found`), they found with `Q` once paired with `b`, if `P a`
+  -- implies `Q (a, b)`
   found_with : {A B : Type 0} (old : Held S) (selects : List (List ℕ × List Form)) (P : A → Type 0) (Q : A × B → Type 0) (b : B) → ((a : A) → P a → Q (a, b)) → (o : Option A) → Found g old selects P o → Found g old selects Q (option_zip o (Some b))
   found_with old selects P Q b weaker (Some a) found = (found.0, weaker a found.1)
   found_with old selects P Q b weaker None found = found
@@ -392,12 +397,12 @@ module _ {S : Type 0} (g : Ghosts S) where
     leaves = first.leaves;
   }
 
-  -- a read of the tables of the format `is` is one of the tables of the format `f`, if the formats are equal
+  -- a read of the tables of one format (`is`) is a read of the tables of format `f`, if both formats are equal
   pub reads_by : {A : Type 0} (some others : List (List ℕ × List Form)) (rows : A → ReadRows) (old new : Held S) (r : Result (Option A) LoadFault) (f is : Format) → f ≡ is
       → ReadsSome g old (selects_by is some others) (λ a. AreOfFormat is (state g old).now (rows a)) r new → ReadsSome g old (selects_by f some others) (λ a. AreOfFormat f (state g old).now (rows a)) r new
   reads_by some others rows old new r f is same reads = subst (λ f. ReadsSome g old (selects_by f some others) (λ a. AreOfFormat f (state g old).now (rows a)) r new) (sym same) reads
 
-  -- rows of a format that the reads after those up to `mid` found were also in the tables of `old` (`AreOfFormat`)
+  -- on a clean disk, rows of a format that reads after `mid` found were also in the tables of `old` (`AreOfFormat`)
   pub format_before : {A : Type 0} (f : Format) (rows : A → ReadRows) (old mid new : Held S) → AfterReads g old mid → (selects : List (List ℕ × List Form)) (r : Result (Option A) LoadFault) → ReadsSome g mid selects (λ a. AreOfFormat f (state g mid).now (rows a)) r new → (o : Option A) → r ≡ Ok o
       → HasCleanDisk (state g new) → Found g old selects (λ a. AreOfFormat f (state g old).now (rows a)) o
   format_before f rows old mid new before selects r reads o was clean =

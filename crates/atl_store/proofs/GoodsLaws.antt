@@ -83,7 +83,7 @@ module _ (unit : ℕ) (sort : ThingKind) where
   has_sort : (es : List (ℕ × ℕ)) (thing amount : ℕ) → Has es (thing, amount) → amount ≢ 0 → Has (kind_lines unit sort es) (has_row unit (sort_number sort) thing amount)
   has_sort = have_amount (has_row unit (sort_number sort))
 
-  -- the rows of `has` for a unit's items, or for its skills, differ in their keys
+  -- the rows of `has` for a unit's items, or for its skills, differ in their keys, if these are sorted by number
   sort_apart : (es : List (ℕ × ℕ)) → is_sorted nat_cmp es ≡ true → DifferInKey 3 (kind_lines unit sort es)
   sort_apart = amounts_apart (has_row unit (sort_number sort)) 3 (λ m a n b same. (three_same unit (sort_number sort) m unit (sort_number sort) n same).2)
 
@@ -158,7 +158,7 @@ module _ (units : FinMap nat_cmp Unit) where
   pub amount_some : (n : ℕ) (sort : ThingKind) (thing : ℕ) (u : Unit) → get units n ≡ Some u → amount_under units n sort thing ≡ amount_of (things_of sort u.holding) thing
   amount_some n sort thing u there = ap (λ o. amount_of (things_under sort o) thing) there ∙ ap (λ things. amount_of things thing) (under_unit sort u)
 
-  -- each row of `has` gives the amount of its unit's item or skill
+  -- each row of `has` gives the amount, which is not 0, of an item or skill of its unit
   pub had_of : (r : Row) → HasRowsOf units r → (n : ℕ) × (sort : ThingKind) × (thing : ℕ) × (amount_under units n sort thing ≢ 0) × (r ≡ has_row n (sort_number sort) thing (amount_under units n sort thing))
   had_of r of =
       let amount : amount_under units of.0 of.3 of.4 ≡ of.5 = amount_some of.0 of.3 of.4 of.1 of.2 ∙ ap (λ (o : Option ℕ). unwrap_or o 0) of.6 in

@@ -182,11 +182,11 @@ module _ (n : ℕ) (f : Faction) (m : ℕ) (u : Unit) (report : List ℕ) (after
   unfolding joined
   join_held a d did text before joining holds = record { rows = rows }
     where
-      -- for `join_held`: how the campaign after the join differs from the one before
+      -- for `join_held`: the join adds the faction, unit and report, and books two amounts (`IsArrival`)
       arrival : IsArrival n f m u report before after
       arrival = arrives n f m u report before after found joining
 
-      -- for `join_held`: what the join wrote into the tables
+      -- for `join_held`: the rows of the join are written into the tables, and all other rows stay (`AddsJoin`)
       enters : AddsJoin n after text a d
       enters = did (campaign_row_of before) text (holds.rows Own)
 

@@ -67,7 +67,7 @@ module _ {V : Type 0} (part : Part) (line : ℕ → V → Row) (values : Campaig
     pub kept_filled : (c : CampaignValue) (es : List (ℕ × V)) → es ≡ entries (values c) → (old new : Database) → PutsRows (table_of part) 1 (lines_of line es) old new → FillsPart c part old new
     kept_filled c = numbered_filled c part line numbered (values c) (λ own rows is r. (λ there. (are own c r).1 ((is r).0 there), λ of. (is r).1 ((are own c r).0 of)))
 
-  -- rewriting the rows of the marked numbers rewrites the part (`RewritesPart`)
+  -- rewriting the rows of the marked numbers rewrites the part (`RewritesPart`), if these are the part's marked rows
   pub kept_rewritten : (marks : Marks → FinSet nat_cmp) → ((m : Marks) (r : Row) → is_marked m part r ≡ begins_marked (marks m) r) → (c : MarkedCampaign) (old new : Database)
       → RewritesMarked (table_of part) line (values c.value) (marks c.marks) old new → RewritesPart c part old new
   kept_rewritten marks marked c old new did own = one_changed (Becomes c own) part _ old new did (rewritten_as (begins_marked (marks c.marks)) (is_marked c.marks part) (RowsOf line (values c.value)) (rows_for own c.value part)

@@ -87,7 +87,7 @@ entries_apart {V} (e ∷ es) sorted = (
   entries_apart es (and_parts _ _ sorted).1,
 )
 
--- the rows made of a map's entries have different numbers in the first column
+-- rows made of a map's entries, each with the entry's number first, have different numbers in the first column
 pub lines_keys : {V : Type 0} (line : ℕ → V → Row) → ((n : ℕ) (v : V) → column (line n v) 0 ≡ Int (pos n)) → (m : FinMap nat_cmp V) → HaveKeys 0 (lines_of line (entries m))
 lines_keys {V} line numbered m = numbers_keys (λ (e : ℕ × V). line e.0 e.1) (λ (e : ℕ × V). pos e.0) 0 (λ e. numbered e.0 e.1) (entries m) (entries_apart (entries m) (in_order m))
 
@@ -161,7 +161,8 @@ module _ (part : Part) (db : Trees) (rows : List Row) where
     pub keyed_places : AreKeyedByRowid (db (table_of part).tree) → HaveKeys (width part) rows
     keyed_places keyed = keyed_shown (placed_row part) (width part) (db (table_of part).tree) rows (row_place part) same_placed keyed
 
-  -- if the first column shows the rowids, and as different integers, the rowids in the table's tree are so too
+  -- if the first column shows the rowids, and as different integers, the rowids in the table's tree are different
+  -- integers
   pub numbers_keyed : shows_rowids part ≡ false → IsPermutation (rows_in (table_of part) db) rows → HaveKeys 0 rows → AreKeyedByRowid (db (table_of part).tree)
   numbers_keyed is same keys = keyed_by (visible (table_of part)) 0 (db (table_of part).tree) rows (row_number part is) same keys
 
@@ -178,7 +179,7 @@ module _ (part : Part) (db : Trees) (rows : List Row) where
 pub record IsPlacedAs {A : Type 0} (part : Part) (stored : RowWithId A → Row) (values : A → Row) : Type 0 where
   -- the first columns of a row as it is shown are the values of the row that was read
   pub values_are : (s : RowWithId A) → take (width part) (stored s) ≡ values s.row
-  -- the column after these values is the rowid of the row that was read
+  -- the column after the values is the rowid of the row that was read
   pub place_is : (s : RowWithId A) → column (stored s) (width part) ≡ Int s.rowid
 
 module _ {A : Type 0} {part : Part} {stored : RowWithId A → Row} {values : A → Row} (is : IsPlacedAs part stored values) (placed : List (RowWithId A)) where

@@ -99,7 +99,7 @@ module _ (c : CampaignValue) where
       let row = optional_has (int_eq (amount_in c.books found.0 t) (pos 0)) (row_at found.0 t) r found.2 in
       (found.0, found.1, differs_zero (amount_in c.books found.0 t) row.0, row.1)
 
-  -- a thing has a row for each of these entries under which its amount is not 0
+  -- a thing has a row for each entry of the list `es` under which its amount is not 0
   has_entries : (t : Thing) (es : List Entry) (e : Entry) → Has es e → amount_in c.books e t ≢ pos 0 → Has (entries_lines c t es) (row_at e t)
   has_entries t es e there some = has_flat (λ e. amount_lines c e t) es e (row_at e t) there (has_optional (int_eq (amount_in c.books e t) (pos 0)) (row_at e t) (is_differing (amount_in c.books e t) some))
 
@@ -130,7 +130,7 @@ module _ (c : CampaignValue) where
       let places : from ≡ found.0 = sym (place_at from) ∙ keys.1 ∙ place_at found.0 in
       absurd (omega (arith, places, (range_has (from + 1) count found.0 found.1).0)))
 
-  -- each row that is made for these things is a row of `books` for the campaign
+  -- each row that is made for the things numbered `places` is a row of `books` for the campaign
   pub things_rows : (places : List ℕ) (r : Row) → Has (things_lines c places) r → BooksRowsOf c.books r
   things_rows places r there =
       let found = flat_has (λ place. entries_lines c (thing_at place) all_entries) places r there in

@@ -37,7 +37,7 @@ one_table row a b one two =
     let sql : one.sql ≡ two.sql = let e = sym one.sql_is ∙ two.sql_is in cc in
     one_made two.sql a b tree (subst (λ text. DefinesTable text a) sql one.defined) two.defined
 
--- two lists that the same rows list are equal, if two things that one row lists are equal
+-- two lists of things that the same rows list (by `R`) are equal, if no row lists two different things
 one_list : {A B : Type 0} (R : A → B → Type 0) (rows : List A) (xs ys : List B) → ((row : A) (x y : B) → R row x → R row y → x ≡ y) → AllZip R rows xs → AllZip R rows ys → xs ≡ ys
 one_list R [] [] [] same one two = refl
 one_list R [] [] (y ∷ ys) same one two = absurd two

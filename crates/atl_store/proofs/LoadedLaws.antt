@@ -81,11 +81,12 @@ nothing_unplaced part = elim (cases_Bool (shows_rowids part)) [
 
 -- ---- the rows, as they were read
 
--- the first format to have a part of the first format (`since`) is the first format
+-- the earliest format that has a part of the first format (`since`) is the first format
 since_first : (part : Part) → Has (parts_in First) part → (listing_of part).since ≡ First
 since_first part there = all_has (λ p. (listing_of p).since ≡ First) (parts_in First) part (refl, (refl, (refl, (refl, (refl, (refl, (refl, (refl, (refl, tt))))))))) there
 
--- a schema with a format's tables has, for each part of it, the tables of the first format that has the part (`since`)
+-- a schema with a format's tables has, for each part of it, the tables of the earliest format that has the part
+-- (`since`)
 has_since : (f : Format) (schema : Schema) → HasTablesOf f schema → (part : Part) → Has (parts_in f) part → HasTablesOf (listing_of part).since schema
 has_since First schema has part there = subst (λ since. HasTablesOf since schema) (sym (since_first part there)) has
 has_since Second schema has part there = under (listing_of part).since
@@ -166,11 +167,13 @@ module _ (f : Format) {S : Type 0} (g : Ghosts S) where
 
   -- ---- what the check of the rows refuses
 
-  -- if a rule is the first that the gathered rows break, the tables break it (`BreaksRule`)
+  -- if a rule is the first that the gathered rows break, and the schema is the format's, the tables break it
+  -- (`BreaksRule`)
   breaks : (old : Held S) (w : WorldValue) (p : Parts) → Gathered f g old w p → HasTablesOf f old.schema → (rule : Rule) → IsFirstBroken f w p rule → BreaksRule f g old rule
   breaks old w p all begins rule first = record { made = record { begins = begins; keyed = all.keyed begins }; world = w; text = all.text; is_world = all.world; parts = p; rows = all.rows begins; first = first }
 
-  -- if a rule is the first that the gathered rows break, Damaged with this rule may be returned
+  -- if a rule is the first that the gathered rows break, and the schema is the format's, Damaged with it may be
+  -- returned
   damaged : (old : Held S) (w : WorldValue) (p : Parts) → Gathered f g old w p → HasTablesOf f old.schema → (rule : Rule) → IsFirstBroken f w p rule → MayReturnDamaged f g old rule
   damaged old w p all begins OneRow first = absurd (first.broken all.first)
   damaged old w p all begins Ranges first = inr (breaks old w p all begins Ranges first)
@@ -189,14 +192,16 @@ module _ (f : Format) {S : Type 0} (g : Ghosts S) where
   wants_memory : (old : Held S) → old.in_transaction ≡ false → KeepsOneRow f g old → MayReturnMemory g old
   wants_memory old idle kept = (idle, inr (kept.rows, kept.selects))
 
-  -- a fault of the check of the rows refuses the load: Damaged with the first broken rule, or Memory
+  -- outside a transaction, with the format's schema, a fault of checking the rows refuses the load: Damaged with the
+  -- first broken rule, or Memory
   pub judged_damaged : (old : Held S) → old.in_transaction ≡ false → (w : WorldValue) (p : Parts) → Gathered f g old w p → HasTablesOf f old.schema → (fault : CheckFault) → Checks f w p (Err fault) → RefusesToLoadIn f g old (fault_of_check fault)
   judged_damaged old idle w p all begins (check.Damaged rule) first = damaged old w p all begins rule first
   judged_damaged old idle w p all begins check.Memory none = wants_memory old idle all.one
 
   -- ---- what else refuses the load after the first rule holds
 
-  -- a fault of reading the tables but `campaign` refuses the load
+  -- outside a transaction, if the campaign row keeps the first rule, a fault of reading the other tables refuses the
+  -- load
   pub unread_refuses : (old mid : Held S) → old.in_transaction ≡ false → KeepsOneRow f g old → AfterReads g old mid → (fault : LoadFault) → FailsToRead g mid (other_selects f) fault → RefusesToLoadIn f g old fault
   unread_refuses old mid idle kept first fault fails = refused fault (fails_then g old mid first (other_selects f) fault fails)
     where
@@ -229,7 +234,8 @@ module _ (f : Format) {S : Type 0} (g : Ghosts S) where
       | inr shut ↦ inr (inl (shut_failed shut))
     ]
 
-    -- a fault that testing the schema after the reads may give (`FailsToConfirm`) refuses the load
+    -- outside a transaction, if all values are of their columns' forms, a fault of testing the schema
+    -- (`FailsToConfirm`) refuses the load
     pub unconfirmed_refuses : old.in_transaction ≡ false → AllSelectsShowTyped g old (other_selects f) → (fault : LoadFault) → FailsToConfirm g mid f fault → RefusesToLoadIn f g old fault
     unconfirmed_refuses idle typed Store (inl other) = inr (inr (kept, inr (typed, other_schema other)))
     unconfirmed_refuses idle typed Store (inr again) =
@@ -254,7 +260,7 @@ module _ (f : Format) {S : Type 0} (g : Ghosts S) {A : Type 0} (rows : A → Rea
   pub mistyped_refuses : o ≡ None → RefusesToLoadIn f g old (Damaged Ranges)
   mistyped_refuses is = inl (own_kept f g old own w row, found None is)
 
-  -- a fault of putting the rows together, which tests that rowids differ (`AreAllApart`), refuses the load
+  -- outside a transaction, a fault of putting the rows together, which tests that rowids differ, refuses the load
   pub unmade_refuses : old.in_transaction ≡ false → (a : A) → o ≡ Some a → (fault : LoadFault) → FailsWithout (AreAllApart (rows a)) fault → RefusesToLoadIn f g old fault
   unmade_refuses idle a is fault = refused fault
     where

@@ -51,7 +51,7 @@ module _ (regions : FinMap nat_cmp Region) where
   abbrev in_stock : ℕ → Option Region → ℕ
   in_stock item o = option_map_or (λ r. amount_of r.stocks item) o 0
 
-  -- each row of `market` gives the stock of its region's item
+  -- each row of `market` gives the stock, which is not 0, of an item of its region
   pub stock_had : (r : Row) → MarketRowsOf regions r → (n : ℕ) × (item : ℕ) × (stock_in regions n item ≢ 0) × (r ≡ market_row n item (stock_in regions n item))
   stock_had r of =
       let amount : stock_in regions of.0 of.3 ≡ of.4 = ap (in_stock of.3) of.2 ∙ ap (λ (o : Option ℕ). unwrap_or o 0) of.5 in
@@ -92,7 +92,7 @@ pub two_same : (a b c d : ℕ) → ◌≡◌ {A = Row} (market_key a b) (market_
 two_same a b c d same = (cc, cc)
 
 module _ (region item : ℕ) where
-  -- whether a row of `market` is that of the region and item
+  -- whether a row of `market` is that of the region `region` and the item `item`
   abbrev is_here : Row → Bool
   is_here r = of_stock (is_thing region item) r
 
@@ -113,7 +113,7 @@ module _ (region item : ℕ) where
       ap (λ x. is_here (x ∷ v ∷ row)) first ∙ ap (λ x. is_here (int region ∷ x ∷ row)) second ∙ and_from _ _ (is_itself region) (is_itself item)
 
   module _ (c : CampaignValue) (stock : ℕ) (is : stock ≡ stock_in c.regions region item) where
-    -- the row of `market` with this region, item and stock
+    -- the row of `market` of the region `region` and the item `item`, with the stock `stock`
     abbrev row : Row
     row = market_row region item stock
 

@@ -154,7 +154,7 @@ entry_has_goods_row : (n : ℕ) (held : HoldingValue) (sort : ThingKind) (thing 
 entry_has_goods_row n held Item thing amount there some = has_left (made.rows_of_sort n 0 (entries held.items)) (made.rows_of_sort n 1 (entries held.days)) _ (entry_has_kind_row n 0 (entries held.items) thing amount there some)
 entry_has_goods_row n held Skill thing amount there some = has_right (made.rows_of_sort n 0 (entries held.items)) (made.rows_of_sort n 1 (entries held.days)) _ (entry_has_kind_row n 1 (entries held.days) thing amount there some)
 
--- the row made of an item or skill of a unit is a row of `has` for the campaign
+-- the row made of an item or skill of a unit, whose amount is not 0, is a row of `has` for the campaign
 row_of_goods : (units : FinMap nat_cmp Unit) (r : Row) (n : ℕ) (unit : Unit) → Has (entries units) (n, unit) → (a : StoredHas) → r ≡ has_values a → (sort : ThingKind) (e : ℕ × ℕ) → Has (entries (things_of sort unit.holding)) e → e.1 ≢ 0 → a ≡ made.has_row n (sort_number sort) e.0 e.1 → HasRowsOf units r
 row_of_goods units r n unit there a is sort e has some made_is = (n, unit, entry_got units n unit there, sort, e.0, e.1, entry_got (things_of sort unit.holding) e.0 e.1 has, some, is ∙ ap has_values made_is)
 

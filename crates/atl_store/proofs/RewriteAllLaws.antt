@@ -65,7 +65,7 @@ module _ (c : MarkedCampaign) where
       → Rewrites (table_of part) (is_marked c.marks part) (rows_for [] c.value part) old new → RewritesParts c (part ∷ []) old new
   part_rewritten part any old new did own = one_changed (Becomes c own) part _ old new did (any own _ _)
 
-  -- rewriting some parts, the campaign row among them, and then others rewrites all of them
+  -- rewriting some parts, the campaign row among them, and then others rewrites all, if no part is in both lists
   pub own_then_rewritten : (ps qs : List Part) → are_apart ps qs ≡ true → (old mid new : Database) → RewritesWithOwn c ps old mid → RewritesParts c qs mid new → RewritesWithOwn c (ps ++ qs) old new
   own_then_rewritten ps qs apart old mid new first second before text was = let own = own_after c before text in both_changed (Becomes c own) ps qs apart old mid new (first before text was) (second own)
 

@@ -27,14 +27,15 @@ use Rattle.atl_store.proofs.WholeLaws.{inside_weaker}
 
 -- ---- one step after another
 
--- for one row: if `N` is `W` or `M` by the test `p`, then `W` or `N` by `q` is `W` or `M` by "`p` or `q`" (`Chosen`)
+-- for one row: choosing `W` or `M` by the test `p`, and then `W` or that by `q`, is choosing `W` or `M` by "`p` or `q`"
+-- (`Chosen`)
 chosen_step : (p q : Bool) (W M N : Type 0) → N ↔ Chosen p W M → Chosen q W N ↔ Chosen (p || q) W M
 chosen_step true true W M N same = (λ h. h, λ h. h)
 chosen_step false true W M N same = (λ h. h, λ h. h)
 chosen_step true false W M N same = same
 chosen_step false false W M N same = same
 
--- The rows that `rest` chooses are left: once they are rewritten too, all rows that `all` chooses are.
+-- The rows that `rest` chooses are left to rewrite: once they are rewritten, all rows that `all` chooses are.
 -- The other tables are unchanged.
 pub record Remaining (table : Table) (Wanted : Set) (rest all : Row → Bool) (old now : Database) : Type 0 where
   -- once the rows that `rest` chooses are the wanted ones, all that `all` chooses are
@@ -57,7 +58,8 @@ module _ (table : Table) (Wanted : Set) where
     },
   )
 
-  -- a step that rewrites some of the rows that `rest` chooses leaves those that `next` chooses to rewrite
+  -- where `rest` is "`step` or `next`": after the rows that `step` chooses, only those that `next` chooses are left to
+  -- rewrite
   pub one_less_remaining : (step rest next all : Row → Bool) → ((r : Row) → rest r ≡ (step r || next r)) → (old mid new : State)
       → Inside HasTables (Remaining table Wanted rest all) old mid → Inside HasTables (Rewrites table step Wanted) mid new
       → Inside HasTables (Remaining table Wanted next all) old new
@@ -167,7 +169,7 @@ of_set marks ns all r = ap (λ (f : ℕ → Bool). begins f r) (λ i n. (sym (co
 -- ---- the rows of all numbers of a set, one after another
 
 module _ (table : Table) (Wanted : Set) where
-  -- The numbers `rest` of `all` are left: once their rows are rewritten too, the rows of all of `all` are.
+  -- Of the numbers `all`, `rest` are left to rewrite: once their rows are rewritten, the rows of all are (`Remaining`).
   abbrev pub NearingNumbers : List ℕ → List ℕ → Database → Database → Type 0
   NearingNumbers rest all = Remaining table Wanted (λ r. begins (is_among rest) r) (λ r. begins (is_among all) r)
 
@@ -185,7 +187,8 @@ module _ (table : Table) (Wanted : Set) where
 
 -- A test `p` that finds exactly the rows of a key, and new rows that are exactly the wanted rows of the key.
 module _ (p : Row → Bool) (Key New Wanted : Set) (found : (r : Row) → p r ≡ true → Key r) (finds : (r : Row) → Key r → p r ≡ true) (news : (r : Row) → New r → Key r × Wanted r) (olds : (r : Row) → p r ≡ true → Wanted r → New r) where
-  -- for `rewrites_key`: a row is new, or old without the key, exactly if by the test `p` it is wanted or else old
+  -- for `rewrites_key`: a row is new, or old without the key, exactly if it is wanted and `p` finds it, or old and `p`
+  -- doesn't
   in_place : (Were : Type 0) (r : Row) → (New r ⊎ (Were × ¬ Key r)) ↔ Chosen (p r) (Wanted r) Were
   in_place Were r = (ahead, back (p r) refl)
     where

@@ -34,11 +34,11 @@ differs k n less = elim (nat_cmp k n) as (λ o. is_lt o ≡ true → is_eq o ≡
 ] less
 
 module _ {V : Type 0} where
-  -- whether `n` is this owner, and `t` is the number of one of these entries
+  -- whether a pair of numbers is an owner's number and the number of one of the owner's listed things
   abbrev pub is_key : ℕ → List (ℕ × V) → ℕ → ℕ → Bool
   is_key owner es n t = is_number owner n && is_among (map (λ e. e.0) es) t
 
-  -- whether a map that is listed under owner `n` has the number `t`
+  -- whether a pair of numbers is that of a listed owner, and of a thing in the map that is listed under this owner
   abbrev pub is_listed : List (ℕ × FinMap nat_cmp V) → ℕ → ℕ → Bool
   is_listed es n t = list_any (λ e. is_of e.0 e.1 n t) es
 
@@ -47,7 +47,7 @@ module _ {V : Type 0} where
   not_listed [] n t below = refl
   not_listed (e ∷ es) n t below = ap (λ b. b && is_some (get e.1 t) || is_listed es n t) (differs n e.0 (and_parts _ _ below).0) ∙ not_listed es n t (and_parts _ _ below).1
 
-  -- a thing is listed for an owner exactly if the map under the owner has it
+  -- in a list sorted by owner, a thing is listed for an owner exactly if the map under the owner has it
   listed_thing : (es : List (ℕ × FinMap nat_cmp V)) (n t : ℕ) → is_sorted nat_cmp es ≡ true → is_listed es n t ≡ is_some (get (unwrap_or (find nat_cmp n es) empty) t)
   listed_thing [] n t sorted = sym (ap is_some (get-empty {X = V} nat_cmp t))
   listed_thing (e ∷ es) n t sorted = elim (cases_Bool (eq_by_cmp nat_cmp n e.0)) [
@@ -60,7 +60,8 @@ module _ {V : Type 0} where
 -- ---- one amount after another, and one owner after another
 
 module _ (table : Table) (Wanted : Set) (finds : (ℕ → ℕ → Bool) → Row → Bool) where
-  -- the amounts that `rest` chooses are left: once they are rewritten too, all amounts that `all` chooses are
+  -- the amounts that `rest` chooses are left to rewrite: once they are rewritten, all that `all` chooses are
+  -- (`Remaining`)
   abbrev pub NearingSingles : (ℕ → ℕ → Bool) → (ℕ → ℕ → Bool) → Database → Database → Type 0
   NearingSingles rest all = Remaining table Wanted (λ r. finds rest r) (λ r. finds all r)
 
@@ -77,7 +78,8 @@ module _ (table : Table) (Wanted : Set) (finds : (ℕ → ℕ → Bool) → Row 
     finds_none : (f : ℕ → ℕ → Bool) → ((n t : ℕ) → f n t ≡ false) → (r : Row) → finds f r ≡ false
     finds_none f never r = finds_same f (λ n t. false) never r ∙ by_numbers.none r
 
-    -- a step that rewrites some of the amounts that `rest` chooses leaves those that `next` chooses to rewrite
+    -- where `rest` is "`step` or `next`": after the amounts that `step` chooses, only those of `next` are left to
+    -- rewrite
     nearer : (step rest next all : ℕ → ℕ → Bool) → ((n t : ℕ) → rest n t ≡ (step n t || next n t)) → (old mid new : State)
         → Inside HasTables (NearingSingles rest all) old mid → Inside HasTables (RewritesFound step) mid new → Inside HasTables (NearingSingles next all) old new
     nearer step rest next all parts = one_less_remaining table Wanted (λ r. finds step r) (λ r. finds rest r) (λ r. finds next r) (λ r. finds all r)

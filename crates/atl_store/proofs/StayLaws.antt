@@ -62,7 +62,8 @@ module _ (old new : State) (text : List ℕ) (settled : (db : Trees) → IsTrue 
     ];
   }
 
--- a crash after a transaction that writes a campaign leaves what it could have left before, or the campaign
+-- on a clean disk, a crash after a transaction that writes a campaign leaves what it could have left before, or the
+-- campaign
 pub may_found : (old new : State) (text : List ℕ) (c : CampaignValue) (Before : Database → Type 0) (Does : Database → Database → Type 0) → Before old.now → ((db : Database) → Does old.now db → Holds db.trees text c) → HasCleanDisk new
     → Survives old new (MayLeave Before Does old) → MayLeaveCampaign old text c new
 may_found old new text c Before Does before holds clean survives db may = elim (survives.crash clean db may) [
@@ -70,7 +71,7 @@ may_found old new text c Before Does before holds clean survives db may = elim (
   | inr made ↦ let did = made.1 before in inr (subst (λ t. Stores t text c) (sym made.2) (stored made.0 text c did.tables (holds made.0 did.does)))
 ]
 
--- a transaction that failed changes nothing, if the connection was in no transaction and all was committed
+-- on a clean disk, a failed transaction changes nothing, if the connection was in no transaction and all was committed
 pub leaves_spares : (old new : State) (Commits : Trees → Type 0) → HasCleanDisk new → LeavesOff old new → Survives old new Commits → old.in_transaction ≡ false → (IsTrue old.is_open → old.now ≡ old.committed) → ChangesNothing old new
 leaves_spares old new Commits clean off survives idle settled = record {
   same = λ up.
@@ -115,7 +116,8 @@ not_there g conn schema found shown is none = ap has_campaign (sym shown) ∙ sy
 pub spares_itself : (s : State) → ChangesNothing s s
 spares_itself s = record { same = λ up. (refl, refl, refl); shuts = λ up. inl up }
 
--- after a call (`Survives`) a clean disk was so before, no failure is forgotten, and tested reads stay so (`IsLater`)
+-- after a call (`Survives`) a clean disk was so before, no failure is forgotten, and tested reads stay tested
+-- (`IsLater`)
 pub later : (old new : State) (Commits : Trees → Type 0) → Survives old new Commits → IsLater old new
 later old new Commits survives = record { clean = λ clean. omega (arith, survives.clean); counts = survives.counts; shield = survives.shield }
 

@@ -42,7 +42,7 @@ same_sort Skill Item same = absurd (omega (arith, same))
 same_sort Skill Skill same = refl
 
 module _ (unit : ℕ) (sort : ThingKind) (thing : ℕ) where
-  -- whether a row of `has` is that of this unit, kind and thing
+  -- whether a row of `has` is that of the unit `unit`, the kind `sort` and the thing `thing`
   abbrev is_here : Row → Bool
   is_here r = of_kind sort (is_thing unit thing) r
 
@@ -75,7 +75,7 @@ module _ (unit : ℕ) (sort : ThingKind) (thing : ℕ) where
       itself a = grind (arith, nat_tests)
 
   module _ (c : CampaignValue) (amount : ℕ) (is : amount ≡ amount_under c.units unit sort thing) where
-    -- the row of `has` with this unit, kind, thing and amount
+    -- the row of `has` of the unit `unit`, the kind `sort` and the thing `thing`, with the amount `amount`
     abbrev row : Row
     row = has_row unit (sort_number sort) thing amount
 

@@ -23,7 +23,8 @@ stays_is t S a b same is = subst (λ rows. Is rows S) (sym (same_rows t a b same
 -- ---- one table, and one after another
 
 module _ (Becomes : Part → List Row → List Row → Type 0) where
-  -- writing one part's table (`Alters`) makes its rows what `Becomes` says, and leaves all other tables (`Changes`)
+  -- writing rows into one part's table (`Alters`) changes this part alone (`Changes`), if they are what `Becomes` says
+  -- of it
   pub one_changed : (part : Part) (S : Set) (old new : Database) → Alters (table_of part) S old new → (Is (rows_in (table_of part) new.trees) S → Becomes part (rows_in (table_of part) old.trees) (rows_in (table_of part) new.trees))
       → Changes Becomes (part ∷ []) old new
   one_changed part S old new did becomes = record {
@@ -63,7 +64,8 @@ module _ {X : Type 0} (Becomes : X → Part → List Row → List Row → Type 0
   abbrev pub Turn : Part → Database → Database → Type 0
   Turn part old new = (x : X) → Changes (Becomes x) (part ∷ []) old new
 
-  -- if the rows of each part become in turn what `Becomes` says, the rows of all parts do (`Changes`)
+  -- if the rows of each part become in turn what `Becomes` says, those of all do (`Changes`), if no part is listed
+  -- twice
   pub in_turn_changed : (parts : List Part) → are_distinct parts ≡ true → (old new : Database) → InTurn Turn parts old new → (x : X) → Changes (Becomes x) parts old new
   in_turn_changed [] apart old new none x = record { done = λ part there. absurd there; others = λ part free. ap (λ (db : Database). db.trees (tree_of part)) none }
   in_turn_changed (p ∷ ps) apart old new first x =

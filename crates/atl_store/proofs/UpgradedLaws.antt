@@ -39,7 +39,7 @@ pub told_as : {A F : Type 0} (P : F → Type 0) (r : Result A F) (fault : F) →
 told_as P (Ok a) fault told p = tt
 told_as P (Err f) fault told p = subst P (sym told) p
 
--- a fault of loading in the first format is a check of the upgrade that failed (`FailsCheck`)
+-- a fault of loading in the first format makes a check of the upgrade fail (`FailsCheck`)
 pub unloaded : {S : Type 0} (g : Ghosts S) (text : List ℕ) (old mid : Held S) (fault : LoadFault) → RefusesToLoadIn First g old fault → FailsCheck g text old mid (first_fault fault)
 unloaded g text old mid load.Store refused = inl refused
 unloaded g text old mid (load.Damaged rule) refused = refused
@@ -73,7 +73,7 @@ module _ {S : Type 0} (g : Ghosts S) (text : List ℕ) (old mid : Held S) (alone
     was = subst (λ v. HoldsOld (state g old) v c.value) (sym (bare_before ready.before c ready.loads) ∙ sym ready.same) (loaded_old ready.before c ready.loads);
   }
 
-  -- a new world that differs from the old one in more than markets is a check that failed (`HasOtherWorld`)
+  -- a new world that differs from the old one in more than markets makes a check fail (`HasOtherWorld`)
   pub other_world : (before w : WorldValue) (c : MarkedCampaign) → LoadsIn First g old mid before c → world_of text ≡ Ok w → ¬ (without_markets w ≡ without_markets before) → HasOtherWorld g text old mid
   other_world before w c loads is differs = record {
     world = w;
@@ -84,7 +84,7 @@ module _ {S : Type 0} (g : Ghosts S) (text : List ℕ) (old mid : Held S) (alone
     differs = λ same. differs (same ∙ sym (bare_before before c loads));
   }
 
-  -- a file with more tables or indexes than those of the first format is a check that failed (`HasMore`)
+  -- a file with more tables or indexes than those of the first format makes a check fail (`HasMore`)
   pub has_more : (w : WorldValue) (c : MarkedCampaign) → IsReadyToUpgrade g text old mid w c → ¬ IsFirstFormatOnly mid.schema → HasMore g text old mid
   has_more w c ready more =
       let stands = ready.loads.stands clean in
@@ -97,14 +97,14 @@ module _ {S : Type 0} (g : Ghosts S) (text : List ℕ) (old mid : Held S) (alone
         more = λ just. more (ap (λ (d : Database). d.schema) same.0 ∙ just);
       }
 
--- after two calls a clean disk was so before, no failure is forgotten, and tested reads stay so (`Survives`, `IsLater`)
+-- after two calls a clean disk was so before, no failure is forgotten, and tested reads stay tested (`IsLater`)
 pub later_both : (old mid new : State) (FirstMayLeave SecondMayLeave : Trees → Type 0) → Survives old mid FirstMayLeave → Survives mid new SecondMayLeave → IsLater old new
 later_both old mid new FirstMayLeave SecondMayLeave one two = record { clean = λ clean. omega (arith, one.clean, two.clean, clean); counts = omega (arith, one.counts, two.counts); shield = λ shielded. two.shield (one.shield shielded) }
 
 -- ---- before the transaction
 
 module _ {S : Type 0} (g : Ghosts S) (text : List ℕ) (old new : Held S) where
-  -- an upgrade that ends with a fault of loading in the first format is one of which a check failed (`FailsCheck`)
+  -- an upgrade that ends with a fault of loading in the first format ends by a failed check (`FailsCheck`)
   pub fails_to_load : (fault : LoadFault) → RefusesToLoadIn First g old fault → FailsCheck g text old new (first_fault fault)
   fails_to_load load.Store refused = inl refused
   fails_to_load (load.Damaged rule) refused = refused
@@ -112,7 +112,7 @@ module _ {S : Type 0} (g : Ghosts S) (text : List ℕ) (old new : Held S) where
   fails_to_load load.OtherFormat refused = refused
   fails_to_load load.Memory refused = inl refused
 
-  -- a fault of the new world text is a check that failed, if the tables held a campaign in the first format
+  -- a fault of the new world text makes a check fail, if the tables held a campaign in the first format (`FailsCheck`)
   pub fails_to_read : (fault : WorldFault) → Reads (λ (w : WorldValue). w) (Err fault) (world_of text) → HasOld g text old new → FailsCheck g text old new (new_world_fault fault)
   fails_to_read world.NotToml reads was = (was, reads, λ e. absurd cc)
   fails_to_read (world.Missing path) reads was = (was, reads, λ e. absurd cc)
@@ -139,11 +139,12 @@ module _ {S : Type 0} (g : Ghosts S) (text : List ℕ) (old mid new : Held S) (w
   abbrev Wrote : {A : Type 0} → Result A Error → Type 0
   Wrote r = Transacts g (OfUpgrade text c.value) IsFirstFormat (WritesUpgrade text c.value) r mid new
 
-  -- the loaded tables are just those of the first format, if the schema is (`IsFirstFormat`)
+  -- on a clean disk, the loaded tables are just those of the first format, if the schema is (`IsFirstFormat`)
   is_old : IsFirstFormatOnly mid.schema → HasCleanDisk (state g mid) → IsFirstFormat (state g mid).now
   is_old just clean = let stands = ready.loads.stands clean in record { just = just; keyed = stands.keyed; listed = stands.listed }
 
-  -- a database that the upgrade wrote holds the loaded campaign with the new text
+  -- if the disk was clean before the transaction, a database that the upgrade wrote holds the loaded campaign with the
+  -- new text
   did : (db : Database) → HasCleanDisk (state g mid) → WritesUpgrade text c.value (state g mid).now db → Holds db.trees text c.value
   did db clean wrote = wrote (world_text (state g mid)) (ready.loads.stands clean).rows ready.loads.fits.stocks
 
@@ -200,11 +201,13 @@ module _ {S : Type 0} (g : Ghosts S) (text : List ℕ) (old mid new : Held S) (w
           | inr stored ↦ inr (w, c.value, matched g text old mid alone clean_mid w c ready, stored)
         ]
 
-    -- an error of the transaction breaks the upgrade off
+    -- an error of the transaction breaks the upgrade off, if the disk was clean before the transaction
+    -- (`BreaksOffUpgrade`)
     broken_off : (e : Error) (memory : Bool) → is_memory e ≡ memory → Gives g (OfUpgrade text c.value) e mid new → HasCleanDisk (state g mid) → BreaksOffUpgrade g text old new memory
     broken_off e memory is gave clean_mid = record { world = w; campaign = c.value; matches = matched g text old mid alone clean_mid w c ready; before = mid; alone = alone; error = e; memory_is = is; given = gave }
 
-    -- the fault of the upgrade is Memory if the transaction's error is lack of memory, else Store
+    -- if the disk was clean before it, a failed transaction gives the fault Memory for an error of lack of memory, else
+    -- Store
     fails_to_write : (e : Error) (memory : Bool) → is_memory e ≡ memory → Gives g (OfUpgrade text c.value) e mid new → HasCleanDisk (state g mid) → FailsInTransaction g text old new (cond memory upgrade.Memory upgrade.Store)
     fails_to_write e true is gave clean_mid = broken_off e true is gave clean_mid
     fails_to_write e false is gave clean_mid = broken_off e false is gave clean_mid

@@ -20,8 +20,8 @@ use Rattle.atl_sql.specs.Shown.{CampaignRowValue, campaign_row, mail_row, report
 use Rattle.atl_store.specs.Lines.{amount_lines}
 use Rattle.atl_sql.specs.Rows.{campaign_line, faction_line, unit_line}
 
--- What a write of a join needs: the campaign has the faction, its report, and the unit of the last number.
--- This number is `next_unit - 1`. The books have money and people among their things.
+-- What a write of a join needs: the campaign has the faction, its report, and the unit numbered `next_unit - 1`.
+-- The books have money and people among their things.
 pub record HasArrival (c : CampaignValue) (number : ℕ) : Type 0 where
   -- `next_unit` is not 0, so there is a number before it, that of the unit that came last
   pub next : 1 ≤ c.next_unit
@@ -34,7 +34,7 @@ pub record HasArrival (c : CampaignValue) (number : ℕ) : Type 0 where
   -- the campaign has the faction's report
   pub report : IsSome (get c.reports number)
 
--- the campaign has this faction, this report and this unit, whose number `place` is the last, `next_unit - 1`
+-- The campaign has this faction, this report, and this unit, whose number `place` is the last (`next_unit - 1`).
 -- The books have money and people among their things.
 pub record IsFound (c : CampaignValue) (number : ℕ) (faction : Faction) (place : ℕ) (unit : Unit) (report : List ℕ) : Type 0 where
   -- the unit's number `place` is the last: the next one is `next_unit`

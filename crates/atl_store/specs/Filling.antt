@@ -12,7 +12,7 @@ use Rattle.atl_sql.specs.Rows.{campaign_line, rows_for, Holds}
 abbrev pub Fills : CampaignValue → Row → Part → List Row → List Row → Type 0
 Fills c own part before after = before ≡ [] → Is after (rows_for own c part)
 
--- The table of each of these parts, if it was empty, gets exactly the campaign's rows.
+-- The table of each listed part, if it was empty, gets exactly the campaign's rows.
 -- The campaign row isn't among the parts; the tables of all other parts stay.
 abbrev pub FillsParts : CampaignValue → List Part → Database → Database → Type 0
 FillsParts c parts old new = (own : Row) → Changes (Fills c own) parts old new
@@ -22,7 +22,7 @@ FillsParts c parts old new = (own : Row) → Changes (Fills c own) parts old new
 abbrev pub FillsPart : CampaignValue → Part → Database → Database → Type 0
 FillsPart c part = FillsParts c (part ∷ [])
 
--- If `campaign` was empty, the table of each of these parts, if it was empty, gets exactly the campaign's rows.
+-- If `campaign` was empty, the table of each listed part, if it was empty, gets exactly the campaign's rows.
 -- The campaign row, with this world text, is among the parts; the tables of all other parts stay.
 abbrev pub FillsWithOwn : List ℕ → CampaignValue → List Part → Database → Database → Type 0
 FillsWithOwn text c parts old new = rows_in campaign_table old.trees ≡ [] → Changes (Fills c (campaign_line text c)) parts old new

@@ -121,7 +121,8 @@ JudgesFormat f rows r = (IsOther f rows × (r ≡ Err OtherFormat)) ⊎ ((¬ IsO
 abbrev pub ReadRows : Type 0
 ReadRows = List (Part × List Row)
 
--- these are all rows of the part's table, if the schema begins with the tables of the first format that has the part
+-- the rows read are all rows of the part's table, if the schema begins with the tables of the earliest format that has
+-- the part
 abbrev pub AreRows : Database → Part → List Row → Type 0
 AreRows db part rows = HasTablesOf (listing_of part).since db.schema → IsPermutation ((listing_of part).in_table db.trees) rows
 
@@ -162,13 +163,13 @@ module _ {S : Type 0} (g : Ghosts S) (old : Held S) where
 
   -- ---- the other tables
 
-  -- Reading by these SELECTs gave Some, where each value is of its column's form and `P` holds of what was read,
-  -- or None, where a value in the rows of one of them is of another form than its column.
+  -- Reading by the SELECTs `selects` gave Some, where each value is of its column's form and `P` holds of what was
+  -- read, or None, where a value in the rows of one of them is of another form than its column.
   abbrev pub Found : {A : Type 0} → List (List ℕ × List Form) → (A → Type 0) → Option A → Type 0
   Found selects P None = HasOtherType g old selects
   Found selects P (Some a) = AllSelectsShowTyped g old selects × P a
 
-  -- one of these SELECTs, asked after other reads, shows some rows
+  -- one SELECT of the list `selects`, asked after other reads, shows some rows
   pub record AnswersOne (selects : List (List ℕ × List Form)) : Type 0 where
     -- the SELECT that is answered, with the forms of its columns
     pub select : List ℕ × List Form
@@ -183,8 +184,8 @@ module _ {S : Type 0} (g : Ghosts S) (old : Held S) where
     -- asked of the tables of `before`, this SELECT shows `rows`
     pub answered : Selects g select.0 before rows
 
-  -- Reading these tables may return Store, if a SELECT is refused for another cause than memory, and Memory,
-  -- if one is refused for lack of memory or shows rows; it returns no other fault.
+  -- Reading by the SELECTs `selects` may return Store, if one is refused for another cause than memory, and Memory, if
+  -- one is refused for lack of memory or shows rows; it returns no other fault.
   abbrev pub FailsToRead : List (List ℕ × List Form) → LoadFault → Type 0
   FailsToRead selects Store = RefusesOne g old selects read.Store ⊎ RefusesOne g old selects read.Refused
   FailsToRead selects (Damaged rule) = ⊥
@@ -192,14 +193,14 @@ module _ {S : Type 0} (g : Ghosts S) (old : Held S) where
   FailsToRead selects OtherFormat = ⊥
   FailsToRead selects Memory = RefusesOne g old selects read.Memory ⊎ AnswersOne selects
 
-  -- Reading these tables gives what `Found` says, or a fault (`FailsToRead`), if the disk is clean.
+  -- Reading by the SELECTs `selects` gives what `Found` says, or a fault (`FailsToRead`), if the disk is clean.
   -- The connection is as after reads: the tables are as they were (`AfterReads`).
   pub record ReadsSome {A : Type 0} (selects : List (List ℕ × List Form)) (P : A → Type 0) (result : Result (Option A) LoadFault) (new : Held S) : Type 0 where
-    -- if the reads succeed, the connection was open before them
+    -- if the reads succeed, and the disk is clean, the connection was open before them
     pub was_open : HasCleanDisk (state g new) → IfOk result (λ _. IsTrue (state g old).is_open)
-    -- if the reads succeed, the result is what the SELECTs found (`Found`)
+    -- if the reads succeed, and the disk is clean, the result is what the SELECTs found (`Found`)
     pub found : HasCleanDisk (state g new) → IfOk result (Found selects P)
-    -- if the reads fail, the fault is one that they may return (`FailsToRead`)
+    -- if the reads fail, and the disk is clean, the fault is one that they may return (`FailsToRead`)
     pub fails : HasCleanDisk (state g new) → IfErr result (FailsToRead selects)
     -- the reads leave the tables as they were
     pub leaves : AfterReads g old new
@@ -260,7 +261,8 @@ pub record IsMadeOf (head : StoredCampaignRow) (reads : ReadRows) (p : Parts) : 
 -- ---- all of it
 
 -- All tables were read: the campaign row keeps the first rule, and each value is of its column's form.
--- If the tables are the format's, they have exactly these rows, with a text of this world, and rowids that differ.
+-- If the tables are the format's, they have exactly the rows in `p`, with a text of the world `w`, and rowids that
+-- differ.
 pub record Gathered (f : Format) {S : Type 0} (g : Ghosts S) (old : Held S) (w : WorldValue) (p : Parts) : Type 0 where
   -- the SELECT of `campaign` showed one row, which keeps the first rule
   pub one : KeepsOneRow f g old

@@ -64,13 +64,13 @@ pub record LeavesAfterFault (faults : ℕ) (s : State) (text : List ℕ) (before
   pub crash : (db : Trees) → s.may_leave db → Stores db text before ⊎ Stores db text after
 
 -- The same connection later: a disk that is clean now was clean before, and no failure of it is forgotten.
--- A connection whose reads are tested (shielded) stays so.
+-- A connection whose reads are tested against digests (shielded) stays such a connection.
 pub record IsLater (old new : State) : Type 0 where
   -- a disk that is clean now was clean before
   pub clean : HasCleanDisk new → HasCleanDisk old
   -- no failure of the disk is forgotten
   pub counts : old.faults ≤ new.faults
-  -- a connection whose reads are tested stays so
+  -- a connection whose reads are tested against digests stays such a connection
   pub shield : old.IsShielded → new.IsShielded
 
 -- No table or index is gone, and tables that aren't the campaign's hold what they held.
@@ -121,7 +121,7 @@ IsReadyToCreate s = IsBlank s.now × (s.in_transaction ≡ false)
 pub record BreaksOffCreation {S : Type 0} (g : Ghosts S) (text : List ℕ) (c : CampaignValue) (old new : Held S) (fault : CreateFault) : Type 0 where
   -- the database was ready for `create`
   pub ready : IsReadyToCreate (state g old)
-  -- the fault is that of an error of a statement of `create`, or of its commit
+  -- if the disk is clean, the fault is that of an error of a statement of `create`, or of its commit
   pub told : HasCleanDisk (state g new) → IsFaultOfError g (OfFounding text c) create_fault old new fault
 
 -- When `create` may return each fault: NotEmpty if there is a table `campaign`, and Store if the database isn't ready;

@@ -85,10 +85,10 @@ all_stocks_lines regions = groups_of region_lines regions
 abbrev pub amount_lines : CampaignValue → Entry → Thing → List Row
 amount_lines c entry thing = if int_eq (amount_in c.books entry thing) (pos 0) then [] else books_row (entry_index entry + 1) (thing_index thing) (amount_in c.books entry thing) ∷ []
 
--- the rows of `books` for the amounts of one thing under these entries that aren't 0
+-- the rows of `books` for the amounts of one thing under the listed entries, one for each amount that isn't 0
 abbrev pub entries_lines : CampaignValue → Thing → List Entry → List Row
 entries_lines c thing entries = flat_map (λ entry. amount_lines c entry thing) entries
 
--- the rows of `books` for the amounts of these things, by their numbers, under all entries, that aren't 0
+-- the rows of `books` for the amounts of the things with the listed numbers, under all entries, that aren't 0
 abbrev pub things_lines : CampaignValue → List ℕ → List Row
 things_lines c places = flat_map (λ place. entries_lines c (thing_at place) all_entries) places

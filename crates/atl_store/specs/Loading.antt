@@ -151,14 +151,14 @@ pub record Stays (old new : State) : Type 0 where
 pub record AfterReads {S : Type 0} (g : Ghosts S) (old new : Held S) : Type 0 where
   -- after the reads the tables are as they were before, if the disk is clean
   pub stays : HasCleanDisk (state g new) → Stays (state g old) (state g new)
-  -- a disk in doubt stays so, no failure is forgotten, and shield and step limit stay; if the disk is clean, only a
-  -- failure closes the connection, and a crash leaves only what it could have left before (`Survives`)
+  -- a disk that isn't clean stays so, no failure is forgotten, and tested reads and the step limit stay; if the disk is
+  -- clean, only a failure closes the connection, and a crash leaves only what it could have left before (`Survives`)
   pub survives : Survives (state g old) (state g new) (λ _. ⊥)
   -- after the reads the connection is in no transaction
   pub idle : new.in_transaction ≡ false
 
 module _ {S : Type 0} (g : Ghosts S) (old : Held S) where
-  -- the SELECT, asked of the tables of `old`, shows these rows
+  -- the SELECT `sql`, asked of the tables of `old`, shows the rows `rows`
   pub record SelectShows (sql : List ℕ) (rows : List Row) : Type 0 where
     -- a connection on which the SELECT is asked
     pub before : Held S
@@ -212,7 +212,7 @@ module _ {S : Type 0} (g : Ghosts S) (old : Held S) where
   pub record FailedMeanwhile : Type 0 where
     -- the connection after the reads in which the disk failed
     pub after : Held S
-    -- these reads left the tables as they were, if the disk is clean
+    -- the reads in which the disk failed left the tables as they were, if the disk is clean
     pub leaves : AfterReads g old after
     -- the disk failed during the reads
     pub failed : MoreFaults (state g old).faults (state g after).faults
@@ -321,7 +321,7 @@ module _ (f : Format) {S : Type 0} (g : Ghosts S) (old : Held S) where
   CannotConfirm = AllSelectsShowTyped g old (other_selects f) × ((¬ AreMade) ⊎ (FailedMeanwhile g old ⊎ RefusesAgain g old false))
 
   -- When Store may be returned: in a transaction, or if the SELECT of the campaign row could not go on (`is_failure`).
-  -- Also, if that row keeps the first rule, if another table can't be read or the tables can't be confirmed.
+  -- Also, where that row keeps the first rule, if another table can't be read or the tables can't be confirmed.
   abbrev pub MayReturnStore : Type 0
   MayReturnStore = (old.in_transaction ≡ true) ⊎ (RefusesToSelect g (selection campaign_table 1) old read.Store ⊎ (KeepsOneRow × (CannotRead ⊎ CannotConfirm)))
 
@@ -359,9 +359,9 @@ pub record StandsIn (f : Format) (s : State) (text : List ℕ) (c : CampaignValu
 -- If the disk is clean, Ok says: the tables of the format hold the campaign and a text of the world.
 -- The campaign is good, and in the first format without markets (`Fits`); nothing of it is marked.
 pub record LoadsIn (f : Format) {S : Type 0} (g : Ghosts S) (old new : Held S) (w : WorldValue) (c : MarkedCampaign) : Type 0 where
-  -- the world text that the tables hold reads as the world
+  -- if the disk is clean, the world text that the tables hold reads as the world
   pub world : HasCleanDisk (state g new) → world_by f (world_text (state g new)) ≡ Ok w
-  -- the tables of the format hold the campaign, with their world text (`StandsIn`)
+  -- if the disk is clean, the tables of the format hold the campaign, with their world text (`StandsIn`)
   pub stands : HasCleanDisk (state g new) → StandsIn f (state g new) (world_text (state g new)) c.value
   -- in the first format the campaign uses no markets
   pub fits : Fits f c.value
@@ -384,7 +384,7 @@ module _ {S : Type 0} (g : Ghosts S) (old : Held S) where
   -- If the disk is clean, Ok of `load` says: the connection keeps the campaign and a text of the world.
   -- The campaign is good, and nothing of it is marked.
   pub record Loads (new : Held S) (w : WorldValue) (c : MarkedCampaign) : Type 0 where
-    -- the world text that the tables hold reads as the world
+    -- if the disk is clean, the world text that the tables hold reads as the world
     pub world : HasCleanDisk (state g new) → world_of (world_text (state g new)) ≡ Ok w
     -- the connection keeps the campaign, with the world text of its tables
     pub tables : HoldsCampaign g new (world_text (state g new)) c.value
@@ -398,8 +398,9 @@ module _ {S : Type 0} (g : Ghosts S) (old : Held S) where
   pub record LeavesAlone (new : Held S) : Type 0 where
     -- nothing of the connection is changed, if the disk is clean
     pub spares : HasCleanDisk (state g new) → ChangesNothing (state g old) (state g new)
-    -- a disk in doubt stays so, no failure is forgotten, and shield and step limit stay; if the disk is clean, only a
-    -- failure closes the connection, and a crash leaves only what it could have left before (`Survives`)
+    -- a disk that isn't clean stays so, no failure is forgotten, and tested reads and the step limit stay; if the disk
+    -- is clean, only a failure closes the connection, and a crash leaves only what it could have left before
+    -- (`Survives`)
     pub survives : Survives (state g old) (state g new) (λ _. ⊥)
     -- the connection is in a transaction exactly if it was in one
     pub mode : new.in_transaction ≡ old.in_transaction

@@ -27,11 +27,11 @@ Rewrites table is_chosen Wanted old new = Alters table (rows_after_rewrite is_ch
 
 -- ---- which rows a step rewrites
 
--- whether `k` is the number `n`
+-- whether the second number is the first one, `n`
 abbrev pub is_number : ℕ → ℕ → Bool
 is_number n k = eq_by_cmp nat_cmp k n
 
--- whether `k` is one of these numbers
+-- whether a number is in a list of numbers
 abbrev pub is_among : List ℕ → ℕ → Bool
 is_among ns k = list_any (eq_by_cmp nat_cmp k) ns
 
@@ -39,11 +39,11 @@ is_among ns k = list_any (eq_by_cmp nat_cmp k) ns
 abbrev pub of_amounts : FinSet nat_cmp → (ℕ → Bool) → (ℕ → Bool) → Row → Bool
 of_amounts marks entries things r = accounts (λ entry thing. entries entry && (things thing && contains marks (entry_count * thing + entry))) r
 
--- whether a pair of numbers, a unit or region `n` and a thing `t`, is this owner and this thing
+-- whether a pair of numbers, a unit or region and a thing, is the owner `owner` and the thing `thing`
 abbrev pub is_thing : (owner thing : ℕ) → ℕ → ℕ → Bool
 is_thing owner thing n t = is_number owner n && is_number thing t
 
--- whether a pair of numbers, a unit or region `n` and a thing `t`, is this owner and one of these things
+-- whether a pair of numbers, a unit or region and a thing, is the owner `owner` and a thing that the map has
 abbrev pub is_of : {V : Type 0} → (owner : ℕ) → FinMap nat_cmp V → ℕ → ℕ → Bool
 is_of owner things n t = is_number owner n && is_some (get things t)
 
@@ -92,7 +92,7 @@ marked_things marks Skill = marks.skills
 abbrev pub RewritesGoods : MarkedCampaign → Database → Database → Type 0
 RewritesGoods c old new = Rewrites has_table (goods_marked c.marks) (HasRowsOf c.value.units) old new
 
--- the rows of `books` of the marked amounts of these entries and things become those that the campaign has
+-- the rows of `books` of the marked amounts whose entry passes `entries` and thing `things` become the campaign's
 abbrev pub RewritesAmounts : MarkedCampaign → (ℕ → Bool) → (ℕ → Bool) → Database → Database → Type 0
 RewritesAmounts c entries things old new = Rewrites books_table (of_amounts c.marks.books entries things) (BooksRowsOf c.value.books) old new
 
@@ -111,7 +111,7 @@ RewritesCampaignRow c old new = (before : CampaignRowValue) (text : List ℕ) �
 abbrev pub Becomes : MarkedCampaign → Row → Part → List Row → List Row → Type 0
 Becomes c own part before after = Is after (rows_after_rewrite (is_marked c.marks part) (rows_for own c.value part) (Has before))
 
--- The marked rows of these parts become those of the campaign; all other rows stay.
+-- The marked rows of the listed parts become those of the campaign; all other rows stay.
 -- The campaign row isn't among the parts.
 abbrev pub RewritesParts : MarkedCampaign → List Part → Database → Database → Type 0
 RewritesParts c parts old new = (own : Row) → Changes (Becomes c own) parts old new
@@ -120,7 +120,7 @@ RewritesParts c parts old new = (own : Row) → Changes (Becomes c own) parts ol
 abbrev pub RewritesPart : MarkedCampaign → Part → Database → Database → Type 0
 RewritesPart c part = RewritesParts c (part ∷ [])
 
--- If `campaign` held one row, the marked rows of these parts become those of the campaign; all other rows stay.
+-- If `campaign` held one row, the marked rows of the listed parts become those of the campaign; all other rows stay.
 -- The campaign row is among the parts.
 abbrev pub RewritesWithOwn : MarkedCampaign → List Part → Database → Database → Type 0
 RewritesWithOwn c parts old new = (before : CampaignRowValue) (text : List ℕ) → Is (rows_in campaign_table old.trees) (λ r. r ≡ campaign_row before text) → Changes (Becomes c (own_after c before text)) parts old new

@@ -52,7 +52,7 @@ module _ {S : Type 0} (g : Ghosts S) (text : List ℕ) (old new : Held S) where
   pub record Upgrades (w : WorldValue) (c : MarkedCampaign) : Type 0 where
     -- the new text reads as the world `w`
     pub world : world_of text ≡ Ok w
-    -- the tables held the campaign in the first format, with a text of `w` without markets
+    -- if the disk is clean, the tables held the campaign in the first format, with a text of `w` without markets
     pub was : HasCleanDisk (state g new) → HoldsOld (state g old) (without_markets w) c.value
     -- nothing is in stock
     pub bare : HasNoStocks c.value
@@ -110,11 +110,11 @@ module _ {S : Type 0} (g : Ghosts S) (text : List ℕ) (old new : Held S) where
     pub before : WorldValue
     -- the campaign that the tables hold
     pub campaign : CampaignValue
-    -- the tables hold the campaign in the first format, with a text of the world before
+    -- the tables hold the campaign in the first format, with a text of the world `before`
     pub was : HoldsOld (state g old) before campaign
     -- the new text reads as `world`
     pub is : world_of text ≡ Ok world
-    -- `world` without markets is not the world before
+    -- `world` without markets is not the world `before`
     pub differs : without_markets world ≢ before
 
   -- When a check before the transaction may return each fault. Memory may also come from reading the new text.
@@ -138,11 +138,11 @@ module _ {S : Type 0} (g : Ghosts S) (text : List ℕ) (old new : Held S) where
   -- While the connection is open its tables are as they were.
   -- A crash leaves what it could have left before, or the upgraded campaign.
   pub record RefusesToUpgrade (fault : UpgradeFault) : Type 0 where
-    -- a check failed and nothing is changed, or the transaction broke off with this fault
+    -- if the disk is clean, a check failed and nothing is changed, or the transaction broke off with this fault
     pub cause : HasCleanDisk (state g new) → (FailsCheck fault × LeavesAlone g old new) ⊎ FailsInTransaction fault
-    -- while the connection is open its tables are as they were
+    -- if the disk is clean, the tables are as they were while the connection is open
     pub spares : HasCleanDisk (state g new) → ChangesNothing (state g old) (state g new)
-    -- a crash leaves what it could have left before, or the upgraded campaign
+    -- if the disk is clean, a crash leaves what it could have left before, or the upgraded campaign
     pub crash : HasCleanDisk (state g new) → MayUpgrade (state g old) text (state g new)
 
 -- ---- For proofs and for private functions.
@@ -153,7 +153,7 @@ pub record IsReadyToUpgrade {S : Type 0} (g : Ghosts S) (text : List ℕ) (old m
   pub world : world_of text ≡ Ok w
   -- the world of the text that the tables hold
   pub before : WorldValue
-  -- the campaign is loaded in the first format, with the world before
+  -- the campaign is loaded in the first format, with the world `before`
   pub loads : LoadsIn First g old mid before c
   -- the two worlds differ in markets alone
   pub same : without_markets w ≡ without_markets before

@@ -45,8 +45,8 @@ fn write_marked<S: Alter>(conn: &mut Connection<S>, campaign: &Campaign) -> Resu
 /// Writes what is marked of a campaign, in one transaction, into a store that holds the rest of it.
 /// Whatever the store has under marked keys, the campaign's rows are put, the rows that it lacks
 /// are deleted, and no other row is touched. With Ok the store holds the campaign, and nothing of
-/// it is marked. Memory: the database says that it has none. Store: it gives another error. After
-/// both the tables are as before while the connection is open, a crash leaves them so or with the
+/// it is marked. Memory: the database says that it has none. Store: it gives another error. After a
+/// fault the tables are as before while the connection is open, a crash leaves them so or with the
 /// campaign, and the marks stay. See docs/FORMATS.md, "Tables".
 pub fn write_changes<S: Alter>(
     conn: &mut Connection<S>,

@@ -61,7 +61,7 @@ pub(crate) fn settle_amount<S: Alter>(
     put_books(tx, &row)
 }
 
-/// Puts the rows of those amounts of a thing under these entries that are not 0.
+/// Puts the rows of those amounts of a thing under the entries `entries` that are not 0.
 fn put_entries<S: Alter>(
     tx: &mut Transaction<'_, S>,
     campaign: &Campaign,
@@ -113,8 +113,8 @@ fn rewrite_amount<S: Alter>(
     Ok(())
 }
 
-/// Puts the rows of a thing's marked amounts under these entries, and deletes the rows of those
-/// that are 0.
+/// Puts the rows of a thing's marked amounts under the entries `entries`, and deletes the rows of
+/// those that are 0.
 fn rewrite_entries<S: Alter>(
     tx: &mut Transaction<'_, S>,
     campaign: &Campaign,

@@ -14,8 +14,8 @@ use std::alloc::Global;
 /// Ends the connection as a crash does, and opens again what this leaves of its database. What the
 /// connection held of a campaign is there again, its tables and the rows in them; if a write was
 /// stopped by a fault, it is the campaign before or the one after. Memory: there is no memory to
-/// open it. Store: the disk fails.
-/// The database is then given up, and its files stay as they are.
+/// open the database. Store: the disk fails. After a fault there is no connection any more, and the
+/// files of the database stay as they are.
 pub fn reopen_connection<S: Alter + Reopen + Drop>(
     alloc: Global,
     conn: Connection<S>,

@@ -47,7 +47,8 @@ pub(crate) trait SingleAmounts: Copy {
             (wanted campaign.now.value))) result tx.old.conn tx.new.conn };
 }
 
-/// Puts the rows of an owner's amounts of these things, and deletes the rows of those that are 0.
+/// Puts the rows of an owner's amounts of the things in `numbers`, and deletes the rows of those
+/// that are 0.
 fn rewrite_under<A: SingleAmounts, S: Alter>(
     tx: &mut Transaction<'_, S>,
     campaign: &Campaign,

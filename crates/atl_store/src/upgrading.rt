@@ -78,13 +78,13 @@ fn world_and_campaign<S: Alter>(
 
 /// Makes a file of the first format one of the second, with this world text, in one transaction:
 /// the table of markets is made, without a row, and the campaign row gets the format and the text.
-/// With Ok the connection holds the campaign that the tables held, of which nothing is marked; it
-/// is answered with the world of the text, and the connection is in no transaction. NotACampaign
-/// and Damaged are returned as by `load`, by the rules of the first format. NotOld: `campaign` has
-/// one row, whose format is the second, whatever else it says. World: the new text is no world.
+/// With Ok the connection holds the campaign that the tables held, of which nothing is marked, and
+/// is in no transaction; the answer is this campaign and the world of the text. NotACampaign and
+/// Damaged are returned as by `load`, by the rules of the first format. NotOld: `campaign` has one
+/// row, whose format is the second, whatever else it says. World: the new text is no world.
 /// Differs: its world differs from that of the old text in more than markets. Store is returned as
 /// by `load`, too; or there are more tables or indexes than those of the first format; or the
-/// database gives an error that is not lack of memory. Memory: there is none. After a fault the
+/// database gives an error that is not lack of memory. Memory: memory ran out. After a fault the
 /// tables are as they were while the connection is open, and a crash leaves what it left before or,
 /// where the transaction was begun, the upgraded campaign. See docs/FORMATS.md, "Upgrading a file".
 pub fn upgrade<S: Alter>(

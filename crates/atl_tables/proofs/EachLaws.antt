@@ -1,4 +1,4 @@
--- The conditions on the elements of a list, by the first element and those after it, for loops over the list.
+-- Laws on the conditions on a list's elements, by the first element and those after it, for loops over the list.
 use Rattle.std.proofs.Common.{◌≡◌, ℕ, zero, suc, ◌+◌, ◌<◌, List, [], ◌∷◌, ◌++◌, length, map, drop, get_or, Option, None, sym, ap, ◌∙◌, subst, append_assoc}
 use Rattle.std.proofs.lemmas.List.{drop_more}
 use Rattle.atl_tables.specs.declared.fault.WorldFault.{WorldFault}

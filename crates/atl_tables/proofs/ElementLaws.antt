@@ -1,4 +1,4 @@
--- The conditions and the values of an array's elements, by the first one and those after it, for loops over it.
+-- Laws on the conditions and values of an array's elements, by the first and those after it, for loops over the array.
 use Rattle.std.proofs.Common.{◌≡◌, ℕ, ◌+◌, ◌<◌, List, [], ◌∷◌, ◌++◌, length, drop, get_or, Option, None, sym, ap, subst, ◌∙◌, append_assoc}
 use Rattle.toml.specs.Data.{Data, Items, item, Members}
 use Rattle.toml.specs.View.{view, items_view}

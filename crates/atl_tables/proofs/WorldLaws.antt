@@ -1,4 +1,4 @@
--- The world that tables in their ranges give is a world (`IsWorld`), if names differ and neighbours are mutual.
+-- Tables in their ranges give a world (`IsWorld`), if names differ, neighbours are mutual, and some region is land.
 use Rattle.std.proofs.Common.{◌≡◌, ◌<◌, ℕ, zero, suc, List, [], ◌∷◌, length, map, Some, refl, subst, sym, arith}
 use Rattle.std.specs.List.{All, slice_get}
 use Rattle.std.proofs.lemmas.List.{length-map}

@@ -38,7 +38,7 @@ item_keys = conditions_of item_at
 abbrev pub item_from : List ℕ → Members → ItemDraft
 item_from = value_of item_at
 
--- the number of an item as it is, but None if it is i: the i-th item isn't made of itself
+-- the number n of an item (Some n), but None if n is i, since the i-th item isn't made of itself
 abbrev pub other_than : ℕ → Option ℕ → Option ℕ
 other_than i None = None
 other_than i (Some n) = if n == i then None else Some n

@@ -121,7 +121,7 @@ names_are_known all =
 unfoldable pub neighbours_are_mutual : WorldDraft → Conditions
 neighbours_are_mutual all = each (neighbours_at (regions_of all)) 0 all.regions
 
--- the condition that the terrain of some region is land, given the numbers of those regions; else the fault NoLand
+-- the condition that some region is land, given the numbers of all regions of land; else the fault NoLand
 abbrev pub is_some_land : List ℕ → Conditions
 is_some_land [] = Some NoLand ∷ []
 is_some_land (n ∷ ns) = None ∷ []

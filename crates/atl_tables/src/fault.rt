@@ -90,6 +90,7 @@ impl WorldFault {
 /// Writes the fault's number (`Memory` has none), its name, and its path if it has one, as
 /// `3 WrongType rules.growth`.
 impl fmt::Display for WorldFault {
+    /// Writes the number, the name and the path.
     fn fmt<W: fmt::Write>(&self, f: &mut fmt::Formatter<W>) -> fmt::Result {
         let name = self.name();
         match (self.number(), self.path()) {
@@ -107,6 +108,7 @@ impl Error for WorldFault {}
 impl From<AllocError> for WorldFault {
     ghost from_gives = { λ _ e. e ≡ Memory };
 
+    /// The fault `Memory`, whatever the failed allocation was for.
     fn from(_error: AllocError) -> WorldFault {
         WorldFault::Memory
     }
@@ -116,6 +118,7 @@ impl From<AllocError> for WorldFault {
 impl<T: Drop> From<AllocFailed<T>> for WorldFault {
     ghost from_gives = { λ _ e. e ≡ Memory };
 
+    /// The fault `Memory`; the value that comes with the error is dropped.
     fn from(_error: AllocFailed<T>) -> WorldFault {
         WorldFault::Memory
     }

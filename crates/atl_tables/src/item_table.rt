@@ -120,8 +120,8 @@ impl Titled for ItemDraft {
     }
 }
 
-/// The number of the first item with a name, `None` if no item has it, or if it is the i-th item:
-/// an item isn't made of itself.
+/// The number of the first item with the name `name`; `None` if no item has the name, or if the
+/// first that has it is the i-th, which isn't made of itself.
 #[tactic(auto, unfolding(crate::specs::Titles::number_of))]
 fn other_item(items: &[ItemDraft], i: usize, name: &Text) -> Option<u16>
     requires { length items.now ≤ most_numbered }

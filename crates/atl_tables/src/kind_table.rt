@@ -43,7 +43,7 @@ pub struct Purpose {
     /// The least sum of men times their level of sailing with which a ship sails, at most
     /// `MOST_SIZE`; 0 where the file has none.
     pub crew: u32,
-    /// The name of the skill that is studied better inside, where there is one.
+    /// The name of the skill that units inside the structure study better, where there is one.
     pub helps: Option<Text>,
 }
 

@@ -22,7 +22,7 @@ use toml::Table;
 
 /// A table `[[region.market]]` as read, with its item by name.
 pub struct MarketDraft {
-    /// The path of its table, as `region[0].market[1]`.
+    /// The path of the market's table, as `region[0].market[1]`.
     pub table_path: Text,
     /// The name of the item that the market trades.
     pub item: Text,

@@ -36,7 +36,7 @@ pub struct Prices {
 pub struct PeasantRules {
     /// The number of peasants of whom one can be recruited in a month, from 1 to `MOST_FRACTION`.
     pub recruit_fraction: u32,
-    /// The most births, in percent of the peasants, at most `MOST_GROWTH`.
+    /// The most births in a month, in percent of the peasants, at most `MOST_GROWTH`.
     pub growth: u32,
     /// Money that each peasant earns its region in a month, at most `MOST_PER_HEAD`.
     pub income: u32,
@@ -55,11 +55,11 @@ pub struct MenRules {
 
 /// The skills of observation, stealth and sailing, by name, `None` if the file names none.
 pub struct SkillNames {
-    /// The skill that finds hidden units.
+    /// The name of the skill that finds hidden units, where there is one.
     pub observation: Option<Text>,
-    /// The skill that hides units.
+    /// The name of the skill that hides units, where there is one.
     pub stealth: Option<Text>,
-    /// The skill that sails ships.
+    /// The name of the skill that sails ships, where there is one.
     pub sailing: Option<Text>,
 }
 
@@ -75,11 +75,11 @@ impl Drop for SkillNames {
 pub struct RulesDraft {
     /// What men cost, what they take as tax, and what a recruit costs.
     pub prices: Prices,
-    /// Recruits, births and income.
+    /// The rules on recruits, births and income of peasants.
     pub peasants: PeasantRules,
     /// The money of a new faction, and what men weigh and carry.
     pub men: MenRules,
-    /// The skills of observation, stealth and sailing.
+    /// The names of the skills of observation, stealth and sailing.
     pub skills: SkillNames,
 }
 

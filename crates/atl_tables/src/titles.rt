@@ -89,8 +89,8 @@ pub(crate) fn no_duplicates_inside<T: HasUniqueNames>(
     Ok(())
 }
 
-/// The number (the index) of the first element whose title is a name, ignoring ASCII case; `None`
-/// if there is none.
+/// The number (the index) of the first element whose title equals `name`, ignoring ASCII case;
+/// `None` if there is none.
 #[tactic(auto, unfolding(crate::specs::Titles::number_of))]
 pub(crate) fn number_of<T: Titled>(items: &[T], name: &Text) -> Option<u16>
     requires { length items.now ≤ most_numbered }

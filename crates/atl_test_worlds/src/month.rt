@@ -1,9 +1,9 @@
 //! A month on the island: SQL that adds two factions with units to a new campaign, and the mailings
 //! of both.
 
-/// SQL, one transaction, that adds two factions, eleven units and a boat to the tables of an island
-/// where nobody has joined. A unit of each faction is in the boat; all that the units hold is
-/// booked under Joining.
+/// SQL, one transaction, that adds two factions with a report each, eleven units and a boat to the
+/// tables of an island where nobody has joined. A unit of each faction is in the boat; all that the
+/// units hold is booked under Joining.
 pub const ROWS: &str =
     "BEGIN; INSERT INTO faction VALUES (1, 'Avalon', 'Avalon', 'pw', 0), (2, 'Bree', 'Bree', 'pb', 0);
 INSERT INTO report VALUES (1, 'A report.'), (2, 'A report.');

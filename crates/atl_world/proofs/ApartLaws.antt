@@ -130,7 +130,8 @@ apart_remove s t n h = record {
   apart = λ q e. set.contains-remove nat_cmp_total t n q ∙ ap (λ b. not (eq_by_cmp nat_cmp q n) && b) (h.apart q (was_there s n q e)) ∙ and_false _;
 }
   where
-    -- "b and false" is false: a number that t doesn't have is not in t with n taken out either
+    -- "b and false" is false: for `apart_remove`, where b says that a number isn't n, and the set t doesn't have this
+    -- number
     and_false : (b : Bool) → (b && false) ≡ false
     and_false true = refl
     and_false false = refl
@@ -166,8 +167,8 @@ module _ (m l v : RoomySet) (n : ℕ) (seen : ◌≡◌ {A = RoomySet} (record {
       let recent = len-new l.numbers n (in_neither missing).1 in
       record { apart = apart_insert m.numbers l.numbers n marks.apart (in_neither missing).0; fits = omega (arith, more, all, size, room, recent, h) }
 
-  -- if m has room for all marks and n: once these are in m, and none in l, no number is in both, and m has room for all
-  -- (`AreMarks`)
+  -- if m has room for all marks and n, then once m has all of these and l has none, no number is in both, and m has
+  -- room for all (`AreMarks`)
   pub one_more : set.len (set.insert v.numbers n) ≤ v.room → AreMarks (record { numbers = set.insert (set.union m.numbers l.numbers) n; room = m.room }) (record { numbers = set.empty; room = l.room })
   one_more h = none_recent (set.insert (set.union m.numbers l.numbers) n) m.room l.room
       (let size = ap (λ (w : RoomySet). set.len (set.insert w.numbers n)) seen in let room = ap (λ (w : RoomySet). w.room) seen in omega (arith, size, room, h))

@@ -65,7 +65,7 @@ module _ {W : Type 0} where
   below_last q [] fs k w h = above q k (and_parts _ _ h).0
   below_last q (e ∷ es) fs k w h = below_last q es fs k w (and_parts _ _ h).1
 
-  -- `put` puts an entry that comes after the entries `es` in a sorted list at their end
+  -- if the entry (k, w) comes right after the entries `es` in a sorted list, `put` adds it to `es` at the end
   put_last : (es fs : List (ℕ × W)) (k : ℕ) (w : W) → is_sorted nat_cmp (es ++ (k, w) ∷ fs) ≡ true → put nat_cmp k w es ≡ es ++ (k, w) ∷ []
   put_last [] fs k w h = refl
   put_last (e ∷ es) fs k w h =

@@ -127,14 +127,14 @@ pub merged_alone : (xs : List ℕ) → merged xs [] ≡ xs
 merged_alone [] = refl
 merged_alone (x ∷ xs) = refl
 
--- if an iterator over xs yields r and leaves us, one over xs merged with ys, which is empty, yields r and leaves us
--- merged with ys
+-- if r is the first number of the list xs (None without one), and the list `us` is the rest, the same holds of xs and
+-- `us` each merged with the empty list ys
 pub first_alone : (xs us ys : List ℕ) (r : Option ℕ) → length ys ≡ 0 → YieldsFirstBy (λ n. n) (λ s. s) xs r us → YieldsFirstBy (λ n. n) (λ s. s) (merged xs ys) r (merged us ys)
 first_alone xs us (y ∷ ys) r e h = absurd (omega (arith, e))
 first_alone xs us [] r e h = rw (merged_alone xs, merged_alone us) h
 
--- if us, vs and ws are xs, ys and zs with ts behind, the one that k chooses of them is the one that it chooses of xs,
--- ys and zs, with ts behind: for `own_last-step` and `other_last-step`
+-- for `own_last-step` and `other_last-step`: if us, vs and ws are the lists xs, ys and zs with ts appended, the
+-- ordering k chooses of us, vs and ws what it chooses of xs, ys and zs, with ts appended
 all_longer : (k : Ordering) (ts xs ys zs us vs ws : List ℕ) → us ≡ xs ++ ts → vs ≡ ys ++ ts → ws ≡ zs ++ ts → match_ordering k us vs ws ≡ match_ordering k xs ys zs ++ ts
 all_longer Less ts xs ys zs us vs ws a b c = a
 all_longer Equal ts xs ys zs us vs ws a b c = b
@@ -171,7 +171,7 @@ module _ (n : ℕ) where
   other_last [] ys u = refl
   other_last (x ∷ xs) ys u = other_last-step x xs (merged xs) u.0 (merged_alone xs) (λ zs. other_last xs zs u.1) ys
 
--- all numbers of a list are less than n, if the one at each index is
+-- all numbers of a list are less than n, if the number at each index of the list is less than n
 all_under : (xs : List ℕ) (n : ℕ) → ((k : ℕ) → k < length xs → get_or xs k 0 < n) → Under xs n
 all_under [] n h = tt
 all_under (x ∷ xs) n h = (sym (nat_cmp_is x n Less (h 0 (omega arith))), all_under xs n (λ k l. h (suc k) (omega (arith, l))))

@@ -21,8 +21,8 @@ either : (a b : Bool) → b ≡ true → (a || b) ≡ true
 either true b h = refl
 either false b h = h
 
--- P holds of the test whether q is n, if P holds of true where q is n, and if P holds of false: for laws of a set or a
--- map that is changed at n, asked about q
+-- P holds of the result of the test whether q is n, if P holds of false, and of true where q is n: for laws of what a
+-- set or a map that was changed at n has at q
 at : (n q : ℕ) (P : Bool → Type 0) → (q ≡ n → P true) → P false → P (eq_by_cmp nat_cmp q n)
 at n q P here other = elim (eq_by_cmp nat_cmp q n) as (λ b. eq_by_cmp nat_cmp q n ≡ b → P b) [ true ↦ λ e. here (same_key q n e) | false ↦ λ _. other ] refl
 
@@ -107,7 +107,8 @@ module _ {V : Type 0} where
   pub Room-unmarked : (v : FinMap nat_cmp V) (m : set.FinSet nat_cmp) (r : ℕ) → Room v m r → Room v set.empty r
   Room-unmarked v m r = fewer v v m set.empty r (λ q e. either (set.contains m q) (is_some (get v q)) (ap (λ b. b || is_some (get v q)) (sym (set.contains-empty nat_cmp q)) ∙ e))
 
-  -- room enough for all numbers with a value or a mark (`Room`) still is after one's value and mark are taken out
+  -- room enough for all numbers with a value or a mark (`Room`) still is after the value and the mark of a number are
+  -- taken out
   pub Room-taken : (v : FinMap nat_cmp V) (m : set.FinSet nat_cmp) (r n : ℕ) → Room v m r → Room (remove v n) (set.remove m n) r
   Room-taken v m r n = fewer v (remove v n) m (set.remove m n) r (λ q e. at n q (λ b. ((not b && set.contains m q) || is_some (cond b None (get v q))) ≡ true → (set.contains m q || is_some (get v q)) ≡ true) (λ _ h. absurd (false≢true h)) (λ h. h)
       (ap (λ b. b || is_some (cond (eq_by_cmp nat_cmp q n) None (get v q))) (sym (set.contains-remove nat_cmp_total m n q)) ∙ ap (λ o. set.contains (set.remove m n) q || is_some o) (sym (get-remove nat_cmp_total v n q)) ∙ e))
@@ -129,8 +130,8 @@ module _ {V : Type 0} where
   pub fits-inserted : (v : FinMap nat_cmp V) (m : set.FinSet nat_cmp) (r n : ℕ) (x : V) → set.len m + len (insert v n x) ≤ r → set.len (set.insert m n) ≤ r
   fits-inserted v m r n x h = fits-marked (insert v n x) m r n (ap is_some (there_itself v n x)) (Room-all (insert v n x) m r h)
 
-  -- room for at least the marks so far and all values, one of them just put in, is enough (`Room`) once this one is
-  -- marked
+  -- room for at least the marks so far and all values, among them a new one, is enough (`Room`) once the number of the
+  -- new value is marked
   pub Room-inserted : (v : FinMap nat_cmp V) (m : set.FinSet nat_cmp) (r n : ℕ) (x : V) → set.len m + len (insert v n x) ≤ r → Room (insert v n x) (set.insert m n) r
   Room-inserted v m r n x h = rw (held-marked (insert v n x) m n (ap is_some (there_itself v n x))) (Room-all (insert v n x) m r h)
 

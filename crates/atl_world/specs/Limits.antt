@@ -65,7 +65,7 @@ most_fraction = 1000
 abbrev pub most_growth : ℕ
 most_growth = 100
 
--- the largest weight of a man or an item, and the largest weight that one can carry
+-- the largest weight of a man or an item, and the largest weight that a man or an item can carry
 abbrev pub most_weight : ℕ
 most_weight = 10000
 

@@ -254,7 +254,7 @@ pub record IsWorld (w : WorldValue) : Type 0 where
   pub kinds : (i : ℕ) (k : Kind) → slice_get w.kinds i ≡ Some k → IsKind (length w.items) (length w.skills) k
   -- each region is listed under its own number, is in its ranges, and refers only to terrains and items of the world
   pub regions : (n : ℕ) (p : RegionPlan) → get w.regions n ≡ Some p → IsRegionPlan (length w.terrains) (length w.items) n p
-  -- each neighbour of a region is a region of the world, and has the first one on the opposite side
+  -- each neighbour of a region is a region of the world, whose neighbour on the opposite side is the region itself
   pub neighbours : (n : ℕ) (p : RegionPlan) → get w.regions n ≡ Some p → HasNeighbours w.regions n p.north p.south p.east p.west
   -- no two terrains have the same name, ignoring ASCII case
   pub terrain_names : NamesDiffer (map (λ (t : Terrain). t.name) w.terrains)

@@ -39,7 +39,7 @@ pub const MOST_FRACTION: u32 = 1_000;
 /// The most births in a month, in percent of the peasants.
 pub const MOST_GROWTH: u32 = 100;
 
-/// The largest weight of a man or an item, and the largest weight that one can carry.
+/// The largest weight of a man or an item, and the largest weight that a man or an item can carry.
 pub const MOST_WEIGHT: u32 = 10_000;
 
 /// The highest level of a skill; the lowest that is learned is 1.

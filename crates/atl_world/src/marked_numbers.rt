@@ -38,6 +38,7 @@ impl<'a> Iterator for MarkedNumbers<'a> {
 
     ghost remaining = { item_count (λ s. s) };
 
+    /// The least of the numbers left to come; `None` at the end.
     fn next(&mut self) -> Option<u32> {
         let Some(number) = self.numbers.as_slice().first() else {
             return next_of(&mut self.recent);

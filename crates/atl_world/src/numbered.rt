@@ -158,6 +158,7 @@ impl<'a, V> Iterator for Entries<'a, V> {
 
     ghost remaining = { item_count (λ s. s) };
 
+    /// The lowest number left to come, with its value; `None` at the end.
     fn next(&mut self) -> Option<(u32, &'a V)> {
         match self.inner.next() {
             Some((number, value)) => Some((*number, value)),

@@ -12,8 +12,8 @@ ghost use Rattle.atl_world.specs.Tracking.{Lists};
 use std::alloc::{AllocError, Global};
 use std::marker::Model;
 
-/// A sorted list of numbers without duplicates, with room for more. To add one takes time in the
-/// number of those above it.
+/// A sorted list of numbers without duplicates, with room for more. To add a number takes time in
+/// how many numbers of the list are above it.
 #[derive(Drop)]
 pub struct SortedNumbers {
     numbers: Vec<u32>,
@@ -167,8 +167,8 @@ fn put_at(numbers: &mut Vec<u32>, place: usize, number: u32)
     let _ = numbers.insert(place, number);
 }
 
-/// The length of a list of numbers; the clause `small` says besides that the argument `last`, as
-/// any number of 32 bits, is below 2^32.
+/// The length of a list of numbers. Its clause `small` tells `SortedNumbers::len` that the number
+/// `last`, which has 32 bits, is below 2^32.
 fn length_of_bounded(numbers: &[u32], last: u32) -> usize
     ensures value { result ≡ length numbers.now }
     ensures small { last < number_count }

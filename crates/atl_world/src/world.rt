@@ -44,7 +44,8 @@ pub struct Rules {
 /// A terrain, such as a forest: whether it is land, and what a region of it pays, holds and gives.
 #[derive(Debug)]
 pub struct Terrain {
-    /// The name as the file writes it; no two terrains' names are equal, ignoring ASCII case.
+    /// The terrain's name, as the world file writes it; no two terrains have the same name,
+    /// ignoring ASCII case.
     pub name: Text,
     /// Whether the terrain is land, else it is water.
     pub land: bool,
@@ -71,7 +72,8 @@ impl Drop for Terrain {
 /// An item of goods: what it weighs, what it carries, and what making one takes.
 #[derive(Drop, Debug)]
 pub struct Item {
-    /// The name as the file writes it; no two items' names are equal, ignoring ASCII case.
+    /// The item's name, as the world file writes it; no two items have the same name, ignoring
+    /// ASCII case.
     pub name: Text,
     /// The weight of one item, at most `MOST_WEIGHT`.
     pub weight: u32,
@@ -79,7 +81,7 @@ pub struct Item {
     pub carry: u32,
     /// The number of the skill that makes the item. Without one nobody can make it.
     pub skill: Option<u16>,
-    /// The level of its skill that making the item takes, from 1 to `LAST_LEVEL`.
+    /// The level of the item's skill that making the item takes, from 1 to `LAST_LEVEL`.
     pub level: u32,
     /// The number of the item that this item is made of, another one. Without one, this item comes
     /// out of the output of terrains.
@@ -91,7 +93,8 @@ pub struct Item {
 /// A skill that men study, and its fee.
 #[derive(Drop, Debug)]
 pub struct Skill {
-    /// The name as the file writes it; no two skills' names are equal, ignoring ASCII case.
+    /// The skill's name, as the world file writes it; no two skills have the same name, ignoring
+    /// ASCII case.
     pub name: Text,
     /// Money that a month of study costs a man, at most `MOST_PRICE`.
     pub fee: u32,
@@ -100,7 +103,8 @@ pub struct Skill {
 /// A kind of structure: what building one takes, and what it is good for.
 #[derive(Drop, Debug)]
 pub struct Kind {
-    /// The name as the file writes it; no two kinds' names are equal, ignoring ASCII case.
+    /// The kind's name, as the world file writes it; no two kinds have the same name, ignoring
+    /// ASCII case.
     pub name: Text,
     /// Whether the structure is a ship, else it is a building.
     pub ship: bool,
@@ -110,14 +114,15 @@ pub struct Kind {
     pub size: u32,
     /// The number of the skill that builds the structure.
     pub skill: u16,
-    /// The level of its skill that building the structure takes, from 1 to `LAST_LEVEL`.
+    /// The level of the kind's skill that building the structure takes, from 1 to `LAST_LEVEL`.
     pub level: u32,
     /// The most weight of men and goods with which a ship sails, at most `MOST_AMOUNT`.
     pub capacity: u32,
     /// The least sum of men times their level of sailing, over all units inside, with which a ship
     /// sails, at most `MOST_SIZE`.
     pub crew: u32,
-    /// The number of the skill that is studied better inside, where there is one.
+    /// The number of the skill that is studied better inside a structure of the kind, where there
+    /// is one.
     pub helps: Option<u16>,
 }
 
@@ -142,7 +147,7 @@ pub struct Market {
 pub struct RegionPlan {
     /// The region's number, from 1 to `LAST_REGION`; no two regions have one number.
     pub number: u32,
-    /// The name as the file writes it. Regions may share a name.
+    /// The region's name, as the world file writes it. Regions may share a name.
     pub name: Text,
     /// The number of the region's terrain.
     pub terrain: u16,
@@ -230,8 +235,8 @@ impl Model for World {
 impl World {
     ghost use Rattle.atl_world.specs.Worlds.{IsWorld, land_of, world_of_parts};
 
-    /// Makes the world of its parts, where `land` has the numbers of the regions whose terrain is
-    /// land.
+    /// Makes the world of its parts, which together must be a world (`IsWorld`); `land` has the
+    /// numbers of the regions whose terrain is land, in ascending order.
     pub fn from_parts(
         rules: Rules,
         terrains: Sequence<Terrain>,

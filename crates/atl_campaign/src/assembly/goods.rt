@@ -15,6 +15,7 @@ use atl_world::Numbered;
 use std::alloc::AllocError;
 
 /// Puts the amount of a row of `has`, of an item or a skill, into its unit, if there is that unit.
+/// The amount has to be in its range.
 fn put_thing(units: &mut Arena<Unit>, row: &StoredHas) -> Result<(), AllocError>
     requires { has_in_range row.now ≡ true }
     ensures { OnOk result (units.new

@@ -39,7 +39,8 @@ fn bare_unit(alloc: Global, row: &StoredUnit) -> Result<Unit, AllocError>
     })
 }
 
-/// The units that rows of `unit` say, by number, without items and days of study.
+/// The units that rows of `unit` say, by number, without items and days of study. Names have to
+/// keep the name rule, and numbers have to be in their ranges.
 fn bare_units(alloc: Global, rows: &[StoredUnit]) -> Result<Arena<Unit>, AllocError>
     requires named { list_all (λ r. name_ok r.name) rows.now ≡ true }
     requires range { list_all unit_in_range rows.now ≡ true }

@@ -13,7 +13,9 @@ use atl_records::{ENTRY_COUNT, FIRST_ITEM};
 use atl_world::{Marks, World};
 use std::alloc::{AllocError, Global};
 
-/// The campaign that is read from rows, with nothing marked. AllocError without memory.
+/// The campaign that is read from rows, with nothing marked. There has to be one campaign row.
+/// Names and pass texts have to keep their rules, and rows of `faction`, `region`, `unit` and `has`
+/// have to be in their ranges. AllocError without memory.
 #[tactic(auto, unfolding(crate::specs::FromRows::campaign_of))]
 pub fn assemble(alloc: Global, world: &World, parts: &Parts) -> Result<Campaign, AllocError>
     requires one { length parts.now.campaign ≡ 1 }

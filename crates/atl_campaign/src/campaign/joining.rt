@@ -94,7 +94,8 @@ fn make_faction(alloc: Global, number: u32, name: &[u8], pass: &[u8]) -> Result<
     })
 }
 
-/// Books the money and the one man of a faction that joins, under the entry Joining.
+/// Books the money and the one man of a faction that joins, under the entry Joining. What is booked
+/// of both so far has to be far from the ends of i64.
 fn book_joining(books: &mut Books, money: u32)
     requires things { 2 ≤ books.old.things }
     requires money { IsSmall (amount_in books.old Joining Money) }
@@ -125,9 +126,10 @@ impl Campaign {
             || self.next_unit > LAST_UNIT
     }
 
-    /// Adds a faction with one unit, and returns the numbers of both. The unit is one man with the
-    /// start money, in the land region that the word of the dice picks. What it brings is booked.
-    /// On a fault the campaign stays as it is, its marks too. See docs/RULES.md, "Joining".
+    /// Adds a faction with one unit, and returns the numbers of both. The campaign has to be good,
+    /// and the name and the pass text have to keep their rules. The unit is one man with the start
+    /// money, in the land region that the word of the dice picks. What it brings is booked. On a
+    /// fault the campaign stays as it is, its marks too. See docs/RULES.md, "Joining".
     #[tactic(auto, unfolding(crate::specs::Joining::join_of))]
     pub fn join(
         &mut self,
@@ -158,8 +160,8 @@ impl Campaign {
     }
 
     /// Adds a faction with its unit under the next numbers, books what they bring, and returns both
-    /// numbers. The next unit number must be at most LAST_UNIT. AllocError without memory, and then
-    /// nothing changes.
+    /// numbers. The campaign has to be sound, the next unit number at most LAST_UNIT, and name and
+    /// pass text UTF-8. AllocError without memory, and then nothing changes.
     fn enroll(
         &mut self,
         world: &World,

@@ -120,7 +120,8 @@ impl Campaign {
         self.reports.marked_numbers()
     }
 
-    /// Whether the amount of a thing under an entry of the books is marked.
+    /// Whether the amount of a thing under an entry of the books is marked. The thing has to be one
+    /// of the books' things.
     pub fn is_amount_marked(&self, entry: Entry, thing: Thing) -> bool
         requires { thing_index thing < self.now.value.books.things }
         ensures { result ≡ set.contains self.now.marks.books (amount_number entry thing) }

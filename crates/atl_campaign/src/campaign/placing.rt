@@ -120,9 +120,10 @@ impl Campaign {
         self.units.remove(number);
     }
 
-    /// Removes a unit with all that it holds. Where it owned the structure that it was inside, that
-    /// gets its next owner. The unit and its goods are marked, and that structure. Where there is
-    /// no such unit nothing changes. It takes no memory. See docs/RULES.md, "Owners".
+    /// Removes a unit with all that it holds. Where it owned the structure that it was inside, the
+    /// structure gets its next owner, and is marked. The unit, its row and all its goods are
+    /// marked. Where there is no such unit nothing changes. It takes no memory. See docs/RULES.md,
+    /// "Owners".
     pub fn remove_unit(&mut self, number: u32)
         ensures what { self.new.value ≡ without_unit self.old.value number }
         ensures marks { self.new.marks ≡ (gone_marked self.old number).marks }

@@ -119,7 +119,8 @@ fn nobody_is_served<R: Clock + Abort>(
     Ok(())
 }
 
-/// Serving with a listener that has no connection ends in the fault Net, and no command is run.
+/// Serving with a listener that has no connection and doesn't wait for one ends in the fault Net,
+/// and no command is run.
 #[test]
 fn no_connection_is_taken(rt: HostRuntime) -> Result<(), Fail> {
     let Ok(listener) = TcpListener::bind(&rt, (Ipv4Addr::LOCALHOST, 0)) else {

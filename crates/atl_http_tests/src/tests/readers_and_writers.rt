@@ -33,6 +33,7 @@ impl<'a> Pieces<'a> {
 /// Gives the next piece, none at the end, or an error: Interrupted, or ConnectionReset once no read
 /// is left.
 impl<'a> Read for Pieces<'a> {
+    /// Gives the next piece and returns its length, 0 at the end of the bytes; counts the read.
     fn read(&mut self, buf: &mut [u8]) -> io::Result<usize> {
         self.reads = self.reads.saturating_add(1);
         if self.reads_left == 0 {
@@ -84,6 +85,7 @@ impl Narrow {
 
 /// Takes the next piece; or gives Interrupted, and after `most` bytes BrokenPipe or takes none.
 impl Write for Narrow {
+    /// Takes the next piece and returns its length, 0 if the writer takes none; counts the write.
     fn write(&mut self, buf: &[u8]) -> io::Result<usize> {
         self.writes = self.writes.saturating_add(1);
         if self.interrupted < self.interruptions {
@@ -105,6 +107,7 @@ impl Write for Narrow {
         }
     }
 
+    /// Does nothing: each byte is taken at once.
     fn flush(&mut self) -> io::Result<()> {
         Ok(())
     }

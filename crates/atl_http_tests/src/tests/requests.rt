@@ -328,9 +328,9 @@ fn bodies(rt: HostRuntime) -> Result<(), Fail> {
     plays(&rt, rt.alloc(), &BODIES)
 }
 
-/// Joins with their replies: bodies with `name`, `pass` and a value that can't be read, as it is
-/// nested 128 deep, beyond all numbers, or half a character. One nested 127 deep is read, and empty
-/// lines may come before a head.
+/// Joins with their replies: bodies with `name`, `pass` and a value that can't be read: one nested
+/// 128 deep, a number beyond 64-bit floats, or a lone surrogate. A value nested 127 deep is read,
+/// and empty lines may come before a head.
 static VALUES: [Case; 4] = [
     (
         "POST /join HTTP/1.0\r\nContent-Length: 291\r\n\r\n{\"name\":\"Avalon\",\"pass\":\"pw\",\"more\":[[[[[[[[[[[[[[[[[[[[[[[[[[[[[[[[[[[[[[[[[[[[[[[[[[[[[[[[[[[[[[[[[[[[[[[[[[[[[[[[[[[[[[[[[[[[[[[[[[[[[[[[[[[[[[[[[[[[[[[[[[[[[[[]]]]]]]]]]]]]]]]]]]]]]]]]]]]]]]]]]]]]]]]]]]]]]]]]]]]]]]]]]]]]]]]]]]]]]]]]]]]]]]]]]]]]]]]]]]]]]]]]]]]]]]]]]]]]]]]]]]]]]]]]]]]]]]}",

@@ -41,6 +41,7 @@ pub(crate) trait Served {
 
 /// A service over any store serves by the calls of atl_http, with the words of `DICE`.
 impl<S: Alter> Served for Service<S> {
+    /// Serves one request, by `serve_one` of atl_http.
     fn serve<R: Read, W: Write>(
         &mut self,
         alloc: Global,
@@ -50,6 +51,7 @@ impl<S: Alter> Served for Service<S> {
         serve_one(alloc, reader, writer, self, DICE)
     }
 
+    /// Serves the next `count` connections, by `serve_each` of atl_http.
     fn serve_each<C: Clock>(
         &mut self,
         alloc: Global,
@@ -60,6 +62,7 @@ impl<S: Alter> Served for Service<S> {
         serve_each(alloc, clock, listener, self, count, DICE)
     }
 
+    /// The number of the campaign's next faction; 0 if the service is closed.
     fn next_faction(&self) -> u32 {
         match self.campaign() {
             Some(campaign) => campaign.next_faction(),
@@ -67,6 +70,7 @@ impl<S: Alter> Served for Service<S> {
         }
     }
 
+    /// The text of the books, by the call of the service.
     fn books(&self) -> Option<Result<String, AllocError>> {
         Service::books(self)
     }

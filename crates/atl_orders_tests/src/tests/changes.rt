@@ -6,8 +6,8 @@ use atl_test_worlds::SMALL;
 /// (`none`: a good world).
 pub(crate) type Change = (&'static str, &'static str, &'static str);
 
-/// Edits of the small world's text: keys that are missing or wrong, and which of two faults comes
-/// first. The first two rows replace all of it.
+/// Edits of the small world's text: keys that are missing, faulty or allowed, and pairs of faults
+/// of which one is reported first. The first two rows replace the whole text.
 pub(crate) static SMALL_CHANGES: [Change; 26] = [
     (SMALL, "a = = b", "1 NotToml"),
     (SMALL, "", "2 Missing rules"),

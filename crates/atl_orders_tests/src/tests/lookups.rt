@@ -108,7 +108,8 @@ fn words_name(rt: &impl Abort, alloc: Global, world: &World) -> Result<(), Fail>
     Ok(())
 }
 
-/// Look-ups by a word find the item, the skill and the kind of that name, or none.
+/// A word of a mailing names the item, skill or kind whose name it is, ignoring case, with `_` as a
+/// space if the word is unquoted. Any other word names nothing.
 #[test]
 fn names_in_orders(rt: HostRuntime) -> Result<(), Fail> {
     let world = world_with(rt.alloc(), NAMED)?;

@@ -36,8 +36,8 @@ fn told_of(alloc: Global, mailing: &Mailing) -> Result<String, Fail> {
     Ok(told)
 }
 
-/// What a text is read as: its orders and faults as text, or `refused` with the number of the
-/// refusal.
+/// What a text is read as: its orders and faults as text, or `refused` with the number of the mail
+/// fault.
 fn told(alloc: Global, world: &World, text: &[u8]) -> Result<String, Fail> {
     match read_mailing(alloc, world, text) {
         Ok(mailing) => {

@@ -66,8 +66,8 @@ static MARKS: [Row; 13] = [
     (Step::Unmark, 0, &[]),
 ];
 
-/// Calls, made in turn on the map of `filled`, after which its values are those from before: one is
-/// removed and inserted again, and a new one is inserted and removed.
+/// Calls, made in turn on the map of `filled`, after which the map has the values from before: a
+/// value is removed and inserted again, and a new value is inserted and removed.
 static ROUND: [Row; 5] = [
     (Step::Remove(20), 2, &[20]),
     (Step::Insert(20, 2), 3, &[20]),
@@ -144,7 +144,8 @@ fn is_changed(rt: &impl Abort, alloc: Global, map: &MarkedMap<u32>) -> Result<()
     assert_map(rt, alloc, map.values(), &[1, 8, 4, 4, 20, 6, 30, 7])
 }
 
-/// A change of a map marks the number whose value changed.
+/// A new, overwritten or removed value of a map marks its number, and a value that is taken out
+/// takes its mark along.
 #[test]
 fn tracked(rt: HostRuntime) -> Result<(), Fail> {
     let mut map = MarkedMap::of(rt.alloc(), filled(rt.alloc())?)?;

@@ -39,8 +39,8 @@ fn markets_in_both_formats(rt: HostRuntime) -> Result<(), Fail> {
     )
 }
 
-/// Edits of the world with one market, and whether the edited world is then equal to it but for the
-/// markets, which it is also if the edit changes nothing.
+/// Edits of the world with one market, and whether the edited world equals the old one but for the
+/// markets, as also where the edit changes nothing.
 static CHANGES: [(&str, &str, bool); 24] = [
     ("price = 7", "price = 8", true),
     ("pays = 5", "pays = 6", true),

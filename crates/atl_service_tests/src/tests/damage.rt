@@ -109,8 +109,8 @@ static ROWS: [(&str, Told); 23] = [
     ),
 ];
 
-/// SQL statements that insert stocks, book an entry 17, or make the table of stocks otherwise, and
-/// the outcome of opening afterwards. Region 1 has a market of wood with a limit of 30.
+/// SQL statements that insert stocks, book an entry 17, or make the table of stocks without its
+/// key, and the outcome of opening afterwards. Region 1 has a market of wood with a limit of 30.
 static STOCKS: [(&str, Told); 9] = [
     (
         "INSERT INTO market VALUES (1, 0, 30); INSERT INTO books VALUES (16, 2, 30)",
@@ -296,8 +296,8 @@ fn the_first_rule_that_rows_break_is_told(rt: HostRuntime) -> Result<(), Fail> {
     assert_openings(&rt, rt.alloc(), &ROWS)
 }
 
-/// Opening a database reports the rule that its stocks, or an entry 17 of the books, break; it is
-/// refused if the table of stocks is made otherwise.
+/// Opening a database reports the rule that its stocks, or an entry 17 of the books, break; a table
+/// of stocks without its key is answered Store.
 #[test]
 fn stocks_that_break_a_rule_are_told(rt: HostRuntime) -> Result<(), Fail> {
     assert_openings(&rt, rt.alloc(), &STOCKS)

@@ -1,5 +1,5 @@
-//! Calls each law of the crates under test once and asserts nothing: a law does nothing, and its
-//! clause is proved.
+//! Calls the law of stored mailings once and asserts nothing: a law does nothing, and its clause is
+//! proved.
 use atl_service::only_the_last_mail_counts;
 
 /// Calls the law `only_the_last_mail_counts` and asserts nothing: its clause is proved.

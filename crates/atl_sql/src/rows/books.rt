@@ -20,7 +20,8 @@ pub struct BooksRow {
     pub entry: u32,
     /// The thing: 0 is money, 1 is people, and an item is 2 more than the world's number of it.
     pub thing: u32,
-    /// Money, men or pieces of the item.
+    /// How much of the thing is booked: money, people, or pieces of the item; negative for what
+    /// left the campaign.
     pub amount: i64,
 }
 

@@ -40,7 +40,7 @@ impl ThingKind {
 pub struct HasRow {
     /// The number of the unit.
     pub unit: u32,
-    /// Whether it is an item or a skill.
+    /// Whether the row is about an item or a skill.
     pub sort: ThingKind,
     /// The world's number of the item or the skill.
     pub thing: u32,

@@ -34,7 +34,7 @@ pub trait HasSelect: Stored {
     // The part of a campaign that the table is of.
     ghost part: { Part };
 
-    /// The first format that has the table, and the SELECT of all its columns.
+    /// The first format that has the table, and the text of the SELECT that shows all its rows.
     fn select_of() -> (Format, &'static str)
         ensures since { result.0 ≡ (listing_of part).since }
         ensures select { result.1.now ≡ (listing_of part).select };

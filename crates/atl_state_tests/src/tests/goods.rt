@@ -59,11 +59,12 @@ static ONE_BY_ONE: [Row; 11] = [
     ),
 ];
 
-/// The wanted marks of a unit that was lent or removed after an item and a skill of it were marked.
+/// The wanted marks after an item and a skill of unit 1 were set, and `unit_mut` then lent its
+/// holding or the unit was removed.
 const WHOLE: &str = "1, units [1], rows [1], goods [1], item 7 of unit 1, skill 3 of unit 1";
 
-/// Steps that set an item and a skill of unit 1, and then lend its holding or remove it, which
-/// marks the unit as a whole besides.
+/// Steps that set an item and a skill of unit 1, and then change its money through `unit_mut`,
+/// which lends its holding, or remove it. Both mark the unit as a whole besides.
 static AS_A_WHOLE: [Row; 8] = [
     (
         Step::Unit(1, OfUnit::Item(7, 4)),
@@ -100,7 +101,8 @@ static AS_A_WHOLE: [Row; 8] = [
     (Step::Unmark, GOODS, "none", "0"),
 ];
 
-/// Tests that an item or skill that is set is marked by itself, and a lent or removed unit whole.
+/// Tests that an item or skill that is set is marked by itself, and that a unit is marked whole
+/// once `unit_mut` lends its holding or it is removed.
 #[test]
 fn goods_are_marked(rt: HostRuntime) -> Result<(), Fail> {
     let mut campaign = joined_by(rt.alloc(), ISLE)?;

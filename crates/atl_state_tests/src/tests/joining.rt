@@ -1,5 +1,5 @@
-//! Tests of which parts are marked when a faction joins, and when units and structures are added,
-//! lent or removed.
+//! Tests of which parts are marked when a faction joins, when a unit or structure is added, and
+//! when a unit is lent to be changed, or removed.
 use super::compare::{assert_amount, assert_count};
 use super::making::{BOAT, avalon_joins, founded_in};
 use super::shown::{Ask, Row, assert_steps};
@@ -11,8 +11,8 @@ use std::alloc::Global;
 use std::process::Abort;
 use std::test::Fail;
 
-/// Calls that add, lend and remove units and structures, and what each marks. Avalon has just
-/// joined.
+/// Calls that add a unit, begin a structure, change a unit through `unit_mut` (which lends its
+/// holding), and remove a unit; and what each marks. Avalon has just joined.
 static CALLS: [Row; 14] = [
     // The faction, its unit, its money and its man in the books, and the campaign's row.
     (
@@ -93,7 +93,8 @@ fn comes_and_goes(rt: &impl Abort, alloc: Global, world: &World) -> Result<(), F
     assert_steps(rt, alloc, &mut campaign, &CALLS)
 }
 
-/// Tests what is marked when a faction joins, and when units and structures come and go.
+/// Tests that a faction that joins, an added unit or structure, and a unit that is lent or removed
+/// are marked, each with the rows that change with it.
 #[test]
 fn coming_and_going_is_marked(rt: HostRuntime) -> Result<(), Fail> {
     let world = read_world(rt.alloc(), ISLE)?;

@@ -203,7 +203,8 @@ fn peopled(alloc: Global) -> Result<Campaign, Fail> {
     Ok(campaign)
 }
 
-/// Tests who owns structures, and where units are listed, when units are moved and removed.
+/// Tests that a unit that enters an ownerless structure owns it, that the lowest-numbered unit
+/// inside is next when the owner leaves or is removed, and that each unit is listed where it is.
 #[test]
 fn placing_and_removing(rt: HostRuntime) -> Result<(), Fail> {
     let mut campaign = peopled(rt.alloc())?;
@@ -274,7 +275,8 @@ fn sails(rt: &impl Abort, alloc: Global, campaign: &mut Campaign) -> Result<(), 
     Ok(())
 }
 
-/// Tests the next owner of a structure, and that a boat that is moved keeps its owner.
+/// Tests that `owner_after` gives who would own a structure if a unit left it, and that a boat that
+/// is moved keeps its owner.
 #[test]
 fn going_inside_a_structure(rt: HostRuntime) -> Result<(), Fail> {
     let mut campaign = peopled(rt.alloc())?;

@@ -100,7 +100,8 @@ fn changes_region(campaign: &mut Campaign, region: u32, change: OfRegion) -> Res
     Ok(())
 }
 
-/// Changes the holding that `unit_mut` lent, as `change` says; does nothing if no unit was there.
+/// Changes the holding that `unit_mut` lent (a mutable reference), as `change` says; does nothing
+/// if no unit was there.
 fn changes_lent(lent: Option<&mut Holding>, change: OfUnit) -> Result<(), Fail> {
     let Some(holding) = lent else {
         return Ok(());
@@ -115,7 +116,8 @@ fn changes_lent(lent: Option<&mut Holding>, change: OfUnit) -> Result<(), Fail> 
     Ok(())
 }
 
-/// Makes the call that changes a unit as `change` says, or changes its lent holding.
+/// Makes the call that changes a unit as `change` says, or changes the holding that `unit_mut`
+/// lends.
 fn changes_unit(
     alloc: Global,
     campaign: &mut Campaign,

@@ -43,7 +43,7 @@ static COMING: [Step; 25] = [
 ];
 
 /// Steps that show the marks: units that came and units that went are marked. After the marks are
-/// cleared, only those of the next change are.
+/// cleared, only what changes from then on is marked.
 static MARKS: [Row; 6] = [
     (
         Step::Nothing,
@@ -94,7 +94,8 @@ fn go_round(rt: &impl Abort, alloc: Global, world: &World) -> Result<(), Fail> {
     come_back(rt, alloc, world, &campaign)
 }
 
-/// Tests which units are there and marked when units go and come, and that rows give them again.
+/// Tests that, as units go and come, those that are there are listed, those that came or went are
+/// marked, and `check` makes the same units of the campaign's rows.
 #[test]
 fn units_go_and_come(rt: HostRuntime) -> Result<(), Fail> {
     let world = read_world(rt.alloc(), ISLE)?;

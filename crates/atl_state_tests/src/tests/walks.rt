@@ -71,7 +71,8 @@ fn walks(rt: &impl Abort, alloc: Global, campaign: &mut Campaign) -> Result<(), 
     assert_steps(rt, alloc, campaign, &TOTALS)
 }
 
-/// Tests the walks over all factions, regions, units and structures, and the totals.
+/// Tests that walks over factions, regions, units and structures give all of them, and that totals
+/// add up what regions and units have.
 #[test]
 fn walking_over_a_campaign(rt: HostRuntime) -> Result<(), Fail> {
     let mut campaign = joined_by(rt.alloc(), ISLE)?;

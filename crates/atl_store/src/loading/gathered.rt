@@ -137,7 +137,7 @@ pub(crate) fn read_by<X: AllRows, Y: AllRows, S: Alter>(
     }
 }
 
-/// The rowids of these rows, in their order.
+/// The rowids of the rows `placed`, in their order.
 fn rowids_of<T>(alloc: Global, placed: &[RowWithId<T>]) -> Result<Vec<i64>, AllocError>
     ensures { IfOk result (λ rowids. rowids.items ≡ map (λ s. s.rowid) placed.now) }
 {
@@ -148,7 +148,7 @@ fn rowids_of<T>(alloc: Global, placed: &[RowWithId<T>]) -> Result<Vec<i64>, Allo
     Ok(rowids)
 }
 
-/// Whether no two of these rows have the same rowid.
+/// Whether no two of the rows `placed` have the same rowid.
 fn are_apart<T>(alloc: Global, placed: &[RowWithId<T>]) -> Result<bool, AllocError>
     ensures { IfOk result (λ yes. IsTrue yes ↔ (AreApart placed.now)) }
 {
@@ -156,7 +156,7 @@ fn are_apart<T>(alloc: Global, placed: &[RowWithId<T>]) -> Result<bool, AllocErr
     are_distinct(alloc, &rowids)
 }
 
-/// These rows without their rowids.
+/// The rows `placed` without their rowids.
 fn without_ids<T: Drop>(alloc: Global, placed: Vec<RowWithId<T>>) -> Result<Sequence<T>, AllocError>
     ensures { IfOk result (λ rows. rows ≡ map (λ s. s.row) placed.items) }
 {

@@ -45,7 +45,7 @@ read mail -> 1 "#ATLANTIS 1""##;
     play_new(&rt, rt.alloc(), script)
 }
 
-/// Writes leave a table and an index that a person added as they are.
+/// Writing a mailing leaves a table and an index that a person added as they are.
 #[test]
 fn other_tables_are_carried_along(rt: HostRuntime) -> Result<(), Fail> {
     let script = r##"create small

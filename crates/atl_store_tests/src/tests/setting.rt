@@ -16,7 +16,8 @@ pub(crate) fn numbers(text: &str) -> Result<[u32; 3], Fail> {
     Ok(all)
 }
 
-/// Sets what a unit has: `money 1 8` sets unit 1's money to 8, and `item 1 2 5` its item 2 to 5.
+/// Sets a unit's money, its amount of an item, or its days of a skill: `money 1 8` sets unit 1's
+/// money to 8, `item 1 2 5` its item 2 to 5, and `days 1 4 90` its days of skill 4 to 90.
 fn set_amount(
     campaign: &mut Campaign,
     what: &str,
@@ -65,7 +66,7 @@ fn set_lent(holding: &mut Holding, what: &str, first: u32, second: u32) -> Resul
 }
 
 /// Changes a unit through its holding, which the campaign lends and marks whole: `days 3 1 30` sets
-/// unit 3's days of skill 1.
+/// unit 3's days of skill 1 to 30.
 pub(crate) fn lend(campaign: &mut Campaign, text: &str) -> Result<(), Fail> {
     let (what, rest) = text.split_once(' ').ok_or("what is lent")?;
     let [unit, first, second] = numbers(rest)?;

@@ -6,8 +6,8 @@ use Rattle.atl_campaign.specs.Campaign.{numbers_inside}
 use Rattle.atl_action.specs.Sail.{crew_of, sum_inside}
 use Rattle.atl_action.proofs.sail.crew_and_load.Given as goal
 
--- The crew so far and that of the units left make the crew of all units inside, and so do the loads; each sum so far is
--- at most 2^64 - 1 for each unit that the loop has passed.
+-- The crew so far and that of the units still to come make the crew of all units inside, and so do the loads. Each sum
+-- so far is at most 2^64 - 1 for each unit that the loop has passed.
 abbrev pub invariant-loop-number : goal.invariant-loop-number
 invariant-loop-number l = record {
   -- the crew so far and that of the units left make the crew of all units inside

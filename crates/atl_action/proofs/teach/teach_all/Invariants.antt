@@ -6,7 +6,7 @@ use Rattle.atl_phase.specs.PhaseOrders.{task_of}
 use Rattle.atl_action.specs.Teach.{teach_order}
 use Rattle.atl_action.proofs.teach.teach_all.Given as goal
 
--- to carry out the orders left, after those so far, gives what all orders give: the men taught, and the events
+-- carrying out the orders still to come makes the men taught and the month that carrying out all orders makes
 abbrev pub invariant-loop-order : goal.invariant-loop-order
 invariant-loop-order l =
     fold (λ p o. teach_order l.campaign.value l.learning p (task_of o)) (amount_of l.taught, with_events l.fn.month l.events.items) (drop l.order-index l.order-items)

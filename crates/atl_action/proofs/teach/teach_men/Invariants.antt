@@ -16,7 +16,7 @@ invariant-loop-unit l = record {
   -- the places used so far and those that a lesson to the units left uses are those that the whole lesson uses
   men : (l.places - l.left) + min (sum_by (untaught_men l.campaign.value (amount_of l.taught)) (drop l.unit-index l.units)) l.left
       ≡ min (sum_by (untaught_men l.campaign.value (amount_of l.fn.taught)) l.units) l.places;
-  -- no more places are left than there were
+  -- at most all places of the lesson are left
   left : l.left ≤ l.places;
   -- no two of the units left are the same
   distinct : IsDistinct nat_eq (drop l.unit-index l.units);

@@ -5,7 +5,8 @@ use Rattle.atl_market.specs.ItemGroups.{item_shares_in}
 use Rattle.atl_market.specs.Puts.{with_each}
 use Rattle.atl_market.proofs.item_pots.share_items.Given as goal
 
--- putting the shares of the items still to come into the map so far gives the map at first with those of all items
+-- putting the shares of the items still to come into the map so far gives the map before the loop with the shares of
+-- all items put in
 abbrev pub invariant-loop-item : goal.invariant-loop-item
 invariant-loop-item g l =
     with_each l.given (flat_map (item_shares_in (g.P.ItemPots.pot_of l.pots) l.wants l.region) l.item-iterator)

@@ -44,8 +44,8 @@ restock_market-requires-clause-room c =
     room_for_market (c.in-Some-2.item, c.in-Some-2.market.now) c.next.new.self c.loop-item.campaign.value
     (subst (λ (es : List (ℕ × Market)). HaveRoom (stocking es) c.loop-item.campaign.value) c.in-Some-2.ensures.steps c.loop-item.invariant.room)
 
--- After one more market got its new goods, restocking those still to come still makes what restocking all makes, and
--- the campaign is steady, its books have room, and all changes are marked.
+-- After one more market got its new goods, restocking the markets still to come still makes what restocking all makes.
+-- The campaign is steady, its books have room, and all changes are marked.
 pub loop-item-preserved : goal.loop-item-preserved
 loop-item-preserved c =
     let w = c.args.world.now in

@@ -25,8 +25,8 @@ loop-number-init c =
       marks-refl c.args.campaign.now,
     )
 
--- After the season of one more region, that of those still to come still makes what that of all makes, and the campaign
--- is steady, its books have room, and all changes are marked.
+-- After the season of one more region, the season of the regions still to come still makes the campaign of the whole
+-- season. The campaign is steady, its books have room, and all changes are marked.
 pub loop-number-preserved : goal.loop-number-preserved
 loop-number-preserved c =
     let w = c.args.world.now in

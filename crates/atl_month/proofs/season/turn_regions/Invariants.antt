@@ -7,8 +7,8 @@ use Rattle.atl_phase.specs.Bounds.{HaveRoom, moved_times}
 use Rattle.atl_month.specs.Season.{season_moves, season, season_at}
 use Rattle.atl_month.proofs.season.turn_regions.Given as goal
 
--- before each region: the season of those still to come makes what that of all makes; the campaign is steady, its books
--- have room, and all changes are marked
+-- Before each region: the season of the regions still to come makes the campaign of the whole season; the campaign is
+-- steady, its books have room, and all changes are marked.
 abbrev pub invariant-loop-number : goal.invariant-loop-number
 invariant-loop-number l =
     (goal.iterator-loop-number).can_next l.number-iterator ×

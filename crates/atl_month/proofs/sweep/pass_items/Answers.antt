@@ -10,7 +10,7 @@ use Rattle.atl_month.proofs.sweep.pass_items.Goals as goal
 pub pass_item-requires-clause-room : goal.pass_item-requires-clause-room
 pass_item-requires-clause-room c = next_room c.args.items.now c.loop-item.item-index c.loop-item.campaign.value c.loop-item-test.true c.loop-item.invariant.room
 
--- After one more item was passed on, passing on those still to come still makes what passing on all makes, and the
+-- After one more item was passed on, passing on the items still to come still makes what passing on all makes. The
 -- campaign is steady, its books have room, and all changes are marked.
 pub loop-item-preserved : goal.loop-item-preserved
 loop-item-preserved c =

@@ -21,7 +21,7 @@ sweep_unit-requires-clause-room c =
     room_for_one (loses_by most_amount) w after_sweeping_unit (λ d m. swept_at_leaves_well w d m) c.loop-number.campaign.value n (drop (i + 1) list)
     (subst (λ (l : List ℕ). HaveRoom (moved_times (length l) (loses_by most_amount)) c.loop-number.campaign.value) behind c.loop-number.invariant.room)
 
--- After one more unit was swept, sweeping those still to come still makes what sweeping all makes, and the campaign is
+-- After one more unit was swept, sweeping the units still to come still makes what sweeping all makes. The campaign is
 -- steady, the map has its receivers, its books have room, and all changes are marked.
 pub loop-number-preserved : goal.loop-number-preserved
 loop-number-preserved c =

@@ -19,8 +19,8 @@ charge_upkeep-requires c =
     let (w, can) = c.loop-settled.invariant.can in
     (w, (subst (CanInTurn (CanPayUpkeep w) upkeep_at c.loop-settled.campaign.value) behind can).0)
 
--- After the upkeep of one more unit, that of the units still to come still makes what that of all makes, each of them
--- can pay in turn, and all changes are marked.
+-- After the upkeep of one more unit, the upkeep of the units still to come still makes the campaign that the upkeep of
+-- all makes. Each of these units can pay in turn, and all changes are marked.
 pub loop-settled-preserved : goal.loop-settled-preserved
 loop-settled-preserved c =
     let list = c.args.list.now in

@@ -7,8 +7,8 @@ use Rattle.atl_month.specs.UpkeepTaken.{CanPayUpkeep}
 use Rattle.atl_month.specs.Upkeep.{upkeep, upkeep_at}
 use Rattle.atl_month.proofs.upkeep.charge_all.Given as goal
 
--- before each result: the upkeep of the units still to come makes what that of all makes, each of them can pay in turn,
--- and all changes are marked
+-- Before each result: the upkeep of the units still to come makes the campaign that the upkeep of all makes, each of
+-- these units can pay in turn, and all changes are marked.
 abbrev pub invariant-loop-settled : goal.invariant-loop-settled
 invariant-loop-settled l = record {
   -- the upkeep of the units still to come makes the campaign that the upkeep of all makes

@@ -2,8 +2,8 @@ use Rattle.std.proofs.Common.{◌≡◌, ◌++◌, filter, map, drop}
 use Rattle.atl_month.specs.Upkeep.{starved_event, starves}
 use Rattle.atl_month.proofs.upkeep.report_starved.Given as goal
 
--- Before each result: the events so far, with those of the results still to come, are those before the loop with those
--- of all results; the month's readings, aliases and words stay.
+-- Before each result: adding the Starved events of the results still to come makes the events that those of all results
+-- make. The month's readings, aliases and words stay.
 abbrev pub invariant-loop-settled : goal.invariant-loop-settled
 invariant-loop-settled l = record {
   -- the month's readings are as before the loop

@@ -58,7 +58,7 @@ pub(crate) struct Plain {
     pub events: Vec<Event>,
 }
 
-/// Drops all lists of the campaign by one call (`let_go!`), which the prover meets only once.
+/// Drops all lists of the reference's campaign.
 impl Drop for Plain {
     fn drop(self) {
         let_go!(self: Plain { people, goods, lands, stocks, books, events });

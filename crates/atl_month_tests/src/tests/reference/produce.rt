@@ -141,7 +141,8 @@ fn set_item(
     })
 }
 
-/// Gives a unit what it made, takes the raw items that it used, and books both under Made and Used.
+/// Gives a unit what it made, which is booked under Made, and takes the raw items that it used,
+/// which are booked under Used.
 pub(crate) fn pay(world: &World, plain: &mut Plain, given: Given) -> Result<(), AllocError> {
     let Some(item) = world.items().get(given.thing as usize) else {
         return Ok(());

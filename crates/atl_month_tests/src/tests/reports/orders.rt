@@ -38,7 +38,7 @@ const WORKED: Event = Event {
     outcome: Outcome::Done(12),
 };
 
-/// An event of a QUIT that failed with fault 11.
+/// An event of a QUIT that was not carried out: fault 11, which is WrongNumber.
 const QUIT: Event = Event {
     faction: 1,
     unit: 1,
@@ -65,7 +65,7 @@ const UPKEEP: Event = Event {
     outcome: Outcome::Done(4_294_967_300),
 };
 
-/// An event of a GIVE for an alias that no unit has.
+/// An event of a GIVE for an alias that no unit has: for unit 0, with fault 1, which is NotYours.
 const FORMED_BY_NOBODY: Event = Event {
     faction: 1,
     unit: 0,
@@ -214,7 +214,8 @@ fn faults_and_events(rt: HostRuntime) -> Result<(), Fail> {
     assert_cases(&rt, rt.alloc(), &world)
 }
 
-/// The fault of an order is printed with its number, and the fault of a join without one.
+/// The fault of an order is printed as its number and name, and the fault of a join as its name
+/// alone.
 #[test]
 fn printed_faults(rt: HostRuntime) -> Result<(), Fail> {
     let of_order = format!(in rt.alloc(); "{}", EventFault::NoWay)?;

@@ -63,7 +63,7 @@ pub(crate) struct Person {
     pub men: i64,
     pub money: i64,
     pub guard: i64,
-    /// Amounts of items, and days of skills.
+    /// What the unit has: amounts of items and days of skills, each under a pair such as `WOOD`.
     pub has: &'static [((i64, i64), i64)],
 }
 
@@ -106,7 +106,7 @@ pub(crate) struct Scene {
     pub books: &'static [(i64, i64, i64)],
 }
 
-/// A scene without units and structures, so that both factions are gone.
+/// A scene without units and structures, so that factions 1 and 2 are gone.
 pub(crate) const NOBODY: Scene = Scene {
     people: &[],
     built: &[],
@@ -142,7 +142,7 @@ fn faction(alloc: Global, number: i64, name: &str, scene: &Scene) -> Result<Stor
     })
 }
 
-/// The rows of both factions.
+/// The rows of factions 1 and 2 in the table `faction`.
 fn factions(alloc: Global, scene: &Scene) -> Result<Sequence<StoredFaction>, Fail> {
     let mut all = Sequence::new(alloc);
     all.push(faction(alloc, 1, "Avalon", scene)?)?;
@@ -150,7 +150,7 @@ fn factions(alloc: Global, scene: &Scene) -> Result<Sequence<StoredFaction>, Fai
     Ok(all)
 }
 
-/// The rows of both factions' reports, all with one text.
+/// The rows of the table `report` for factions 1 and 2, both with the same text.
 fn reports(alloc: Global) -> Result<Sequence<StoredReport>, Fail> {
     let mut all = Sequence::new(alloc);
     for faction in 1..=2i64 {

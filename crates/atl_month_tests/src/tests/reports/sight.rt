@@ -574,8 +574,8 @@ fn assert_cases(rt: &impl Abort, alloc: Global, cases: &[Case]) -> Result<(), Fa
     Ok(())
 }
 
-/// A report shows a unit with stealth only if it guards, is the faction's own, or the faction's
-/// observation there is as high.
+/// Of the units of a region a report shows the faction's own, those that guard, and those whose
+/// level of stealth is at most the faction's best level of observation there.
 #[test]
 fn hidden_units(rt: HostRuntime) -> Result<(), Fail> {
     assert_cases(&rt, rt.alloc(), &HIDDEN)

@@ -56,6 +56,6 @@ returns-clause-what c =
       goods = old.goods;
     })
 
--- no single item is marked by setting men and days: the same ones are marked as before
+-- setting men and days marks no items: the marks of single items are those from before
 pub returns-clause-items : goal.returns-clause-items
 returns-clause-items c = c.loop-skill.invariant.items ∙ ap (λ (m : Marks). m.items) c.set_men.ensures.marks

@@ -2,6 +2,7 @@ use Rattle.std.proofs.Common.{◌≡◌, drop}
 use Rattle.atl_phase.specs.Month.{with_events}
 use Rattle.atl_phase.proofs.month.add_events.Given as goal
 
--- before each event: the month with the events still to come is the month at first with all of them
+-- before each event: adding the events still to come to the month makes what adding all events makes of the month at
+-- first
 abbrev pub invariant-loop-event : goal.invariant-loop-event
 invariant-loop-event l = with_events l.month (drop l.event-index l.events) ≡ with_events l.fn.month l.events

@@ -7,7 +7,7 @@ use Rattle.atl_service.proofs.closing.turn_month.Goals as goal
 pub close_month-requires-clause-own : goal.close_month-requires-clause-own
 close_month-requires-clause-own c = own_factions c.args.world.now c.args.campaign.now.value c.in_ok-mailings.field-0.mailings.items c.requires.good c.in_ok-mailings.ensures.readings_are
 
--- storing the reports that the result lists makes the campaign of `closed`
+-- storing a report for each faction that the result lists makes the campaign of `closed`
 pub returns-clause-outcome : goal.returns-clause-outcome
 returns-clause-outcome c =
     let after = c.in_ok-after.after.value in

@@ -4,6 +4,6 @@ use Rattle.atl_store.specs.Lines.{entries_lines}
 use Rattle.atl_sql.proofs.PuttingLaws.{Putting}
 use Rattle.atl_store.proofs.ledger.put_entries.Given as goal
 
--- at each turn the thing's rows under all these entries are put, but those of the entries that are left (`Putting`)
+-- at each turn the thing's rows under all listed entries are put, but those of the entries that are left (`Putting`)
 abbrev pub invariant-loop-entry : goal.invariant-loop-entry
 invariant-loop-entry g l = Putting g.S.Store books_table 2 (entries_lines l.campaign.value l.thing (drop l.entry-index l.entries)) (entries_lines l.campaign.value l.thing l.entries) l.fn.tx.conn l.tx.conn

@@ -8,7 +8,7 @@ use Rattle.atl_store.proofs.RewriteLaws.{none_nearer}
 use Rattle.atl_sql.proofs.WriteLaws.{begins, goes_on, stops_second, weaker}
 use Rattle.atl_store.proofs.ledger.rewrite_entries.Goals as goal
 
--- before the first entry the thing's marked amounts under all these entries are still to rewrite
+-- before the first entry the thing's marked amounts under all listed entries are still to rewrite
 pub loop-entry-init : goal.loop-entry-init
 loop-entry-init g c = begins g.S.Store (none_nearer books_table _ _ _ (λ r. refl))
 
@@ -23,7 +23,7 @@ loop-entry-preserved g c =
 pub returns-in_err-rewrite_amount : goal.returns-in_err-rewrite_amount
 returns-in_err-rewrite_amount g c = stops_second g.S.Store c.loop-entry.invariant c.in_err-rewrite_amount.ensures c.from_residual.ensures
 
--- when no entry is left, the thing's marked amounts under all these entries are rewritten
+-- when no entry is left, the thing's marked amounts under all listed entries are rewritten
 pub returns : goal.returns
 returns g c =
     let entries = c.args.entries.now in

@@ -4,7 +4,7 @@ use Rattle.atl_store.proofs.SingleLaws.{single_nearer, singles_rewritten}
 use Rattle.atl_sql.proofs.WriteLaws.{begins, goes_on, stops_second, weaker}
 use Rattle.atl_store.proofs.singles.rewrite_under.Goals as goal
 
--- before the first of these things the owner's amounts of all of them are still to rewrite (`NearingSingles`)
+-- before the first listed thing the owner's amounts of all listed things are still to rewrite (`NearingSingles`)
 pub loop-number-init : goal.loop-number-init
 loop-number-init g c = begins g.S.Store (none_nearer g.A.SingleAmounts.table _ _ _ (λ r. refl))
 
@@ -17,7 +17,7 @@ loop-number-preserved g c =
 pub returns-in_err-rewrite_single : goal.returns-in_err-rewrite_single
 returns-in_err-rewrite_single g c = stops_second g.S.Store c.loop-number.invariant c.in_err-rewrite_single.ensures c.from_residual.ensures
 
--- when none of these things is left, the owner's amounts of all of them are rewritten
+-- when no listed thing is left, the owner's amounts of all listed things are rewritten
 pub returns : goal.returns
 returns g c =
     let all = c.into_iter-number-iterator.ensures.into_iter_gives ∙ c.iter-number-items.ensures in

@@ -4,7 +4,7 @@ use Rattle.atl_store.proofs.SingleLaws.{NearingSingles, is_key}
 use Rattle.atl_sql.proofs.WriteLaws.{SoFar}
 use Rattle.atl_store.proofs.singles.rewrite_under.Given as goal
 
--- at each turn the owner's amounts of these things are rewritten, but for the things that are left
+-- at each turn the owner's amounts of all listed things are rewritten, but those of the things that are left
 abbrev pub invariant-loop-number : goal.invariant-loop-number
 invariant-loop-number g l =
     SoFar g.S.Store (OfChange l.fn.campaign.value)

@@ -4,7 +4,7 @@ use Rattle.atl_store.specs.Upgrading.{FailsCheck}
 use Rattle.atl_store.proofs.UpgradedLaws.{fails_to_read, loaded_old, other_world, told_as, unloaded}
 use Rattle.atl_store.proofs.upgrading.world_and_campaign.Goals as goal
 
--- a fault of loading in the first format is a check that failed (`FailsCheck`)
+-- a fault of loading in the first format makes a check of the upgrade fail (`FailsCheck`)
 pub returns-in_err-old_world-clause-err : goal.returns-in_err-old_world-clause-err
 returns-in_err-old_world-clause-err g c clean =
     let old = c.args.conn.now in
@@ -13,7 +13,7 @@ returns-in_err-old_world-clause-err g c clean =
     let fault = c.in_err-old_world.field-0.0 in
     told_as (FailsCheck g.S.Store text old mid) c.from_residual.result (first_fault fault) c.from_residual.ensures.1 (unloaded g.S.Store text old mid fault (c.in_err-old_world.ensures.err clean))
 
--- a fault of the new world text is a check that failed (`FailsCheck`)
+-- a fault of the new world text makes a check of the upgrade fail (`FailsCheck`)
 pub returns-in_err-world-clause-err : goal.returns-in_err-world-clause-err
 returns-in_err-world-clause-err g c clean =
     let old = c.args.conn.now in
@@ -26,7 +26,7 @@ returns-in_err-world-clause-err g c clean =
       loaded_old g.S.Store text old mid c.load_as.ensures.alone clean c.in_ok-old_world.old_world c.in_ok-old_world.campaign c.in_ok-old_world.ensures.ok,
     ))
 
--- a new world that differs in more than markets is a check that failed, with Differs (`FailsCheck`)
+-- a new world that differs in more than markets makes a check fail, with the fault Differs (`FailsCheck`)
 pub returns-then-not-is_same_but_for_markets-clause-err : goal.returns-then-not-is_same_but_for_markets-clause-err
 returns-then-not-is_same_but_for_markets-clause-err g c clean =
     other_world g.S.Store c.args.new_world.now c.args.conn.now c.load_as.new.conn c.load_as.ensures.alone clean c.in_ok-old_world.old_world c.in_ok-world.world c.in_ok-old_world.campaign c.in_ok-old_world.ensures.ok c.in_ok-world.ensures.definition

@@ -12,7 +12,8 @@ returns-in-None g c = (
   record { writes_back = tt; value = value_under c.self.inside.index c.self.inside.slots c.args.self.now c.args.number None c.self.invariant.slots_used c.self.view_is c.in-None.ensures },
 )
 
--- where the slot has a value, get_mut lends the one under the number, and the last value of the loan is there after
+-- where the slot has a value, get_mut lends this value, which is the one under the number, and what the loan ends with
+-- is then under the number
 pub returns-in-Some-get_mut : goal.returns-in-Some-get_mut
 returns-in-Some-get_mut g c =
     let i = c.self.inside.index in

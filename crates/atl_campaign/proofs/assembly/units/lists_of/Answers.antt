@@ -9,7 +9,8 @@ use Rattle.atl_records.specs.declared.records.Unit.{Unit}
 use Rattle.atl_campaign.proofs.SortedMapLaws.{comes_new}
 use Rattle.atl_campaign.proofs.assembly.units.lists_of.Goals as goal
 
--- before the first turn no unit is done, all are left, and the lists by region, faction and structure are those of none
+-- before the first turn no unit is done, all are left, and the lists by region, faction and structure are those of no
+-- units
 pub loop-number-init : goal.loop-number-init
 loop-number-init c =
     let all : c.into_iter-number-iterator.result ≡ entries c.args.units.now.values = search rules in

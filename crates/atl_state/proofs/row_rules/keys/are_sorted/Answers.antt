@@ -6,7 +6,7 @@ use Rattle.atl_state.proofs.row_rules.keys.are_sorted.Goals as goal
 pub loop-i-init : goal.loop-i-init
 loop-i-init g c = λ d k l. absurd (omega (arith, l))
 
--- after the loop has compared all values, each is above the one before it, as are_sorted says by true
+-- after the loop has compared all values, are_sorted returns true, and each value is above the one before it
 pub returns : goal.returns
 returns g c = λ _. rises g.met.K.Ord.total c.args.keys.now c.loop-i.i c.loop-i-test.false c.loop-i.invariant
 

@@ -1,7 +1,8 @@
 use Rattle.std.proofs.Common.{rules}
 use Rattle.atl_state.proofs.rules.known.is_placed.Goals as goal
 
--- if a unit's faction and region exist, is_placed returns whether the unit's items, skills and structure, unless 0, do
+-- If a unit's faction and region exist, is_placed returns whether its items and skills exist, and its structure is 0 or
+-- exists in its region.
 pub returns-then-is_somewhere : goal.returns-then-is_somewhere
 returns-then-is_somewhere c = (
   λ r.

@@ -4,7 +4,8 @@ use Rattle.atl_world.proofs.Maps.{get_at, one_put}
 use Rattle.atl_world.proofs.Lent.{read_same, lent_is_some}
 use Rattle.atl_world.proofs.numbered.Numbered.get_mut.Goals as goal
 
--- a write to the value that the `BTreeMap` lends makes the finite map of the definition (`WritesBackAt`)
+-- the value that the `BTreeMap` lends is that of the finite map under the number, and this map ends with what is
+-- written to it (`WritesBackAt`)
 pub returns : goal.returns
 returns g c =
     let l = c.get_mut.follows in
