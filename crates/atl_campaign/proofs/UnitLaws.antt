@@ -1,18 +1,23 @@
 -- Laws of AreUnits, the units' invariant: there is room for all marks, and a unit with a marked part is marked.
 use Rattle.std.proofs.Common.{◌≡◌, ℕ, ◌+◌, ◌≤◌, Bool, true, false, ◌||◌, cond, Option, Some, None, refl, sym, ap, ◌∙◌, arith}
-use Rattle.std.specs.Prelude.{is_some}
+use Rattle.std.specs.Prelude.{is_some, if◌then◌else◌}
 use Rattle.std.specs.Ordering.{nat_cmp, eq_by_cmp}
 use Rattle.std.specs.Cmp.{nat_cmp_total}
 use Rattle.std.specs.FinMap.{FinMap, get, get-empty, get-insert, insert, remove, len, empty}
 use Rattle.std.specs.FinSet as set
 use Rattle.std.proofs.lemmas.Bool.{false≢true}
 use Rattle.atl_world.specs.RoomySets.{RoomySet, HasRoomForMarks}
+use Rattle.atl_world.specs.Sums.{changed_at}
+use Rattle.atl_world.specs.Tracking.{marked_with}
 use Rattle.atl_world.proofs.GeneralLaws.{one_more}
+use Rattle.atl_world.proofs.SumLaws.{put_same}
 use Rattle.atl_world.proofs.TrackLaws.{Room-empty, Room-of, Room-unmarked, Room-lent, Room-over, Room-inserted, Room-without, fits-inserted}
 use Rattle.atl_records.specs.declared.records.Unit.{Unit}
-use Rattle.atl_campaign.specs.Marks.{Things, AreWithin}
+use Rattle.atl_records.specs.Holdings.{has_amount, with_amount_of}
+use Rattle.atl_records.proofs.HoldingLaws.{set_again}
+use Rattle.atl_campaign.specs.Marks.{Things, AreWithin, thing_marked}
 use Rattle.atl_campaign.specs.UnitRoom.{AreUnits}
-use Rattle.atl_campaign.specs.Roster.{Roster}
+use Rattle.atl_campaign.specs.Roster.{Roster, unless_has, with_item_at}
 
 -- ---- what is marked
 
@@ -219,3 +224,20 @@ AreUnits-added units marks rows goods marks2 rows2 goods2 items skills n w wider
 -- replacing a roster's units by the same units changes nothing
 pub same_values : (r : Roster) (values : FinMap nat_cmp Unit) → values ≡ r.values → record r { values = values } ≡ r
 same_values r values e = ap (λ (v : FinMap nat_cmp Unit). record r { values = v }) e
+
+module _ (r : Roster) (n item amount : ℕ) where
+  -- the unit with the amount of the item set
+  abbrev with_other : Unit → Unit
+  with_other u = record u { holding = record u.holding { items = with_amount_of u.holding.items item amount } }
+
+  -- the roster with the given units, and the item of unit n marked, unless None is given for the unit
+  abbrev after : FinMap nat_cmp Unit → Option Unit → Roster
+  after units o = record r { values = units; marks = marked_with r.marks n o; items = thing_marked r.items n item o }
+
+  -- setting an item of a unit that has this amount of it already changes neither the units nor their marks
+  pub with_item_again : (u : Unit) → get r.values n ≡ Some u → has_amount u.holding.items item amount ≡ true → with_item_at with_other r n item amount ≡ r
+  with_item_again u is has =
+      let same : with_other u ≡ u = ap (λ items. record u { holding = record u.holding { items = items } }) (set_again u.holding.items item amount has) in
+      ap (λ o. after (changed_at with_other r.values n o) (unless_has item amount o)) is
+      ∙ ap (λ b. after (insert r.values n (with_other u)) (if b then None else Some u)) has
+      ∙ same_values r (insert r.values n (with_other u)) (put_same r.values n u (with_other u) is same)
