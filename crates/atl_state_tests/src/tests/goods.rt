@@ -9,8 +9,9 @@ use std::test::Fail;
 const GOODS: Ask = Ask::Goods(1, 7, 3);
 
 /// Steps that set single items and skills, and what is marked after each. A unit counts as one
-/// part, however many of its items and skills are marked. An item or skill set to 0 is marked too.
-static ONE_BY_ONE: [Row; 11] = [
+/// part, however many of its items and skills are marked. An item that becomes 0 is marked too; one
+/// that is set to what the unit has of it already isn't.
+static ONE_BY_ONE: [Row; 13] = [
     (Step::Unmark, GOODS, "0, 0 days", "0"),
     (
         Step::Unit(1, OfUnit::Days(3, 30)),
@@ -38,6 +39,7 @@ static ONE_BY_ONE: [Row; 11] = [
         "1, units [1], item 2 of unit 1, item 7 of unit 1",
     ),
     (Step::Unmark, GOODS, "4, 60 days", "0"),
+    (Step::Unit(1, OfUnit::Item(7, 4)), GOODS, "4, 60 days", "0"),
     (
         Step::Unit(1, OfUnit::Item(7, 0)),
         GOODS,
@@ -45,6 +47,7 @@ static ONE_BY_ONE: [Row; 11] = [
         "1, units [1], item 7 of unit 1",
     ),
     (Step::Unmark, GOODS, "0, 60 days", "0"),
+    (Step::Unit(1, OfUnit::Item(7, 0)), GOODS, "0, 60 days", "0"),
     (
         Step::Unit(9, OfUnit::Item(7, 4)),
         Ask::Goods(9, 7, 3),
@@ -86,15 +89,15 @@ static AS_A_WHOLE: [Row; 8] = [
     ),
     (Step::Unmark, GOODS, "4, 30 days", "0"),
     (
-        Step::Unit(1, OfUnit::Item(7, 4)),
+        Step::Unit(1, OfUnit::Item(7, 5)),
         GOODS,
-        "4, 30 days",
+        "5, 30 days",
         "1, units [1], item 7 of unit 1",
     ),
     (
         Step::Unit(1, OfUnit::Days(3, 30)),
         GOODS,
-        "4, 30 days",
+        "5, 30 days",
         "1, units [1], item 7 of unit 1, skill 3 of unit 1",
     ),
     (Step::Unit(1, OfUnit::Remove), GOODS, "none", WHOLE),

@@ -216,6 +216,33 @@ SELECT stock FROM market WHERE region = 1 AND item = 1 -> 2";
     play_new(&rt, rt.alloc(), script)
 }
 
+/// Only items whose amounts changed are written. Both items are changed by hand; then one is set to
+/// what the campaign has of it, and an item that the unit lacks to 0, which marks nothing. Last the
+/// one is set to another amount, and the other keeps what was set by hand.
+#[test]
+fn only_changed_items_are_written(rt: HostRuntime) -> Result<(), Fail> {
+    let script = "create small
+join
+mail
+load
+set item 1 2 5
+set item 1 1 7
+write
+SELECT sum(amount) FROM has WHERE sort = 0 -> 12
+sql UPDATE has SET amount = 2 WHERE sort = 0
+set item 1 2 5
+set item 1 0 0
+marks -> 0
+write
+SELECT sum(amount) FROM has WHERE sort = 0 -> 4
+set item 1 2 6
+marks -> 1
+write
+SELECT amount FROM has WHERE sort = 0 AND thing = 2 -> 6
+SELECT amount FROM has WHERE sort = 0 AND thing = 1 -> 2";
+    play_new(&rt, rt.alloc(), script)
+}
+
 /// Stocks that were written are there when their table is read, and when the campaign is loaded.
 #[test]
 fn stocks_come_back(rt: HostRuntime) -> Result<(), Fail> {
