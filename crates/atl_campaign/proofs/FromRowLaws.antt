@@ -37,7 +37,7 @@ use Rattle.atl_records.proofs.AccountLaws.{place_at}
 use Rattle.atl_records.proofs.BookLaws.{AreBooks-no_amounts, AreBooks-with_amount}
 use Rattle.atl_records.proofs.EveryLaws.{every-empty, every-insert}
 use Rattle.atl_campaign.proofs.GroupLaws.{kept}
-use Rattle.atl_campaign.proofs.OrderLaws.{each_passes}
+use Rattle.atl_campaign.proofs.MapOfRowsLaws.{each_passes}
 
 -- ---- maps of rows
 

@@ -23,7 +23,7 @@ use Rattle.atl_campaign.proofs.AssemblyLaws.{min_small}
 use Rattle.atl_records.proofs.EveryLaws.{none_some, every-empty, every-insert, every-from_each, each-from_every, sorted}
 use Rattle.atl_campaign.proofs.HasLaws.{IsWhole, same}
 use Rattle.atl_campaign.proofs.KeyLaws.{IsDistinct-map}
-use Rattle.atl_campaign.proofs.OrderLaws.{Apart, rows_found}
+use Rattle.atl_campaign.proofs.MapOfRowsLaws.{Apart, rows_found}
 use Rattle.atl_campaign.proofs.OrderedLaws.{below}
 
 -- ---- facts of each row, in another order

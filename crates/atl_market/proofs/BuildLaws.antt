@@ -52,7 +52,7 @@ use Rattle.atl_market.specs.Making.{CanUse}
 use Rattle.atl_market.proofs.BuildBegunLaws.{built_well, first_name_ok, raised_well}
 use Rattle.atl_market.proofs.BuildPlaceLaws.{place_well}
 use Rattle.atl_market.proofs.BuildUsedLaws.{others_stay, used, used_for_well, used_room, user, user_there}
-use Rattle.atl_market.proofs.GoodsLaws.{used_is}
+use Rattle.atl_market.proofs.ItemUseLaws.{used_is}
 
 -- a number that isn't 0 is at least 1
 some : (n : ℕ) → (n == 0) ≡ false → 1 ≤ n

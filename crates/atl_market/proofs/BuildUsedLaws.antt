@@ -30,7 +30,7 @@ use Rattle.atl_phase.proofs.MeaningLaws.{less_room, near_more}
 use Rattle.atl_phase.proofs.OrderEffectLaws.{drawn_near}
 use Rattle.atl_market.specs.Bounds.{CanBuild, build_reserve, still_bookable}
 use Rattle.atl_market.specs.Goods.{with_used}
-use Rattle.atl_market.proofs.GoodsLaws.{item_held, used_is, used_up_to}
+use Rattle.atl_market.proofs.ItemUseLaws.{item_held, used_is, used_up_to}
 use Rattle.atl_market.proofs.ThereLaws.{by_unit}
 
 -- ---- what a unit holds less

@@ -41,7 +41,7 @@ use Rattle.atl_market.specs.Unordered.{OthersAreNoWorse}
 use Rattle.atl_market.proofs.DrawLaws.{all_pairs}
 use Rattle.atl_market.proofs.MakesLaws.{makes_give}
 use Rattle.atl_market.proofs.UnorderedLaws.{others_no_worse}
-use Rattle.atl_market.proofs.GoodsLaws.{made_others, made_well, no_more, used_others, used_unit, used_well}
+use Rattle.atl_market.proofs.ItemUseLaws.{made_others, made_well, no_more, used_others, used_unit, used_well}
 use Rattle.atl_market.proofs.ThereLaws.{by_option}
 use Rattle.atl_market.proofs.TurnLaws.{first_room, later_room, turns_leave_well}
 use Rattle.atl_market.proofs.WantLaws.{few_given, given_is_named}

@@ -9,7 +9,7 @@ use Rattle.atl_orders.specs.declared.fault.MailFault.TheVariants.{NoHeader}
 use Rattle.atl_orders.specs.declared.reading.ReaderState.TheVariants.{Nowhere}
 use Rattle.atl_orders.specs.Limits.{most_bytes}
 use Rattle.atl_orders.specs.Aliasing.{no_alias}
-use Rattle.atl_orders.specs.Lines.{lines}
+use Rattle.atl_orders.specs.TextLines.{lines}
 use Rattle.atl_orders.specs.Words.{words}
 use Rattle.atl_orders.specs.Mailing.{faction_of, header_line, header_from, Reading, after_header, reading}
 use Rattle.atl_orders.specs.Rules.{is_header, HaveNoHeader, HaveHeader, TextSays, too_long, no_header, bad_header, mailing}

@@ -17,7 +17,7 @@ use Rattle.atl_orders.specs.declared.fault.MailFault.{MailFault}
 use Rattle.atl_orders.specs.declared.fault.MailFault.TheVariants.{TooLong, NoHeader, BadHeader}
 use Rattle.atl_orders.specs.Limits.{most_bytes}
 use Rattle.atl_orders.specs.Aliasing.{no_alias, with_alias}
-use Rattle.atl_orders.specs.Lines.{lines}
+use Rattle.atl_orders.specs.TextLines.{lines}
 use Rattle.atl_orders.specs.Words.{WordText, words, begins}
 use Rattle.atl_orders.specs.Operands.{number_at, alias_at}
 use Rattle.atl_orders.specs.Orders.{OrderValue, said_by}

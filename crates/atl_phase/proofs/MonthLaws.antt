@@ -19,7 +19,7 @@ use Rattle.atl_orders.specs.Mailing.{Reading, reading_of}
 use Rattle.atl_campaign.proofs.KeyLaws.{IsDistinct-map, IsDistinct-of_map}
 use Rattle.atl_phase.specs.Month.{HaveOwnFactions, HaveNoOrder, by_faction}
 use Rattle.atl_phase.specs.OrderIndices.{AreByFaction, no_mailing}
-use Rattle.atl_phase.proofs.ListedLaws.{find_is, from_entries-permutation, sorted_strictly}
+use Rattle.atl_phase.proofs.MapOfListLaws.{find_is, from_entries-permutation, sorted_strictly}
 
 -- the pair of a mailing's faction, which is its key in a map, and its reading
 abbrev pub under_faction : Mailing → ℕ × Reading

@@ -15,7 +15,7 @@ use Rattle.atl_orders.specs.Mailing.{EntryValue, Reading}
 use Rattle.atl_records.specs.Every.{EachOf}
 use Rattle.atl_records.proofs.EveryLaws.{each-from_every}
 use Rattle.atl_campaign.proofs.GroupLaws.{kept}
-use Rattle.atl_campaign.proofs.OrderLaws.{each_so}
+use Rattle.atl_campaign.proofs.MapOfRowsLaws.{each_so}
 use Rattle.atl_campaign.proofs.ReadBackLaws.{append_each}
 use Rattle.atl_phase.specs.declared.phase_order.Arrangement.{Arrangement}
 use Rattle.atl_phase.specs.Month.{Aliases}

@@ -18,7 +18,7 @@ use Rattle.atl_orders.specs.declared.fault.MailFault.{MailFault}
 use Rattle.atl_orders.specs.declared.fault.MailFault.TheVariants.{TooLong, NoHeader, BadHeader, Memory}
 use Rattle.atl_orders.specs.declared.mailing.Mailing.{Mailing}
 use Rattle.atl_orders.specs.Limits.{most_bytes}
-use Rattle.atl_orders.specs.Lines.{lines}
+use Rattle.atl_orders.specs.TextLines.{lines}
 use Rattle.atl_orders.specs.Mailing.{IsMailingOf, IsReadWith, Reading, Reads, after_header, header_from, reading, reading_of}
 use Rattle.atl_records.specs.declared.event.Event.{Event}
 use Rattle.atl_records.specs.declared.records.Faction.{Faction}

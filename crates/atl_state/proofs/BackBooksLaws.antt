@@ -20,7 +20,7 @@ use Rattle.atl_campaign.proofs.ReadBackLaws.{each_permuted, each_back, read_whol
 use Rattle.atl_records.proofs.AccountLaws.{account_total, at_place, same_account}
 use Rattle.atl_records.proofs.BookLaws.{AreBooks-no_amounts, same_books}
 use Rattle.atl_records.proofs.EveryEntryLaws.{entry_small, numbered_entry}
-use Rattle.atl_records.proofs.ListedLaws.{amounts_sorted, each_amount, amount_of_each}
+use Rattle.atl_records.proofs.AmountListLaws.{amounts_sorted, each_amount, amount_of_each}
 use Rattle.atl_state.proofs.BooksRowLaws.{IsBooked, books_order}
 use Rattle.atl_campaign.proofs.FromRowLaws.{put-books}
 use Rattle.atl_campaign.proofs.HasLaws.{same}

@@ -11,7 +11,7 @@ use Rattle.atl_campaign.specs.Rows.{rows_by}
 use Rattle.atl_campaign.proofs.ReadBackLaws.{each_permuted, each_back, by_number_is, append_each, each_appended, every_row, rows_every, rows_apart, entries_rise}
 use Rattle.atl_records.proofs.EveryLaws.{every-from_each, each-from_every}
 use Rattle.atl_campaign.proofs.GroupLaws.{filter_apart, kept, unkept}
-use Rattle.atl_campaign.proofs.OrderLaws.{Apart, rows_found}
+use Rattle.atl_campaign.proofs.MapOfRowsLaws.{Apart, rows_found}
 
 -- ---- what holds for each element of joined lists
 

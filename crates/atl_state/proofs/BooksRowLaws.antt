@@ -23,7 +23,7 @@ use Rattle.atl_records.proofs.AccountLaws.{account_total, cases_account, place_a
 use Rattle.atl_records.proofs.BookLaws.{AreBooks-no_amounts, AreBooks-with_amount, get-with_amount, listed, zero_not}
 use Rattle.atl_records.proofs.EveryEntryLaws.{entry_at, numbered_entry}
 use Rattle.atl_records.proofs.EveryLaws.{none_some}
-use Rattle.atl_records.proofs.ListedLaws.{entries-none}
+use Rattle.atl_records.proofs.AmountListLaws.{entries-none}
 use Rattle.atl_campaign.proofs.HasLaws.{IsWhole, same, ties_itself}
 
 -- ---- one more amount

@@ -30,7 +30,7 @@ use Rattle.atl_campaign.proofs.ReadBackLaws.{each_back, read_whole}
 use Rattle.atl_records.proofs.EveryEntryLaws.{entry_small}
 use Rattle.atl_campaign.proofs.FromRowLaws.{by_number-every, from_le, AreInRange-said, HaveMen-said}
 use Rattle.atl_state.proofs.NamedLaws.{AreNamed-said, AreAmountsWithin-said}
-use Rattle.atl_campaign.proofs.OrderLaws.{each_passes}
+use Rattle.atl_campaign.proofs.MapOfRowsLaws.{each_passes}
 use Rattle.atl_state.proofs.SaidLaws.{RowsKeep, ranges, none_in_first, books_said, rows_said}
 
 -- the rule with a number from 1 to 12; the last rule for any other number

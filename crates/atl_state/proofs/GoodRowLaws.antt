@@ -38,7 +38,7 @@ use Rattle.atl_state.proofs.BackHasLaws.{AreHad, goods_of, goods_back}
 use Rattle.atl_state.proofs.BackStockRowLaws.{AreStocked, stocks_each, market_keys, stocks_back}
 use Rattle.atl_records.proofs.EveryLaws.{every-from_each}
 use Rattle.atl_campaign.proofs.HasLaws.{IsWhole, same}
-use Rattle.atl_campaign.proofs.OrderLaws.{Apart-keys}
+use Rattle.atl_campaign.proofs.MapOfRowsLaws.{Apart-keys}
 use Rattle.atl_campaign.proofs.RuleLaws.{each_numbered, every_before}
 use Rattle.atl_campaign.proofs.StateLaws.{same_state}
 use Rattle.atl_state.proofs.SaidLaws.{one_apart, none_or_below, small_size, small_limit}

@@ -47,7 +47,7 @@ use Rattle.atl_campaign.proofs.GroupLaws.{unkept}
 use Rattle.atl_campaign.proofs.HasLaws.{IsWhole, HasWholeKey, IsExact, IsOfUnits, same, ties_itself, things_apart, has_order}
 use Rattle.atl_campaign.proofs.MarketLaws.{market_known}
 use Rattle.atl_state.proofs.StockRowLaws as market
-use Rattle.atl_campaign.proofs.OrderLaws.{Apart, HasNumber, Apart-keys, rows_order, rows_there, rows_found, each_row, row_of, each_passes, each_with, each_so}
+use Rattle.atl_campaign.proofs.MapOfRowsLaws.{Apart, HasNumber, Apart-keys, rows_order, rows_there, rows_found, each_row, row_of, each_passes, each_with, each_so}
 
 -- ---- numbers that are read as they are
 

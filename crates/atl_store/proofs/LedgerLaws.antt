@@ -19,9 +19,9 @@ use Rattle.atl_records.proofs.EveryEntryLaws.{entry_there}
 use Rattle.atl_sql.specs.Sets.{Is, puts}
 use Rattle.atl_sql.specs.Shown.{books_key, books_row}
 use Rattle.atl_sql.specs.Rows.{BooksRowsOf}
-use Rattle.atl_store.specs.Lines.{DifferInKey, amount_lines, entries_lines, things_lines}
+use Rattle.atl_store.specs.GroupedRows.{DifferInKey, amount_lines, entries_lines, things_lines}
 use Rattle.atl_store.proofs.EntryLaws.{apart_append, filled, flat_has, has_flat}
-use Rattle.atl_store.proofs.GoodsLaws.{optional_has, has_optional, optional_apart}
+use Rattle.atl_store.proofs.HasTableLaws.{optional_has, has_optional, optional_apart}
 
 -- ---- entries by their indexes
 
