@@ -352,7 +352,7 @@ carried_twice u v x one two = record {
 
 -- to go along at most with one's structure (`IsAtMostMoved`) is reflexive and transitive, and keeps the faction
 carried_spares : IsUnaffectedRelation IsAtMostMoved
-carried_spares = record { same = carried_same; again = carried_twice; faction = λ u v h. h.faction }
+carried_spares = record { same = carried_same; transitive = carried_twice; faction = λ u v h. h.faction }
 
 -- if a way to a region isn't refused (`is_way`), that region is one of the world
 way_there : (w : WorldValue) (from : ℕ) (to : Option ℕ) → not (is_way w from to) ≡ false → IsThere w.regions (unwrap_or to 0)
@@ -416,7 +416,7 @@ sail_spares w c n u direction steady k v there =
 pub sail_orderly : IsOrderly sail_step IsSteady nothing_remaining moves_nothing concerns_nobody IsAtMostMoved
 sail_orderly = record {
   well = λ w a c t x steady fit own. in_each_direction (λ deed. StepsWell IsSteady nothing_remaining w c (deed c x).0) (sail w t.unit) t.order_value.operands (λ direction. sail_well w c t.unit x direction steady);
-  sparing = carried_spares;
+  spares_is_relation = carried_spares;
   spared = λ w a c t x steady own k v there apart. in_each_direction (λ deed. IsUnaffected IsAtMostMoved (deed c x).0 k v) (sail w t.unit) t.order_value.operands (λ direction. sail_spares w c t.unit x direction steady k v there);
   bounded = λ w c steady e t. omega arith;
 }

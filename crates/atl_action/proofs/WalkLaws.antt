@@ -288,7 +288,7 @@ walk_stays w c n u direction k apart =
 pub walk_orderly : IsOrderly walk_step IsSteady nothing_remaining moves_nothing IsOwnOrder IsNoWorse
 walk_orderly = record {
   well = λ w a c t x steady fit own. in_each_direction (λ deed. StepsWell IsSteady nothing_remaining w c (deed c x).0) (walk w t.unit) t.order_value.operands (λ direction. walk_well w c t.unit x own.there direction steady);
-  sparing = no_worse_spares;
+  spares_is_relation = no_worse_spares;
   spared = λ w a c t x steady own k v there apart.
       stays_spared (walk_step w a t) c t x own k v there apart
       (λ j other. in_each_direction (λ deed. get (deed c x).0.units j ≡ get c.units j) (walk w t.unit) t.order_value.operands (λ direction. walk_stays w c t.unit x direction j other));

@@ -54,7 +54,7 @@ use Rattle.atl_phase.proofs.BookingLaws.{booked-near, booked-room, within-neg}
 use Rattle.atl_phase.proofs.MeaningLaws.{less_room, near_more, near_same, near_twice, room_less}
 use Rattle.atl_phase.proofs.OutcomeLaws.{none_fits, not_apart}
 use Rattle.atl_phase.proofs.NoWorseLaws.{no_worse}
-use Rattle.atl_phase.proofs.OrderEffectLaws.{drawn_near, no_worse_spares, well_same, well_twice, orders_fit, orders_spare}
+use Rattle.atl_phase.proofs.OrderEffectLaws.{bound_used_near, no_worse_spares, well_same, well_twice, orders_fit, orders_spare}
 use Rattle.atl_phase.proofs.StructureLaws.{handed_is, equal_passes}
 use Rattle.atl_instant.specs.Quit.{after_leaving, loss_entry, loss_under, quit, quit_concerns, quit_effect, quit_fault, quit_moves, quit_reserve, quit_step, with_all_losses, with_item_loss, with_loss, without_leaver, QuitsFrom, is_quitting, quit_keeps, quit_meaning}
 use Rattle.atl_phase.specs.Month.{MonthValue}
@@ -371,13 +371,13 @@ module _ (w : WorldValue) (c : CampaignValue) (n : ℕ) (u : Unit) (is : get c.u
       rest a h b d o z y e f g k l = omega (arith, ints, e, f, g, k, l)
 
   -- no amount of the books moves further than its remaining bound falls as the unit leaves
-  drawn : (e : Entry) (t : Thing) → UsesBound (quit_reserve c e t) (quit_reserve after_leave e t) (amount_in c.books e t) (amount_in after_leave.books e t)
-  drawn e t =
+  uses_bound : (e : Entry) (t : Thing) → UsesBound (quit_reserve c e t) (quit_reserve after_leave e t) (amount_in c.books e t) (amount_in after_leave.books e t)
+  uses_bound e t =
       let only = only_reduced w off n u there in
       let reserves : quit_reserve after_leave e t + loss_under e t u.holding ≡ quit_reserve c e t =
       ap (λ (m : FinMap nat_cmp Unit). sum_over (λ (x : Unit). loss_under e t x.holding) m + loss_under e t u.holding) units_left ∙ sum_over-remove c.units n (λ (x : Unit). loss_under e t x.holding) u is in
       subst (λ (books : BooksValue). UsesBound (quit_reserve c e t) (quit_reserve after_leave e t) (amount_in c.books e t) (amount_in books e t)) (sym only.books)
-      (drawn_near (loss_under e t u.holding) (quit_reserve c e t) (quit_reserve after_leave e t) (amount_in c.books e t) (amount_in off.books e t) reserves
+      (bound_used_near (loss_under e t u.holding) (quit_reserve c e t) (quit_reserve after_leave e t) (amount_in c.books e t) (amount_in off.books e t) reserves
       (near_more (held_moves u.holding e t) (loss_under e t u.holding) (amount_in c.books e t) (amount_in off.books e t) (moves_what_leaves u.holding e t) (off_is.near e t)))
 
   -- the unit's leaving keeps a steady campaign steady, in its month and with balanced books (`StepsWell`)
@@ -393,7 +393,7 @@ module _ (w : WorldValue) (c : CampaignValue) (n : ℕ) (u : Unit) (is : get c.u
           factions = λ k h. subst (λ (m : FinMap nat_cmp Faction). IsThere m k) (only.factions ∙ ap (λ (s : CampaignValue). s.factions) off_is.same) h;
         };
         balances = balanced;
-        drawn = drawn;
+        uses_bound = uses_bound;
       }
 
 -- after unit n left with all that it has, a steady campaign stays steady,
@@ -498,7 +498,7 @@ reserve_within w c steady e t = by_test (entry_index e == entry_index (loss_entr
 pub quit_orderly : IsOrderly quit_step IsSteady quit_reserve quit_moves quit_concerns IsNoWorse
 quit_orderly = record {
   well = λ w a c t x steady fit own. well w c x steady t.order_value.operands;
-  sparing = no_worse_spares;
+  spares_is_relation = no_worse_spares;
   spared = λ w a c t x steady own n u here other. spared w c t x steady own n u here t.order_value.operands (λ says. other says);
   bounded = reserve_within;
 }
@@ -572,7 +572,7 @@ module _ (begun : CampaignValue) where
         holds_still = (well.holds_still, λ s mine. since.1 s (own_before c (quit number c x).0 s (quit_some w c number x since.0) mine));
         same_month = well.same_month;
         balances = well.balances;
-        drawn = well.drawn;
+        uses_bound = well.uses_bound;
       }
   since_well w c x since other = tt
 
@@ -581,7 +581,7 @@ module _ (begun : CampaignValue) where
   since_orderly : IsOrderly quit_step (OwnSince begun) quit_reserve quit_moves (QuitsFrom begun) IsNoWorse
   since_orderly = record {
     well = λ w a c t x since fit own. since_well w c x since t.order_value.operands;
-    sparing = no_worse_spares;
+    spares_is_relation = no_worse_spares;
     spared = λ w a c t x since own n u there other.
         quit_orderly.spared w a c t x since.0 own n u there (λ quits. other (record { own = since.1 t (is_own_unit c t x own); faction = quits.0; said = quits.1 }));
     bounded = λ w c since. quit_orderly.bounded w c since.0;

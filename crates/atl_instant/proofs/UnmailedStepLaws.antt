@@ -11,7 +11,7 @@ use Rattle.atl_phase.specs.PhaseOrders.{Task, orders_of}
 use Rattle.atl_phase.specs.Unmailed.{starved_in}
 use Rattle.atl_phase.specs.declared.phase_order.Arrangement.TheVariants.{ByFaction}
 use Rattle.atl_phase.proofs.PhaseSpecLaws.{PhaseLeavesUnmailed}
-use Rattle.atl_phase.proofs.UnmailedLaws.{LeavesUnmailed, OthersHaveMen, SparesMen, carried_leaves, items_of_no_worse, own_faction, told_of_order, unmailed_spared, whole_leaves}
+use Rattle.atl_phase.proofs.UnmailedLaws.{LeavesUnmailed, OthersHaveMen, SparesMen, carried_leaves, items_of_no_worse, own_faction, order_event_starves_none, unmailed_spared, whole_leaves}
 use Rattle.atl_instant.specs.Form.{form_by, form_keeps, form_meaning, form_order, is_forming}
 use Rattle.atl_instant.specs.Give.{give_spec, give_step, is_giving}
 use Rattle.atl_instant.specs.Guard.{guard_concerns, guard_spec, guard_step, is_guarding}
@@ -37,7 +37,7 @@ form_readings p (t ∷ ts) = form_readings (form_order p t) ts
 -- orders of FORM add no men who starved to the events
 form_starves_none : (p : CampaignValue × MonthValue) (ts : List Task) (n : ℕ) → starved_in (fold form_order p ts).1.events n ≡ starved_in p.1.events n
 form_starves_none p [] n = refl
-form_starves_none p (t ∷ ts) n = form_starves_none (form_order p t) ts n ∙ told_of_order p.1.events t (form_by p.0 t.faction t.unit).1 n
+form_starves_none p (t ∷ ts) n = form_starves_none (form_order p t) ts n ∙ order_event_starves_none p.1.events t (form_by p.0 t.faction t.unit).1 n
 
 -- the phase of FORM leaves units of factions without a mailing their men and items (`LeavesUnmailed`)
 pub form_leaves : LeavesUnmailed form_meaning form_keeps

@@ -387,7 +387,7 @@ reserve_within w c can e t = by_thing t
 pub build_orderly : IsOrderly build_step CanBuild build_reserve build_moves IsOwnOrder IsNoWorse
 build_orderly = record {
   well = λ w a c t x can fit own. well w c t.unit x own.there can t.order_value.operands;
-  sparing = no_worse_spares;
+  spares_is_relation = no_worse_spares;
   spared = λ w a c t x can own j v there apart. stays_spared (build_step w a t) c t x own j v there apart (λ i other. stays w c t.unit x own.there i other t.order_value.operands);
   bounded = reserve_within;
 }

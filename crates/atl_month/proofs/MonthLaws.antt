@@ -20,7 +20,7 @@ use Rattle.atl_phase.specs.Month.{MonthValue, by_faction}
 use Rattle.atl_phase.specs.Meaning.{BookBound, Condition, IsNear, IsSameMonth, LeavesWell, Meaning, Frame}
 use Rattle.atl_phase.specs.Bounds.{HaveRoom}
 use Rattle.atl_phase.proofs.MonthLaws.{mailings_have_no_order}
-use Rattle.atl_phase.proofs.MeaningLaws.{MovesLess, near_more, room_when_sound}
+use Rattle.atl_phase.proofs.MeaningLaws.{IsBoundWithin, near_more, room_when_sound}
 use Rattle.atl_month.specs.Month.{BooksAreNear, MailOrderDoesNotCount, after_month, month_meaning, month_moves, month_of, new_month, phases_moving, early_phases, last_phases, later_phases, month_keeps}
 use Rattle.atl_month.specs.Sweep.{IsSwept}
 use Rattle.atl_month.proofs.CountLaws.{has_all_back}
@@ -47,7 +47,7 @@ module _ (w : WorldValue) (d : CampaignValue) where
   unfolding total
   finished_balances old t = old t
 
-module _ (w : WorldValue) (c d : CampaignValue) (moving : BookBound) (little : MovesLess moving moves_in_month) (early : c.month < last_month) (well : LeavesWell IsSwept moving w c d) where
+module _ (w : WorldValue) (c d : CampaignValue) (moving : BookBound) (little : IsBoundWithin moving moves_in_month) (early : c.month < last_month) (well : LeavesWell IsSwept moving w c d) where
   -- The phases of a month leave the number of the month last closed, the reports and the set of factions
   -- (`IsSameMonth`).
   abbrev same : IsSameMonth c d

@@ -38,7 +38,7 @@ use Rattle.atl_campaign.proofs.RegionLaws.{steady-amount, total-amount, get-inse
 use Rattle.atl_phase.specs.Meaning.{IsNear, LeavesWell, BookBound, moves_only, most_moved}
 use Rattle.atl_phase.specs.Bounds.{HaveRoom, moved_times}
 use Rattle.atl_phase.specs.Holdings.{with_days}
-use Rattle.atl_phase.proofs.MeaningLaws.{MovesLess, near_twice, room_less, same_month_by, well_within}
+use Rattle.atl_phase.proofs.MeaningLaws.{IsBoundWithin, near_twice, room_less, same_month_by, well_within}
 use Rattle.atl_phase.proofs.BookingLaws.{booked-near, within-neg}
 use Rattle.atl_instant.specs.Amounts.{amounts_for}
 use Rattle.atl_instant.specs.Transfer.{going_of}
@@ -333,7 +333,7 @@ module _ (w : WorldValue) (c : CampaignValue) (some : 1 ≤ w.rules.maintenance)
   few = omega (arith, length-map (upkeep_inputs_of c) (settled_one w.rules.maintenance (upkeep_inputs_of c)), length-map (entries c.units) upkeep_input_of, len-entries c.units, steady.numbers.few_units)
 
   -- the upkeep of all units together moves each amount of the books by less than 10^14
-  little : MovesLess (moved_times (length list) (takes_up_to most_amount)) (takes_up_to most_moved)
+  little : IsBoundWithin (moved_times (length list) (takes_up_to most_amount)) (takes_up_to most_moved)
   little e t = grind (arith, few)
 
   -- each unit can pay what upkeep takes from it when its turn comes

@@ -38,8 +38,8 @@ mailings_have_no_order ms ns apart p =
     ∙ sym (by_faction_is ns)
 
 -- mailings of different factions are strictly sorted by faction once they are sorted by it
-pub rise : (ms ns : List Mailing) → HaveOwnFactions ms → IsPermutation ms ns → IsSortedByKey (λ m. m.faction) nat_cmp ns → AreByFaction ns
-rise ms ns apart p = sorted_strictly (on_total (λ (m : Mailing). m.faction) nat_cmp_total) ms ns p (IsDistinct-of_map (λ (m : Mailing). m.faction) (eq_by_cmp nat_cmp) ms apart)
+pub sorted_by_faction : (ms ns : List Mailing) → HaveOwnFactions ms → IsPermutation ms ns → IsSortedByKey (λ m. m.faction) nat_cmp ns → AreByFaction ns
+sorted_by_faction ms ns apart p = sorted_strictly (on_total (λ (m : Mailing). m.faction) nat_cmp_total) ms ns p (IsDistinct-of_map (λ (m : Mailing). m.faction) (eq_by_cmp nat_cmp) ms apart)
 
 -- ---- a mailing that is looked for
 
