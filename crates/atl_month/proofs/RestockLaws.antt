@@ -29,7 +29,7 @@ use Rattle.atl_records.specs.Holdings.{amount_of}
 use Rattle.atl_campaign.specs.Marking.{MarksStock, mark_amount}
 use Rattle.atl_campaign.specs.Stocks.{stock_limit, stock_of}
 use Rattle.atl_campaign.specs.Totals.{Balances, total}
-use Rattle.atl_records.proofs.AccountLaws.{at_place}
+use Rattle.atl_records.proofs.AccountLaws.{thing_at_index}
 use Rattle.atl_records.proofs.BookLaws.{booked-after_booking}
 use Rattle.atl_campaign.proofs.CoverLaws.{marks-stock}
 use Rattle.atl_records.proofs.EveryEntryLaws.{entry_small}
@@ -128,7 +128,7 @@ module _ (w : WorldValue) (c : CampaignValue) (n i : ℕ) (m : Market) (r : Regi
   filled_total : (t : Thing) → total filled t ≡ total c t + cond (thing_index t == 2 + i) more 0
   filled_total t = elim (cases_eq (thing_index t) (2 + i)) [
     | inl place ↦
-        let same : t ≡ Item i = sym (at_place t) ∙ ap thing_at place ∙ at_place (Item i) in
+        let same : t ≡ Item i = sym (thing_at_index t) ∙ ap thing_at place ∙ thing_at_index (Item i) in
         let its = total-stock c n i (stock + more) r here in
         subst (λ (u : Thing). total filled u ≡ total c u + cond (thing_index u == 2 + i) more 0) (sym same) (grind (arith, nat_tests, its))
     | inr apart ↦ let kept = total-stock_other c n i (stock + more) r here t (λ same. apart (ap thing_index same)) in grind (arith, nat_tests, kept)

@@ -31,7 +31,7 @@ use Rattle.atl_campaign.specs.Campaign.{CampaignValue, with_amount}
 use Rattle.atl_records.specs.Amounts.{unit_amount}
 use Rattle.atl_campaign.specs.Totals.{Balances, total}
 use Rattle.atl_campaign.proofs.ReadBackLaws.{Rise, entries_rise}
-use Rattle.atl_records.proofs.BookLaws.{booked-after_booking, share_of}
+use Rattle.atl_records.proofs.BookLaws.{booked-after_booking, booked_for}
 use Rattle.atl_records.proofs.EveryLaws.{each-from_every, every-empty, get-insert_other, every-from_each}
 use Rattle.atl_campaign.proofs.HoldingLaws.{MayHold, steady-unit_amount, total-unit_amount}
 use Rattle.atl_campaign.proofs.RegionLaws.{steady-amount, total-amount, get-insert_same}
@@ -187,7 +187,7 @@ module _ (w : WorldValue) (c : CampaignValue) (s : UpkeepResult) (u : Unit) (is 
 
   -- the total of money falls by what the unit paid, that of people by those who starved, and each other total stays
   total_after : (t : Thing)
-      → pos (total after t) ≡ (pos (total c t) +ℤ share_of t Money (neg_ℤ (pos s.paid))) +ℤ share_of t People (neg_ℤ (pos s.starved))
+      → pos (total after t) ≡ (pos (total c t) +ℤ booked_for t Money (neg_ℤ (pos s.paid))) +ℤ booked_for t People (neg_ℤ (pos s.starved))
   total_after t =
       total_of t (total-amount paid_off Starved People t (neg_ℤ (pos s.starved))) (total-amount held_back Upkeep Money t (neg_ℤ (pos s.paid)))
       (total-unit_amount w c s.unit u now is t)
@@ -196,7 +196,7 @@ module _ (w : WorldValue) (c : CampaignValue) (s : UpkeepResult) (u : Unit) (is 
       -- how each step (holding, booking of money, of people) changes it.
       total_of : (t : Thing) → total after t ≡ total paid_off t → total paid_off t ≡ total held_back t
           → total held_back t + unit_amount t old ≡ total c t + unit_amount t now
-          → pos (total after t) ≡ (pos (total c t) +ℤ share_of t Money (neg_ℤ (pos s.paid))) +ℤ share_of t People (neg_ℤ (pos s.starved))
+          → pos (total after t) ≡ (pos (total c t) +ℤ booked_for t Money (neg_ℤ (pos s.paid))) +ℤ booked_for t People (neg_ℤ (pos s.starved))
       total_of Money a b g = omega (arith, ints, a, b, g, spare.paid)
       total_of People a b g = omega (arith, ints, a, b, g, with_less.0, spare.starved)
       total_of (Item i) a b g = let items = ap (λ m. amount_of m i) with_less.4 in grind (arith, ints, nat_tests, a, b, g, items)
@@ -209,8 +209,8 @@ module _ (w : WorldValue) (c : CampaignValue) (s : UpkeepResult) (u : Unit) (is 
   upkeep_balances : Balances c → Balances after
   upkeep_balances before t =
       total_after t
-      ∙ ap (λ z. (z +ℤ share_of t Money (neg_ℤ (pos s.paid))) +ℤ share_of t People (neg_ℤ (pos s.starved))) (before t)
-      ∙ ap (λ z. z +ℤ share_of t People (neg_ℤ (pos s.starved)))
+      ∙ ap (λ z. (z +ℤ booked_for t Money (neg_ℤ (pos s.paid))) +ℤ booked_for t People (neg_ℤ (pos s.starved))) (before t)
+      ∙ ap (λ z. z +ℤ booked_for t People (neg_ℤ (pos s.starved)))
       (sym (booked-after_booking c.books Upkeep Money (neg_ℤ (pos s.paid)) t))
       ∙ sym (booked-after_booking one_booked Starved People (neg_ℤ (pos s.starved)) t)
 
