@@ -17,7 +17,7 @@ use Rattle.atl_instant.specs.Give.{give_spec, give_step, is_giving}
 use Rattle.atl_instant.specs.Guard.{guard_concerns, guard_spec, guard_step, is_guarding}
 use Rattle.atl_instant.specs.Name.{is_naming, name_concerns, name_spec, name_step}
 use Rattle.atl_instant.specs.Place.{is_placing, place_spec, place_step}
-use Rattle.atl_instant.specs.Quit.{QuitsFrom, is_quitting, quit_effect, quit_keeps, quit_meaning, quit_step}
+use Rattle.atl_instant.specs.Quit.{QuitsByOwnUnit, is_quitting, quit_effect, quit_keeps, quit_meaning, quit_step}
 use Rattle.atl_instant.specs.Transfer.{is_transferring, transfer_spec, transfer_step}
 use Rattle.atl_instant.proofs.EffectLaws.{spares_men}
 use Rattle.atl_instant.proofs.GiveLaws.{give_keeps}
@@ -89,4 +89,4 @@ quit_spares w a c t x own = by_operands t.order_value.operands
 
 -- the phase of QUIT leaves units of factions without a mailing their men and items (`LeavesUnmailed`)
 pub quit_leaves : LeavesUnmailed quit_meaning quit_keeps
-quit_leaves = carried_leaves quit_step is_quitting quit_spares (λ w c d m. unmailed_spared {concerns = QuitsFrom c} is_quitting (λ t n f h. h.faction) items_of_no_worse w c d m)
+quit_leaves = carried_leaves quit_step is_quitting quit_spares (λ w c d m. unmailed_spared {concerns = QuitsByOwnUnit c} is_quitting (λ t n f h. h.faction) items_of_no_worse w c d m)

@@ -30,7 +30,7 @@ use Rattle.atl_phase.specs.Meaning.{BookBound, IsNear, LeavesWell, both_move, mo
 use Rattle.atl_records.proofs.HoldingLaws.{amount_within}
 use Rattle.atl_phase.proofs.MeaningLaws.{near_more, near_room, room_less}
 use Rattle.atl_phase.specs.Bounds.{moving_items, HaveRoom}
-use Rattle.atl_instant.proofs.QuitLaws.{no_money, no_people, of_item, owing_items, part_of, moves_what_leaves}
+use Rattle.atl_instant.proofs.QuitLaws.{no_money, no_people, of_item, held_in_items, part_of, moves_what_leaves}
 use Rattle.atl_month.specs.Sweep.{IsKept, after_passing_all, after_passing_money, loses_by, receiver, receives, accepted_of, after_passing_item, with_lost}
 use Rattle.atl_records.proofs.RemovedLaws.{get-remove_other, still}
 use Rattle.atl_campaign.proofs.NumberListLaws.{IsListed, listed_passing}
@@ -43,7 +43,7 @@ use Rattle.atl_instant.specs.Quit.{loss_under}
 
 -- how much of each thing a unit with this holding passes on
 abbrev owing_all : HoldingValue → Thing → ℕ
-owing_all h s = part_of s Money h.money + owing_items (entries h.items) s
+owing_all h s = part_of s Money h.money + held_in_items (entries h.items) s
 
 -- the bound on what passing on all of a holding books: Lost of its money and of each item
 abbrev pub moving_all : HoldingValue → BookBound
@@ -54,7 +54,7 @@ all_owed : (h : HoldingValue) → h.men ≡ 0 → (s : Thing) → owing_all h s 
 all_owed h none Money = omega (arith, no_money (entries h.items))
 all_owed h none People = omega (arith, none, no_people (entries h.items))
 all_owed h none (Item j) =
-    let items : owing_items (entries h.items) (Item j) ≡ amount_of h.items j = of_item j (entries h.items) (sorted h.items) ∙ ap (λ (o : Option ℕ). unwrap_or o 0) (sym (get-entries h.items j)) in
+    let items : held_in_items (entries h.items) (Item j) ≡ amount_of h.items j = of_item j (entries h.items) (sorted h.items) ∙ ap (λ (o : Option ℕ). unwrap_or o 0) (sym (get-entries h.items j)) in
     grind (arith, nat_tests)
 
 -- ---- how far it moves the books

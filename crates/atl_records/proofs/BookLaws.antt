@@ -113,7 +113,7 @@ sum_of-raised : (a b : Entry → ℤ) (es : List Entry) → sum_of (map (λ e. a
 sum_of-raised a b [] = nothing (pos 0)
 sum_of-raised a b (e ∷ es) = ap (λ z. (a e +ℤ b e) +ℤ z) (sum_of-raised a b es) ∙ regroup (a e) (b e) (sum_of (map a es)) (sum_of (map b es))
 
--- what a booking of n under entry e adds to the amounts under all entries (`added_under`), summed over the entries, is n
+-- what a booking of n under entry e adds to the amounts under all entries (`added_under`), summed over them, is n
 sum_of_one_booking : (e : Entry) (n : ℤ) → sum_of (map (added_under e n) all_entries) ≡ n
 sum_of_one_booking Founding n = omega (arith, ints)
 sum_of_one_booking _ n = omega (arith, ints)
