@@ -33,7 +33,7 @@ use Rattle.atl_campaign.specs.Stocks.{stock_limit}
 use Rattle.atl_campaign.specs.Founding.{founded_of, founded_region, things_of}
 use Rattle.atl_records.specs.Holdings.{IsHolding}
 use Rattle.atl_campaign.specs.Campaign.{numbers_of}
-use Rattle.atl_records.specs.Every.{Every, IsThere}
+use Rattle.atl_records.specs.Every.{Every, HasValue}
 use Rattle.atl_campaign.proofs.GoodLaws.{posted-nobody}
 use Rattle.atl_campaign.specs.Good.{IsActive, IsRegion, AreInRange, AreAmountsWithin, AreNamed, IsPlaced, IsBuilt, AreKnown, AreOfMarkets, IsNumbered, IsOwned, is_ship, IsAboard, guards, IsSteady, IsGood}
 use Rattle.atl_records.proofs.EveryLaws.{each-from_every, every-empty, every-mapped, there-mapped}
@@ -196,5 +196,5 @@ module _ (w : WorldValue) (pass : List ℕ) (world : IsWorld w) where
       balances = founded-balances w pass;
       mail = every-empty (λ n text. IsMailingOf n text × IsActive (founded_of w pass) n);
     };
-    reported = every-empty (λ n f. IsThere empty n);
+    reported = every-empty (λ n f. HasValue empty n);
   }

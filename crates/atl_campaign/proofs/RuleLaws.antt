@@ -13,12 +13,12 @@ use Rattle.std.specs.Option.{MatchOption}
 use denote.Param.Members.{Mut}
 use Rattle.std.specs.Ordering.{nat_cmp}
 use Rattle.std.specs.FinMap.{FinMap, get, entries, len}
-use Rattle.atl_records.specs.Every.{Every, IsThere, EachOf}
+use Rattle.atl_records.specs.Every.{Every, HasValue, EachOf}
 use Rattle.atl_campaign.specs.Good.{IsNumbered}
 use Rattle.atl_records.proofs.EveryLaws.{none_some, every-from_each, each-from_every}
 
--- whether a look-up finds a value decides whether the number is there (IsThere)
-pub Decides-there : {V : Type 0} (m : FinMap nat_cmp V) (n : ℕ) (b : Bool) → b ≡ is_some (get m n) → Decides b (IsThere m n)
+-- whether a look-up finds a value decides whether the number is there (HasValue)
+pub Decides-there : {V : Type 0} (m : FinMap nat_cmp V) (n : ℕ) (b : Bool) → b ≡ is_some (get m n) → Decides b (HasValue m n)
 Decides-there {V} m n b is = (λ e. found (get m n) (sym is ∙ e), λ there. is ∙ ap is_some there.1)
   where
     -- an option of which is_some is true is Some of a value
@@ -69,8 +69,8 @@ module _ {V : Type 0} (P : ℕ → V → Type 0) where
 
 -- ---- the numbers that come next
 
--- a look-up of a number that a map doesn't have (IsThere) gives None
-pub free_from : {V : Type 0} (m : FinMap nat_cmp V) (n : ℕ) → ¬ (IsThere m n) → get m n ≡ None
+-- a look-up of a number that a map doesn't have (HasValue) gives None
+pub free_from : {V : Type 0} (m : FinMap nat_cmp V) (n : ℕ) → ¬ (HasValue m n) → get m n ≡ None
 free_from {V} m n none = elim (get m n) as (λ o. get m n ≡ o → o ≡ None) [ None ↦ λ _. refl | Some v ↦ λ is. absurd (none (v, is)) ] refl
 
 module _ {V : Type 0} (m : FinMap nat_cmp V) (next : ℕ) where

@@ -26,7 +26,7 @@ use Rattle.atl_records.specs.declared.event.EventFault.TheVariants.{WrongNumber}
 use Rattle.atl_records.specs.declared.event.Outcome.TheVariants.{Done}
 use Rattle.atl_records.specs.declared.records.Faction.{Faction}
 use Rattle.atl_records.specs.declared.records.Unit.{Unit}
-use Rattle.atl_records.specs.Every.{EachOf, Every, IsThere}
+use Rattle.atl_records.specs.Every.{EachOf, Every, HasValue}
 use Rattle.atl_campaign.specs.Founding.{things_of}
 use Rattle.atl_campaign.specs.Good.{IsSteady}
 use Rattle.atl_records.specs.Holdings.{HoldingValue}
@@ -393,7 +393,7 @@ module _ (w : WorldValue) (c : CampaignValue) (n : ℕ) (u : Unit) (is : get c.u
           month = only.month ∙ ap (λ (s : CampaignValue). s.month) all_is_booked.same;
           reports = only.reports ∙ ap (λ (s : CampaignValue). s.reports) all_is_booked.same;
           count = ap len only.factions ∙ ap (λ (s : CampaignValue). len s.factions) all_is_booked.same;
-          factions = λ k h. subst (λ (m : FinMap nat_cmp Faction). IsThere m k) (only.factions ∙ ap (λ (s : CampaignValue). s.factions) all_is_booked.same) h;
+          factions = λ k h. subst (λ (m : FinMap nat_cmp Faction). HasValue m k) (only.factions ∙ ap (λ (s : CampaignValue). s.factions) all_is_booked.same) h;
         };
         balances = balanced;
         uses_bound = uses_bound;

@@ -10,7 +10,7 @@ use Rattle.std.specs.FinMap.Entries.{below_all}
 use Rattle.std.specs.FinMap.{FinMap, contains_key-keys, empty, entries, entries-from_sorted, find, from_sorted, get, get-empty, get-entries, get-from_entries, get-from_sorted, get-retain_keys, insert, is_sorted, keys, nat_cmp-IsAntisymmetric, same_map}
 use Rattle.std.proofs.lemmas.Bool.{cases_eq, eqb-true, false≢true}
 use Rattle.atl_world.specs.Groups.{group_of}
-use Rattle.atl_records.specs.Every.{EachOf, IsThere}
+use Rattle.atl_records.specs.Every.{EachOf, HasValue}
 use Rattle.atl_campaign.specs.Campaign.{CampaignValue, numbers_in}
 use Rattle.atl_records.specs.declared.records.Region.{Region}
 use Rattle.atl_records.proofs.EveryLaws.{each-from_every, first, get-insert_other, none_some, other_number, same_number}
@@ -210,7 +210,7 @@ module _ (item_of : ℕ → Option ℕ) (pot_of : (item region : ℕ) → ℕ) (
     region_is = items_are (entries groups) (each-from_every (λ i group. get groups i ≡ Some group) groups (λ i group is. is))
 
     -- each of the region's shares is its unit's share by the definition, if the region is there
-    region_agrees : IsThere c.regions r → AgreeWith gets (region_shares item_of pot_of wants c r)
+    region_agrees : HasValue c.regions r → AgreeWith gets (region_shares item_of pot_of wants c r)
     region_agrees there = subst (AgreeWith gets) (sym region_is) (each_flat (λ e. gets e.0 ≡ Some e.1) of_item (keys groups) (so_each _ one (keys groups)))
       where
         -- each share of item `i` in the region is its unit's share by the definition

@@ -8,7 +8,7 @@ use Rattle.std.proofs.lemmas.Int.{ints}
 use Rattle.atl_world.specs.Worlds.{WorldValue}
 use Rattle.atl_records.specs.declared.event.Event.{Event}
 use Rattle.atl_records.specs.Books.{IsWithin, amount_in}
-use Rattle.atl_records.specs.Every.{IsThere, Every}
+use Rattle.atl_records.specs.Every.{HasValue, Every}
 use Rattle.atl_campaign.specs.Good.{AreAmountsWithin, IsGood, IsSound, IsSteady, amount_bound}
 use Rattle.atl_records.specs.Limits.{last_month}
 use Rattle.atl_campaign.specs.Campaign.{CampaignValue}
@@ -95,7 +95,7 @@ module _ {leaves : Condition} (w : WorldValue) (c d : CampaignValue) (well : Lea
   books_near e t = near_more (phases_moving e t) (month_moves e t) (amount_in c.books e t) (amount_in d.books e t) (month_within e t) (well.near e t)
 
   -- each faction of a campaign is still there after the phases of a month
-  pub factions_stay : (n : ℕ) → IsThere c.factions n → IsThere d.factions n
+  pub factions_stay : (n : ℕ) → HasValue c.factions n → HasValue d.factions n
   factions_stay = has_all_back c.factions d.factions well.same_month.count well.same_month.factions
 
 -- the books of a sound campaign have room for the phases of a month

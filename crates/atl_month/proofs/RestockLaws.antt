@@ -22,7 +22,7 @@ use Rattle.atl_records.specs.declared.records.Region.{Region}
 use Rattle.atl_records.specs.Books.{amount_in, booked, thing_at, thing_index, amount_number}
 use Rattle.atl_campaign.specs.Campaign.{MarkedCampaign, CampaignValue, with_amount, with_stock}
 use Rattle.atl_campaign.specs.Covers.{MarksChanges}
-use Rattle.atl_records.specs.Every.{EachOf, IsThere}
+use Rattle.atl_records.specs.Every.{EachOf, HasValue}
 use Rattle.atl_campaign.specs.Founding.{things_of}
 use Rattle.atl_campaign.specs.Good.{IsSteady}
 use Rattle.atl_records.specs.Holdings.{amount_of}
@@ -164,7 +164,7 @@ module _ (w : WorldValue) (c : CampaignValue) (n i : ℕ) (m : Market) (r : Regi
 abbrev pub IsMarketOf : WorldValue → (n i : ℕ) → Market → Type 0
 IsMarketOf w n i m = (market_of w n i ≡ Some m) × IsMarket (length w.items) i m
 
-module _ (w : WorldValue) (n : ℕ) (there : IsThere w.regions n) where
+module _ (w : WorldValue) (n : ℕ) (there : HasValue w.regions n) where
   -- New goods of a market of the region keep a steady campaign steady and its books balanced, and book at most
   -- 999,999,999 of its item.
   pub one_leaves_well : (c : CampaignValue) (x : ℕ × Market) → IsMarketOf w n x.0 x.1 → IsSteady w c → LeavesWell IsSteady (moves_only most_amount Stocked (Item x.0)) w c (after_market_restock n c x)
@@ -235,7 +235,7 @@ room_for_market x xs c room = room_less (moves_only most_amount Stocked (Item x.
 
 -- If the books have room for the new goods of all markets, they have room for those of the other markets after the
 -- first market got its own.
-pub room_behind_market : (w : WorldValue) (n : ℕ) → IsThere w.regions n → (x : ℕ × Market) (xs : List (ℕ × Market)) (c : CampaignValue) → IsMarketOf w n x.0 x.1 → IsSteady w c → HaveRoom (stocking (x ∷ xs)) c → HaveRoom (stocking xs) (after_market_restock n c x)
+pub room_behind_market : (w : WorldValue) (n : ℕ) → HasValue w.regions n → (x : ℕ × Market) (xs : List (ℕ × Market)) (c : CampaignValue) → IsMarketOf w n x.0 x.1 → IsSteady w c → HaveRoom (stocking (x ∷ xs)) c → HaveRoom (stocking xs) (after_market_restock n c x)
 room_behind_market w n there x xs c of steady room = room_behind (moves_only most_amount Stocked (Item x.0)) (stocking xs) w c (after_market_restock n c x) (one_leaves_well w n there c x of steady) room
 
 -- setting a stock and booking the new goods marks all that these two steps change

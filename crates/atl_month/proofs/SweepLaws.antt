@@ -17,7 +17,7 @@ use Rattle.atl_records.specs.declared.books.Thing.{Thing}
 use Rattle.atl_records.specs.declared.books.Thing.TheVariants.{Item, Money, People}
 use Rattle.atl_records.specs.declared.records.Faction.{Faction}
 use Rattle.atl_records.specs.declared.records.Unit.{Unit}
-use Rattle.atl_records.specs.Every.{EachOf, Every, IsThere}
+use Rattle.atl_records.specs.Every.{EachOf, Every, HasValue}
 use Rattle.atl_campaign.specs.Good.{IsSteady}
 use Rattle.atl_records.specs.Holdings.{HoldingValue, amount_of}
 use Rattle.atl_records.specs.Limits.{holding_limit}
@@ -158,7 +158,7 @@ module _ (w : WorldValue) (c : CampaignValue) (n : ℕ) (u : Unit) (is : get c.u
           month = only.month ∙ passing.same.month;
           reports = only.reports ∙ passing.same.reports;
           count = ap len only.factions ∙ passing.same.count;
-          factions = λ k h. passing.same.factions k (subst (λ (m : FinMap nat_cmp Faction). IsThere m k) only.factions h);
+          factions = λ k h. passing.same.factions k (subst (λ (m : FinMap nat_cmp Faction). HasValue m k) only.factions h);
         };
         balances = balanced;
         near = λ e s.

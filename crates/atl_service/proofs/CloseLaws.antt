@@ -23,7 +23,7 @@ use Rattle.atl_orders.specs.Mailing.{IsMailingOf, IsReadWith, Reading, Reads, af
 use Rattle.atl_records.specs.declared.event.Event.{Event}
 use Rattle.atl_records.specs.declared.records.Faction.{Faction}
 use Rattle.atl_campaign.specs.Covers.{MarksChanges}
-use Rattle.atl_records.specs.Every.{EachOf, IsThere}
+use Rattle.atl_records.specs.Every.{EachOf, HasValue}
 use Rattle.atl_campaign.specs.Good.{IsGood}
 use Rattle.atl_records.specs.Limits.{most_things}
 use Rattle.atl_campaign.specs.Marking.{mark_all_mail, mark_campaign_row, mark_report}
@@ -148,8 +148,8 @@ there_among P p (e ∷ es) (here, all) = at (p e.1) (there_among P p es all)
     at false rest = rest
 
 -- if no faction was removed, the factions that weren't gone before are in the campaign after
-pub active_there : (before after : CampaignValue) → ((n : ℕ) → IsThere before.factions n → IsThere after.factions n) → AreThere after (active before)
-active_there before after stay = there_among (IsThere after.factions) (λ f. not f.gone) (entries before.factions) (each-from_every (λ n f. IsThere after.factions n) before.factions (λ n f is. stay n (f, is)))
+pub active_there : (before after : CampaignValue) → ((n : ℕ) → HasValue before.factions n → HasValue after.factions n) → AreThere after (active before)
+active_there before after stay = there_among (HasValue after.factions) (λ f. not f.gone) (entries before.factions) (each-from_every (λ n f. HasValue after.factions n) before.factions (λ n f is. stay n (f, is)))
 
 -- ---- the month
 
