@@ -8,7 +8,7 @@ use Rattle.std.specs.Ordering.{nat_cmp, eq_by_cmp}
 use Rattle.std.specs.Cmp.{nat_cmp_total}
 use Rattle.std.specs.FinMap.{FinMap, find, get, get-from_entries, nat_cmp-IsAntisymmetric, same_map}
 use Rattle.atl_world.proofs.GeneralLaws.{is_equal, same_key}
-use Rattle.atl_records.specs.Every.{EachOf, Every}
+use Rattle.atl_records.specs.Every.{EachEntry, Every}
 use Rattle.atl_records.specs.Holdings.{amount_of}
 use Rattle.atl_records.proofs.EveryLaws.{found_of}
 use Rattle.atl_instant.specs.Amounts.{amounts_for}
@@ -28,13 +28,13 @@ module _ (f : ℕ → ℕ) where
   listed ns = filter (λ e. not (e.1 == 0)) (map (λ n. (n, f n)) ns)
 
   -- each entry of `listed` has the amount that f gives to its number, and that isn't 0
-  each_some : (ns : List ℕ) → EachOf IsAmountFor (listed ns)
+  each_some : (ns : List ℕ) → EachEntry IsAmountFor (listed ns)
   each_some [] = tt
   each_some (n ∷ ns) = for_zero_or_more (each_some ns) (f n == 0) refl
     where
       -- for `each_some`: the entries of n ∷ ns have their amounts (`IsAmountFor`), whether the amount of n is 0 (`b`)
       -- or not
-      for_zero_or_more : EachOf IsAmountFor (listed ns) → (b : Bool) → (f n == 0) ≡ b → EachOf IsAmountFor (cond (not b) ((n, f n) ∷ listed ns) (listed ns))
+      for_zero_or_more : EachEntry IsAmountFor (listed ns) → (b : Bool) → (f n == 0) ≡ b → EachEntry IsAmountFor (cond (not b) ((n, f n) ∷ listed ns) (listed ns))
       for_zero_or_more rest true is = rest
       for_zero_or_more rest false is = ((at_least_one (f n) is, refl), rest)
 

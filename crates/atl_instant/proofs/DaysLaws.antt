@@ -6,7 +6,7 @@ use Rattle.std.specs.Ordering.{nat_cmp, eq_by_cmp}
 use Rattle.std.specs.FinMap.{FinMap, contains_key-keys, empty, entries, get, get-empty, keys}
 use Rattle.std.specs.List.{list_any}
 use Rattle.std.proofs.lemmas.List.Folds.{list_any-append}
-use Rattle.atl_records.specs.Every.{EachOf, Every}
+use Rattle.atl_records.specs.Every.{EachEntry, Every}
 use Rattle.atl_records.specs.Holdings.{HoldingValue, amount_of, with_amount_of}
 use Rattle.atl_records.proofs.EveryLaws.{each-from_every, every-empty}
 use Rattle.atl_phase.specs.Holdings.{with_days}
@@ -27,7 +27,7 @@ module _ (days : FinMap nat_cmp ℕ) (f : ℕ → ℕ → ℕ) (s : ℕ) where
   is_among es = list_any (eq_by_cmp nat_cmp s) (map (λ e. e.0) es)
 
   -- after the skills of some entries are set, skill s has f of its days if it is among them, and otherwise what it had
-  set_among : (es : List (ℕ × ℕ)) (left : FinMap nat_cmp ℕ) → EachOf (λ k v. amount_of days k ≡ v) es → amount_of (set_all left es) s ≡ cond (is_among es) (f s (amount_of days s)) (amount_of left s)
+  set_among : (es : List (ℕ × ℕ)) (left : FinMap nat_cmp ℕ) → EachEntry (λ k v. amount_of days k ≡ v) es → amount_of (set_all left es) s ≡ cond (is_among es) (f s (amount_of days s)) (amount_of left s)
   set_among [] left each = refl
   set_among ((k, v) ∷ es) left (one, each) =
       set_among es (with_amount_of left k (f k v)) each

@@ -26,7 +26,7 @@ use Rattle.atl_records.specs.declared.event.EventFault.TheVariants.{WrongNumber}
 use Rattle.atl_records.specs.declared.event.Outcome.TheVariants.{Done}
 use Rattle.atl_records.specs.declared.records.Faction.{Faction}
 use Rattle.atl_records.specs.declared.records.Unit.{Unit}
-use Rattle.atl_records.specs.Every.{EachOf, Every, HasValue}
+use Rattle.atl_records.specs.Every.{EachEntry, Every, HasValue}
 use Rattle.atl_campaign.specs.Founding.{things_of}
 use Rattle.atl_campaign.specs.Good.{IsSteady}
 use Rattle.atl_records.specs.Holdings.{HoldingValue}
@@ -256,7 +256,7 @@ books_one w c t amount inside steady = record {
 
 -- to book items of the world as lost, one after another, lowers what the books have of each by its amount and changes
 -- nothing else, and a steady campaign stays steady (`BooksAsGone`)
-books_items : (w : WorldValue) (c : CampaignValue) (es : List (ℕ × ℕ)) → EachOf (λ i a. i < length w.items) es → IsSteady w c → BooksAsGone w (held_in_items es) (moving_items es) c (fold with_item_loss c es)
+books_items : (w : WorldValue) (c : CampaignValue) (es : List (ℕ × ℕ)) → EachEntry (λ i a. i < length w.items) es → IsSteady w c → BooksAsGone w (held_in_items es) (moving_items es) c (fold with_item_loss c es)
 books_items w c [] known steady = record {
   steady = steady;
   sum_falls = λ s. plain (booked c.books s);
@@ -316,12 +316,12 @@ pub next_room : (xs : List (ℕ × ℕ)) (i : ℕ) (c : CampaignValue) → i < l
 next_room xs i c inside room = let x : ℕ × ℕ = get_or xs i (0, 0) in first_room (Item x.0) x.1 (moving_items (drop (i + 1) xs)) c (room_ahead xs i c inside room)
 
 -- if the items from i on are of the world, so are the item at i and those after it
-pub known_ahead : (w : WorldValue) (xs : List (ℕ × ℕ)) (i : ℕ) → i < length xs → EachOf (λ j a. j < length w.items) (drop i xs)
-    → EachOf (λ j a. j < length w.items) (get_or xs i (0, 0) ∷ drop (i + 1) xs)
-known_ahead w xs i inside known = subst (EachOf (λ j a. j < length w.items)) (drop_more xs i (0, 0) inside) known
+pub known_ahead : (w : WorldValue) (xs : List (ℕ × ℕ)) (i : ℕ) → i < length xs → EachEntry (λ j a. j < length w.items) (drop i xs)
+    → EachEntry (λ j a. j < length w.items) (get_or xs i (0, 0) ∷ drop (i + 1) xs)
+known_ahead w xs i inside known = subst (EachEntry (λ j a. j < length w.items)) (drop_more xs i (0, 0) inside) known
 
 -- in a steady campaign the items that a unit holds are items of the world
-pub known_held : (w : WorldValue) (c : CampaignValue) (n : ℕ) (u : Unit) → get c.units n ≡ Some u → IsSteady w c → EachOf (λ j a. j < length w.items) (entries u.holding.items)
+pub known_held : (w : WorldValue) (c : CampaignValue) (n : ℕ) (u : Unit) → get c.units n ≡ Some u → IsSteady w c → EachEntry (λ j a. j < length w.items) (entries u.holding.items)
 known_held w c n u is steady = each-from_every (λ j a. j < length w.items) u.holding.items (steady.known.units n u is).items
 
 -- books with room for what all units may lose (`quit_reserve`) have room for all that one unit has

@@ -9,7 +9,7 @@ use Rattle.std.proofs.lemmas.List.Sums.{sum_by-cons}
 use Rattle.atl_world.specs.Worlds.{WorldValue}
 use Rattle.atl_records.specs.declared.records.Region.{Region}
 use Rattle.atl_records.specs.declared.records.Unit.{Unit}
-use Rattle.atl_records.specs.Every.{EachOf, HasValue}
+use Rattle.atl_records.specs.Every.{EachEntry, HasValue}
 use Rattle.atl_campaign.specs.Good.{IsEarly}
 use Rattle.atl_campaign.specs.Campaign.{CampaignValue, region_changed}
 use Rattle.atl_campaign.proofs.ReadBackLaws.{Rise, entries_rise}
@@ -35,8 +35,8 @@ another k n ns above is = elim is [ inl same ↦ absurd (omega (arith, above, sa
 not_this : (k n : ℕ) (ns : List ℕ) → k ≢ n → IsListed k (n ∷ ns) → IsListed k ns
 not_this k n ns apart is = elim is [ inl same ↦ absurd (apart same) | inr rest ↦ rest ]
 
--- if `P` holds of each number and its share (`EachOf`), it holds of each of these pairs (`AllByRecursion`)
-pub all_pairs : (P : ℕ × ℕ → Type 0) (es : List (ℕ × ℕ)) → EachOf (λ n share. P (n, share)) es → AllByRecursion P es
+-- if `P` holds of each number and its share (`EachEntry`), it holds of each of these pairs (`AllByRecursion`)
+pub all_pairs : (P : ℕ × ℕ → Type 0) (es : List (ℕ × ℕ)) → EachEntry (λ n share. P (n, share)) es → AllByRecursion P es
 all_pairs P [] h = tt
 all_pairs P (e ∷ es) h = (h.0, all_pairs P es h.1)
 

@@ -9,7 +9,7 @@ use Rattle.std.specs.FinMap.{FinMap, get, insert, find, empty, entries, keys, fr
 use Rattle.std.proofs.lemmas.Bool.{cases_eq, eqb-true, false≢true, or_left, or_right}
 use Rattle.std.proofs.lemmas.List.{reverse-append, length-map}
 use Rattle.std.proofs.lemmas.List.Sums.{fold-append}
-use Rattle.atl_records.specs.Every.{HasValue, EachOf}
+use Rattle.atl_records.specs.Every.{HasValue, EachEntry}
 use Rattle.atl_campaign.specs.Campaign.{CampaignValue, numbers_in}
 use Rattle.atl_records.specs.declared.records.Region.{Region}
 use Rattle.atl_records.specs.declared.records.Unit.{Unit}
@@ -90,8 +90,8 @@ left m (e ∷ es) n h =
       | false ↦ λ g none. left (insert m e.0 e.1) es n none ∙ g
     ] (get-insert nat_cmp_total m e.0 e.1 n) h
 
--- if `P` holds of the number and the value of each entry (`AllByRecursion`), it holds of each also as `EachOf` says it
-as_pairs : (P : ℕ → ℕ → Type 0) (es : Entries) → AllByRecursion (λ e. P e.0 e.1) es → EachOf P es
+-- if `P` holds of the number and the value of each entry (`AllByRecursion`), it holds of each also as `EachEntry` says it
+as_pairs : (P : ℕ → ℕ → Type 0) (es : Entries) → AllByRecursion (λ e. P e.0 e.1) es → EachEntry P es
 as_pairs P [] h = tt
 as_pairs P (e ∷ es) h = (h.0, as_pairs P es h.1)
 
@@ -374,7 +374,7 @@ pub each_region : (P : ℕ → Type 0) (c : CampaignValue) → ((r : ℕ) → Ha
 each_region P c h = by_entries (entries c.regions) (each-from_every (λ r q. get c.regions r ≡ Some q) c.regions (λ r q is. is))
   where
     -- if `P` holds of each region's number, it holds of the numbers of listed entries that are regions of the campaign
-    by_entries : (es : List (ℕ × Region)) → EachOf (λ r q. get c.regions r ≡ Some q) es → AllByRecursion P (map (λ e. e.0) es)
+    by_entries : (es : List (ℕ × Region)) → EachEntry (λ r q. get c.regions r ≡ Some q) es → AllByRecursion P (map (λ e. e.0) es)
     by_entries [] all = tt
     by_entries (e ∷ es) all = (h e.0 (e.1, all.0), by_entries es all.1)
 

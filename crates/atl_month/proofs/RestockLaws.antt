@@ -22,7 +22,7 @@ use Rattle.atl_records.specs.declared.records.Region.{Region}
 use Rattle.atl_records.specs.Books.{amount_in, booked, thing_at, thing_index, amount_number}
 use Rattle.atl_campaign.specs.Campaign.{MarkedCampaign, CampaignValue, with_amount, with_stock}
 use Rattle.atl_campaign.specs.Covers.{MarksChanges}
-use Rattle.atl_records.specs.Every.{EachOf, HasValue}
+use Rattle.atl_records.specs.Every.{EachEntry, HasValue}
 use Rattle.atl_campaign.specs.Founding.{things_of}
 use Rattle.atl_campaign.specs.Good.{IsSteady}
 use Rattle.atl_records.specs.Holdings.{amount_of}
@@ -172,7 +172,7 @@ module _ (w : WorldValue) (n : ℕ) (there : HasValue w.regions n) where
 
   -- New goods of a region's markets, in turn, keep a steady campaign steady and its books balanced, and book at most
   -- `stocking`.
-  all_leave_well : (xs : List (ℕ × Market)) → EachOf (IsMarketOf w n) xs → (c : CampaignValue) → IsSteady w c → LeavesWell IsSteady (stocking xs) w c (after_restock n c xs)
+  all_leave_well : (xs : List (ℕ × Market)) → EachEntry (IsMarketOf w n) xs → (c : CampaignValue) → IsSteady w c → LeavesWell IsSteady (stocking xs) w c (after_restock n c xs)
   all_leave_well [] each c steady = well_unchanged (stocking []) w c steady
   all_leave_well (x ∷ xs) each c steady =
       let one = one_leaves_well c x each.0 steady in
@@ -193,7 +193,7 @@ module _ (w : WorldValue) (world : IsWorld w) (n : ℕ) where
   none_of c is = ap (λ o. after_restock n c (entries (option_map_or (λ (q : RegionPlan). q.markets) o empty))) is ∙ ap (after_restock n c) none_there
 
   -- each market of a region's plan is the world's market for its item there
-  pub markets_are : (p : RegionPlan) → get w.regions n ≡ Some p → EachOf (IsMarketOf w n) (entries p.markets)
+  pub markets_are : (p : RegionPlan) → get w.regions n ≡ Some p → EachEntry (IsMarketOf w n) (entries p.markets)
   markets_are p is = each-from_every (IsMarketOf w n) p.markets (λ i m at. (ap (λ o. option_and_then (λ (q : RegionPlan). get q.markets i) o) is ∙ at, (world.regions n p is).markets i m at))
 
   -- Restocking a region keeps a steady campaign steady and its books balanced, and books at most 999,999,999 of each

@@ -17,7 +17,7 @@ use Rattle.atl_records.specs.declared.books.Thing.{Thing}
 use Rattle.atl_records.specs.declared.books.Thing.TheVariants.{Item, Money, People}
 use Rattle.atl_records.specs.declared.records.Faction.{Faction}
 use Rattle.atl_records.specs.declared.records.Unit.{Unit}
-use Rattle.atl_records.specs.Every.{EachOf, Every, HasValue}
+use Rattle.atl_records.specs.Every.{EachEntry, Every, HasValue}
 use Rattle.atl_campaign.specs.Good.{IsSteady}
 use Rattle.atl_records.specs.Holdings.{HoldingValue, amount_of}
 use Rattle.atl_records.specs.Limits.{holding_limit}
@@ -95,7 +95,7 @@ module _ (w : WorldValue) (c : CampaignValue) (n : ℕ) (u : Unit) (is : get c.u
   to = receiver c u.region u.faction
 
   -- each item that the unit holds is one of the world
-  known : EachOf (λ i a. i < length w.items) (entries u.holding.items)
+  known : EachEntry (λ i a. i < length w.items) (entries u.holding.items)
   known = each-from_every (λ i a. i < length w.items) u.holding.items (steady.known.units n u is).items
 
   -- the campaign after unit `n` passed on what it has

@@ -22,7 +22,7 @@ use Rattle.atl_records.specs.declared.books.Thing.{Thing}
 use Rattle.atl_records.specs.declared.books.Thing.TheVariants.{Money, People, Item}
 use Rattle.atl_records.specs.declared.records.Unit.{Unit}
 use Rattle.atl_records.specs.Books.{BooksValue, amount_in, after_booking}
-use Rattle.atl_records.specs.Every.{EachOf, Every}
+use Rattle.atl_records.specs.Every.{EachEntry, Every}
 use Rattle.atl_campaign.specs.Good.{IsSteady, guards}
 use Rattle.atl_records.specs.Holdings.{AreAmounts, HoldingValue, amount_of, with_amount_of}
 use Rattle.atl_campaign.specs.Lending.{with_held}
@@ -267,7 +267,7 @@ other_unit c s n apart = by_unit (get c.units s.unit)
 -- If the campaign has the listed units, all with higher numbers than the unit that pays, it has them as listed also
 -- after that unit paid.
 pub each_still : (c : CampaignValue) (s : UpkeepResult) (es : List (ℕ × Unit)) → AllByRecursion (λ e. s.unit < e.0) es
-    → EachOf (λ n u. get c.units n ≡ Some u) es → EachOf (λ n u. get (upkeep_at c s).units n ≡ Some u) es
+    → EachEntry (λ n u. get c.units n ≡ Some u) es → EachEntry (λ n u. get (upkeep_at c s).units n ≡ Some u) es
 each_still c s [] above there = tt
 each_still c s (e ∷ es) above there = (other_unit c s e.0 (λ same. omega (arith, above.0, same)) ∙ there.0, each_still c s es above.1 there.1)
 
@@ -290,7 +290,7 @@ module _ (w : WorldValue) (some : 1 ≤ w.rules.maintenance) (all : List UpkeepI
 
   -- The upkeep of some units can be paid in turn, if the campaign has them as listed, and its books have room for the
   -- upkeep of all.
-  settled_in_turn : (es : List (ℕ × Unit)) (c : CampaignValue) → Rise es → EachOf (λ n u. get c.units n ≡ Some u) es
+  settled_in_turn : (es : List (ℕ × Unit)) (c : CampaignValue) → Rise es → EachEntry (λ n u. get c.units n ≡ Some u) es
       → IsSteady w c → HaveRoom (moved_times (length (each_of es)) step_moves) c → CanInTurn (CanPayUpkeep w) upkeep_at c (each_of es)
   settled_in_turn [] c rise there steady room = tt
   settled_in_turn ((n, u) ∷ es) c rise there steady room =
@@ -441,8 +441,8 @@ module _ (m : ℕ) (all : List UpkeepInput) where
   IsSettled after n u = get after.units n ≡ Some (unit_after_upkeep (settled_one m all (upkeep_input_of (n, u))) u)
 
   -- after the upkeep of some units in turn, each of them has what its upkeep among all units leaves it
-  each_settled : (es : List (ℕ × Unit)) (c : CampaignValue) → Rise es → EachOf (λ n u. get c.units n ≡ Some u) es
-      → EachOf (IsSettled (fold upkeep_at c (settled_each m all es))) es
+  each_settled : (es : List (ℕ × Unit)) (c : CampaignValue) → Rise es → EachEntry (λ n u. get c.units n ≡ Some u) es
+      → EachEntry (IsSettled (fold upkeep_at c (settled_each m all es))) es
   each_settled [] c rise there = tt
   each_settled ((n, u) ∷ es) c rise there =
       let s = settled_one m all (upkeep_input_of (n, u)) in

@@ -1,4 +1,4 @@
--- Laws of what holds of each value of a map (`Every`), of each entry of a list (`EachOf`), and of which numbers have a
+-- Laws of what holds of each value of a map (`Every`), of each entry of a list (`EachEntry`), and of which numbers have a
 -- value (`HasValue`): after an insertion, by the list of a map's entries, and with a function applied to each value.
 use Rattle.std.proofs.Common.{◌≡◌, ◌≢◌, ◌==◌, ◌↔◌, ℕ, zero, suc, ◌<◌, T, Bool, true, false, ◌||◌, cond, List, [], ◌∷◌, length, get_or, map, filter, Option, Some, None, option_map, refl, sym, ap, ◌∙◌, subst, arith}
 use Rattle.std.specs.declared.cmp.Ordering.TheVariants.{Less, Equal, Greater}
@@ -11,7 +11,7 @@ use Rattle.std.proofs.lemmas.Bool.{and_parts, false≢true}
 use Rattle.atl_world.specs.Sums.{numbers_where, mapped}
 use Rattle.atl_world.proofs.MappedLaws.{get-mapped}
 use Rattle.atl_world.proofs.SumLaws.{chosen-cons}
-use Rattle.atl_records.specs.Every.{EachOf, Every, HasValue}
+use Rattle.atl_records.specs.Every.{EachEntry, Every, HasValue}
 use Rattle.std.proofs.lemmas.Bool.Decides.{nat_tests}
 
 -- a Bool that holds as a proposition (`T b`) is true
@@ -100,8 +100,8 @@ module _ {V : Type 0} where
         | Greater ↦ λ o. let l = ranked e.0 e.0 Greater (sym o) in absurd (omega arith)
       ] refl
 
-  -- if P holds of each entry of a list (EachOf), it holds of each value that is found in it
-  pub found_of : (P : ℕ → V → Type 0) (es : List (ℕ × V)) (n : ℕ) (v : V) → EachOf P es → find nat_cmp n es ≡ Some v → P n v
+  -- if P holds of each entry of a list (EachEntry), it holds of each value that is found in it
+  pub found_of : (P : ℕ → V → Type 0) (es : List (ℕ × V)) (n : ℕ) (v : V) → EachEntry P es → find nat_cmp n es ≡ Some v → P n v
   found_of P [] n v h is = none_some v is
   found_of P (e ∷ es) n v h is =
       elim (nat_cmp n e.0) as (λ o. nat_cmp n e.0 ≡ o → cond (is_eq o) (Some e.1) (find nat_cmp n es) ≡ Some v → P n v) [
@@ -111,7 +111,7 @@ module _ {V : Type 0} where
       ] refl is
 
   -- if P holds of each value that is found in a sorted list, it holds of each of its entries
-  pub each_of : (P : ℕ → V → Type 0) (es : List (ℕ × V)) → is_sorted nat_cmp es ≡ true → ((n : ℕ) (v : V) → find nat_cmp n es ≡ Some v → P n v) → EachOf P es
+  pub each_of : (P : ℕ → V → Type 0) (es : List (ℕ × V)) → is_sorted nat_cmp es ≡ true → ((n : ℕ) (v : V) → find nat_cmp n es ≡ Some v → P n v) → EachEntry P es
   each_of P [] s h = tt
   each_of P (e ∷ es) s h = (h e.0 e.1 (first e es), each_of P es (and_parts _ _ s).1 (λ n v is. h n v (later e es n v s is)))
 
@@ -120,11 +120,11 @@ module _ {V : Type 0} where
   sorted m = is_true _ (entries_sorted m)
 
   -- if P holds of each entry of a map, it holds of every value
-  pub every-from_each : (P : ℕ → V → Type 0) (m : FinMap nat_cmp V) → EachOf P (entries m) → Every P m
+  pub every-from_each : (P : ℕ → V → Type 0) (m : FinMap nat_cmp V) → EachEntry P (entries m) → Every P m
   every-from_each P m h n v is = found_of P (entries m) n v h (sym (get-entries m n) ∙ is)
 
   -- if P holds of every value of a map, it holds of each entry
-  pub each-from_every : (P : ℕ → V → Type 0) (m : FinMap nat_cmp V) → Every P m → EachOf P (entries m)
+  pub each-from_every : (P : ℕ → V → Type 0) (m : FinMap nat_cmp V) → Every P m → EachEntry P (entries m)
   each-from_every P m h = each_of P (entries m) (sorted m) (λ n v is. h n v (get-entries m n ∙ is))
 
   -- if no value of a list's entries passes the test p, each value that is found in the list fails it

@@ -12,6 +12,6 @@ abbrev pub HasValue : {V : Type 0} → FinMap nat_cmp V → ℕ → Type 0
 HasValue {V} m n = (v : V) × (get m n ≡ Some v)
 
 -- a condition on a number and its value holds of each entry of a list
-abbrev pub EachOf : {V : Type 0} → (ℕ → V → Type 0) → List (ℕ × V) → Type 0
-EachOf P [] = ⊤
-EachOf P (e ∷ es) = P e.0 e.1 × EachOf P es
+abbrev pub EachEntry : {V : Type 0} → (ℕ → V → Type 0) → List (ℕ × V) → Type 0
+EachEntry P [] = ⊤
+EachEntry P (e ∷ es) = P e.0 e.1 × EachEntry P es

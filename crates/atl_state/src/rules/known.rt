@@ -3,7 +3,7 @@ ghost use Rattle.std.specs.Prelude.{◌≡◌, ◌≢◌, ◌<◌, ◌↔◌, �
 ghost use Rattle.std.specs.FinMap as map;
 ghost use Rattle.atl_world.specs.ByNumber.{market_of};
 ghost use Rattle.atl_records.specs.declared.records.Structure as builds;
-ghost use Rattle.atl_records.specs.Every.{EachOf, Every, HasValue};
+ghost use Rattle.atl_records.specs.Every.{EachEntry, Every, HasValue};
 ghost use Rattle.atl_campaign.specs.Good.{IsPlaced, IsBuilt, ArePosted, AreKnown, AreOfMarkets};
 
 use atl_campaign::Campaign;
@@ -107,7 +107,7 @@ fn are_stocks_known(world: &World, campaign: &Campaign) -> bool
 
 /// Whether the numbers of all given items or skills are below `count`.
 fn are_below(mut entries: Entries<'_, u32>, count: usize) -> bool
-    ensures { IsTrue result ↔ (EachOf (λ n amount. n < count) entries.entry) }
+    ensures { IsTrue result ↔ (EachEntry (λ n amount. n < count) entries.entry) }
 {
     entries.all(|(number, _)| (number as usize) < count)
 }
