@@ -90,7 +90,8 @@ left m (e ∷ es) n h =
       | false ↦ λ g none. left (insert m e.0 e.1) es n none ∙ g
     ] (get-insert nat_cmp_total m e.0 e.1 n) h
 
--- if `P` holds of the number and the value of each entry (`AllByRecursion`), it holds of each also as `EachEntry` says it
+-- if `P` holds of the number and the value of each entry (`AllByRecursion`), it holds of each also as `EachEntry`
+-- says it
 as_pairs : (P : ℕ → ℕ → Type 0) (es : Entries) → AllByRecursion (λ e. P e.0 e.1) es → EachEntry P es
 as_pairs P [] h = tt
 as_pairs P (e ∷ es) h = (h.0, as_pairs P es h.1)

@@ -244,7 +244,8 @@ pub order_event_starves_none : (events : List Event) (t : Task) (outcome : Outco
 order_event_starves_none events t outcome n =
     sum_by_push (λ (e : Event). if e.unit == n then men_starved_by e.verb e.outcome else 0) events (event_for t outcome) ∙ by_unit (t.unit == n) (starved_in events n)
   where
-    -- for `order_event_starves_none`: an event that reports nobody as starved adds 0 to the count x, be it of unit n (`b`) or not
+    -- for `order_event_starves_none`: an event that reports nobody as starved adds 0 to the count x, be it of unit n
+    -- (`b`) or not
     by_unit : (b : Bool) (x : ℕ) → x + (if b then 0 else 0) ≡ x
     by_unit true x = omega arith
     by_unit false x = omega arith

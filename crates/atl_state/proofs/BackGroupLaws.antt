@@ -29,8 +29,8 @@ module _ {X R : Type 0} (P : R → Type 0) (f : X → List R) where
 -- ---- the rows of all groups
 
 module _ {U R : Type 0} (f : ℕ × U → List R) (P : R → Type 0) where
-  -- If P holds for all rows f (n, u) of each entry's number n and value u (`EachEntry`), it holds for all rows f e of each
-  -- entry e.
+  -- If P holds for all rows f (n, u) of each entry's number n and value u (`EachEntry`), it holds for all rows f e of
+  -- each entry e.
   of_each : (es : List (ℕ × U)) → EachEntry (λ n u. AllByRecursion P (f (n, u))) es → AllByRecursion (λ e. AllByRecursion P (f e)) es
   of_each [] h = tt
   of_each (e ∷ es) h = (h.0, of_each es h.1)
