@@ -1,6 +1,5 @@
--- Laws of what holds of each value of a map (`Every`), of each entry of a list (`EachEntry`), and of which numbers
--- have a value (`HasValue`): after an insertion, by the list of a map's entries, and with a function applied to each
--- value.
+-- Laws of what holds of each value of a map (`Every`) or entry of a list (`EachEntry`), and of which numbers have a
+-- value (`HasValue`): after an insertion, by the list of a map's entries, and with a function applied to each value.
 use Rattle.std.proofs.Common.{◌≡◌, ◌≢◌, ◌==◌, ◌↔◌, ℕ, zero, suc, ◌<◌, T, Bool, true, false, ◌||◌, cond, List, [], ◌∷◌, length, get_or, map, filter, Option, Some, None, option_map, refl, sym, ap, ◌∙◌, subst, arith}
 use Rattle.std.specs.declared.cmp.Ordering.TheVariants.{Less, Equal, Greater}
 use Rattle.std.specs.List.{list_any}
