@@ -7,7 +7,7 @@ use Rattle.std.specs.FinMap.{empty, get, insert}
 use Rattle.std.proofs.lemmas.Bool.{cond_both}
 use Rattle.std.proofs.lemmas.List.Elements.{All-contains, All-contains_itself, All-from_recursion, recursion_from_All}
 use Rattle.atl_world.specs.Worlds.{WorldValue}
-use Rattle.atl_records.specs.Every.{Every, IsThere}
+use Rattle.atl_records.specs.Every.{Every, HasValue}
 use Rattle.atl_campaign.specs.Campaign.{CampaignValue}
 use Rattle.atl_records.proofs.EveryLaws.{every-empty, every-insert, there-insert}
 use Rattle.atl_campaign.proofs.RegionLaws.{get-insert_same}
@@ -43,18 +43,18 @@ module _ (w : WorldValue) (c : CampaignValue) where
       only_all P ts (with_learner w c learning t) so.1 (learner_cases (Every P) t learning old (λ s says can. every-insert P learning t.unit s (so.0 s says can) old))
 
   -- a unit that is in the map of those that learn is still in it once the units of some orders of STUDY are added
-  kept : (ts : List Task) (learning : Learning) (n : ℕ) → IsThere learning n → IsThere (fold (with_learner w c) learning ts) n
+  kept : (ts : List Task) (learning : Learning) (n : ℕ) → HasValue learning n → HasValue (fold (with_learner w c) learning ts) n
   kept [] learning n there = there
-  kept (t ∷ ts) learning n there = kept ts (with_learner w c learning t) n (learner_cases (λ l. IsThere l n) t learning there (λ s says can. there-insert learning t.unit n s there))
+  kept (t ∷ ts) learning n there = kept ts (with_learner w c learning t) n (learner_cases (λ l. HasValue l n) t learning there (λ s says can. there-insert learning t.unit n s there))
 
   -- the unit of an order of STUDY is learning after the order, if the unit learns by the order
-  added : (t : Task) (learning : Learning) → IfLearns (λ n s. IsThere (with_learner w c learning t) n) t
+  added : (t : Task) (learning : Learning) → IfLearns (λ n s. HasValue (with_learner w c learning t) n) t
   added t learning s says can =
-      subst (λ o. IsThere (with_skill learning t o) t.unit) (sym says)
-      (subst (λ b. IsThere (if b then insert learning t.unit s else learning) t.unit) (sym can) (s, get-insert_same learning t.unit s))
+      subst (λ o. HasValue (with_skill learning t o) t.unit) (sym says)
+      (subst (λ b. HasValue (if b then insert learning t.unit s else learning) t.unit) (sym can) (s, get-insert_same learning t.unit s))
 
   -- each unit that learns by one of some orders of STUDY is in the map once the units of these orders are added
-  each_all : (ts : List Task) (learning : Learning) → AllByRecursion (IfLearns (λ n s. IsThere (fold (with_learner w c) learning ts) n)) ts
+  each_all : (ts : List Task) (learning : Learning) → AllByRecursion (IfLearns (λ n s. HasValue (fold (with_learner w c) learning ts) n)) ts
   each_all [] learning = tt
   each_all (t ∷ ts) learning =
       let next = with_learner w c learning t in
@@ -71,10 +71,10 @@ pub units_learn_by_orders : UnitsLearnByOrders
 unfolding learners
 units_learn_by_orders w c m =
     let ts = study_tasks m in
-    let stays : ℕ → ℕ → Type 0 = (λ k s. IsThere (fold (with_learner w c) empty ts) k) in
+    let stays : ℕ → ℕ → Type 0 = (λ k s. HasValue (fold (with_learner w c) empty ts) k) in
     record {
       only = only_all w c (IsLearning w c m) ts empty (each_so w c m ts (recursion_from_All (Contains ts) ts (All-contains_itself ts))) (every-empty (IsLearning w c m));
       each = λ n s is.
           let here = All-contains (IfLearns w c stays) ts is.order (All-from_recursion (IfLearns w c stays) ts (each_all w c ts empty)) is.stands in
-          subst (IsThere (fold (with_learner w c) empty ts)) is.for_unit (here s is.says (subst (λ k. learns w s is.order.faction (get c.units k) ≡ true) (sym is.for_unit) is.can));
+          subst (HasValue (fold (with_learner w c) empty ts)) is.for_unit (here s is.says (subst (λ k. learns w s is.order.faction (get c.units k) ≡ true) (sym is.for_unit) is.can));
     }

@@ -26,7 +26,7 @@ use Rattle.atl_records.specs.declared.event.Outcome.TheVariants.{Done, Fault}
 use Rattle.atl_records.specs.declared.records.Structure.{Structure}
 use Rattle.atl_records.specs.declared.records.Unit.{Unit}
 use Rattle.atl_records.specs.Events.{event_fault_number}
-use Rattle.atl_records.specs.Every.{Every, IsThere}
+use Rattle.atl_records.specs.Every.{Every, HasValue}
 use Rattle.atl_campaign.specs.Good.{IsAboard, IsOwned, IsSteady, is_ship}
 use Rattle.atl_records.specs.Holdings.{HoldingValue}
 use Rattle.atl_records.specs.Levels.{load_of}
@@ -251,7 +251,7 @@ module _ (w : WorldValue) (c : CampaignValue) (ship to : ℕ) (steady : IsSteady
           let (u, was, same) = under (f m) (get c.units m) v (sym (units_at m) ∙ at) in
           (steady.owners q y there).ownerless none m u was (sym (carried m u).structure ∙ ap (λ (z : Unit). z.structure) same ∙ inside)
 
-  module _ (floats : is_ship w x ≡ true) (whole : x.done ≡ size_of w x.kind) (there_to : IsThere c.regions to) where
+  module _ (floats : is_ship w x ≡ true) (whole : x.done ≡ size_of w x.kind) (there_to : HasValue c.regions to) where
     -- each unit is in a region that is there, and in a structure of that region, after the ship sailed (`IsPut`)
     put : (k : ℕ) (v : Unit) → get c.units k ≡ Some v → IsPut w c units structures f g (f k v)
     put k v there =
@@ -284,7 +284,7 @@ module _ (w : WorldValue) (c : CampaignValue) (ship to : ℕ) (steady : IsSteady
       same_units = λ k v there. gone_same ship to (v.structure == ship) v;
       same_structures = λ q y there. cond_both (q == ship) (shifted y) y (IsSameStructure y) (λ _. record { kind = refl; done = refl; name = refl }) (λ _. record { kind = refl; done = refl; name = refl });
       put = put;
-      built = λ q y there. cond_both (q == ship) (shifted y) y (λ (z : Structure). IsThere c.regions z.region) (λ _. there_to) (λ _. (steady.known.structures q y there).region);
+      built = λ q y there. cond_both (q == ship) (shifted y) y (λ (z : Structure). HasValue c.regions z.region) (λ _. there_to) (λ _. (steady.known.structures q y there).region);
       owned = ship_owned;
       aboard = aboard;
       afloat = afloat;
@@ -352,15 +352,15 @@ carried_twice u v x one two = record {
 
 -- to go along at most with one's structure (`IsAtMostMoved`) is reflexive and transitive, and keeps the faction
 carried_spares : IsUnaffectedRelation IsAtMostMoved
-carried_spares = record { same = carried_same; again = carried_twice; faction = λ u v h. h.faction }
+carried_spares = record { same = carried_same; transitive = carried_twice; faction = λ u v h. h.faction }
 
 -- if a way to a region isn't refused (`is_way`), that region is one of the world
-way_there : (w : WorldValue) (from : ℕ) (to : Option ℕ) → not (is_way w from to) ≡ false → IsThere w.regions (unwrap_or to 0)
+way_there : (w : WorldValue) (from : ℕ) (to : Option ℕ) → not (is_way w from to) ≡ false → HasValue w.regions (unwrap_or to 0)
 way_there w from None t = false_true (sym t)
 way_there w from (Some r) t = by_plan (get w.regions r) refl (and_parts (is_some (get w.regions r)) (not (is_land_at w from && is_land_at w r)) (not-false (is_way w from (Some r)) t)).0
   where
     -- the world has region r, if a look-up of r finds a region
-    by_plan : (o : Option RegionPlan) → get w.regions r ≡ o → is_some o ≡ true → IsThere w.regions r
+    by_plan : (o : Option RegionPlan) → get w.regions r ≡ o → is_some o ≡ true → HasValue w.regions r
     by_plan None there t = false_true t
     by_plan (Some p) there t = (p, there)
 
@@ -379,7 +379,7 @@ faults w n u to ship crew load =
 -- P holds of the result of an order of SAIL, if it holds of each outcome without a change, and after each sailing.
 -- A ship that sails is complete, and sails to a region of the world.
 sail_cases : (P : CampaignValue × Outcome → Type 0) (w : WorldValue) (c : CampaignValue) (n : ℕ) (u : Unit) (direction : Direction) → ((outcome : Outcome) → P (c, outcome))
-    → ((to : ℕ) (x : Structure) → get c.structures u.structure ≡ Some x → is_ship w x ≡ true → x.done ≡ size_of w x.kind → IsThere w.regions to → P (after_sailing c u.structure to, Done 0)) → P (sail w n direction c u)
+    → ((to : ℕ) (x : Structure) → get c.structures u.structure ≡ Some x → is_ship w x ≡ true → x.done ≡ size_of w x.kind → HasValue w.regions to → P (after_sailing c u.structure to, Done 0)) → P (sail w n direction c u)
 unfolding sail
 sail_cases P w c n u direction same gone_off =
     by_fault (neighbour w u.region direction) (sail_fault w c n u (get c.structures u.structure) (neighbour w u.region direction)) refl
@@ -416,7 +416,7 @@ sail_spares w c n u direction steady k v there =
 pub sail_orderly : IsOrderly sail_step IsSteady nothing_remaining moves_nothing concerns_nobody IsAtMostMoved
 sail_orderly = record {
   well = λ w a c t x steady fit own. in_each_direction (λ deed. StepsWell IsSteady nothing_remaining w c (deed c x).0) (sail w t.unit) t.order_value.operands (λ direction. sail_well w c t.unit x direction steady);
-  sparing = carried_spares;
+  spares_is_relation = carried_spares;
   spared = λ w a c t x steady own k v there apart. in_each_direction (λ deed. IsUnaffected IsAtMostMoved (deed c x).0 k v) (sail w t.unit) t.order_value.operands (λ direction. sail_spares w c t.unit x direction steady k v there);
   bounded = λ w c steady e t. omega arith;
 }
@@ -498,7 +498,7 @@ module _ (w : WorldValue) (begun : CampaignValue) (number faction : ℕ) where
         by_unit (Some u) here = by_faction u here (u.faction == f)
 
     -- if `c` is as begun (`IsAsBegun`), so is the campaign after another ship than unit `number`'s structure sailed
-    sailed_else : (ship to : ℕ) (x : Structure) → get c.structures ship ≡ Some x → is_ship w x ≡ true → x.done ≡ size_of w x.kind → IsThere w.regions to → s ≢ ship → IsAsBegun (after_sailing c ship to)
+    sailed_else : (ship to : ℕ) (x : Structure) → get c.structures ship ≡ Some x → is_ship w x ≡ true → x.done ≡ size_of w x.kind → HasValue w.regions to → s ≢ ship → IsAsBegun (after_sailing c ship to)
     sailed_else ship to x at floats whole there apart = record {
       steady = (sailed_well w c ship to same.steady x at floats whole ((same.steady.known.regions to).1 there)).holds_still;
       places = λ k. sailed_inside w c ship to same.steady x at k ∙ same.places k;

@@ -41,7 +41,7 @@ use Rattle.atl_phase.proofs.MeaningLaws.{same_month_by}
 use Rattle.atl_phase.proofs.BookingLaws.{booked-near, within-neg}
 use Rattle.atl_phase.proofs.OutcomeLaws.{none_fits, not_less}
 use Rattle.atl_phase.proofs.HeldLaws.{all_held_within}
-use Rattle.atl_phase.proofs.OrderEffectLaws.{drawn_near, well_same}
+use Rattle.atl_phase.proofs.OrderEffectLaws.{bound_used_near, well_same}
 use Rattle.atl_phase.proofs.UnbookedLaws.{other_unit}
 use Rattle.atl_phase.specs.NoWorse.{IsUnchanged}
 use Rattle.atl_action.specs.Study.{after_study, days_after, is_helpful, study, study_effect, study_fault, study_moves, study_step, with_study}
@@ -114,9 +114,9 @@ module _ (w : WorldValue) (c : CampaignValue) (n : ℕ) (u : Unit) (s cost days 
       record { above = omega (arith, ints, all.above, less); below = omega (arith, ints, all.below, less) }
 
   -- the booking of the fee moves no amount further than the remaining bound of STUDY falls (`UsesBound`)
-  drawn : (e : Entry) (t : Thing) → UsesBound (study_reserve c e t) (study_reserve behind e t) (amount_in c.books e t) (amount_in behind.books e t)
-  drawn e t =
-      drawn_near (moves_only cost Study Money e t) (study_reserve c e t) (study_reserve behind e t) (amount_in c.books e t) (amount_in behind.books e t)
+  uses_bound : (e : Entry) (t : Thing) → UsesBound (study_reserve c e t) (study_reserve behind e t) (amount_in c.books e t) (amount_in behind.books e t)
+  uses_bound e t =
+      bound_used_near (moves_only cost Study Money e t) (study_reserve c e t) (study_reserve behind e t) (amount_in c.books e t) (amount_in behind.books e t)
       (let fallen = less in grind arith)
       (booked-near c.books Study Money (neg_ℤ (pos cost)) cost (within-neg cost cost (omega arith)) e t)
 
@@ -127,7 +127,7 @@ module _ (w : WorldValue) (c : CampaignValue) (n : ℕ) (u : Unit) (s cost days 
     holds_still = steady_behind known most;
     same_month = same_month_by refl;
     balances = balanced;
-    drawn = drawn;
+    uses_bound = uses_bound;
   }
 
 -- ---- an order
@@ -182,7 +182,7 @@ of_each_skill P w taught n other each = tt
 
 -- to be unchanged (`IsUnchanged`) is reflexive and transitive, and keeps the faction
 unchanged : IsUnaffectedRelation IsUnchanged
-unchanged = record { same = λ u. refl; again = λ u v x one two. two ∙ one; faction = λ u v same. ap (λ (x : Unit). x.faction) same }
+unchanged = record { same = λ u. refl; transitive = λ u v x one two. two ∙ one; faction = λ u v same. ap (λ (x : Unit). x.faction) same }
 
 -- in a steady campaign all money of the units (`study_reserve`) is within the bound of the phase (`study_moves`)
 money_most : (w : WorldValue) (c : CampaignValue) → IsSteady w c → (e : Entry) (t : Thing) → study_reserve c e t ≤ study_moves e t
@@ -194,7 +194,7 @@ study_orderly taught = record {
   well = λ w a c t x steady fit own.
       of_each_skill (λ deed. StepsWell IsSteady study_reserve w c (deed c x).0) w taught t.unit t.order_value.operands
       (λ s is. study_well w (taught t.unit) c t.unit s x own.there steady (subst (AreOperandsOf w) is fit));
-  sparing = unchanged;
+  spares_is_relation = unchanged;
   spared = λ w a c t x steady own k v there apart.
       of_each_skill (λ deed. IsUnaffected IsUnchanged (deed c x).0 k v) w taught t.unit t.order_value.operands
       (λ s is. record { unit = v; there = study_stays w (taught t.unit) c t.unit s x k (other_unit c t x k v own there apart) ∙ there; spared = refl });

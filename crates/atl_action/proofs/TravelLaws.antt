@@ -10,7 +10,7 @@ use Rattle.atl_world.specs.ByNumber.{is_land_at, size_of}
 use Rattle.atl_records.specs.Limits.{most_days}
 use Rattle.atl_records.specs.declared.records.Structure.{Structure}
 use Rattle.atl_records.specs.declared.records.Unit.{Unit}
-use Rattle.atl_records.specs.Every.{Every, IsThere}
+use Rattle.atl_records.specs.Every.{Every, HasValue}
 use Rattle.atl_campaign.specs.Good.{AreAfloat, AreInRange, AreKnown, AreNumbered, AreOfOneFaction, IsAboard, IsBuilt, IsOwned, IsPlaced, IsSteady, guards, is_ship}
 use Rattle.atl_records.specs.Holdings.{IsHolding}
 use Rattle.atl_campaign.specs.Campaign.{CampaignValue, numbers_of}
@@ -48,7 +48,7 @@ module _ (w : WorldValue) (c : CampaignValue) (units : FinMap nat_cmp Unit) (str
   -- unit u is in a region that is there, and the structure that it is inside, if any, is in that region
   pub record IsPut (u : Unit) : Type 0 where
     -- the unit's region is there
-    pub region : IsThere c.regions u.region
+    pub region : HasValue c.regions u.region
     -- the structure that the unit is inside, if any, is there, in the same region
     pub structure : u.structure ≢ 0 → (s : Structure) × (get structures u.structure ≡ Some s) × (s.region ≡ u.region)
 
@@ -73,7 +73,7 @@ module _ (w : WorldValue) (c : CampaignValue) (units : FinMap nat_cmp Unit) (str
     -- each unit is in a region that is there, and inside a structure of this region or none (`IsPut`)
     pub put : Every (λ k u. IsPut (f k u)) c.units
     -- each structure is in a region that is there
-    pub built : Every (λ k y. IsThere c.regions (g k y).region) c.structures
+    pub built : Every (λ k y. HasValue c.regions (g k y).region) c.structures
     -- each structure is owned by a unit inside it, or by none where none is inside (`IsOwned`)
     pub owned : Every (λ k y. IsOwned travelled k (g k y)) c.structures
     -- each unit on water is inside a ship

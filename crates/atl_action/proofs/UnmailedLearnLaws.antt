@@ -13,7 +13,7 @@ use Rattle.atl_phase.specs.PhaseOrders.{Task, orders_of}
 use Rattle.atl_phase.specs.OrderEffects.{meaning_by_orders}
 use Rattle.atl_phase.specs.Unmailed.{IsLessBy, starved_in}
 use Rattle.atl_phase.specs.declared.phase_order.Arrangement.TheVariants.{ByUnit}
-use Rattle.atl_phase.proofs.UnmailedLaws.{HasItsItems, HaveTheirMen, LeavesUnmailed, OthersHaveMen, SparesMen, carried_leaves, men_put, men_unless, others_men, own_faction, told_of_order, unmailed_spared}
+use Rattle.atl_phase.proofs.UnmailedLaws.{HasItsItems, HaveTheirMen, LeavesUnmailed, OthersHaveMen, SparesMen, carried_leaves, men_put, men_unless, others_men, own_faction, order_event_starves_none, unmailed_spared}
 use Rattle.atl_phase.specs.NoWorse.{IsUnchanged}
 use Rattle.atl_action.specs.Learners.{Learning, is_studying, learners}
 use Rattle.atl_action.specs.Study.{after_study, days_after, is_helpful, learn_keeps, learn_meaning, study, study_fault, study_step, with_study}
@@ -36,7 +36,7 @@ lesson_adds_no_starved : (c : CampaignValue) (learning : Learning) (p : TaughtMe
 lesson_adds_no_starved c learning (taught, m) t = record {
   readings = refl;
   aliases = refl;
-  starved = λ n. told_of_order m.events t (teach c m.aliases learning taught t).1 n;
+  starved = λ n. order_event_starves_none m.events t (teach c m.aliases learning taught t).1 n;
 }
 
 -- orders of TEACH keep readings and aliases, and add no men who starved to the events

@@ -20,7 +20,7 @@ use Rattle.atl_records.specs.declared.event.EventFault.TheVariants.{AtSea, NoMen
 use Rattle.atl_records.specs.declared.event.Outcome.TheVariants.{Done}
 use Rattle.atl_records.specs.declared.records.Structure.{Structure}
 use Rattle.atl_records.specs.declared.records.Unit.{Unit}
-use Rattle.atl_records.specs.Every.{Every, IsThere}
+use Rattle.atl_records.specs.Every.{Every, HasValue}
 use Rattle.atl_campaign.specs.Good.{IsOwned, IsSteady, is_ship}
 use Rattle.atl_records.specs.Levels.{carried_by, goods_of}
 use Rattle.atl_campaign.specs.Owners.{after_handover, heir, placed, with_place, with_place_at}
@@ -44,11 +44,11 @@ use Rattle.atl_action.proofs.PeopleLaws.{AreSamePeople, elsewhere, elsewhere_is,
 use Rattle.atl_action.proofs.TravelLaws.{AreTravelled, IsPut, IsSameStructure, steady-travelled, travelled}
 
 -- a region with land is one of the world
-pub land_is_there : (w : WorldValue) (r : ℕ) → is_land_at w r ≡ true → IsThere w.regions r
+pub land_is_there : (w : WorldValue) (r : ℕ) → is_land_at w r ≡ true → HasValue w.regions r
 land_is_there w r land = by_plan (get w.regions r) refl land
   where
     -- the world has region r, since a look-up of r finds a region
-    by_plan : (o : Option RegionPlan) → get w.regions r ≡ o → option_map_or (is_land w.terrains) o false ≡ true → IsThere w.regions r
+    by_plan : (o : Option RegionPlan) → get w.regions r ≡ o → option_map_or (is_land w.terrains) o false ≡ true → HasValue w.regions r
     by_plan None is dry = false_true dry
     by_plan (Some p) is dry = (p, is)
 
@@ -288,7 +288,7 @@ walk_stays w c n u direction k apart =
 pub walk_orderly : IsOrderly walk_step IsSteady nothing_remaining moves_nothing IsOwnOrder IsNoWorse
 walk_orderly = record {
   well = λ w a c t x steady fit own. in_each_direction (λ deed. StepsWell IsSteady nothing_remaining w c (deed c x).0) (walk w t.unit) t.order_value.operands (λ direction. walk_well w c t.unit x own.there direction steady);
-  sparing = no_worse_spares;
+  spares_is_relation = no_worse_spares;
   spared = λ w a c t x steady own k v there apart.
       stays_spared (walk_step w a t) c t x own k v there apart
       (λ j other. in_each_direction (λ deed. get (deed c x).0.units j ≡ get c.units j) (walk w t.unit) t.order_value.operands (λ direction. walk_stays w c t.unit x direction j other));

@@ -11,7 +11,7 @@ use Rattle.atl_orders.specs.declared.verb.Verb.{Verb}
 use Rattle.atl_orders.specs.declared.verb.Verb.TheVariants as verbs
 use Rattle.atl_orders.specs.Orders.{OperandsValue}
 use Rattle.atl_records.specs.declared.records.Unit.{Unit}
-use Rattle.atl_records.specs.Every.{IsThere}
+use Rattle.atl_records.specs.Every.{HasValue}
 use Rattle.atl_records.specs.Holdings.{HoldingValue}
 use Rattle.atl_campaign.specs.Campaign.{CampaignValue}
 use Rattle.atl_phase.specs.Month.{MonthValue}
@@ -75,7 +75,7 @@ pub record LearnByOrders (w : WorldValue) (c : CampaignValue) (m : MonthValue) :
   -- a unit that is in `learners` with a skill learns this skill by an order
   pub only : (n skill : ℕ) → get (learners w c m) n ≡ Some skill → IsLearning w c m n skill
   -- a unit that learns by an order is in `learners`
-  pub each : (n skill : ℕ) → IsLearning w c m n skill → IsThere (learners w c m) n
+  pub each : (n skill : ℕ) → IsLearning w c m n skill → HasValue (learners w c m) n
 
 -- A law: in each month a unit is in `learners` exactly if it learns by an order of STUDY that counts (`LearnByOrders`).
 abbrev pub UnitsLearnByOrders : Type 0

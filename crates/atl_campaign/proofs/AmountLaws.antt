@@ -16,7 +16,7 @@ use Rattle.atl_campaign.specs.Founding.{things_of}
 use Rattle.atl_records.specs.Amounts.{region_amount, unit_amount}
 use Rattle.atl_campaign.specs.Totals.{total, Balances}
 use Rattle.atl_records.specs.Books.{booked, AreBooks}
-use Rattle.atl_records.specs.Every.{EachOf, Every}
+use Rattle.atl_records.specs.Every.{EachEntry, Every}
 use Rattle.atl_campaign.specs.Good.{AreOfMarkets}
 use Rattle.atl_records.proofs.BookLaws.{booked_past}
 use Rattle.atl_records.proofs.EveryLaws.{each-from_every}
@@ -26,7 +26,7 @@ use Rattle.atl_campaign.proofs.MarketLaws.{market_known}
 -- ---- items that no world has
 
 -- the sum of what f gives for the values of some entries is 0, if f gives 0 for each of them
-pub none_weighed : {V : Type 0} (f : V → ℕ) (es : List (ℕ × V)) → EachOf (λ _ v. f v ≡ 0) es → sum_by (λ e. f e.1) es ≡ 0
+pub none_weighed : {V : Type 0} (f : V → ℕ) (es : List (ℕ × V)) → EachEntry (λ _ v. f v ≡ 0) es → sum_by (λ e. f e.1) es ≡ 0
 none_weighed f [] each = refl
 none_weighed {V} f (e ∷ es) each = let more = sum_by-cons (λ (e : ℕ × V). f e.1) e es in omega (arith, more, each.0, none_weighed f es each.1)
 
@@ -37,7 +37,7 @@ unheld items count i known l = ap (λ o. unwrap_or o 0) (free_from items i (λ t
 module _ (w : WorldValue) (c : CampaignValue) (world : IsWorld w) (are : AreBooks (things_of w) c.books) (known : Every (λ n u. Every (λ i amount. i < length w.items) u.holding.items) c.units)
     (stocks : Every (λ n r. AreOfMarkets w n r.stocks) c.regions) where
   -- no region has an item in stock that is not in the world, if regions stock only items that have a market there
-  none_kept : (i : ℕ) → length w.items ≤ i → EachOf (λ _ r. region_amount (Item i) r ≡ 0) (entries c.regions)
+  none_kept : (i : ℕ) → length w.items ≤ i → EachEntry (λ _ r. region_amount (Item i) r ≡ 0) (entries c.regions)
   none_kept i l = each-from_every (λ _ r. region_amount (Item i) r ≡ 0) c.regions (λ n r is. unheld r.stocks (length w.items) i (λ k amount at. market_known w world n k (stocks n r is k amount at)) l)
 
   -- the total of an item not in the world is 0, if units hold only items of the world, and regions stock only items

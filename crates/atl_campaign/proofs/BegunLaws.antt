@@ -11,7 +11,7 @@ use Rattle.atl_world.specs.ByNumber.{is_land_at, size_of}
 use Rattle.atl_campaign.specs.Covers.{MarksChanges}
 use Rattle.atl_records.specs.declared.books.Thing.{Thing}
 use Rattle.atl_records.specs.declared.records.Structure.{Structure}
-use Rattle.atl_records.specs.Every.{Every, IsThere}
+use Rattle.atl_records.specs.Every.{Every, HasValue}
 use Rattle.atl_campaign.specs.Good.{AreAfloat, AreInRange, AreKnown, AreNumbered, AreOwned, IsBuilt, IsOwned, IsSteady, is_ship}
 use Rattle.atl_records.specs.Limits.{most_structures}
 use Rattle.atl_campaign.specs.Marking.{mark_structure_begun}
@@ -30,7 +30,7 @@ pub record IsFresh (w : WorldValue) (c : CampaignValue) (s : Structure) : Type 0
   -- the structure's name keeps the rule of names
   pub name : IsTrue (name_ok s.name)
   -- the structure's region exists
-  pub region : IsThere c.regions s.region
+  pub region : HasValue c.regions s.region
   -- the structure's region is on land
   pub land : is_land_at w s.region ≡ true
   -- at least 1 of the structure is done

@@ -4,15 +4,16 @@ use Rattle.std.specs.Prelude.{ℤ, pos, negsuc, ◌+ℤ◌, ◌≤ℤ◌}
 use Rattle.std.specs.Int.{w64}
 use Rattle.std.specs.Int.RustNames.{FitsSigned}
 use Rattle.std.proofs.lemmas.Int.{ints}
-use Rattle.atl_records.specs.Books.{IsSmall}
+use Rattle.atl_records.specs.Books.{LeavesRoomForJoining}
 
 -- an amount from -9 * 10^18 to 9 * 10^18 is in the range of signed 64-bit numbers
 by_sign : (z : ℤ) → z ≤ℤ pos 9000000000000000000 → pos 0 ≤ℤ (z +ℤ pos 9000000000000000000) → FitsSigned w64 z
 by_sign (pos n) most less = record { sfits = omega (arith, ints, most) }
 by_sign (negsuc n) most less = record { sfits = omega (arith, ints, less) }
 
--- a small amount (`IsSmall`) plus at most 4 * 10^18 is in the range of signed 64-bit numbers
-pub more_fits : (z : ℤ) (n : ℕ) → IsSmall z → n ≤ 4000000000000000000 → FitsSigned w64 (z +ℤ pos n)
+-- an amount with room for a joining (`LeavesRoomForJoining`) plus at most 4 * 10^18 is in the range of signed 64-bit
+-- numbers
+pub more_fits : (z : ℤ) (n : ℕ) → LeavesRoomForJoining z → n ≤ 4000000000000000000 → FitsSigned w64 (z +ℤ pos n)
 more_fits z n small few = by_sign (z +ℤ pos n) (omega (arith, ints, small.0, few)) (omega (arith, ints, small.1))
 
 -- 0 plus at most 4 * 10^18 is in the range of signed 64-bit numbers

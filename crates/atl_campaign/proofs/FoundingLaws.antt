@@ -33,13 +33,13 @@ use Rattle.atl_campaign.specs.Stocks.{stock_limit}
 use Rattle.atl_campaign.specs.Founding.{founded_of, founded_region, things_of}
 use Rattle.atl_records.specs.Holdings.{IsHolding}
 use Rattle.atl_campaign.specs.Campaign.{numbers_of}
-use Rattle.atl_records.specs.Every.{Every, IsThere}
+use Rattle.atl_records.specs.Every.{Every, HasValue}
 use Rattle.atl_campaign.proofs.GoodLaws.{posted-nobody}
 use Rattle.atl_campaign.specs.Good.{IsActive, IsRegion, AreInRange, AreAmountsWithin, AreNamed, IsPlaced, IsBuilt, AreKnown, AreOfMarkets, IsNumbered, IsOwned, is_ship, IsAboard, guards, IsSteady, IsGood}
 use Rattle.atl_records.proofs.EveryLaws.{each-from_every, every-empty, every-mapped, there-mapped}
 use Rattle.atl_campaign.proofs.AmountLaws.{none_weighed}
 use Rattle.atl_campaign.proofs.AmountMarkLaws.{none_marked}
-use Rattle.atl_records.proofs.BookLaws.{booked-after_booking, booked-no_amounts, amount-no_amounts, AreBooks-no_amounts, AreBooks-after_booking, IsWithin-after_booking, share_of}
+use Rattle.atl_records.proofs.BookLaws.{booked-after_booking, booked-no_amounts, amount-no_amounts, AreBooks-no_amounts, AreBooks-after_booking, IsWithin-after_booking, booked_for}
 
 -- the campaign's invariant AreKept holds of the lists of its units and an empty dirty set with room for all amounts
 pub AreKept-without_marks : (things : ℕ) (units : FinMap nat_cmp Unit) (lists : UnitLists) → AreUnitLists units lists → AreKept units lists things (record { numbers = set.empty; room = entry_count * things })
@@ -62,10 +62,10 @@ no_items w i =
     none_weighed (λ (r : Region). region_amount (Item i) r) (entries founded) (each-from_every (λ n r. region_amount (Item i) r ≡ 0) founded nothing)
 
 -- the sum that founding books of a thing is the money for money, the people for people, and 0 for each item
-founding_booked : (things money people : ℕ) (t : Thing) → booked (after_booking (after_booking (no_amounts things) Founding Money (pos money)) Founding People (pos people)) t ≡ share_of t Money (pos money) +ℤ share_of t People (pos people)
+founding_booked : (things money people : ℕ) (t : Thing) → booked (after_booking (after_booking (no_amounts things) Founding Money (pos money)) Founding People (pos people)) t ≡ booked_for t Money (pos money) +ℤ booked_for t People (pos people)
 founding_booked things money people t =
     booked-after_booking (after_booking (no_amounts things) Founding Money (pos money)) Founding People (pos people) t
-    ∙ ap (λ z. z +ℤ share_of t People (pos people)) (booked-after_booking (no_amounts things) Founding Money (pos money) t ∙ ap (λ z. z +ℤ share_of t Money (pos money)) (booked-no_amounts things t) ∙ from_nothing (share_of t Money (pos money)))
+    ∙ ap (λ z. z +ℤ booked_for t People (pos people)) (booked-after_booking (no_amounts things) Founding Money (pos money) t ∙ ap (λ z. z +ℤ booked_for t Money (pos money)) (booked-no_amounts things t) ∙ from_nothing (booked_for t Money (pos money)))
   where
     -- for founding_booked: 0 plus the integer z is z
     from_nothing : (z : ℤ) → pos 0 +ℤ z ≡ z
@@ -196,5 +196,5 @@ module _ (w : WorldValue) (pass : List ℕ) (world : IsWorld w) where
       balances = founded-balances w pass;
       mail = every-empty (λ n text. IsMailingOf n text × IsActive (founded_of w pass) n);
     };
-    reported = every-empty (λ n f. IsThere empty n);
+    reported = every-empty (λ n f. HasValue empty n);
   }

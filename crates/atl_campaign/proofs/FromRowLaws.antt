@@ -33,11 +33,11 @@ use Rattle.atl_campaign.specs.RowRules.{is_from, campaign_row_in_range, faction_
 use Rattle.atl_campaign.specs.Stocks.{stock_limit}
 use Rattle.atl_campaign.proofs.AssemblyLaws.{is_same, AreAmounts-had}
 use Rattle.atl_campaign.proofs.ReadBackLaws.{every_by}
-use Rattle.atl_records.proofs.AccountLaws.{place_at}
+use Rattle.atl_records.proofs.AccountLaws.{index_of_thing_at}
 use Rattle.atl_records.proofs.BookLaws.{AreBooks-no_amounts, AreBooks-with_amount}
 use Rattle.atl_records.proofs.EveryLaws.{every-empty, every-insert}
 use Rattle.atl_campaign.proofs.GroupLaws.{kept}
-use Rattle.atl_campaign.proofs.OrderLaws.{each_passes}
+use Rattle.atl_campaign.proofs.MapOfRowsLaws.{each_passes}
 
 -- ---- maps of rows
 
@@ -100,7 +100,7 @@ from_le m n h = grind (arith, nat_tests)
 row_put : (things : ℕ) (books : BooksValue) (e : Entry) (r : StoredBooks) (b : Bool) → nat_lt (as_u32 r.thing) books.things ≡ b → AreBooks things books → AreBooks things (cond b (with_amount books e (thing_at (as_u32 r.thing)) r.amount) books)
 row_put things books e r true inside are =
     let few : as_u32 r.thing < books.things = grind (arith, nat_tests) in
-    let place = place_at (as_u32 r.thing) in
+    let place = index_of_thing_at (as_u32 r.thing) in
     AreBooks-with_amount books e (thing_at (as_u32 r.thing)) r.amount things are (omega (arith, few, place, are.count))
 row_put things books e r false inside are = are
 

@@ -9,7 +9,7 @@ use Rattle.atl_world.specs.Sums.{changed_at}
 use Rattle.atl_campaign.specs.Covers.{MarksChanges}
 use Rattle.atl_records.specs.declared.books.Thing.{Thing}
 use Rattle.atl_records.specs.declared.records.Faction.{Faction}
-use Rattle.atl_records.specs.Every.{Every, IsThere}
+use Rattle.atl_records.specs.Every.{Every, HasValue}
 use Rattle.atl_campaign.proofs.GoodLaws.{posted-there}
 use Rattle.atl_campaign.specs.Good.{AreInRange, AreKnown, AreNamed, AreNumbered, IsSteady}
 use Rattle.atl_campaign.specs.Marking.{mark_faction}
@@ -41,7 +41,7 @@ module _ (c : CampaignValue) (n : ℕ) (x : Faction) (is : get c.factions n ≡ 
   none_kept k none = get-insert_other c.factions n k (as_gone x) (free_apart k none) ∙ none
 
   -- a faction that was there still is when faction n is set gone
-  there : (k : ℕ) → IsThere c.factions k → IsThere factions k
+  there : (k : ℕ) → HasValue c.factions k → HasValue factions k
   there k h = there-insert c.factions n k (as_gone x) h
 
   -- the campaign's counts and numbers stay in their ranges (AreInRange) when faction n is set gone
@@ -123,12 +123,12 @@ module _ (c : CampaignValue) (n : ℕ) (x : Faction) (is : get c.factions n ≡ 
   count-gone = ap (λ (d : CampaignValue). len d.factions) gone-known ∙ same_len c.factions n x (as_gone x) is
 
   -- a faction that is there once n is set gone was there before
-  was_there : (k : ℕ) → IsThere factions k → IsThere c.factions k
-  was_there k (f, here) = every-insert (λ k f. IsThere c.factions k) c.factions n (as_gone x) (x, is) (λ k f here. (f, here)) k f here
+  was_there : (k : ℕ) → HasValue factions k → HasValue c.factions k
+  was_there k (f, here) = every-insert (λ k f. HasValue c.factions k) c.factions n (as_gone x) (x, is) (λ k f here. (f, here)) k f here
 
   -- each faction that with_gone leaves was there before
-  pub known-gone : (k : ℕ) → IsThere (with_gone c n).factions k → IsThere c.factions k
-  known-gone k h = was_there k (subst (λ (d : CampaignValue). IsThere d.factions k) gone-known h)
+  pub known-gone : (k : ℕ) → HasValue (with_gone c n).factions k → HasValue c.factions k
+  known-gone k h = was_there k (subst (λ (d : CampaignValue). HasValue d.factions k) gone-known h)
 
   -- once faction n is set gone, it is found with the flag gone
   pub get-gone : get (with_gone c n).factions n ≡ Some (as_gone x)

@@ -12,7 +12,7 @@ use Rattle.atl_records.specs.declared.records.Faction.{Faction}
 use Rattle.atl_records.specs.Limits.{last_month}
 use Rattle.atl_campaign.specs.Campaign.{CampaignValue, with_mail, with_report}
 use Rattle.atl_campaign.specs.Totals.{total}
-use Rattle.atl_records.specs.Every.{Every, IsThere}
+use Rattle.atl_records.specs.Every.{Every, HasValue}
 use Rattle.atl_campaign.specs.Early.{GoodAreEarly, SoundAreEarly}
 use Rattle.atl_campaign.specs.Good.{IsActive, AreInRange, AreNamed, AreOfFactions, AreKnown, IsSteady, IsSound, IsGood}
 use Rattle.atl_campaign.specs.Joining.{joined, join_of, name_taken, is_full, new_faction}
@@ -22,7 +22,7 @@ use Rattle.atl_records.proofs.EveryLaws.{every-empty, every-insert, there-new, t
 
 -- mail and reports that are of factions of one map (AreOfFactions) are of factions of a later map too, if the later one
 -- has all factions of the first
-pub posted-there : {factions later : FinMap nat_cmp Faction} {mail reports : FinMap nat_cmp (List ℕ)} → ((n : ℕ) → IsThere factions n → IsThere later n) → AreOfFactions factions mail reports → AreOfFactions later mail reports
+pub posted-there : {factions later : FinMap nat_cmp Faction} {mail reports : FinMap nat_cmp (List ℕ)} → ((n : ℕ) → HasValue factions n → HasValue later n) → AreOfFactions factions mail reports → AreOfFactions later mail reports
 posted-there stays posts = record { mail = λ n text is. stays n (posts.mail n text is); reports = λ n text is. stays n (posts.reports n text is) }
 
 -- once all mail is removed, mail, of which there is none, and reports are of factions that are there (AreOfFactions)
@@ -93,13 +93,13 @@ posted-sound w c mail reports posts sent old = record {
 }
 
 -- storing a report of a faction that is there keeps a campaign sound
-pub IsSound-with_report : (w : WorldValue) (c : CampaignValue) (faction : ℕ) (text : List ℕ) → IsThere c.factions faction → IsSound w c → IsSound w (with_report c faction text)
+pub IsSound-with_report : (w : WorldValue) (c : CampaignValue) (faction : ℕ) (text : List ℕ) → HasValue c.factions faction → IsSound w c → IsSound w (with_report c faction text)
 IsSound-with_report w c faction text there old =
     let posts = old.steady.known.posts in
-    posted-sound w c c.mail (insert c.reports faction text) (record { mail = posts.mail; reports = every-insert (λ n text. IsThere c.factions n) c.reports faction text there posts.reports }) old.mail old
+    posted-sound w c c.mail (insert c.reports faction text) (record { mail = posts.mail; reports = every-insert (λ n text. HasValue c.factions n) c.reports faction text there posts.reports }) old.mail old
 
 -- storing a report of a faction that is there keeps a campaign good
-pub IsGood-with_report : (w : WorldValue) (c : CampaignValue) (faction : ℕ) (text : List ℕ) → IsThere c.factions faction → IsGood w c → IsGood w (with_report c faction text)
+pub IsGood-with_report : (w : WorldValue) (c : CampaignValue) (faction : ℕ) (text : List ℕ) → HasValue c.factions faction → IsGood w c → IsGood w (with_report c faction text)
 IsGood-with_report w c faction text there good = record {
   sound = IsSound-with_report w c faction text there good.sound;
   reported = λ n f is. there-insert c.reports faction n text (good.reported n f is);
@@ -111,7 +111,7 @@ IsGood-with_mail w c faction text sent active good =
     let posts = good.sound.steady.known.posts in
     let (f, there, stays) = active in
     record {
-      sound = posted-sound w c (insert c.mail faction text) c.reports (record { mail = every-insert (λ n text. IsThere c.factions n) c.mail faction text (f, there) posts.mail; reports = posts.reports })
+      sound = posted-sound w c (insert c.mail faction text) c.reports (record { mail = every-insert (λ n text. HasValue c.factions n) c.mail faction text (f, there) posts.mail; reports = posts.reports })
           (every-insert (λ n text. IsMailingOf n text × IsActive c n) c.mail faction text (sent, active) good.sound.mail) good.sound;
       reported = good.reported;
     }
@@ -130,7 +130,7 @@ IsGood-joined w name pass word c d faction unit text is good sound =
     let member = new_faction c.next_faction name pass in
     let whole : IsSound w d → IsGood w (with_report d faction text) = subst (λ (p : CampaignValue × (ℕ × ℕ)). IsSound w p.0 → IsGood w (with_report p.0 p.1.0 text)) same (λ new. record {
       sound = IsSound-with_report w (joined w name pass word c) c.next_faction text (there-new c.factions c.next_faction member) new;
-      reported = every-insert (λ n f. IsThere (insert c.reports c.next_faction text) n) c.factions c.next_faction member (there-new c.reports c.next_faction text) (λ n f is. there-insert c.reports c.next_faction n text (good.reported n f is));
+      reported = every-insert (λ n f. HasValue (insert c.reports c.next_faction text) n) c.factions c.next_faction member (there-new c.reports c.next_faction text) (λ n f is. there-insert c.reports c.next_faction n text (good.reported n f is));
     }) in
     whole sound
 

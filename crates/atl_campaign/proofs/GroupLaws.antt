@@ -9,7 +9,7 @@ use Rattle.std.proofs.lemmas.List.Sorted.{IsPermutation-refl, IsPermutation-sym,
 use Rattle.atl_campaign.specs.FromRows.{by_number}
 use Rattle.atl_campaign.specs.Rows.{rows_by}
 use Rattle.atl_campaign.proofs.KeyLaws.{IsDistinct-map, IsDistinct-of_map}
-use Rattle.atl_campaign.proofs.OrderLaws.{Apart, Apart-keys, HasNumber, each_so, flat_order}
+use Rattle.atl_campaign.proofs.MapOfRowsLaws.{Apart, Apart-keys, HasNumber, each_so, flat_order}
 
 -- ---- rows that pass a test
 

@@ -18,7 +18,7 @@ use Rattle.atl_campaign.specs.Rows.{is_zero, has_row, rows_of_sort, held_rows, h
 use Rattle.atl_campaign.proofs.AssemblyLaws.{is_same}
 use Rattle.atl_campaign.proofs.GroupLaws as group
 use Rattle.atl_campaign.proofs.GroupLaws.{filter_both, filter_each, gathered, lines_order, of_group}
-use Rattle.atl_campaign.proofs.OrderLaws.{Apart, HasNumber, each_so, flat_order}
+use Rattle.atl_campaign.proofs.MapOfRowsLaws.{Apart, HasNumber, each_so, flat_order}
 
 -- a row of `has` is of one of the given units, and of sort 0 (items) or 1 (days)
 abbrev pub IsOfUnits : List StoredUnit → StoredHas → Type 0

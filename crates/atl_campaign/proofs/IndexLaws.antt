@@ -131,7 +131,7 @@ inside ps n i h = let size = length-map ps (λ (p : IndexEntry). p.number) in le
 -- the index entry at the index of a number (IsAt) has that number
 number-stands : (ps : List IndexEntry) (n i : ℕ) (d : IndexEntry) → IsAt (index_numbers ps) n i → (get_or ps i d).number ≡ n
 number-stands ps n i d h =
-    sym (get_or-map (λ (p : IndexEntry). p.number) ps i d d.number (inside ps n i h)) ∙ get_or_default (index_numbers ps) i d.number 0 h.within ∙ h.is
+    sym (get_or-map (λ (p : IndexEntry). p.number) ps i d d.number (inside ps n i h)) ∙ get_or_default (index_numbers ps) i d.number 0 h.within ∙ h.number_there
 
 -- the map of the index entries is their map without a number's entry, with the slot of that entry put in again
 put_again : (ps : List IndexEntry) (n i : ℕ) (d : IndexEntry) → IsSorted ps → IsAt (index_numbers ps) n i → as_map ps ≡ finmap.insert (as_map (remove ps i)) n (get_or ps i d).slot
@@ -194,7 +194,7 @@ found-by_search ps n (Ok i) l h =
     let size = length-map ps (λ (p : IndexEntry). p.number) in
     record {
       within = omega (arith, size, l);
-      is = get_or-map (λ (p : IndexEntry). p.number) ps i d 0 l ∙ nat_cmp-IsAntisymmetric (get_or ps i d).number n (h d);
+      number_there = get_or-map (λ (p : IndexEntry). p.number) ps i d 0 l ∙ nat_cmp-IsAntisymmetric (get_or ps i d).number n (h d);
     }
 found-by_search ps n (Err i) l h = tt
 

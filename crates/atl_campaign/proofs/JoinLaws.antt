@@ -24,7 +24,7 @@ use Rattle.atl_records.specs.declared.records.Faction.{Faction}
 use Rattle.atl_records.specs.declared.records.Unit.{Unit}
 use Rattle.atl_records.specs.Holdings.{IsHolding}
 use Rattle.atl_campaign.specs.Campaign.{CampaignValue, numbers_of}
-use Rattle.atl_records.specs.Books.{booked, after_booking, amount_in, IsSmall}
+use Rattle.atl_records.specs.Books.{booked, after_booking, amount_in, LeavesRoomForJoining}
 use Rattle.atl_records.specs.Amounts.{unit_amount}
 use Rattle.atl_campaign.specs.Totals.{total, Balances}
 use Rattle.atl_campaign.specs.Founding.{things_of}
@@ -33,7 +33,7 @@ use Rattle.atl_campaign.proofs.GoodLaws.{posted-there}
 use Rattle.atl_campaign.specs.Good.{AreInRange, AreAmountsWithin, HaveMen, AreNamed, IsPlaced, AreKnown, IsNumbered, AreNumbered, AreDays, GoneHaveNone, UnitlessAreGone, AreOwned, IsAboard, AreAfloat, guards, AreOfOneFaction, IsMail, IsSteady, IsSound, amount_bound}
 use Rattle.atl_campaign.specs.Joining.{joined, new_faction, first_unit, home_of, is_full, name_taken}
 use Rattle.atl_campaign.specs.Ordered.{put_number, first_not_below}
-use Rattle.atl_records.proofs.BookLaws.{booked-after_booking, AreBooks-after_booking, IsWithin-after_booking, IsSmall-within, share_of}
+use Rattle.atl_records.proofs.BookLaws.{booked-after_booking, AreBooks-after_booking, IsWithin-after_booking, LeavesRoomForJoining-within, booked_for}
 use Rattle.atl_records.proofs.EveryLaws.{every-empty, every-insert, every-from_none, get-insert_other, there-new, there-insert, passes-listed, none_some}
 use Rattle.atl_campaign.proofs.NumberedNameLaws.{unit_name_ok}
 use Rattle.atl_campaign.proofs.OrderedLaws.{numbers_where-insert_new}
@@ -46,12 +46,12 @@ two : (x n : ℕ) (b p q : ℤ) → pos x ≡ b → pos n ≡ p +ℤ q → pos (
 two x n b p q h g = omega (arith, ints)
 
 -- the first unit of a faction that joins has 0 of each item, which is what the join books of the item
-none : (w : WorldValue) (word : ℕ) (c : CampaignValue) (i : ℕ) → (2 + i == 0) ≡ false → (2 + i == 1) ≡ false → pos (unit_amount (Item i) (first_unit w word c).holding) ≡ share_of (Item i) Money (pos w.rules.start_money) +ℤ share_of (Item i) People (pos 1)
+none : (w : WorldValue) (word : ℕ) (c : CampaignValue) (i : ℕ) → (2 + i == 0) ≡ false → (2 + i == 1) ≡ false → pos (unit_amount (Item i) (first_unit w word c).holding) ≡ booked_for (Item i) Money (pos w.rules.start_money) +ℤ booked_for (Item i) People (pos 1)
 none w word c i a b =
     ap (λ o. pos (unwrap_or o 0)) (get-empty nat_cmp i) ∙ sym (ap (λ q. cond q (pos w.rules.start_money) (pos 0) +ℤ cond (2 + i == 1) (pos 1) (pos 0)) a ∙ ap (λ q. pos 0 +ℤ cond q (pos 1) (pos 0)) b)
 
 -- what the first unit of a faction that joins holds of a thing is what the join books of the thing
-held_booked : (w : WorldValue) (word : ℕ) (c : CampaignValue) (t : Thing) → pos (unit_amount t (first_unit w word c).holding) ≡ share_of t Money (pos w.rules.start_money) +ℤ share_of t People (pos 1)
+held_booked : (w : WorldValue) (word : ℕ) (c : CampaignValue) (t : Thing) → pos (unit_amount t (first_unit w word c).holding) ≡ booked_for t Money (pos w.rules.start_money) +ℤ booked_for t People (pos 1)
 held_booked w word c Money = omega (arith, ints)
 held_booked w word c People = refl
 held_booked w word c (Item i) = none w word c i (grind (arith, nat_tests)) (grind (arith, nat_tests))
@@ -62,19 +62,19 @@ unfolding joined total
 joined-balances w name pass word c free h t =
     let one = after_booking c.books Joining Money (pos w.rules.start_money) in
     ap pos (total-with_unit c c.next_unit (first_unit w word c) t free)
-    ∙ two (total c t) (unit_amount t (first_unit w word c).holding) (booked c.books t) (share_of t Money (pos w.rules.start_money)) (share_of t People (pos 1)) (h t) (held_booked w word c t)
-    ∙ ap (λ z. z +ℤ share_of t People (pos 1)) (sym (booked-after_booking c.books Joining Money (pos w.rules.start_money) t))
+    ∙ two (total c t) (unit_amount t (first_unit w word c).holding) (booked c.books t) (booked_for t Money (pos w.rules.start_money)) (booked_for t People (pos 1)) (h t) (held_booked w word c t)
+    ∙ ap (λ z. z +ℤ booked_for t People (pos 1)) (sym (booked-after_booking c.books Joining Money (pos w.rules.start_money) t))
     ∙ sym (booked-after_booking one Joining People (pos 1) t)
 
 -- the bound on amounts of the books (`amount_bound`) is at most 4 * 10^18 if a campaign's numbers are in range
 amounts_small : (w : WorldValue) (c : CampaignValue) → AreInRange w c → amount_bound c ≤ 4000000000000000000
 amounts_small w c numbers = omega (arith, numbers.month, numbers.few_factions)
 
--- the money and the people booked under Joining in a sound campaign are from -2^62 - 1 to 2^62 (IsSmall)
-pub joining_small : (w : WorldValue) (c : CampaignValue) → IsSound w c → IsSmall (amount_in c.books Joining Money) × IsSmall (amount_in c.books Joining People)
+-- the money and the people booked under Joining in a sound campaign are from -2^62 - 1 to 2^62 (LeavesRoomForJoining)
+pub joining_small : (w : WorldValue) (c : CampaignValue) → IsSound w c → LeavesRoomForJoining (amount_in c.books Joining Money) × LeavesRoomForJoining (amount_in c.books Joining People)
 joining_small w c sound =
     let small = amounts_small w c sound.steady.numbers in
-    (IsSmall-within _ _ (sound.amounts Joining Money) small, IsSmall-within _ _ (sound.amounts Joining People) small)
+    (LeavesRoomForJoining-within _ _ (sound.amounts Joining Money) small, LeavesRoomForJoining-within _ _ (sound.amounts Joining People) small)
 
 -- ---- the numbers
 

@@ -19,7 +19,7 @@ pub mod KeyLaws
 pub mod GapVecLaws
 pub mod FromRowLaws
 pub mod HasLaws
-pub mod OrderLaws
+pub mod MapOfRowsLaws
 pub mod SortedMapLaws
 pub mod RowLaws
 pub mod UnitLaws

@@ -5,7 +5,7 @@ use Rattle.std.specs.FinMap.{FinMap, entries, get}
 use Rattle.std.proofs.lemmas.Bool.{false_from_ne_true}
 use Rattle.atl_world.specs.Sums.{numbers_where}
 use Rattle.atl_world.proofs.SumLaws.{chosen-cons}
-use Rattle.atl_records.specs.Every.{EachOf, Every}
+use Rattle.atl_records.specs.Every.{EachEntry, Every}
 use Rattle.atl_campaign.specs.Owners.{first_or_zero}
 use Rattle.atl_records.proofs.EveryLaws.{every-from_each, passes-listed}
 
@@ -56,12 +56,12 @@ module _ {V : Type 0} (p : V → Bool) where
   foremost n ns false h = cc
 
   -- if the numbers of the entries that pass are on the list ks, they are on each list ns that has all numbers of ks
-  all_further : (ks ns : List ℕ) → ((k : ℕ) → IsListed k ks → IsListed k ns) → (es : List (ℕ × V)) → EachOf (λ n v. p v ≡ true → IsListed n ks) es → EachOf (λ n v. p v ≡ true → IsListed n ns) es
+  all_further : (ks ns : List ℕ) → ((k : ℕ) → IsListed k ks → IsListed k ns) → (es : List (ℕ × V)) → EachEntry (λ n v. p v ≡ true → IsListed n ks) es → EachEntry (λ n v. p v ≡ true → IsListed n ns) es
   all_further ks ns more [] h = tt
   all_further ks ns more (e ∷ es) h = (λ t. more e.0 (h.0 t), all_further ks ns more es h.1)
 
   -- the number of each entry whose value passes the test p is on the list of such numbers (`chosen`)
-  each_listed : (es : List (ℕ × V)) → EachOf (λ n v. p v ≡ true → IsListed n (chosen es)) es
+  each_listed : (es : List (ℕ × V)) → EachEntry (λ n v. p v ≡ true → IsListed n (chosen es)) es
   each_listed [] = tt
   each_listed (e ∷ es) =
       let same = sym (chosen-cons p e es) in (

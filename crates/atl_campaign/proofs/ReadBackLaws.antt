@@ -15,7 +15,7 @@ use Rattle.std.proofs.lemmas.List.Sorted.{All-permutation, IsPermutation-sym, le
 use Rattle.std.proofs.lemmas.Map.Keys.{IsDistinct-IsPermutation}
 use Rattle.std.proofs.lemmas.Cmp.{eq_by_cmp_equiv, int_cmp_total, on_total, then_total}
 use Rattle.atl_records.specs.Limits.{most_u32}
-use Rattle.atl_records.specs.Every.{EachOf, Every}
+use Rattle.atl_records.specs.Every.{EachEntry, Every}
 use Rattle.atl_campaign.specs.FromRows.{as_u32, put_rows, by_number}
 use Rattle.atl_campaign.specs.RowRules.{Key, one_key, HaveKeys}
 use Rattle.atl_campaign.specs.Rows.{rows_by}
@@ -23,7 +23,7 @@ use Rattle.atl_campaign.proofs.AssemblyLaws.{min_small}
 use Rattle.atl_records.proofs.EveryLaws.{none_some, every-empty, every-insert, every-from_each, each-from_every, sorted}
 use Rattle.atl_campaign.proofs.HasLaws.{IsWhole, same}
 use Rattle.atl_campaign.proofs.KeyLaws.{IsDistinct-map}
-use Rattle.atl_campaign.proofs.OrderLaws.{Apart, rows_found}
+use Rattle.atl_campaign.proofs.MapOfRowsLaws.{Apart, rows_found}
 use Rattle.atl_campaign.proofs.OrderedLaws.{below}
 
 -- ---- facts of each row, in another order
@@ -82,12 +82,12 @@ module _ {R V : Type 0} (number : R → ℕ) (value : R → V) where
 
 module _ {V R : Type 0} (row : ℕ → V → R) where
   -- if P holds for the row of the number and value of each entry, it holds for each row of the entries (rows_by)
-  rows_each : (P : R → Type 0) (es : List (ℕ × V)) → EachOf (λ n v. P (row n v)) es → AllByRecursion P (rows_by row es)
+  rows_each : (P : R → Type 0) (es : List (ℕ × V)) → EachEntry (λ n v. P (row n v)) es → AllByRecursion P (rows_by row es)
   rows_each P [] h = tt
   rows_each P (e ∷ es) h = (h.0, rows_each P es h.1)
 
   -- if P holds for each row of entries (rows_by), it holds for the row of the number and value of each entry
-  each_row : (P : R → Type 0) (es : List (ℕ × V)) → AllByRecursion P (rows_by row es) → EachOf (λ n v. P (row n v)) es
+  each_row : (P : R → Type 0) (es : List (ℕ × V)) → AllByRecursion P (rows_by row es) → EachEntry (λ n v. P (row n v)) es
   each_row P [] h = tt
   each_row P (e ∷ es) h = (h.0, each_row P es h.1)
 

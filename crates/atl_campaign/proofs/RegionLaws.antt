@@ -15,7 +15,7 @@ use Rattle.atl_records.specs.declared.records.Region.{Region}
 use Rattle.atl_records.specs.declared.records.Unit.{Unit}
 use Rattle.atl_records.specs.Books.{Account, AreBooks, BooksValue, amount_in, thing_index, after_booking, amount_number}
 use Rattle.atl_campaign.specs.Founding.{things_of}
-use Rattle.atl_records.specs.Every.{Every, IsThere}
+use Rattle.atl_records.specs.Every.{Every, HasValue}
 use Rattle.atl_campaign.specs.Good.{IsRegion, AreInRange, AreKnown, AreOfMarkets, IsSteady}
 use Rattle.atl_campaign.specs.Campaign.{CampaignValue, region_changed, with_amount}
 use Rattle.atl_records.specs.Amounts.{region_amount, unit_amount}
@@ -31,7 +31,7 @@ module _ (w : WorldValue) (c : CampaignValue) (regions : FinMap nat_cmp Region) 
   abbrev stocked : CampaignValue
   stocked = record c { regions = regions; books = books }
 
-  module _ (few : len regions ≡ len c.regions) (there : (n : ℕ) → IsThere c.regions n ↔ IsThere regions n)
+  module _ (few : len regions ≡ len c.regions) (there : (n : ℕ) → HasValue c.regions n ↔ HasValue regions n)
       (within : Every (λ n r. IsRegion w n r) regions) (marketed : Every (λ n r. AreOfMarkets w n r.stocks) regions) (booked : AreBooks (things_of w) books) where
     -- counts and numbers stay in their ranges (AreInRange) with the given regions and books, which are in range
     stocked-numbers : AreInRange w c → AreInRange w stocked
@@ -84,9 +84,9 @@ module _ {V : Type 0} where
   same_len m n u v is = len-insert nat_cmp_total m n v ∙ ap (λ o. cond (is_some o) (len m) (len m + 1)) is
 
   -- a number that has a value in a map once another number's value, or its own, is replaced had one before
-  there_again : (m : FinMap nat_cmp V) (k n : ℕ) (u v : V) → get m k ≡ Some u → IsThere (insert m k v) n → IsThere m n
+  there_again : (m : FinMap nat_cmp V) (k n : ℕ) (u v : V) → get m k ≡ Some u → HasValue (insert m k v) n → HasValue m n
   there_again m k n u v is (x, put) =
-      elim (nat_cmp n k) as (λ o. nat_cmp n k ≡ o → cond (is_eq o) (Some v) (get m n) ≡ Some x → IsThere m n) [
+      elim (nat_cmp n k) as (λ o. nat_cmp n k ≡ o → cond (is_eq o) (Some v) (get m n) ≡ Some x → HasValue m n) [
         | Less ↦ λ _ e. (x, e)
         | Equal ↦ λ o e. (u, ap (get m) (nat_cmp-IsAntisymmetric n k o) ∙ is)
         | Greater ↦ λ _ e. (x, e)

@@ -6,7 +6,7 @@ use Rattle.std.specs.Prelude.{nat_lt}
 use Rattle.std.proofs.lemmas.Bool.Decides.{nat_tests}
 use Rattle.atl_campaign.specs.Ordered.{IsSorted, put_number, take_number}
 use Rattle.atl_campaign.proofs.OrderedLaws.{put_number-cons, put_number-nil, take_number-cons, take_number-nil}
-use Rattle.atl_campaign.proofs.OrderLaws.{each_so}
+use Rattle.atl_campaign.proofs.MapOfRowsLaws.{each_so}
 
 -- if x is at most each number of a list, it is at most the one at index i
 least : (x : ℕ) (xs : List ℕ) (i d : ℕ) → AllByRecursion (λ y. x ≤ y) xs → i < length xs → x ≤ get_or xs i d

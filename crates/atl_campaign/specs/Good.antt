@@ -23,7 +23,7 @@ use Rattle.atl_records.specs.Holdings.{IsHolding}
 use Rattle.atl_campaign.specs.Campaign.{CampaignValue, numbers_of}
 use Rattle.atl_campaign.specs.Stocks.{stock_limit}
 use Rattle.atl_campaign.specs.Totals.{Balances}
-use Rattle.atl_records.specs.Every.{Every, IsThere}
+use Rattle.atl_records.specs.Every.{Every, HasValue}
 
 -- there is a faction n, and it is not gone
 abbrev pub IsActive : CampaignValue → ℕ → Type 0
@@ -103,9 +103,9 @@ pub record AreNamed (c : CampaignValue) : Type 0 where
 -- a unit's faction, region, items and skills exist; its structure, unless 0, exists and is in the unit's region
 pub record IsPlacedAmong (w : WorldValue) (factions : FinMap nat_cmp Faction) (regions : FinMap nat_cmp Region) (structures : FinMap nat_cmp Structure) (u : Unit) : Type 0 where
   -- the unit's faction exists
-  pub faction : IsThere factions u.faction
+  pub faction : HasValue factions u.faction
   -- the unit's region exists
-  pub region : IsThere regions u.region
+  pub region : HasValue regions u.region
   -- the structure that the unit is inside, unless 0, exists and is in the unit's region
   pub structure : u.structure ≢ 0 → (s : Structure) × (get structures u.structure ≡ Some s) × (s.region ≡ u.region)
   -- each item that is listed of the unit exists in the world
@@ -122,9 +122,9 @@ pub record IsBuiltAmong (w : WorldValue) (regions : FinMap nat_cmp Region) (unit
   -- the structure's kind exists in the world
   pub kind : s.kind < length w.kinds
   -- the structure's region exists
-  pub region : IsThere regions s.region
+  pub region : HasValue regions s.region
   -- the structure's owner, unless 0, is a unit that exists
-  pub owner : s.owner ≢ 0 → IsThere units s.owner
+  pub owner : s.owner ≢ 0 → HasValue units s.owner
 
 -- a structure's kind and region exist in a campaign, and so does its owner, unless that is 0
 abbrev pub IsBuilt : WorldValue → CampaignValue → Structure → Type 0
@@ -137,9 +137,9 @@ AreOfMarkets w n stocks = Every (λ i amount. IsSome (market_of w n i)) stocks
 -- all mail (`sent`) and all reports (`told`) are of the given factions
 pub record AreOfFactions (factions : FinMap nat_cmp Faction) (sent told : FinMap nat_cmp (List ℕ)) : Type 0 where
   -- each mail is of a faction that exists
-  pub mail : Every (λ n text. IsThere factions n) sent
+  pub mail : Every (λ n text. HasValue factions n) sent
   -- each report is of a faction that exists
-  pub reports : Every (λ n text. IsThere factions n) told
+  pub reports : Every (λ n text. HasValue factions n) told
 
 -- all mail and reports of the campaign are of factions that are there
 abbrev pub ArePosted : CampaignValue → Type 0
@@ -148,7 +148,7 @@ ArePosted c = AreOfFactions c.factions c.mail c.reports
 -- the campaign's regions are the world's, and everything that is named by a number exists
 pub record AreKnown (w : WorldValue) (c : CampaignValue) : Type 0 where
   -- the numbers of the campaign's regions are those of the world's regions
-  pub regions : (n : ℕ) → IsThere c.regions n ↔ IsThere w.regions n
+  pub regions : (n : ℕ) → HasValue c.regions n ↔ HasValue w.regions n
   -- each stock that is listed of a region is of an item that has a market there in the world
   pub markets : Every (λ n r. AreOfMarkets w n r.stocks) c.regions
   -- the faction, region, items and skills of each unit exist, and its structure, unless 0, is in the unit's region
@@ -246,7 +246,7 @@ IsMail c = Every (λ n text. IsMailingOf n text × IsActive c n) c.mail
 
 -- each faction has a report
 abbrev pub AreReported : CampaignValue → Type 0
-AreReported c = Every (λ n f. IsThere c.reports n) c.factions
+AreReported c = Every (λ n f. HasValue c.reports n) c.factions
 
 -- ---- of stocks
 

@@ -3,7 +3,7 @@ use Rattle.std.specs.Prelude.{◌≡◌, ℕ, true, is_some, List, [], ◌∷◌
 use Rattle.std.specs.Ordering.{nat_cmp}
 use Rattle.std.specs.FinMap.{FinMap, get, entries, len, from_entries}
 use Rattle.slab.specs.Slab as slab
-use Rattle.atl_records.specs.Every.{EachOf}
+use Rattle.atl_records.specs.Every.{EachEntry}
 
 module _ {V : Type 0} where
   -- the entries `rest` with n and the given value in front, or `rest` alone if the value is None
@@ -22,7 +22,7 @@ module _ {V : Type 0} where
 
   -- each slot of the listed pairs of a number and a slot has a value
   abbrev pub AreInUse : List (ℕ × ℕ) → slab.Slab V → Type 0
-  AreInUse es s = EachOf (λ n k. is_some (slab.get s k) ≡ true) es
+  AreInUse es s = EachEntry (λ n k. is_some (slab.get s k) ≡ true) es
 
   -- each number of the index leads to a slot that has a value, and no two lead to the same one
   pub record HaveOwnSlots (i : FinMap nat_cmp ℕ) (s : slab.Slab V) : Type 0 where

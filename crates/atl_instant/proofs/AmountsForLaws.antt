@@ -8,7 +8,7 @@ use Rattle.std.specs.Ordering.{nat_cmp, eq_by_cmp}
 use Rattle.std.specs.Cmp.{nat_cmp_total}
 use Rattle.std.specs.FinMap.{FinMap, find, get, get-from_entries, nat_cmp-IsAntisymmetric, same_map}
 use Rattle.atl_world.proofs.GeneralLaws.{is_equal, same_key}
-use Rattle.atl_records.specs.Every.{EachOf, Every}
+use Rattle.atl_records.specs.Every.{EachEntry, Every}
 use Rattle.atl_records.specs.Holdings.{amount_of}
 use Rattle.atl_records.proofs.EveryLaws.{found_of}
 use Rattle.atl_instant.specs.Amounts.{amounts_for}
@@ -19,8 +19,8 @@ at_least_one n some = grind (arith, nat_tests)
 
 module _ (f : ℕ → ℕ) where
   -- the amount that is listed for a number is f of the number, and isn't 0
-  abbrev IsSome : ℕ → ℕ → Type 0
-  IsSome n amount = (1 ≤ amount) × (amount ≡ f n)
+  abbrev IsAmountFor : ℕ → ℕ → Type 0
+  IsAmountFor n amount = (1 ≤ amount) × (amount ≡ f n)
 
   -- each number of a list with the amount that f gives it, without the amounts of 0: the entries of the map of
   -- `amounts_for`
@@ -28,19 +28,20 @@ module _ (f : ℕ → ℕ) where
   listed ns = filter (λ e. not (e.1 == 0)) (map (λ n. (n, f n)) ns)
 
   -- each entry of `listed` has the amount that f gives to its number, and that isn't 0
-  each_some : (ns : List ℕ) → EachOf IsSome (listed ns)
+  each_some : (ns : List ℕ) → EachEntry IsAmountFor (listed ns)
   each_some [] = tt
-  each_some (n ∷ ns) = by_test (each_some ns) (f n == 0) refl
+  each_some (n ∷ ns) = for_zero_or_more (each_some ns) (f n == 0) refl
     where
-      -- for `each_some`: the entries of n ∷ ns have their amounts (`IsSome`), whether the amount of n is 0 (`b`) or not
-      by_test : EachOf IsSome (listed ns) → (b : Bool) → (f n == 0) ≡ b → EachOf IsSome (cond (not b) ((n, f n) ∷ listed ns) (listed ns))
-      by_test rest true is = rest
-      by_test rest false is = ((at_least_one (f n) is, refl), rest)
+      -- for `each_some`: the entries of n ∷ ns have their amounts (`IsAmountFor`), whether the amount of n is 0 (`b`)
+      -- or not
+      for_zero_or_more : EachEntry IsAmountFor (listed ns) → (b : Bool) → (f n == 0) ≡ b → EachEntry IsAmountFor (cond (not b) ((n, f n) ∷ listed ns) (listed ns))
+      for_zero_or_more rest true is = rest
+      for_zero_or_more rest false is = ((at_least_one (f n) is, refl), rest)
 
   -- each number that the map of `amounts_for` lists has the amount that f gives it, and that isn't 0
-  pub each_said : (ns : List ℕ) → Every IsSome (amounts_for f ns)
+  pub each_said : (ns : List ℕ) → Every IsAmountFor (amounts_for f ns)
   unfolding amounts_for
-  each_said ns n amount is = found_of IsSome (listed ns) n amount (each_some ns) (sym (get-from_entries nat_cmp_total (listed ns) n) ∙ is)
+  each_said ns n amount is = found_of IsAmountFor (listed ns) n amount (each_some ns) (sym (get-from_entries nat_cmp_total (listed ns) n) ∙ is)
 
   -- the amount that the entries `listed` have for a number; 0 where they have none
   abbrev found : ℕ → List ℕ → ℕ
@@ -53,32 +54,32 @@ module _ (f : ℕ → ℕ) where
   -- a number in the list has among the entries the amount that f gives it, and any other number has 0
   found_said : (q : ℕ) (ns : List ℕ) → found q ns ≡ cond (is_among q ns) (f q) 0
   found_said q [] = refl
-  found_said q (n ∷ ns) = by_tests (found_said q ns) (f n == 0) (eq_by_cmp nat_cmp q n) refl refl
+  found_said q (n ∷ ns) = for_longer_list (found_said q ns) (f n == 0) (eq_by_cmp nat_cmp q n) refl refl
     where
-      -- for `by_tests`: where f gives 0 to q, the choice between f q and 0 is f q, whether q is among the numbers (`b`)
-      -- or not
-      both : (b : Bool) → 0 ≡ f q → cond b (f q) 0 ≡ f q
-      both true none = refl
-      both false none = none
+      -- for `for_longer_list`: where f gives 0 to q, the choice between f q and 0 is f q, whether q is among the
+      -- numbers (`b`) or not
+      same_choice : (b : Bool) → 0 ≡ f q → cond b (f q) 0 ≡ f q
+      same_choice true none = refl
+      same_choice false none = none
 
       -- for `found_said`: the amount that the entries of n ∷ ns have for q is f q if q is in n ∷ ns, and else 0, if the
       -- same holds of ns
-      by_tests : found q ns ≡ cond (is_among q ns) (f q) 0 → (b k : Bool) → (f n == 0) ≡ b → eq_by_cmp nat_cmp q n ≡ k → unwrap_or (find nat_cmp q (cond (not b) ((n, f n) ∷ listed ns) (listed ns))) 0 ≡ cond (k || is_among q ns) (f q) 0
-      by_tests rest true true none same = rest ∙ both (is_among q ns) (sym (ap f (same_key q n same) ∙ is_equal (f n) 0 none))
-      by_tests rest true false none other = rest
-      by_tests rest false true some same = ap (λ k. unwrap_or (cond k (Some (f n)) (find nat_cmp q (listed ns))) 0) same ∙ ap f (sym (same_key q n same))
-      by_tests rest false false some other = ap (λ k. unwrap_or (cond k (Some (f n)) (find nat_cmp q (listed ns))) 0) other ∙ rest
+      for_longer_list : found q ns ≡ cond (is_among q ns) (f q) 0 → (b k : Bool) → (f n == 0) ≡ b → eq_by_cmp nat_cmp q n ≡ k → unwrap_or (find nat_cmp q (cond (not b) ((n, f n) ∷ listed ns) (listed ns))) 0 ≡ cond (k || is_among q ns) (f q) 0
+      for_longer_list rest true true none same = rest ∙ same_choice (is_among q ns) (sym (ap f (same_key q n same) ∙ is_equal (f n) 0 none))
+      for_longer_list rest true false none other = rest
+      for_longer_list rest false true some same = ap (λ k. unwrap_or (cond k (Some (f n)) (find nat_cmp q (listed ns))) 0) same ∙ ap f (sym (same_key q n same))
+      for_longer_list rest false false some other = ap (λ k. unwrap_or (cond k (Some (f n)) (find nat_cmp q (listed ns))) 0) other ∙ rest
 
   -- each number has in the map of `amounts_for` the amount that f gives it, if f gives 0 to each number outside of the
   -- list
   pub as_said : (ns : List ℕ) (q : ℕ) → (list_any (eq_by_cmp nat_cmp q) ns ≡ false → f q ≡ 0) → amount_of (amounts_for f ns) q ≡ f q
   unfolding amounts_for
-  as_said ns q others = ap (λ (o : Option ℕ). unwrap_or o 0) (get-from_entries nat_cmp_total (listed ns) q) ∙ found_said q ns ∙ by_test (is_among q ns) refl
+  as_said ns q others = ap (λ (o : Option ℕ). unwrap_or o 0) (get-from_entries nat_cmp_total (listed ns) q) ∙ found_said q ns ∙ for_listed_or_not (is_among q ns) refl
     where
       -- for `as_said`: the amount that the map has for q is f q, whether q is in the list (`b`) or not
-      by_test : (b : Bool) → is_among q ns ≡ b → cond b (f q) 0 ≡ f q
-      by_test true is = refl
-      by_test false is = sym (others is)
+      for_listed_or_not : (b : Bool) → is_among q ns ≡ b → cond b (f q) 0 ≡ f q
+      for_listed_or_not true is = refl
+      for_listed_or_not false is = sym (others is)
 
 -- two maps with the same amount of each number are equal, if each amount that they list is at least 1
 pub same_amounts : (m o : FinMap nat_cmp ℕ) → Every (λ n amount. 1 ≤ amount) m → Every (λ n amount. 1 ≤ amount) o → ((n : ℕ) → amount_of m n ≡ amount_of o n) → m ≡ o

@@ -6,12 +6,12 @@ use Rattle.std.specs.Ordering.{nat_cmp, eq_by_cmp}
 use Rattle.std.specs.FinMap.{FinMap, contains_key-keys, empty, entries, get, get-empty, keys}
 use Rattle.std.specs.List.{list_any}
 use Rattle.std.proofs.lemmas.List.Folds.{list_any-append}
-use Rattle.atl_records.specs.Every.{EachOf, Every}
+use Rattle.atl_records.specs.Every.{EachEntry, Every}
 use Rattle.atl_records.specs.Holdings.{HoldingValue, amount_of, with_amount_of}
 use Rattle.atl_records.proofs.EveryLaws.{each-from_every, every-empty}
 use Rattle.atl_phase.specs.Holdings.{with_days}
 use Rattle.atl_instant.specs.SkillDays.{left_list, raised_list}
-use Rattle.atl_instant.specs.Transfer.{DaysGoWithMen, days_going, going_of, raised_of, staying_of, with_fewer, with_more}
+use Rattle.atl_instant.specs.Transfer.{DaysGoWithMen, days_going, going_of, raised_of, staying_of, after_sending, after_receiving}
 use Rattle.atl_instant.proofs.AmountsForLaws.{as_said, each_said, same_amounts}
 use Rattle.atl_records.proofs.HoldingLaws.{alike, every_amount, set_amount}
 
@@ -27,7 +27,7 @@ module _ (days : FinMap nat_cmp ℕ) (f : ℕ → ℕ → ℕ) (s : ℕ) where
   is_among es = list_any (eq_by_cmp nat_cmp s) (map (λ e. e.0) es)
 
   -- after the skills of some entries are set, skill s has f of its days if it is among them, and otherwise what it had
-  set_among : (es : List (ℕ × ℕ)) (left : FinMap nat_cmp ℕ) → EachOf (λ k v. amount_of days k ≡ v) es → amount_of (set_all left es) s ≡ cond (is_among es) (f s (amount_of days s)) (amount_of left s)
+  set_among : (es : List (ℕ × ℕ)) (left : FinMap nat_cmp ℕ) → EachEntry (λ k v. amount_of days k ≡ v) es → amount_of (set_all left es) s ≡ cond (is_among es) (f s (amount_of days s)) (amount_of left s)
   set_among [] left each = refl
   set_among ((k, v) ∷ es) left (one, each) =
       set_among es (with_amount_of left k (f k v)) each
@@ -141,11 +141,11 @@ set_again days f none some =
 abbrev rest_days : (n men : ℕ) → (skill days : ℕ) → ℕ
 rest_days n men k d = d - days_going n men d
 
--- the holding that the code sets for the sender of n men is that of the definition (`with_fewer`)
-pub fewer_is : (n : ℕ) (h : HoldingValue) → Every (λ s d. 1 ≤ d) h.days → record h { men = h.men - n; days = with_days h.days (left_list n h.men h.days) } ≡ with_fewer n h
+-- the holding that the code sets for the sender of n men is that of the definition (`after_sending`)
+pub fewer_is : (n : ℕ) (h : HoldingValue) → Every (λ s d. 1 ≤ d) h.days → record h { men = h.men - n; days = with_days h.days (left_list n h.men h.days) } ≡ after_sending n h
 fewer_is n h had =
     ap (λ (m : FinMap nat_cmp ℕ). record h { men = h.men - n; days = m })
-    (set_as_said h.days h.days (with_fewer n h).days (rest_days n h.men) had
+    (set_as_said h.days h.days (after_sending n h).days (rest_days n h.men) had
     (λ s d there. (each_said (staying_of n h) (keys h.days) s d there).0)
     (λ s none. none ∙ sym (none_stay 0 (days_going n h.men 0) refl))
     (λ s. sym (days_go_with_men n h h s).stay))
@@ -155,11 +155,11 @@ fewer_is n h had =
 abbrev raised_days : (n men : ℕ) → FinMap nat_cmp ℕ → (skill days : ℕ) → ℕ
 raised_days n men had k d = amount_of had k + days_going n men d
 
--- the holding that the code sets for the receiver of n men is that of the definition (`with_more`)
-pub more_is : (n : ℕ) (other h : HoldingValue) → Every (λ s d. 1 ≤ d) h.days → record h { men = h.men + n; days = with_days h.days (raised_list n other.men other.days h.days) } ≡ with_more n other h
+-- the holding that the code sets for the receiver of n men is that of the definition (`after_receiving`)
+pub more_is : (n : ℕ) (other h : HoldingValue) → Every (λ s d. 1 ≤ d) h.days → record h { men = h.men + n; days = with_days h.days (raised_list n other.men other.days h.days) } ≡ after_receiving n other h
 more_is n other h had =
     ap (λ (m : FinMap nat_cmp ℕ). record h { men = h.men + n; days = m })
-    (set_as_said other.days h.days (with_more n other h).days (raised_days n other.men h.days) had
+    (set_as_said other.days h.days (after_receiving n other h).days (raised_days n other.men h.days) had
     (λ s d there. (each_said (raised_of n other h) (keys h.days ++ keys other.days) s d there).0)
     (λ s none. nothing_more (amount_of h.days s) (days_going n other.men 0) (nobody_goes n other.men))
     (λ s. sym (days_go_with_men n other h s).come))

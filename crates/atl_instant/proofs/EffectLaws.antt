@@ -82,7 +82,7 @@ pub orderly_by : {holds : Condition} {step : OrderMeaning} {concerns : Affects} 
     → ((w : WorldValue) (a : Aliases) (t : Task) (n f : ℕ) → IsOwnOrder t n f → (concerns t n f → ⊥) → step w a t ≡ None) → IsOrderly step holds nothing_remaining moves_nothing concerns IsNoWorse
 orderly_by {holds} {step} keeps passed = record {
   well = λ w a c t x h fit own. IfSome_then (step w a t) (keeps w a c t x own) (λ deed kept. kept.well h fit);
-  sparing = no_worse_spares;
+  spares_is_relation = no_worse_spares;
   spared = λ w a c t x h own n u there other. by_step w c t x own n u there (step w a t) (keeps w a c t x own) (λ mine. passed w a t n u.faction mine other);
   bounded = λ w c h e t. omega arith;
 }

@@ -6,7 +6,7 @@ use Rattle.std.specs.FinMap.{FinMap, get, insert, len}
 use Rattle.atl_world.specs.Names.{name_ok, pass_ok}
 use Rattle.atl_world.specs.Worlds.{WorldValue}
 use Rattle.atl_records.specs.declared.records.Faction.{Faction}
-use Rattle.atl_records.specs.Every.{Every, IsThere}
+use Rattle.atl_records.specs.Every.{Every, HasValue}
 use Rattle.atl_campaign.proofs.GoodLaws.{posted-there}
 use Rattle.atl_campaign.specs.Good.{AreInRange, AreKnown, AreNamed, AreNumbered, IsSteady}
 use Rattle.atl_campaign.specs.Campaign.{CampaignValue, numbers_of, with_faction_name}
@@ -31,7 +31,7 @@ module _ (c : CampaignValue) (n : ℕ) (x : Faction) (name : List ℕ) (is : get
   none_kept k none = get-insert_other c.factions n k renamed (λ same. none_some x (sym none ∙ ap (get c.factions) same ∙ is)) ∙ none
 
   -- each faction is still there after faction n got another name
-  there : (k : ℕ) → IsThere c.factions k → IsThere factions k
+  there : (k : ℕ) → HasValue c.factions k → HasValue factions k
   there k h = there-insert c.factions n k renamed h
 
   -- there are as many factions as before after faction n got another name
@@ -118,9 +118,9 @@ module _ (c : CampaignValue) (n : ℕ) (x : Faction) (name : List ℕ) (is : get
   count-faction_name = ap (λ (d : CampaignValue). len d.factions) shown_is ∙ same_count
 
   -- a faction of `factions` was there before the renaming
-  was_there : (k : ℕ) → IsThere factions k → IsThere c.factions k
-  was_there k (f, here) = every-insert (λ k f. IsThere c.factions k) c.factions n renamed (x, is) (λ k f here. (f, here)) k f here
+  was_there : (k : ℕ) → HasValue factions k → HasValue c.factions k
+  was_there k (f, here) = every-insert (λ k f. HasValue c.factions k) c.factions n renamed (x, is) (λ k f here. (f, here)) k f here
 
   -- a faction that is there after the renaming was there before
-  pub known-faction_name : (k : ℕ) → IsThere (with_faction_name c n name).factions k → IsThere c.factions k
-  known-faction_name k h = was_there k (subst (λ (d : CampaignValue). IsThere d.factions k) shown_is h)
+  pub known-faction_name : (k : ℕ) → HasValue (with_faction_name c n name).factions k → HasValue c.factions k
+  known-faction_name k h = was_there k (subst (λ (d : CampaignValue). HasValue d.factions k) shown_is h)

@@ -43,7 +43,7 @@ use Rattle.atl_phase.specs.PhaseOrders.{Task, orders_of}
 use Rattle.atl_phase.specs.OrderEffects.{is_of_faction}
 use Rattle.atl_phase.specs.declared.phase_order.Arrangement.TheVariants.{ByFaction}
 use Rattle.atl_phase.proofs.OrderEffectLaws.{well_same}
-use Rattle.atl_instant.specs.Forming.{form_apart, forming_of}
+use Rattle.atl_instant.specs.Forming.{form_by_copy, forming_of}
 use Rattle.atl_instant.specs.declared.form.Forming.{Forming}
 
 -- ---- a campaign in which a unit has formed another
@@ -273,21 +273,21 @@ module _ (w : WorldValue) (c : CampaignValue) (early : IsEarly w c) where
     form_fine = by_unit (get c.units n) refl
 
   -- FORM, carried out by a copy of the order, keeps an early campaign early, in its month and balanced (`StepsWell`)
-  pub order_well : (m : MonthValue) (o : Forming) → StepsWell IsEarly nothing_remaining w c (form_apart (c, m) o).0
+  pub order_well : (m : MonthValue) (o : Forming) → StepsWell IsEarly nothing_remaining w c (form_by_copy (c, m) o).0
   order_well m o = (form_fine o.faction o.unit).0
 
   -- FORM, carried out by a copy of the order, leaves each unit that was there unchanged
-  pub order_stays : (m : MonthValue) (o : Forming) → Every (λ k v. get (form_apart (c, m) o).0.units k ≡ Some v) c.units
+  pub order_stays : (m : MonthValue) (o : Forming) → Every (λ k v. get (form_by_copy (c, m) o).0.units k ≡ Some v) c.units
   order_stays m o = (form_fine o.faction o.unit).1
 
 -- ---- orders apart from the month
 
 -- copies of orders of FORM, carried out one after another, make what the orders themselves make
-pub formed_apart : (p : CampaignValue × MonthValue) (ts : List Task) → fold form_apart p (map forming_of ts) ≡ fold form_order p ts
-formed_apart p [] = refl
-formed_apart p (t ∷ ts) = formed_apart (form_order p t) ts
+pub formed_by_copy : (p : CampaignValue × MonthValue) (ts : List Task) → fold form_by_copy p (map forming_of ts) ≡ fold form_order p ts
+formed_by_copy p [] = refl
+formed_by_copy p (t ∷ ts) = formed_by_copy (form_order p t) ts
 
 -- the copies of all orders of FORM of a month, carried out one after another, make what the phase makes
-pub all_formed : (w : WorldValue) (c : CampaignValue) (m : MonthValue) → fold form_apart (c, m) (map forming_of (values (orders_of is_forming ByFaction m.aliases m.readings))) ≡ form_meaning w c m
+pub all_formed : (w : WorldValue) (c : CampaignValue) (m : MonthValue) → fold form_by_copy (c, m) (map forming_of (values (orders_of is_forming ByFaction m.aliases m.readings))) ≡ form_meaning w c m
 unfolding form_meaning
-all_formed w c m = formed_apart (c, m) (values (orders_of is_forming ByFaction m.aliases m.readings))
+all_formed w c m = formed_by_copy (c, m) (values (orders_of is_forming ByFaction m.aliases m.readings))

@@ -26,7 +26,7 @@ use Rattle.atl_records.specs.declared.event.EventFault.TheVariants.{WrongNumber}
 use Rattle.atl_records.specs.declared.event.Outcome.TheVariants.{Done}
 use Rattle.atl_records.specs.declared.records.Faction.{Faction}
 use Rattle.atl_records.specs.declared.records.Unit.{Unit}
-use Rattle.atl_records.specs.Every.{EachOf, Every, IsThere}
+use Rattle.atl_records.specs.Every.{EachEntry, Every, HasValue}
 use Rattle.atl_campaign.specs.Founding.{things_of}
 use Rattle.atl_campaign.specs.Good.{IsSteady}
 use Rattle.atl_records.specs.Holdings.{HoldingValue}
@@ -54,9 +54,9 @@ use Rattle.atl_phase.proofs.BookingLaws.{booked-near, booked-room, within-neg}
 use Rattle.atl_phase.proofs.MeaningLaws.{less_room, near_more, near_same, near_twice, room_less}
 use Rattle.atl_phase.proofs.OutcomeLaws.{none_fits, not_apart}
 use Rattle.atl_phase.proofs.NoWorseLaws.{no_worse}
-use Rattle.atl_phase.proofs.OrderEffectLaws.{drawn_near, no_worse_spares, well_same, well_twice, orders_fit, orders_spare}
+use Rattle.atl_phase.proofs.OrderEffectLaws.{bound_used_near, no_worse_spares, well_same, well_twice, orders_fit, orders_spare}
 use Rattle.atl_phase.proofs.StructureLaws.{handed_is, equal_passes}
-use Rattle.atl_instant.specs.Quit.{after_leaving, loss_entry, loss_under, quit, quit_concerns, quit_effect, quit_fault, quit_moves, quit_reserve, quit_step, with_all_losses, with_item_loss, with_loss, without_leaver, QuitsFrom, is_quitting, quit_keeps, quit_meaning}
+use Rattle.atl_instant.specs.Quit.{after_leaving, loss_entry, loss_under, quit, quit_concerns, quit_effect, quit_fault, quit_moves, quit_reserve, quit_step, with_all_losses, with_item_loss, with_loss, without_leaver, QuitsByOwnUnit, is_quitting, quit_keeps, quit_meaning}
 use Rattle.atl_phase.specs.Month.{MonthValue}
 use Rattle.atl_phase.specs.Fit.{AreFit}
 use Rattle.atl_phase.specs.declared.phase_order.Arrangement.TheVariants.{ByUnit}
@@ -68,8 +68,8 @@ abbrev pub part_of : Thing → Thing → ℕ → ℕ
 part_of s t amount = cond (thing_index s == thing_index t) amount 0
 
 -- the given amount if the entry is the one under which the loss of the thing is booked, and 0 otherwise
-abbrev under : Entry → Thing → ℕ → ℕ
-under e t n = if entry_index e == entry_index (loss_entry t) then n else 0
+abbrev loss_bound : Entry → Thing → ℕ → ℕ
+loss_bound e t n = if entry_index e == entry_index (loss_entry t) then n else 0
 
 -- things with the same number (`thing_index`) are the same thing
 same_thing : (s t : Thing) → thing_index s ≡ thing_index t → s ≡ t
@@ -84,19 +84,20 @@ same_thing (Item i) People e = absurd (omega (arith, e))
 same_thing (Item i) (Item j) e = let same : i ≡ j = omega (arith, e) in ap Item same
 
 -- to book an amount of thing t as gone moves thing s under entry e by at most that amount, if s is t and e the entry of
--- its loss, and by 0 otherwise (`under`)
-one_moves : (amount : ℕ) (t : Thing) (e : Entry) (s : Thing) → moves_only amount (loss_entry t) t e s ≤ under e s (part_of s t amount)
+-- its loss, and by 0 otherwise (`loss_bound`)
+one_moves : (amount : ℕ) (t : Thing) (e : Entry) (s : Thing) → moves_only amount (loss_entry t) t e s ≤ loss_bound e s (part_of s t amount)
 one_moves amount t e s = by_number (amount_number e s == amount_number (loss_entry t) t) refl
   where
-    -- for `by_number`: where both tests are true, of the entry (b) and of the thing (d), `amount` is within `under`
+    -- for `by_number`: where both tests are true, of the entry (b) and of the thing (d), `amount` is within
+    -- `loss_bound`
     at_place : (b d : Bool) → b ≡ true → d ≡ true → amount ≤ cond b (cond d amount 0) 0
     at_place true true f g = omega arith
     at_place true false f g = cc
     at_place false d f g = cc
 
-    -- for `one_moves`: the booking moves thing s under entry e by no more than `under` says, whether that is the amount
-    -- that is booked (`b`) or not
-    by_number : (b : Bool) → (amount_number e s == amount_number (loss_entry t) t) ≡ b → (if b then amount else 0) ≤ under e s (part_of s t amount)
+    -- for `one_moves`: the booking moves thing s under entry e by no more than `loss_bound` says, whether that is the
+    -- amount that is booked (`b`) or not
+    by_number : (b : Bool) → (amount_number e s == amount_number (loss_entry t) t) ≡ b → (if b then amount else 0) ≤ loss_bound e s (part_of s t amount)
     by_number true is =
         let same : entry_count * thing_index s + entry_index e ≡ entry_count * thing_index t + entry_index (loss_entry t) = grind (arith, nat_tests) in
         let small = entry_small e in
@@ -107,9 +108,9 @@ one_moves amount t e s = by_number (amount_number e s == amount_number (loss_ent
         at_place (entry_index e == entry_index (loss_entry s)) (thing_index s == thing_index t) (let f : (entry_index e == entry_index (loss_entry s)) ≡ true = grind (arith, nat_tests) in f) (let g : (thing_index s == thing_index t) ≡ true = grind (arith, nat_tests) in g)
     by_number false is = omega arith
 
--- if x and y are within their bounds under entry e (`under`: m and n under the entry of the thing's loss, 0 under any
--- other), their sum is within the sum of the bounds
-under_sum : (e : Entry) (s : Thing) (x y m n : ℕ) → x ≤ under e s m → y ≤ under e s n → x + y ≤ under e s (m + n)
+-- if x and y are within their bounds under entry e (`loss_bound`: m and n under the entry of the thing's loss, 0
+-- under any other), their sum is within the sum of the bounds
+under_sum : (e : Entry) (s : Thing) (x y m n : ℕ) → x ≤ loss_bound e s m → y ≤ loss_bound e s n → x + y ≤ loss_bound e s (m + n)
 under_sum e s x y m n = by_test (entry_index e == entry_index (loss_entry s))
   where
     -- for `under_sum`: x + y is within the sum of the bounds, whether e is the entry of the thing's loss (`b`) or not
@@ -120,15 +121,15 @@ under_sum e s x y m n = by_test (entry_index e == entry_index (loss_entry s))
 -- ---- what is booked of some items
 
 -- how much of a thing a list of items with their amounts has: for an item the sum of its amounts, else 0
-abbrev pub owing_items : List (ℕ × ℕ) → Thing → ℕ
-owing_items [] s = 0
-owing_items (e ∷ es) s = part_of s (Item e.0) e.1 + owing_items es s
+abbrev pub held_in_items : List (ℕ × ℕ) → Thing → ℕ
+held_in_items [] s = 0
+held_in_items (e ∷ es) s = part_of s (Item e.0) e.1 + held_in_items es s
 
 -- to book a list of items as lost moves a thing under the entry of its loss by at most what the list has of it, and
--- under any other entry by 0 (`under`)
-items_within : (es : List (ℕ × ℕ)) (e : Entry) (s : Thing) → moving_items es e s ≤ under e s (owing_items es s)
+-- under any other entry by 0 (`loss_bound`)
+items_within : (es : List (ℕ × ℕ)) (e : Entry) (s : Thing) → moving_items es e s ≤ loss_bound e s (held_in_items es s)
 items_within [] e s = omega arith
-items_within (x ∷ xs) e s = under_sum e s (moves_only x.1 Lost (Item x.0) e s) (moving_items xs e s) (part_of s (Item x.0) x.1) (owing_items xs s) (one_moves x.1 (Item x.0) e s) (items_within xs e s)
+items_within (x ∷ xs) e s = under_sum e s (moves_only x.1 Lost (Item x.0) e s) (moving_items xs e s) (part_of s (Item x.0) x.1) (held_in_items xs s) (one_moves x.1 (Item x.0) e s) (items_within xs e s)
 
 -- in a sum over a list of items, the amount x of an item that isn't the one asked for (b is false) adds nothing to y
 nothing_more : (b : Bool) (x y : ℕ) → b ≡ false → cond b x 0 + y ≡ y
@@ -136,27 +137,27 @@ nothing_more true x y e = cc
 nothing_more false x y e = omega arith
 
 -- a list of items has no money
-pub no_money : (es : List (ℕ × ℕ)) → owing_items es Money ≡ 0
+pub no_money : (es : List (ℕ × ℕ)) → held_in_items es Money ≡ 0
 no_money [] = refl
-no_money (e ∷ es) = nothing_more (0 == 2 + e.0) e.1 (owing_items es Money) (let apart : (0 == 2 + e.0) ≡ false = grind (arith, nat_tests) in apart) ∙ no_money es
+no_money (e ∷ es) = nothing_more (0 == 2 + e.0) e.1 (held_in_items es Money) (let apart : (0 == 2 + e.0) ≡ false = grind (arith, nat_tests) in apart) ∙ no_money es
 
 -- a list of items has no men
-pub no_people : (es : List (ℕ × ℕ)) → owing_items es People ≡ 0
+pub no_people : (es : List (ℕ × ℕ)) → held_in_items es People ≡ 0
 no_people [] = refl
-no_people (e ∷ es) = nothing_more (1 == 2 + e.0) e.1 (owing_items es People) (let apart : (1 == 2 + e.0) ≡ false = grind (arith, nat_tests) in apart) ∙ no_people es
+no_people (e ∷ es) = nothing_more (1 == 2 + e.0) e.1 (held_in_items es People) (let apart : (1 == 2 + e.0) ≡ false = grind (arith, nat_tests) in apart) ∙ no_people es
 
 -- a sorted list of items has as much of an item as the search in the list finds, or 0
-pub of_item : (j : ℕ) (es : List (ℕ × ℕ)) → is_sorted nat_cmp es ≡ true → owing_items es (Item j) ≡ unwrap_or (find nat_cmp j es) 0
+pub of_item : (j : ℕ) (es : List (ℕ × ℕ)) → is_sorted nat_cmp es ≡ true → held_in_items es (Item j) ≡ unwrap_or (find nat_cmp j es) 0
 of_item j [] s = refl
 of_item j (e ∷ es) s =
     let rest = of_item j es (and_parts _ _ s).1 in
-    elim (nat_cmp j e.0) as (λ o. nat_cmp j e.0 ≡ o → cond (2 + j == 2 + e.0) e.1 0 + owing_items es (Item j) ≡ unwrap_or (cond (is_eq o) (Some e.1) (find nat_cmp j es)) 0) [
-      | Less ↦ λ o. let l = ranked j e.0 Less (sym o) in nothing_more (2 + j == 2 + e.0) e.1 (owing_items es (Item j)) (let t : (2 + j == 2 + e.0) ≡ false = grind (arith, nat_tests) in t) ∙ rest
+    elim (nat_cmp j e.0) as (λ o. nat_cmp j e.0 ≡ o → cond (2 + j == 2 + e.0) e.1 0 + held_in_items es (Item j) ≡ unwrap_or (cond (is_eq o) (Some e.1) (find nat_cmp j es)) 0) [
+      | Less ↦ λ o. let l = ranked j e.0 Less (sym o) in nothing_more (2 + j == 2 + e.0) e.1 (held_in_items es (Item j)) (let t : (2 + j == 2 + e.0) ≡ false = grind (arith, nat_tests) in t) ∙ rest
       | Equal ↦ λ o.
           let same : j ≡ e.0 = nat_cmp-IsAntisymmetric j e.0 o in
-          here (2 + j == 2 + e.0) e.1 (owing_items es (Item j)) (let t : (2 + j == 2 + e.0) ≡ true = grind (arith, nat_tests) in t)
+          here (2 + j == 2 + e.0) e.1 (held_in_items es (Item j)) (let t : (2 + j == 2 + e.0) ≡ true = grind (arith, nat_tests) in t)
           (rest ∙ ap (λ k. unwrap_or (find nat_cmp k es) 0) same ∙ ap (λ (p : Option ℕ). unwrap_or p 0) (not_below e.0 es (and_parts _ _ s).0))
-      | Greater ↦ λ o. let l = ranked j e.0 Greater (sym o) in nothing_more (2 + j == 2 + e.0) e.1 (owing_items es (Item j)) (let t : (2 + j == 2 + e.0) ≡ false = grind (arith, nat_tests) in t) ∙ rest
+      | Greater ↦ λ o. let l = ranked j e.0 Greater (sym o) in nothing_more (2 + j == 2 + e.0) e.1 (held_in_items es (Item j)) (let t : (2 + j == 2 + e.0) ≡ false = grind (arith, nat_tests) in t) ∙ rest
     ] refl
   where
     -- for `of_item`: the item asked for (b is true) has its amount x, if the items after it have 0 of it (y)
@@ -167,31 +168,33 @@ of_item j (e ∷ es) s =
 -- ---- what is booked of all that is held
 
 -- how much of a thing a holding has: men, money, or an item
-abbrev owing : HoldingValue → Thing → ℕ
-owing h s = part_of s People h.men + (part_of s Money h.money + owing_items (entries h.items) s)
+abbrev held_of_thing : HoldingValue → Thing → ℕ
+held_of_thing h s = part_of s People h.men + (part_of s Money h.money + held_in_items (entries h.items) s)
 
 -- the bound on the books for booking as gone all that a unit has
 abbrev pub held_moves : HoldingValue → BookBound
 held_moves h = both_move (moves_only h.men Left People) (both_move (moves_only h.money Lost Money) (moving_items (entries h.items)))
 
--- how much of a thing a holding has by `owing` is how much it has by `unit_amount`
-all_owed : (h : HoldingValue) (s : Thing) → owing h s ≡ unit_amount s h
-all_owed h Money = sum h.money (owing_items (entries h.items) Money) (no_money (entries h.items))
+-- how much of a thing a holding has by `held_of_thing` is how much it has by `unit_amount`
+held_is_unit_amount : (h : HoldingValue) (s : Thing) → held_of_thing h s ≡ unit_amount s h
+held_is_unit_amount h Money = sum h.money (held_in_items (entries h.items) Money) (no_money (entries h.items))
   where
-    -- for `all_owed`: what a holding has of money is its money m alone: its men add 0, and its items n, which is 0
+    -- for `held_is_unit_amount`: what a holding has of money is its money m alone: its men add 0, and its items n,
+    -- which is 0
     sum : (m n : ℕ) → n ≡ 0 → 0 + (m + n) ≡ m
     sum m n e = omega (arith, e)
-all_owed h People = sum h.men (owing_items (entries h.items) People) (no_people (entries h.items))
+held_is_unit_amount h People = sum h.men (held_in_items (entries h.items) People) (no_people (entries h.items))
   where
-    -- for `all_owed`: what a holding has of people is its men m alone: its money adds 0, and its items n, which is 0
+    -- for `held_is_unit_amount`: what a holding has of people is its men m alone: its money adds 0, and its items n,
+    -- which is 0
     sum : (m n : ℕ) → n ≡ 0 → m + (0 + n) ≡ m
     sum m n e = omega (arith, e)
-all_owed h (Item j) =
-    sum (2 + j == 1) (2 + j == 0) h.men h.money (owing_items (entries h.items) (Item j)) (let t : (2 + j == 1) ≡ false = grind (arith, nat_tests) in t) (let t : (2 + j == 0) ≡ false = grind (arith, nat_tests) in t)
+held_is_unit_amount h (Item j) =
+    sum (2 + j == 1) (2 + j == 0) h.men h.money (held_in_items (entries h.items) (Item j)) (let t : (2 + j == 1) ≡ false = grind (arith, nat_tests) in t) (let t : (2 + j == 0) ≡ false = grind (arith, nat_tests) in t)
     ∙ of_item j (entries h.items) (sorted h.items) ∙ ap (λ (o : Option ℕ). unwrap_or o 0) (sym (get-entries h.items j))
   where
-    -- for `all_owed`: what a holding has of an item is k, the amount of its items: men m and money n add nothing, since
-    -- the tests b and d, whether the thing is people or money, are false
+    -- for `held_is_unit_amount`: what a holding has of an item is k, the amount of its items: men m and money n add
+    -- nothing, since the tests b and d, whether the thing is people or money, are false
     sum : (b d : Bool) (m n k : ℕ) → b ≡ false → d ≡ false → cond b m 0 + (cond d n 0 + k) ≡ k
     sum false false m n k e f = omega arith
     sum true d m n k e f = cc
@@ -201,83 +204,83 @@ all_owed h (Item j) =
 -- loss, and by 0 under any other (`loss_under`)
 pub moves_what_leaves : (h : HoldingValue) (e : Entry) (s : Thing) → held_moves h e s ≤ loss_under e s h
 moves_what_leaves h e s =
-    subst (λ n. held_moves h e s ≤ under e s n) (all_owed h s)
-    (under_sum e s (moves_only h.men Left People e s) (moves_only h.money Lost Money e s + moving_items (entries h.items) e s) (part_of s People h.men) (part_of s Money h.money + owing_items (entries h.items) s) (one_moves h.men People e s)
-    (under_sum e s (moves_only h.money Lost Money e s) (moving_items (entries h.items) e s) (part_of s Money h.money) (owing_items (entries h.items) s) (one_moves h.money Money e s) (items_within (entries h.items) e s)))
+    subst (λ n. held_moves h e s ≤ loss_bound e s n) (held_is_unit_amount h s)
+    (under_sum e s (moves_only h.men Left People e s) (moves_only h.money Lost Money e s + moving_items (entries h.items) e s) (part_of s People h.men) (part_of s Money h.money + held_in_items (entries h.items) s) (one_moves h.men People e s)
+    (under_sum e s (moves_only h.money Lost Money e s) (moving_items (entries h.items) e s) (part_of s Money h.money) (held_in_items (entries h.items) s) (one_moves h.money Money e s) (items_within (entries h.items) e s)))
 
 -- ---- a campaign in which amounts of things are booked as gone
 
--- The campaign d is c with `off` of each thing booked as gone, and only the books differ. Campaign d is steady, what
--- the books have of a thing falls by `off`, and no amount of the books moves further than `moving`.
-pub record BooksOff (w : WorldValue) (off : Thing → ℕ) (moving : BookBound) (c d : CampaignValue) : Type 0 where
+-- The campaign d is c with `gone` of each thing booked as gone, and only the books differ. Campaign d is steady, what
+-- the books have of a thing falls by `gone`, and no amount of the books moves further than `moving`.
+pub record BooksAsGone (w : WorldValue) (gone : Thing → ℕ) (moving : BookBound) (c d : CampaignValue) : Type 0 where
   -- campaign d, in which amounts are booked as gone, is steady
   pub steady : IsSteady w d
-  -- the sum of each thing over all entries of the books is less by `off` in d than in c
-  pub owed : (s : Thing) → booked c.books s ≡ booked d.books s +ℤ pos (off s)
+  -- the sum of each thing over all entries of the books is less by `gone` in d than in c
+  pub sum_falls : (s : Thing) → booked c.books s ≡ booked d.books s +ℤ pos (gone s)
   -- no amount of the books moves further from c to d than `moving` says
   pub near : (e : Entry) (s : Thing) → IsNear (moving e s) (amount_in c.books e s) (amount_in d.books e s)
   -- campaign d is c but for the books
   pub same : d ≡ record c { books = d.books }
 
--- two steps that book something as gone, each within a bound (`BooksOff`), book together the sum of both, within the
+-- two steps that book something as gone, each within a bound (`BooksAsGone`), book together the sum of both, within the
 -- sum of the bounds
-off_twice : {o p : Thing → ℕ} {i j : BookBound} (w : WorldValue) (a b c : CampaignValue) → BooksOff w o i a b → BooksOff w p j b c → BooksOff w (λ s. o s + p s) (both_move i j) a c
-off_twice {o} {p} {i} {j} w a b c one two = record {
+books_twice : {o p : Thing → ℕ} {i j : BookBound} (w : WorldValue) (a b c : CampaignValue) → BooksAsGone w o i a b → BooksAsGone w p j b c → BooksAsGone w (λ s. o s + p s) (both_move i j) a c
+books_twice {o} {p} {i} {j} w a b c one two = record {
   steady = two.steady;
-  owed = λ s. grouped (booked a.books s) (booked b.books s) (booked c.books s) (o s) (p s) (one.owed s) (two.owed s);
+  sum_falls = λ s. grouped (booked a.books s) (booked b.books s) (booked c.books s) (o s) (p s) (one.sum_falls s) (two.sum_falls s);
   near = λ e s. near_twice (i e s) (j e s) (amount_in a.books e s) (amount_in b.books e s) (amount_in c.books e s) (one.near e s) (two.near e s);
   same = two.same ∙ ap (λ (s : CampaignValue). record s { books = c.books }) one.same;
 }
   where
-    -- for `off_twice`: if the books fall by m from x to y, and by n from y to z, they fall by m + n
+    -- for `books_twice`: if the books fall by m from x to y, and by n from y to z, they fall by m + n
     grouped : (x y z : ℤ) (m n : ℕ) → x ≡ y +ℤ pos m → y ≡ z +ℤ pos n → x ≡ z +ℤ pos (m + n)
     grouped x y z m n e f = omega (arith, ints, e, f)
 
 -- to book an amount of a thing of the world as gone lowers what the books have of it by that amount and changes nothing
--- else, and a steady campaign stays steady (`BooksOff`)
-pub off_one : (w : WorldValue) (c : CampaignValue) (t : Thing) (amount : ℕ) → thing_index t < things_of w → IsSteady w c → BooksOff w (λ s. part_of s t amount) (moves_only amount (loss_entry t) t) c (with_loss c t amount)
-off_one w c t amount inside steady = record {
+-- else, and a steady campaign stays steady (`BooksAsGone`)
+pub books_one : (w : WorldValue) (c : CampaignValue) (t : Thing) (amount : ℕ) → thing_index t < things_of w → IsSteady w c → BooksAsGone w (λ s. part_of s t amount) (moves_only amount (loss_entry t) t) c (with_loss c t amount)
+books_one w c t amount inside steady = record {
   steady = steady-amount w c (loss_entry t) t (neg_ℤ (pos amount)) inside steady;
-  owed = λ s.
+  sum_falls = λ s.
       less (booked c.books s) (thing_index s == thing_index t) amount
       ∙ ap (λ z. z +ℤ pos (part_of s t amount)) (sym (booked-after_booking c.books (loss_entry t) t (neg_ℤ (pos amount)) s));
   near = booked-near c.books (loss_entry t) t (neg_ℤ (pos amount)) amount (within-neg amount amount (omega arith));
   same = refl;
 }
   where
-    -- for `off_one`: an amount z of the books from which a (if b is true, else 0) is taken, and to which the same is
+    -- for `books_one`: an amount z of the books from which a (if b is true, else 0) is taken, and to which the same is
     -- then added, is z
     less : (z : ℤ) (b : Bool) (a : ℕ) → z ≡ (z +ℤ cond b (neg_ℤ (pos a)) (pos 0)) +ℤ pos (cond b a 0)
     less z true a = omega (arith, ints)
     less z false a = omega (arith, ints)
 
 -- to book items of the world as lost, one after another, lowers what the books have of each by its amount and changes
--- nothing else, and a steady campaign stays steady (`BooksOff`)
-off_items : (w : WorldValue) (c : CampaignValue) (es : List (ℕ × ℕ)) → EachOf (λ i a. i < length w.items) es → IsSteady w c → BooksOff w (owing_items es) (moving_items es) c (fold with_item_loss c es)
-off_items w c [] known steady = record {
+-- nothing else, and a steady campaign stays steady (`BooksAsGone`)
+books_items : (w : WorldValue) (c : CampaignValue) (es : List (ℕ × ℕ)) → EachEntry (λ i a. i < length w.items) es → IsSteady w c → BooksAsGone w (held_in_items es) (moving_items es) c (fold with_item_loss c es)
+books_items w c [] known steady = record {
   steady = steady;
-  owed = λ s. plain (booked c.books s);
+  sum_falls = λ s. plain (booked c.books s);
   near = λ e s. near_same 0 (amount_in c.books e s);
   same = refl;
 }
   where
-    -- for `off_items`: where no item is booked, an amount of the books is the same with 0 added
+    -- for `books_items`: where no item is booked, an amount of the books is the same with 0 added
     plain : (z : ℤ) → z ≡ z +ℤ pos 0
     plain z = omega (arith, ints)
-off_items w c ((i, a) ∷ es) known steady =
-    let one = off_one w c (Item i) a (omega (arith, known.0)) steady in
-    off_twice w c (with_item_loss c (i, a)) (fold with_item_loss (with_item_loss c (i, a)) es) one (off_items w (with_item_loss c (i, a)) es known.1 one.steady)
+books_items w c ((i, a) ∷ es) known steady =
+    let one = books_one w c (Item i) a (omega (arith, known.0)) steady in
+    books_twice w c (with_item_loss c (i, a)) (fold with_item_loss (with_item_loss c (i, a)) es) one (books_items w (with_item_loss c (i, a)) es known.1 one.steady)
 
 -- to book all that a unit has as gone, where its items are of the world, lowers what the books have of each thing by
--- what it has and changes nothing else, and a steady campaign stays steady (`BooksOff`)
-pub off_all : (w : WorldValue) (c : CampaignValue) (h : HoldingValue) → Every (λ i a. i < length w.items) h.items → IsSteady w c → BooksOff w (owing h) (held_moves h) c (with_all_losses c h)
-off_all w c h known steady =
+-- what it has and changes nothing else, and a steady campaign stays steady (`BooksAsGone`)
+pub books_all : (w : WorldValue) (c : CampaignValue) (h : HoldingValue) → Every (λ i a. i < length w.items) h.items → IsSteady w c → BooksAsGone w (held_of_thing h) (held_moves h) c (with_all_losses c h)
+books_all w c h known steady =
     let men = with_loss c People h.men in
     let money = with_loss men Money h.money in
-    let one = off_one w c People h.men (omega arith) steady in
-    let two = off_one w men Money h.money (omega arith) one.steady in
-    let three = off_items w money (entries h.items) (each-from_every (λ i a. i < length w.items) h.items known) two.steady in
-    off_twice w c men (with_all_losses c h) one (off_twice w men money (with_all_losses c h) two three)
+    let one = books_one w c People h.men (omega arith) steady in
+    let two = books_one w men Money h.money (omega arith) one.steady in
+    let three = books_items w money (entries h.items) (each-from_every (λ i a. i < length w.items) h.items known) two.steady in
+    books_twice w c men (with_all_losses c h) one (books_twice w men money (with_all_losses c h) two three)
 
 -- ---- what the code books, and marks
 
@@ -313,12 +316,12 @@ pub next_room : (xs : List (ℕ × ℕ)) (i : ℕ) (c : CampaignValue) → i < l
 next_room xs i c inside room = let x : ℕ × ℕ = get_or xs i (0, 0) in first_room (Item x.0) x.1 (moving_items (drop (i + 1) xs)) c (room_ahead xs i c inside room)
 
 -- if the items from i on are of the world, so are the item at i and those after it
-pub known_ahead : (w : WorldValue) (xs : List (ℕ × ℕ)) (i : ℕ) → i < length xs → EachOf (λ j a. j < length w.items) (drop i xs)
-    → EachOf (λ j a. j < length w.items) (get_or xs i (0, 0) ∷ drop (i + 1) xs)
-known_ahead w xs i inside known = subst (EachOf (λ j a. j < length w.items)) (drop_more xs i (0, 0) inside) known
+pub known_ahead : (w : WorldValue) (xs : List (ℕ × ℕ)) (i : ℕ) → i < length xs → EachEntry (λ j a. j < length w.items) (drop i xs)
+    → EachEntry (λ j a. j < length w.items) (get_or xs i (0, 0) ∷ drop (i + 1) xs)
+known_ahead w xs i inside known = subst (EachEntry (λ j a. j < length w.items)) (drop_more xs i (0, 0) inside) known
 
 -- in a steady campaign the items that a unit holds are items of the world
-pub known_held : (w : WorldValue) (c : CampaignValue) (n : ℕ) (u : Unit) → get c.units n ≡ Some u → IsSteady w c → EachOf (λ j a. j < length w.items) (entries u.holding.items)
+pub known_held : (w : WorldValue) (c : CampaignValue) (n : ℕ) (u : Unit) → get c.units n ≡ Some u → IsSteady w c → EachEntry (λ j a. j < length w.items) (entries u.holding.items)
 known_held w c n u is steady = each-from_every (λ j a. j < length w.items) u.holding.items (steady.known.units n u is).items
 
 -- books with room for what all units may lose (`quit_reserve`) have room for all that one unit has
@@ -338,31 +341,31 @@ total_books c books t = refl
 
 module _ (w : WorldValue) (c : CampaignValue) (n : ℕ) (u : Unit) (is : get c.units n ≡ Some u) (steady : IsSteady w c) where
   -- the campaign in which all that the unit holds is booked as gone, before the unit is removed
-  abbrev off : CampaignValue
-  off = with_all_losses c u.holding
+  abbrev booked_off : CampaignValue
+  booked_off = with_all_losses c u.holding
 
   -- the campaign after unit n left with all that it holds
   abbrev after_leave : CampaignValue
-  after_leave = without_unit off n
+  after_leave = without_unit booked_off n
 
-  -- what is booked is all that the unit holds, and only the books differ (`BooksOff`)
-  off_is : BooksOff w (owing u.holding) (held_moves u.holding) c off
-  off_is = off_all w c u.holding (steady.known.units n u is).items steady
+  -- what is booked is all that the unit holds, and only the books differ (`BooksAsGone`)
+  all_is_booked : BooksAsGone w (held_of_thing u.holding) (held_moves u.holding) c booked_off
+  all_is_booked = books_all w c u.holding (steady.known.units n u is).items steady
 
   -- the unit is still there after the bookings, before it is removed
-  there : get off.units n ≡ Some u
-  there = ap (λ (s : CampaignValue). get s.units n) off_is.same ∙ is
+  there : get booked_off.units n ≡ Some u
+  there = ap (λ (s : CampaignValue). get s.units n) all_is_booked.same ∙ is
 
   -- after one unit has left, the units are those before without unit n
   pub units_left : after_leave.units ≡ remove c.units n
-  units_left = (only_reduced w off n u there).units ∙ ap (λ (s : CampaignValue). remove s.units n) off_is.same
+  units_left = (only_reduced w booked_off n u there).units ∙ ap (λ (s : CampaignValue). remove s.units n) all_is_booked.same
 
   -- the books balance after the unit left, if they balanced before
   balanced : Balances c → Balances after_leave
   balanced old t =
-      let only = only_reduced w off n u there in
-      let totals : total off t ≡ total c t = ap (λ s. total s t) off_is.same ∙ total_books c off.books t in
-      rest (total after_leave t) (unit_amount t u.holding) (total off t) (total c t) (owing u.holding t) (booked c.books t) (booked off.books t) (total-without w off n u there t) totals (all_owed u.holding t) (old t) (off_is.owed t)
+      let only = only_reduced w booked_off n u there in
+      let totals : total booked_off t ≡ total c t = ap (λ s. total s t) all_is_booked.same ∙ total_books c booked_off.books t in
+      rest (total after_leave t) (unit_amount t u.holding) (total booked_off t) (total c t) (held_of_thing u.holding t) (booked c.books t) (booked booked_off.books t) (total-without w booked_off n u there t) totals (held_is_unit_amount u.holding t) (old t) (all_is_booked.sum_falls t)
       ∙ ap (λ (books : BooksValue). booked books t) (sym only.books)
     where
       -- for `balanced`: the total a after the unit left is the books' sum y of the thing, since total (b, d) and books
@@ -371,29 +374,29 @@ module _ (w : WorldValue) (c : CampaignValue) (n : ℕ) (u : Unit) (is : get c.u
       rest a h b d o z y e f g k l = omega (arith, ints, e, f, g, k, l)
 
   -- no amount of the books moves further than its remaining bound falls as the unit leaves
-  drawn : (e : Entry) (t : Thing) → UsesBound (quit_reserve c e t) (quit_reserve after_leave e t) (amount_in c.books e t) (amount_in after_leave.books e t)
-  drawn e t =
-      let only = only_reduced w off n u there in
+  uses_bound : (e : Entry) (t : Thing) → UsesBound (quit_reserve c e t) (quit_reserve after_leave e t) (amount_in c.books e t) (amount_in after_leave.books e t)
+  uses_bound e t =
+      let only = only_reduced w booked_off n u there in
       let reserves : quit_reserve after_leave e t + loss_under e t u.holding ≡ quit_reserve c e t =
       ap (λ (m : FinMap nat_cmp Unit). sum_over (λ (x : Unit). loss_under e t x.holding) m + loss_under e t u.holding) units_left ∙ sum_over-remove c.units n (λ (x : Unit). loss_under e t x.holding) u is in
       subst (λ (books : BooksValue). UsesBound (quit_reserve c e t) (quit_reserve after_leave e t) (amount_in c.books e t) (amount_in books e t)) (sym only.books)
-      (drawn_near (loss_under e t u.holding) (quit_reserve c e t) (quit_reserve after_leave e t) (amount_in c.books e t) (amount_in off.books e t) reserves
-      (near_more (held_moves u.holding e t) (loss_under e t u.holding) (amount_in c.books e t) (amount_in off.books e t) (moves_what_leaves u.holding e t) (off_is.near e t)))
+      (bound_used_near (loss_under e t u.holding) (quit_reserve c e t) (quit_reserve after_leave e t) (amount_in c.books e t) (amount_in booked_off.books e t) reserves
+      (near_more (held_moves u.holding e t) (loss_under e t u.holding) (amount_in c.books e t) (amount_in booked_off.books e t) (moves_what_leaves u.holding e t) (all_is_booked.near e t)))
 
   -- the unit's leaving keeps a steady campaign steady, in its month and with balanced books (`StepsWell`)
   leaving_well : StepsWell IsSteady quit_reserve w c after_leave
   leaving_well =
-      let only = only_reduced w off n u there in
+      let only = only_reduced w booked_off n u there in
       record {
-        holds_still = steady-without w off n u there off_is.steady;
+        holds_still = steady-without w booked_off n u there all_is_booked.steady;
         same_month = record {
-          month = only.month ∙ ap (λ (s : CampaignValue). s.month) off_is.same;
-          reports = only.reports ∙ ap (λ (s : CampaignValue). s.reports) off_is.same;
-          count = ap len only.factions ∙ ap (λ (s : CampaignValue). len s.factions) off_is.same;
-          factions = λ k h. subst (λ (m : FinMap nat_cmp Faction). IsThere m k) (only.factions ∙ ap (λ (s : CampaignValue). s.factions) off_is.same) h;
+          month = only.month ∙ ap (λ (s : CampaignValue). s.month) all_is_booked.same;
+          reports = only.reports ∙ ap (λ (s : CampaignValue). s.reports) all_is_booked.same;
+          count = ap len only.factions ∙ ap (λ (s : CampaignValue). len s.factions) all_is_booked.same;
+          factions = λ k h. subst (λ (m : FinMap nat_cmp Faction). HasValue m k) (only.factions ∙ ap (λ (s : CampaignValue). s.factions) all_is_booked.same) h;
         };
         balances = balanced;
-        drawn = drawn;
+        uses_bound = uses_bound;
       }
 
 -- after unit n left with all that it has, a steady campaign stays steady,
@@ -498,7 +501,7 @@ reserve_within w c steady e t = by_test (entry_index e == entry_index (loss_entr
 pub quit_orderly : IsOrderly quit_step IsSteady quit_reserve quit_moves quit_concerns IsNoWorse
 quit_orderly = record {
   well = λ w a c t x steady fit own. well w c x steady t.order_value.operands;
-  sparing = no_worse_spares;
+  spares_is_relation = no_worse_spares;
   spared = λ w a c t x steady own n u here other. spared w c t x steady own n u here t.order_value.operands (λ says. other says);
   bounded = reserve_within;
 }
@@ -572,18 +575,18 @@ module _ (begun : CampaignValue) where
         holds_still = (well.holds_still, λ s mine. since.1 s (own_before c (quit number c x).0 s (quit_some w c number x since.0) mine));
         same_month = well.same_month;
         balances = well.balances;
-        drawn = well.drawn;
+        uses_bound = well.uses_bound;
       }
   since_well w c x since other = tt
 
   -- QUIT keeps what `OwnSince` says, and a unit is no worse off, unless its faction quits by an order for a unit that
-  -- was its own as the phase began (`IsOrderly`, `QuitsFrom`)
-  since_orderly : IsOrderly quit_step (OwnSince begun) quit_reserve quit_moves (QuitsFrom begun) IsNoWorse
+  -- was its own as the phase began (`IsOrderly`, `QuitsByOwnUnit`)
+  since_orderly : IsOrderly quit_step (OwnSince begun) quit_reserve quit_moves (QuitsByOwnUnit begun) IsNoWorse
   since_orderly = record {
     well = λ w a c t x since fit own. since_well w c x since t.order_value.operands;
-    sparing = no_worse_spares;
+    spares_is_relation = no_worse_spares;
     spared = λ w a c t x since own n u there other.
-        quit_orderly.spared w a c t x since.0 own n u there (λ quits. other (record { own = since.1 t (is_own_unit c t x own); faction = quits.0; said = quits.1 }));
+        quit_orderly.spared w a c t x since.0 own n u there (λ quits. other (record { own = since.1 t (is_own_unit c t x own); faction = quits.0; names_own_number = quits.1 }));
     bounded = λ w c since. quit_orderly.bounded w c since.0;
   }
 

@@ -10,7 +10,7 @@ use Rattle.std.specs.Ordering.{nat_cmp}
 use Rattle.atl_world.proofs.GeneralLaws.{equal_itself, is_equal}
 use Rattle.atl_records.specs.declared.event.EventFault.TheVariants.{Guarded, NoMen}
 use Rattle.atl_records.specs.declared.records.Unit.{Unit}
-use Rattle.atl_records.specs.Every.{EachOf, Every}
+use Rattle.atl_records.specs.Every.{EachEntry, Every}
 use Rattle.atl_campaign.specs.Good.{AreOfOneFaction, guards}
 use Rattle.atl_campaign.specs.Campaign.{CampaignValue, numbers_in, with_guard}
 use Rattle.atl_records.proofs.EveryLaws.{each-from_every, every-from_each, every-insert, get-insert_other, none_some}
@@ -26,7 +26,7 @@ use Rattle.atl_instant.proofs.GuardingLaws.{flagged, flagged_is, guarding, own_g
 module _ (c : CampaignValue) where
   -- each entry of the list is a unit of the campaign under its number
   abbrev AreUnits : List (ℕ × Unit) → Type 0
-  AreUnits es = EachOf (λ n u. get c.units n ≡ Some u) es
+  AreUnits es = EachEntry (λ n u. get c.units n ≡ Some u) es
 
   -- some unit of the given faction guards the region in campaign c
   abbrev Held : (region faction : ℕ) → Type 0
@@ -53,7 +53,7 @@ module _ (c : CampaignValue) where
 
     -- the map keeps the faction of a region when units are noted,
     -- if each is of that faction or doesn't guard the region
-    all_stay : (m : GuardMap) (es : List (ℕ × Unit)) → EachOf (λ n u. IsOwn u) es → get m region ≡ Some faction → get (with_guards_of m es) region ≡ Some faction
+    all_stay : (m : GuardMap) (es : List (ℕ × Unit)) → EachEntry (λ n u. IsOwn u) es → get m region ≡ Some faction → get (with_guards_of m es) region ≡ Some faction
     all_stay m [] own at = at
     all_stay m (e ∷ es) own at = all_stay (with_guard_of m e.1) es own.1 (one_stays m e.1 own.0 at)
 
@@ -81,12 +81,12 @@ module _ (c : CampaignValue) where
   module _ (one : AreOfOneFaction guards c) where
     -- if the guards of each region are of one faction, each unit of a list that guards the region of guard n is of the
     -- faction of n
-    own_of : (n : ℕ) (u : Unit) → get c.units n ≡ Some u → guards u ≡ true → (es : List (ℕ × Unit)) → AreUnits es → EachOf (λ k v. IsOwn u.region u.faction v) es
+    own_of : (n : ℕ) (u : Unit) → get c.units n ≡ Some u → guards u ≡ true → (es : List (ℕ × Unit)) → AreUnits es → EachEntry (λ k v. IsOwn u.region u.faction v) es
     own_of n u is on [] are = tt
     own_of n u is on (e ∷ es) are = (λ also same. one e.0 e.1 are.0 n u is also on same, own_of n u is on es are.1)
 
     -- each unit of a list that guards has its faction in the map once all are noted
-    noted_of : (m : GuardMap) (es : List (ℕ × Unit)) → AreUnits es → EachOf (λ n u. guards u ≡ true → get (with_guards_of m es) u.region ≡ Some u.faction) es
+    noted_of : (m : GuardMap) (es : List (ℕ × Unit)) → AreUnits es → EachEntry (λ n u. guards u ≡ true → get (with_guards_of m es) u.region ≡ Some u.faction) es
     noted_of m [] are = tt
     noted_of m (e ∷ es) are =
         (λ on. all_stay e.1.region e.1.faction (with_guard_of m e.1) es (own_of e.0 e.1 are.0 on es are.1) (by_test (guards e.1) on), noted_of (with_guard_of m e.1) es are.1)

@@ -30,7 +30,7 @@ use Rattle.atl_phase.specs.Bounds.{IsOrderly, nothing_remaining}
 use Rattle.atl_phase.specs.Unbooked.{moves_nothing}
 use Rattle.atl_phase.proofs.OutcomeLaws.{none_fits, not_apart, not_less}
 use Rattle.atl_campaign.proofs.HavingLaws.{MayHave, may_have}
-use Rattle.atl_instant.specs.Transfer.{days_going, going_of, raised_of, staying_of, transfer, transfer_effect, transfer_fault, transfer_step, transfer_to, with_fewer, with_more}
+use Rattle.atl_instant.specs.Transfer.{days_going, going_of, raised_of, staying_of, transfer, transfer_effect, transfer_fault, transfer_step, transfer_to, after_sending, after_receiving}
 use Rattle.atl_instant.proofs.AmountsForLaws.{each_said}
 use Rattle.atl_instant.proofs.DaysLaws.{days_go_with_men, none_go}
 use Rattle.atl_instant.proofs.EffectLaws.{Keeps, StepKeeps, keeps_all, moved_cases, orderly_by, others-moved, steps-moved}
@@ -137,7 +137,7 @@ days_may : (w : WorldValue) (h : HoldingValue) (s : ℕ) → MayHave w h → amo
 days_may w h s may = days_within h.days (most_days * h.men) s may.days
 
 -- if a unit may have what it holds (`MayHave`), it may also have what it holds after n of its men went
-pub may_have_fewer : (w : WorldValue) (n : ℕ) (h : HoldingValue) → n ≤ h.men → MayHave w h → MayHave w (with_fewer n h)
+pub may_have_fewer : (w : WorldValue) (n : ℕ) (h : HoldingValue) → n ≤ h.men → MayHave w h → MayHave w (after_sending n h)
 may_have_fewer w n h fewer may = record {
   limits = record { men = omega (arith, may.limits.men); money = may.limits.money; items = may.limits.items };
   name = may.name;
@@ -154,7 +154,7 @@ may_have_fewer w n h fewer may = record {
 
 -- if two units may have what they hold (`MayHave`), one may also have what it holds after n men of the other came, if
 -- there is room for the men
-pub may_have_more : (w : WorldValue) (n : ℕ) (other h : HoldingValue) → h.men + n ≤ men_limit → MayHave w other → MayHave w h → MayHave w (with_more n other h)
+pub may_have_more : (w : WorldValue) (n : ℕ) (other h : HoldingValue) → h.men + n ≤ men_limit → MayHave w other → MayHave w h → MayHave w (after_receiving n other h)
 may_have_more w n other h room from may = record {
   limits = record { men = room; money = may.limits.money; items = may.limits.items };
   name = may.name;
@@ -192,7 +192,7 @@ may_have_more w n other h room from may = record {
         spread k s n = grind arith
 
 -- sender and receiver together hold as much of each thing after n men went as before, if the sender had n men
-pub both_hold : (n : ℕ) (h k : HoldingValue) → n ≤ h.men → (t : Thing) → unit_amount t (with_fewer n h) + unit_amount t (with_more n h k) ≡ unit_amount t h + unit_amount t k
+pub both_hold : (n : ℕ) (h k : HoldingValue) → n ≤ h.men → (t : Thing) → unit_amount t (after_sending n h) + unit_amount t (after_receiving n h k) ≡ unit_amount t h + unit_amount t k
 both_hold n h k l things.Money = refl
 both_hold n h k l things.People = omega (arith, l)
 both_hold n h k l (things.Item i) = refl
@@ -200,7 +200,7 @@ both_hold n h k l (things.Item i) = refl
 -- ---- no worse off
 
 -- a unit to which men come is no worse off
-pub better_off : (n : ℕ) (other : HoldingValue) (v : Unit) → IsNoWorse v (record v { holding = with_more n other v.holding })
+pub better_off : (n : ℕ) (other : HoldingValue) (v : Unit) → IsNoWorse v (record v { holding = after_receiving n other v.holding })
 better_off n other v = record {
   faction = refl;
   region = refl;
@@ -218,14 +218,14 @@ better_off n other v = record {
 module _ {fit : Type 0} (w : WorldValue) (c : CampaignValue) (from to n : ℕ) (u : Unit) (sender : get c.units from ≡ Some u) where
   -- a transfer to another unit, if it can be sent, keeps the campaign early, and other units no worse off (`Keeps`)
   moved_kept : (v : Unit) → get c.units to ≡ Some v → to ≢ from → CanSend n u v
-      → Keeps IsEarly fit w c from u.faction (with_held (with_held c from (with_fewer n u.holding) (Some u)) to (with_more n u.holding v.holding) (Some v))
+      → Keeps IsEarly fit w c from u.faction (with_held (with_held c from (after_sending n u.holding) (Some u)) to (after_receiving n u.holding v.holding) (Some v))
   moved_kept v receiver apart can = record {
     well = λ early fits.
         let from_may = may_have w c from u sender early.steady in
-        steps-moved c from to u v (with_fewer n u.holding) (with_more n u.holding v.holding) sender receiver apart w (may_have_fewer w n u.holding can.enough from_may) (λ g. g)
+        steps-moved c from to u v (after_sending n u.holding) (after_receiving n u.holding v.holding) sender receiver apart w (may_have_fewer w n u.holding can.enough from_may) (λ g. g)
         (may_have_more w n u.holding v.holding can.room from_may (may_have w c to v receiver early.steady)) (λ g. g) (both_hold n u.holding v.holding can.enough) early;
     others =
-        others-moved c from to u v (with_fewer n u.holding) (with_more n u.holding v.holding) sender receiver apart u.faction
+        others-moved c from to u v (after_sending n u.holding) (after_receiving n u.holding v.holding) sender receiver apart u.faction
         (record { better = better_off n u.holding v; men = λ other. absurd (other (sym can.own)) });
   }
 
@@ -239,7 +239,7 @@ module _ {fit : Type 0} (w : WorldValue) (c : CampaignValue) (from to n : ℕ) (
       by_receiver : (o : Option Unit) → get c.units to ≡ o → Keeps IsEarly fit w c from u.faction (transfer_to c from to n u o).0
       by_receiver None is = keeps_all w c from u.faction
       by_receiver (Some v) receiver =
-          moved_cases (Keeps IsEarly fit w c from u.faction) c from to u v (with_fewer n u.holding) (with_more n u.holding v.holding)
+          moved_cases (Keeps IsEarly fit w c from u.faction) c from to u v (after_sending n u.holding) (after_receiving n u.holding v.holding)
           (λ itself. transfer_fault n itself u (Some v)) (Done n) (keeps_all w c from u.faction) (λ apart none. moved_kept v receiver apart (can_send n u v none))
 
 -- ---- the phase

@@ -11,13 +11,13 @@ use Rattle.atl_phase.specs.PhaseOrders.{Task, orders_of}
 use Rattle.atl_phase.specs.Unmailed.{starved_in}
 use Rattle.atl_phase.specs.declared.phase_order.Arrangement.TheVariants.{ByFaction}
 use Rattle.atl_phase.proofs.PhaseSpecLaws.{PhaseLeavesUnmailed}
-use Rattle.atl_phase.proofs.UnmailedLaws.{LeavesUnmailed, OthersHaveMen, SparesMen, carried_leaves, items_of_no_worse, own_faction, told_of_order, unmailed_spared, whole_leaves}
+use Rattle.atl_phase.proofs.UnmailedLaws.{LeavesUnmailed, OthersHaveMen, SparesMen, carried_leaves, items_of_no_worse, own_faction, order_event_starves_none, unmailed_spared, whole_leaves}
 use Rattle.atl_instant.specs.Form.{form_by, form_keeps, form_meaning, form_order, is_forming}
 use Rattle.atl_instant.specs.Give.{give_spec, give_step, is_giving}
 use Rattle.atl_instant.specs.Guard.{guard_concerns, guard_spec, guard_step, is_guarding}
 use Rattle.atl_instant.specs.Name.{is_naming, name_concerns, name_spec, name_step}
 use Rattle.atl_instant.specs.Place.{is_placing, place_spec, place_step}
-use Rattle.atl_instant.specs.Quit.{QuitsFrom, is_quitting, quit_effect, quit_keeps, quit_meaning, quit_step}
+use Rattle.atl_instant.specs.Quit.{QuitsByOwnUnit, is_quitting, quit_effect, quit_keeps, quit_meaning, quit_step}
 use Rattle.atl_instant.specs.Transfer.{is_transferring, transfer_spec, transfer_step}
 use Rattle.atl_instant.proofs.EffectLaws.{spares_men}
 use Rattle.atl_instant.proofs.GiveLaws.{give_keeps}
@@ -37,7 +37,7 @@ form_readings p (t ∷ ts) = form_readings (form_order p t) ts
 -- orders of FORM add no men who starved to the events
 form_starves_none : (p : CampaignValue × MonthValue) (ts : List Task) (n : ℕ) → starved_in (fold form_order p ts).1.events n ≡ starved_in p.1.events n
 form_starves_none p [] n = refl
-form_starves_none p (t ∷ ts) n = form_starves_none (form_order p t) ts n ∙ told_of_order p.1.events t (form_by p.0 t.faction t.unit).1 n
+form_starves_none p (t ∷ ts) n = form_starves_none (form_order p t) ts n ∙ order_event_starves_none p.1.events t (form_by p.0 t.faction t.unit).1 n
 
 -- the phase of FORM leaves units of factions without a mailing their men and items (`LeavesUnmailed`)
 pub form_leaves : LeavesUnmailed form_meaning form_keeps
@@ -89,4 +89,4 @@ quit_spares w a c t x own = by_operands t.order_value.operands
 
 -- the phase of QUIT leaves units of factions without a mailing their men and items (`LeavesUnmailed`)
 pub quit_leaves : LeavesUnmailed quit_meaning quit_keeps
-quit_leaves = carried_leaves quit_step is_quitting quit_spares (λ w c d m. unmailed_spared {concerns = QuitsFrom c} is_quitting (λ t n f h. h.faction) items_of_no_worse w c d m)
+quit_leaves = carried_leaves quit_step is_quitting quit_spares (λ w c d m. unmailed_spared {concerns = QuitsByOwnUnit c} is_quitting (λ t n f h. h.faction) items_of_no_worse w c d m)

@@ -23,5 +23,5 @@ abbrev pub with_forming_result : MonthValue → Forming → CampaignValue × Out
 with_forming_result m o (c, outcome) = (c, record m { aliases = aliases_after m.aliases o.faction o.alias outcome; events = m.events ++ forming_event o outcome ∷ [] })
 
 -- the campaign and the month after one order of FORM, carried out by its copy
-abbrev pub form_apart : CampaignValue × MonthValue → Forming → CampaignValue × MonthValue
-form_apart (c, m) o = with_forming_result m o (form_by c o.faction o.unit)
+abbrev pub form_by_copy : CampaignValue × MonthValue → Forming → CampaignValue × MonthValue
+form_by_copy (c, m) o = with_forming_result m o (form_by c o.faction o.unit)

@@ -92,18 +92,18 @@ quit_concerns t number faction = (t.faction ≡ faction) × (t.order_value.opera
 
 -- task t is an order of QUIT with the number of faction f, which wrote it for a unit that was its own as the phase
 -- began
-pub record QuitsFrom (begun : CampaignValue) (t : Task) (n f : ℕ) : Type 0 where
+pub record QuitsByOwnUnit (begun : CampaignValue) (t : Task) (n f : ℕ) : Type 0 where
   -- as the phase began, the unit that the order is for was there, and of the faction that wrote the order
   pub own : is_own begun t ≡ true
   -- faction f wrote the order
   pub faction : t.faction ≡ f
   -- the number in the order is that of faction f
-  pub said : t.order_value.operands ≡ operands.Number f
+  pub names_own_number : t.order_value.operands ≡ operands.Number f
 
 -- what the phase keeps: a unit is no worse off, unless its faction quits by an
 -- order for a unit that was its own as the phase began
 abbrev pub quit_keeps : Frame
-quit_keeps w m before after = spares_others (QuitsFrom before) IsNoWorse is_quitting w m before after
+quit_keeps w m before after = spares_others (QuitsByOwnUnit before) IsNoWorse is_quitting w m before after
 
 -- ---- by how much the phase moves the books
 

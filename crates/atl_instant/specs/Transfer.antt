@@ -46,12 +46,12 @@ abbrev pub raised_of : (n : ℕ) → (other h : HoldingValue) → (skill : ℕ) 
 raised_of n other h s = amount_of h.days s + going_of n other s
 
 -- what a unit holds after n of its men went, with their part of the days
-abbrev pub with_fewer : (n : ℕ) → HoldingValue → HoldingValue
-with_fewer n h = record h { men = h.men - n; days = amounts_for (staying_of n h) (keys h.days) }
+abbrev pub after_sending : (n : ℕ) → HoldingValue → HoldingValue
+after_sending n h = record h { men = h.men - n; days = amounts_for (staying_of n h) (keys h.days) }
 
 -- what a unit with holding h holds after n men of another unit came, with their part of the days
-abbrev pub with_more : (n : ℕ) → (other h : HoldingValue) → HoldingValue
-with_more n other h = record h { men = h.men + n; days = amounts_for (raised_of n other h) (keys h.days ++ keys other.days) }
+abbrev pub after_receiving : (n : ℕ) → (other h : HoldingValue) → HoldingValue
+after_receiving n other h = record h { men = h.men + n; days = amounts_for (raised_of n other h) (keys h.days ++ keys other.days) }
 
 -- ---- a law: the days that both units have of each skill after n men went
 
@@ -59,9 +59,9 @@ with_more n other h = record h { men = h.men + n; days = amounts_for (raised_of 
 -- skill that stay, and the receiver those that it had and those that came
 pub record HaveDaysOf (n : ℕ) (other h : HoldingValue) (skill : ℕ) : Type 0 where
   -- the sender has the days of the skill that stay
-  pub stay : amount_of (with_fewer n other).days skill ≡ staying_of n other skill
+  pub stay : amount_of (after_sending n other).days skill ≡ staying_of n other skill
   -- the receiver has the days of the skill that it had, and those that came
-  pub come : amount_of (with_more n other h).days skill ≡ raised_of n other h skill
+  pub come : amount_of (after_receiving n other h).days skill ≡ raised_of n other h skill
 
 -- the law that, however many men go, the sender keeps the days of each skill that stay, and the receiver has its own
 -- and those that came
@@ -86,7 +86,7 @@ transfer_fault n itself u (Some v) =
 -- Nothing changes if both are one unit, or one of them isn't there.
 abbrev pub after_transfer : CampaignValue → (from to n : ℕ) → Option Unit → Option Unit → CampaignValue
 after_transfer c from to n (Some u) (Some v) =
-    if to == from then c else with_held (with_held c from (with_fewer n u.holding) (Some u)) to (with_more n u.holding v.holding) (Some v)
+    if to == from then c else with_held (with_held c from (after_sending n u.holding) (Some u)) to (after_receiving n u.holding v.holding) (Some v)
 after_transfer c from to n sender receiver = c
 
 -- The campaign and the outcome as unit u sends n men to the receiver, if a receiver is there.

@@ -8,7 +8,7 @@ ghost use Rattle.atl_records.specs.Limits.{last_unit};
 ghost use Rattle.atl_phase.specs.PhaseOrders.{orders_of, task_of};
 ghost use Rattle.atl_phase.specs.declared.phase_order.Arrangement.TheVariants.{ByFaction};
 ghost use Rattle.atl_instant.specs.Form.{alias_of, aliases_after, form_by, form_fault, form_keeps, form_meaning, is_forming, is_unit_limit, new_unit, with_formed_unit};
-ghost use Rattle.atl_instant.specs.Forming.{form_apart, forming_of};
+ghost use Rattle.atl_instant.specs.Forming.{form_by_copy, forming_of};
 
 use atl_campaign::{
     Campaign, Event, EventFault, EventVerb, Holding, LAST_UNIT, MOST_UNITS, Outcome, Unit,
@@ -171,7 +171,7 @@ fn form_one(
 ) -> Result<(), AllocError>
     requires free { map.get campaign.old.value.units campaign.old.value.next_unit ≡ None }
     ensures step { OnOk result
-        ((campaign.new.value, month.new) ≡ form_apart (campaign.old.value, month.old) order) }
+        ((campaign.new.value, month.new) ≡ form_by_copy (campaign.old.value, month.old) order) }
     ensures marks { OnOk result (MarksChanges campaign.old campaign.new) }
 {
     let outcome = form(alloc, campaign, month, order)?;

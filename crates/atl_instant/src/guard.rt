@@ -131,7 +131,7 @@ impl Phase for GuardPhase {
         mut campaign: Campaign,
         mut month: Month,
     ) -> PhaseResult {
-        let mut holders = RegionGuards::of(alloc, &campaign)?;
+        let mut holders = RegionGuards::of_campaign(alloc, &campaign)?;
         let orders = month.orders(alloc, self, Arrangement::ByUnit)?;
         let mut events = Vec::new(alloc);
         for order in &orders {

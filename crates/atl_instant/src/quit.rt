@@ -2,7 +2,7 @@
 ghost use Rattle.std.specs.Prelude.{◌≡◌, ◌<◌, IfOk, OnOk, fold, length, true};
 ghost use Rattle.atl_records.specs.Books.{amount_in, thing_index};
 ghost use Rattle.atl_campaign.specs.Covers.{MarksChanges};
-ghost use Rattle.atl_records.specs.Every.{EachOf};
+ghost use Rattle.atl_records.specs.Every.{EachEntry};
 ghost use Rattle.atl_campaign.specs.Founding.{things_of};
 ghost use Rattle.atl_campaign.specs.Good.{IsSteady};
 ghost use Rattle.atl_campaign.specs.Marking.{mark_amount};
@@ -50,7 +50,7 @@ fn book_loss(campaign: &mut Campaign, thing: Thing, amount: u32)
 /// Books each item of a list, with its amount, as lost.
 fn book_items(world: &World, campaign: &mut Campaign, items: &[(u16, u32)])
     requires things { campaign.old.value.books.things ≡ things_of world.now }
-    requires known { EachOf (λ i amount. i < length world.now.items) items.now }
+    requires known { EachEntry (λ i amount. i < length world.now.items) items.now }
     requires room { HaveRoom (moving_items items.now) campaign.old.value }
     ensures what { campaign.new.value ≡ fold with_item_loss campaign.old.value items.now }
     ensures marks { MarksChanges campaign.old campaign.new }
@@ -63,7 +63,7 @@ fn book_items(world: &World, campaign: &mut Campaign, items: &[(u16, u32)])
 /// Books all that a unit has as gone: its men as left, its money and its items as lost.
 fn book_off(world: &World, campaign: &mut Campaign, men: u32, money: u32, items: &[(u16, u32)])
     requires things { campaign.old.value.books.things ≡ things_of world.now }
-    requires known { EachOf (λ i amount. i < length world.now.items) items.now }
+    requires known { EachEntry (λ i amount. i < length world.now.items) items.now }
     requires room { HaveRoom
         (both_move (moves_only men Left People)
         (both_move (moves_only money Lost Money) (moving_items items.now))) campaign.old.value }

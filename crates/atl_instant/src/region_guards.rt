@@ -32,7 +32,10 @@ impl Model for RegionGuards {
 impl RegionGuards {
     /// The map of which faction guards each region of a campaign, made in one pass over its units.
     /// AllocError without memory.
-    pub(crate) fn of(alloc: Global, campaign: &Campaign) -> Result<RegionGuards, AllocError>
+    pub(crate) fn of_campaign(
+        alloc: Global,
+        campaign: &Campaign,
+    ) -> Result<RegionGuards, AllocError>
         ensures { IfOk result (λ holders. holders ≡ guard_map_of campaign.now.value) }
     {
         let mut holders = RegionGuards {

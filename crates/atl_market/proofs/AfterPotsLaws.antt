@@ -20,7 +20,7 @@ use Rattle.atl_market.specs.Recruit.{after_recruiting, recruit_pots, recruits_at
 use Rattle.atl_market.specs.Tax.{after_tax, money_at, tax_pots}
 use Rattle.atl_market.specs.Work.{after_work, places_at, wages_for, work_pots}
 use Rattle.atl_market.proofs.AtOnceLaws.{Pays, all_at_once}
-use Rattle.atl_market.proofs.GoodsLaws.{made_unit, used_unit}
+use Rattle.atl_market.proofs.ItemUseLaws.{made_unit, used_unit}
 use Rattle.atl_market.proofs.PotLaws.{only_takers_get, pots_give}
 use Rattle.atl_market.proofs.ProduceLaws.{given_can, produced_others}
 use Rattle.atl_market.proofs.MoreMoneyLaws.{others_stay, paid_unit}

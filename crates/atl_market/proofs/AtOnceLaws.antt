@@ -9,7 +9,7 @@ use Rattle.std.proofs.lemmas.List.Sums.{sum_by-cons}
 use Rattle.atl_world.specs.Worlds.{WorldValue}
 use Rattle.atl_records.specs.declared.records.Region.{Region}
 use Rattle.atl_records.specs.declared.records.Unit.{Unit}
-use Rattle.atl_records.specs.Every.{IsThere}
+use Rattle.atl_records.specs.Every.{HasValue}
 use Rattle.atl_campaign.specs.Campaign.{CampaignValue}
 use Rattle.atl_campaign.proofs.ReadBackLaws.{Rise, entries_rise}
 use Rattle.atl_records.proofs.EveryLaws.{each-from_every, first, other_number, same_number}
@@ -25,7 +25,7 @@ no_more a = omega arith
 
 -- a unit's region is there, if the payment needs it (`needs`)
 abbrev pub Around : Bool → CampaignValue → Unit → Type 0
-Around true d u = IsThere d.regions u.region
+Around true d u = HasValue d.regions u.region
 Around false d u = ⊤
 
 -- One payment changes its unit by `gets` and its unit's region by `gives`, and no other unit or region; giving 0 is

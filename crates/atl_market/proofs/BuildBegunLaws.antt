@@ -20,7 +20,7 @@ use Rattle.atl_phase.specs.Bounds.{StepsWell}
 use Rattle.atl_market.specs.Build.{name_prefix}
 use Rattle.atl_market.specs.Bounds.{CanBuild, build_reserve}
 use Rattle.atl_phase.proofs.MeaningLaws.{same_month_by}
-use Rattle.atl_phase.proofs.OrderEffectLaws.{not_drawn}
+use Rattle.atl_phase.proofs.OrderEffectLaws.{bound_unused_by}
 
 -- ---- where units hold what they held, and nothing is booked
 
@@ -31,7 +31,7 @@ still_well w c d can same books totals reserves = record {
   holds_still = can;
   same_month = same;
   balances = λ old t. ap pos (totals t) ∙ old t ∙ ap (λ b. booked b t) (sym books);
-  drawn = λ e t. not_drawn (build_reserve c e t) (build_reserve d e t) (amount_in c.books e t) (amount_in d.books e t) (reserves e t) (ap (λ b. amount_in b e t) books);
+  uses_bound = λ e t. bound_unused_by (build_reserve c e t) (build_reserve d e t) (amount_in c.books e t) (amount_in d.books e t) (reserves e t) (ap (λ b. amount_in b e t) books);
 }
 
 -- ---- a structure more

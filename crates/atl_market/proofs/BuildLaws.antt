@@ -52,7 +52,7 @@ use Rattle.atl_market.specs.Making.{CanUse}
 use Rattle.atl_market.proofs.BuildBegunLaws.{built_well, first_name_ok, raised_well}
 use Rattle.atl_market.proofs.BuildPlaceLaws.{place_well}
 use Rattle.atl_market.proofs.BuildUsedLaws.{others_stay, used, used_for_well, used_room, user, user_there}
-use Rattle.atl_market.proofs.GoodsLaws.{used_is}
+use Rattle.atl_market.proofs.ItemUseLaws.{used_is}
 
 -- a number that isn't 0 is at least 1
 some : (n : ℕ) → (n == 0) ≡ false → 1 ≤ n
@@ -387,7 +387,7 @@ reserve_within w c can e t = by_thing t
 pub build_orderly : IsOrderly build_step CanBuild build_reserve build_moves IsOwnOrder IsNoWorse
 build_orderly = record {
   well = λ w a c t x can fit own. well w c t.unit x own.there can t.order_value.operands;
-  sparing = no_worse_spares;
+  spares_is_relation = no_worse_spares;
   spared = λ w a c t x can own j v there apart. stays_spared (build_step w a t) c t x own j v there apart (λ i other. stays w c t.unit x own.there i other t.order_value.operands);
   bounded = reserve_within;
 }

@@ -27,10 +27,10 @@ use Rattle.atl_phase.specs.Meaning.{LeavesWell, moves_only}
 use Rattle.atl_phase.specs.Bounds.{HasRoom, HaveRoom, StepsWell, UsesBound}
 use Rattle.atl_records.proofs.HoldingLaws.{alike, set_amount}
 use Rattle.atl_phase.proofs.MeaningLaws.{less_room, near_more}
-use Rattle.atl_phase.proofs.OrderEffectLaws.{drawn_near}
+use Rattle.atl_phase.proofs.OrderEffectLaws.{bound_used_near}
 use Rattle.atl_market.specs.Bounds.{CanBuild, build_reserve, still_bookable}
 use Rattle.atl_market.specs.Goods.{with_used}
-use Rattle.atl_market.proofs.GoodsLaws.{item_held, used_is, used_up_to}
+use Rattle.atl_market.proofs.ItemUseLaws.{item_held, used_is, used_up_to}
 use Rattle.atl_market.proofs.ThereLaws.{by_unit}
 
 -- ---- what a unit holds less
@@ -102,7 +102,7 @@ only_used item amount e t = by_number (amount_number e t == amount_number Used (
 
 -- ---- the campaign
 
--- for `drawn`: a sum in which one term is less by `x` is less by `x`
+-- for `uses_bound`: a sum in which one term is less by `x` is less by `x`
 shrunk : (s t f g x : ℕ) → s + f ≡ t + g → f ≡ g + x → s + x ≡ t
 shrunk s t f g x e h = omega (arith, e, h)
 
@@ -129,10 +129,10 @@ module _ (w : WorldValue) (c : CampaignValue) (n item amount : ℕ) (u : Unit) (
     well = subst (LeavesWell IsSteady (moves_only amount Used (Item item)) w c) (used_is w c n item amount u is) (used_up_to w c n item amount amount (omega arith) u is known enough can.steady)
 
     -- using the item lowers what BUILD may still book by at least as much as it moves the books (`UsesBound`)
-    drawn : (e : Entry) (t : Thing) → UsesBound (build_reserve c e t) (build_reserve used e t) (amount_in c.books e t) (amount_in used.books e t)
-    drawn e t =
+    uses_bound : (e : Entry) (t : Thing) → UsesBound (build_reserve c e t) (build_reserve used e t) (amount_in c.books e t) (amount_in used.books e t)
+    uses_bound e t =
         let f = λ (x : Unit). still_bookable e t x.holding in
-        drawn_near (used_of item amount e t) (build_reserve c e t) (build_reserve used e t) (amount_in c.books e t) (amount_in used.books e t)
+        bound_used_near (used_of item amount e t) (build_reserve c e t) (build_reserve used e t) (amount_in c.books e t) (amount_in used.books e t)
         (shrunk (build_reserve used e t) (build_reserve c e t) (f u) (f user) (used_of item amount e t) (sum_over-insert_known f c.units n u user is) (usable_less u.holding item amount enough e t))
         (near_more (moves_only amount Used (Item item) e t) (used_of item amount e t) (amount_in c.books e t) (amount_in used.books e t) (only_used item amount e t) (well.near e t))
 
@@ -142,7 +142,7 @@ module _ (w : WorldValue) (c : CampaignValue) (n item amount : ℕ) (u : Unit) (
       holds_still = record { steady = well.leaves_it; kinds = can.kinds };
       same_month = well.same_month;
       balances = well.balances;
-      drawn = drawn;
+      uses_bound = uses_bound;
     }
 
 -- ---- what stays

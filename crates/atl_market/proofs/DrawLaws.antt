@@ -9,7 +9,7 @@ use Rattle.std.proofs.lemmas.List.Sums.{sum_by-cons}
 use Rattle.atl_world.specs.Worlds.{WorldValue}
 use Rattle.atl_records.specs.declared.records.Region.{Region}
 use Rattle.atl_records.specs.declared.records.Unit.{Unit}
-use Rattle.atl_records.specs.Every.{EachOf, IsThere}
+use Rattle.atl_records.specs.Every.{EachEntry, HasValue}
 use Rattle.atl_campaign.specs.Good.{IsEarly}
 use Rattle.atl_campaign.specs.Campaign.{CampaignValue, region_changed}
 use Rattle.atl_campaign.proofs.ReadBackLaws.{Rise, entries_rise}
@@ -35,8 +35,8 @@ another k n ns above is = elim is [ inl same ↦ absurd (omega (arith, above, sa
 not_this : (k n : ℕ) (ns : List ℕ) → k ≢ n → IsListed k (n ∷ ns) → IsListed k ns
 not_this k n ns apart is = elim is [ inl same ↦ absurd (apart same) | inr rest ↦ rest ]
 
--- if `P` holds of each number and its share (`EachOf`), it holds of each of these pairs (`AllByRecursion`)
-pub all_pairs : (P : ℕ × ℕ → Type 0) (es : List (ℕ × ℕ)) → EachOf (λ n share. P (n, share)) es → AllByRecursion P es
+-- if `P` holds of each number and its share (`EachEntry`), it holds of each of these pairs (`AllByRecursion`)
+pub all_pairs : (P : ℕ × ℕ → Type 0) (es : List (ℕ × ℕ)) → EachEntry (λ n share. P (n, share)) es → AllByRecursion P es
 all_pairs P [] h = tt
 all_pairs P (e ∷ es) h = (h.0, all_pairs P es h.1)
 
@@ -253,7 +253,7 @@ module _ (pot_of : ℕ → ℕ) (wants : FinMap nat_cmp ℕ) (c : CampaignValue)
   least drawing pot all h = omega (arith, h)
 
   -- the pot of region `r` of the campaign is enough for all that draw from it, if their shares are shares of that pot
-  pub shares_are_enough : DrawShares → IsThere c.regions r → drawn draws (entries given) ≤ pot_of r
+  pub shares_are_enough : DrawShares → HasValue c.regions r → drawn draws (entries given) ≤ pot_of r
   shares_are_enough shared there =
       let drawing = drawn draws (entries given) in
       let each = all_pairs (Listed draws amount takers) (entries given) (each-from_every (λ n share. Listed draws amount takers (n, share)) given (listed shared)) in
@@ -261,7 +261,7 @@ module _ (pot_of : ℕ → ℕ) (wants : FinMap nat_cmp ℕ) (c : CampaignValue)
       least drawing (pot_of r) (sum (wants_in wants c.units r)) (subst (λ s. drawing ≤ s) (gives_each_pot pot_of wants c r there) few)
 
 -- the pot of a region of the campaign is enough for the shares of all units in the region
-pub pot_is_enough : (pot_of : ℕ → ℕ) (wants : FinMap nat_cmp ℕ) (c : CampaignValue) (r : ℕ) → IsThere c.regions r → drawn (draws_region c.units r) (entries (pot_shares pot_of wants c)) ≤ pot_of r
+pub pot_is_enough : (pot_of : ℕ → ℕ) (wants : FinMap nat_cmp ℕ) (c : CampaignValue) (r : ℕ) → HasValue c.regions r → drawn (draws_region c.units r) (entries (pot_shares pot_of wants c)) ≤ pot_of r
 pot_is_enough pot_of wants c r there = shares_are_enough pot_of wants c r (draws_region c.units r) (pot_shares pot_of wants c) (λ n share is stands. (is, stands)) there
 
 -- ---- units that have not been paid yet are as they were

@@ -16,7 +16,7 @@ use Rattle.atl_records.specs.Holdings.{HoldingValue, amount_of}
 use Rattle.atl_campaign.specs.Campaign.{CampaignValue, region_changed, with_amount}
 use Rattle.atl_records.specs.Amounts.{region_amount, unit_amount}
 use Rattle.atl_campaign.specs.Totals.{total}
-use Rattle.atl_records.proofs.BookLaws.{booked-after_booking, share_of}
+use Rattle.atl_records.proofs.BookLaws.{booked-after_booking, booked_for}
 use Rattle.atl_campaign.proofs.HavingLaws.{MayHave, early-having}
 use Rattle.atl_campaign.proofs.HoldingLaws.{total-unit_amount}
 use Rattle.atl_campaign.proofs.RegionLaws.{steady-amount, total-amount, total-region}
@@ -48,7 +48,7 @@ module _ (w : WorldValue) (c : CampaignValue) (n : ℕ) (u : Unit) (q : Region) 
   exchanged = with_amount left entry Money z
 
   -- an exchange that keeps goods together (`KeepsTogether`) changes the total of each thing by what it books
-  total_of : KeepsTogether u q f more z → (t : Thing) → pos (total exchanged t) ≡ pos (total c t) +ℤ share_of t Money z
+  total_of : KeepsTogether u q f more z → (t : Thing) → pos (total exchanged t) ≡ pos (total c t) +ℤ booked_for t Money z
   total_of keeps t = by_thing t (total-amount left entry Money t z) (total-region f supplied u.region q around t) (total-unit_amount w c n u more is t)
     where
       -- for `total_of`: the total of an item is before (`e`) and after (`a`) the exchange the same, if what the unit
@@ -57,7 +57,7 @@ module _ (w : WorldValue) (c : CampaignValue) (n : ℕ) (u : Unit) (q : Region) 
       same a b d e g h i j s k l m = omega (arith, s, k, l, m)
 
       -- for `total_of`: what is booked of an item, which is nothing, leaves the item's total as it is
-      none_booked : (x i : ℕ) → pos x +ℤ share_of (Item i) Money z ≡ pos x
+      none_booked : (x i : ℕ) → pos x +ℤ booked_for (Item i) Money z ≡ pos x
       none_booked x i =
           let other : (2 + i == 0) ≡ false = grind (arith, nat_tests) in
           ap (λ b. pos x +ℤ cond b z (pos 0)) other ∙ zero_more
@@ -68,7 +68,7 @@ module _ (w : WorldValue) (c : CampaignValue) (n : ℕ) (u : Unit) (q : Region) 
 
       -- the total of money, people or an item changes by what is booked, given what each step changes of it
       by_thing : (t : Thing) → total exchanged t ≡ total left t → total left t + region_amount t q ≡ total supplied t + region_amount t (f q)
-          → total supplied t + unit_amount t u.holding ≡ total c t + unit_amount t more → pos (total exchanged t) ≡ pos (total c t) +ℤ share_of t Money z
+          → total supplied t + unit_amount t u.holding ≡ total c t + unit_amount t more → pos (total exchanged t) ≡ pos (total c t) +ℤ booked_for t Money z
       by_thing Money s a b = omega (arith, ints, s, a, b, keeps.money)
       by_thing People s a b = omega (arith, ints, s, a, b, keeps.people)
       by_thing (Item i) s a b =
@@ -83,6 +83,6 @@ module _ (w : WorldValue) (c : CampaignValue) (n : ℕ) (u : Unit) (q : Region) 
       record {
         leaves_it = record { steady = steady-amount w left entry Money z (omega arith) (region before.steady); flags = before.flags };
         same_month = same_month_by refl;
-        balances = λ old t. total_of keeps t ∙ ap (λ y. y +ℤ share_of t Money z) (old t) ∙ sym (booked-after_booking c.books entry Money z t);
+        balances = λ old t. total_of keeps t ∙ ap (λ y. y +ℤ booked_for t Money z) (old t) ∙ sym (booked-after_booking c.books entry Money z t);
         near = booked-near c.books entry Money z limit small;
       }

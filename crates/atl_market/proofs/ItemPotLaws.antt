@@ -10,7 +10,7 @@ use Rattle.std.specs.FinMap.Entries.{below_all}
 use Rattle.std.specs.FinMap.{FinMap, contains_key-keys, empty, entries, entries-from_sorted, find, from_sorted, get, get-empty, get-entries, get-from_entries, get-from_sorted, get-retain_keys, insert, is_sorted, keys, nat_cmp-IsAntisymmetric, same_map}
 use Rattle.std.proofs.lemmas.Bool.{cases_eq, eqb-true, false≢true}
 use Rattle.atl_world.specs.Groups.{group_of}
-use Rattle.atl_records.specs.Every.{EachOf, IsThere}
+use Rattle.atl_records.specs.Every.{EachEntry, HasValue}
 use Rattle.atl_campaign.specs.Campaign.{CampaignValue, numbers_in}
 use Rattle.atl_records.specs.declared.records.Region.{Region}
 use Rattle.atl_records.proofs.EveryLaws.{each-from_every, first, get-insert_other, none_some, other_number, same_number}
@@ -198,7 +198,7 @@ module _ (item_of : ℕ → Option ℕ) (pot_of : (item region : ℕ) → ℕ) (
         ∙ ap (λ ws. zip takers (shares (pot_of i r) ws)) (filtered_map (λ n. is_some (get (mine item_of wants i) n)) (want_of wants) (want_of (mine item_of wants i)) (wants_the_same item_of wants i) (numbers_in r c.units))
 
     -- the shares that the code finds for the region's groups are those of their items, one after the other
-    items_are : (es : List (ℕ × FinMap nat_cmp ℕ)) → EachOf (λ i group. get groups i ≡ Some group) es → flat_map (item_shares_in pot_of wants r) es ≡ flat_map of_item (map (λ e. e.0) es)
+    items_are : (es : List (ℕ × FinMap nat_cmp ℕ)) → EachEntry (λ i group. get groups i ≡ Some group) es → flat_map (item_shares_in pot_of wants r) es ≡ flat_map of_item (map (λ e. e.0) es)
     items_are [] h = refl
     items_are (e ∷ es) h =
         let group : group_of groups e.0 ≡ e.1 = ap (λ o. unwrap_or o empty) h.0 in
@@ -210,7 +210,7 @@ module _ (item_of : ℕ → Option ℕ) (pot_of : (item region : ℕ) → ℕ) (
     region_is = items_are (entries groups) (each-from_every (λ i group. get groups i ≡ Some group) groups (λ i group is. is))
 
     -- each of the region's shares is its unit's share by the definition, if the region is there
-    region_agrees : IsThere c.regions r → AgreeWith gets (region_shares item_of pot_of wants c r)
+    region_agrees : HasValue c.regions r → AgreeWith gets (region_shares item_of pot_of wants c r)
     region_agrees there = subst (AgreeWith gets) (sym region_is) (each_flat (λ e. gets e.0 ≡ Some e.1) of_item (keys groups) (so_each _ one (keys groups)))
       where
         -- each share of item `i` in the region is its unit's share by the definition

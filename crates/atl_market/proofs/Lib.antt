@@ -18,7 +18,7 @@ pub mod BuildPlaceLaws
 pub mod BuildLaws
 pub mod ItemPotLaws
 pub mod MakesLaws
-pub mod GoodsLaws
+pub mod ItemUseLaws
 pub mod ProduceLaws
 pub mod AfterPotsLaws
 pub mod UnmailedMakeLaws

@@ -9,7 +9,7 @@ use Rattle.std.specs.FinMap.{FinMap, get, insert, find, empty, entries, keys, fr
 use Rattle.std.proofs.lemmas.Bool.{cases_eq, eqb-true, false≢true, or_left, or_right}
 use Rattle.std.proofs.lemmas.List.{reverse-append, length-map}
 use Rattle.std.proofs.lemmas.List.Sums.{fold-append}
-use Rattle.atl_records.specs.Every.{IsThere, EachOf}
+use Rattle.atl_records.specs.Every.{HasValue, EachEntry}
 use Rattle.atl_campaign.specs.Campaign.{CampaignValue, numbers_in}
 use Rattle.atl_records.specs.declared.records.Region.{Region}
 use Rattle.atl_records.specs.declared.records.Unit.{Unit}
@@ -90,8 +90,9 @@ left m (e ∷ es) n h =
       | false ↦ λ g none. left (insert m e.0 e.1) es n none ∙ g
     ] (get-insert nat_cmp_total m e.0 e.1 n) h
 
--- if `P` holds of the number and the value of each entry (`AllByRecursion`), it holds of each also as `EachOf` says it
-as_pairs : (P : ℕ → ℕ → Type 0) (es : Entries) → AllByRecursion (λ e. P e.0 e.1) es → EachOf P es
+-- if `P` holds of the number and the value of each entry (`AllByRecursion`), it holds of each also as `EachEntry`
+-- says it
+as_pairs : (P : ℕ → ℕ → Type 0) (es : Entries) → AllByRecursion (λ e. P e.0 e.1) es → EachEntry P es
 as_pairs P [] h = tt
 as_pairs P (e ∷ es) h = (h.0, as_pairs P es h.1)
 
@@ -323,7 +324,7 @@ module _ (p : ℕ → Bool) (n : ℕ) where
 module _ (wants : FinMap nat_cmp ℕ) (units : FinMap nat_cmp Unit) where
   -- a unit, by its number, is in region `r` and has a want
   abbrev pub IsTaker : ℕ → ℕ → Type 0
-  IsTaker r n = ((u : Unit) × (get units n ≡ Some u) × (u.region ≡ r)) × IsThere wants n
+  IsTaker r n = ((u : Unit) × (get units n ≡ Some u) × (u.region ≡ r)) × HasValue wants n
 
   -- each unit listed for region `r` as one with a want is in the region and has a want (`IsTaker`)
   takers_each : (r : ℕ) → AllByRecursion (IsTaker r) (takers_in wants units r)
@@ -370,11 +371,11 @@ module _ (pot_of : ℕ → ℕ) (wants : FinMap nat_cmp ℕ) (units : FinMap nat
       cc
 
 -- if `P` holds of the number of each region of a campaign, it holds of all keys of the map of regions
-pub each_region : (P : ℕ → Type 0) (c : CampaignValue) → ((r : ℕ) → IsThere c.regions r → P r) → AllByRecursion P (keys c.regions)
+pub each_region : (P : ℕ → Type 0) (c : CampaignValue) → ((r : ℕ) → HasValue c.regions r → P r) → AllByRecursion P (keys c.regions)
 each_region P c h = by_entries (entries c.regions) (each-from_every (λ r q. get c.regions r ≡ Some q) c.regions (λ r q is. is))
   where
     -- if `P` holds of each region's number, it holds of the numbers of listed entries that are regions of the campaign
-    by_entries : (es : List (ℕ × Region)) → EachOf (λ r q. get c.regions r ≡ Some q) es → AllByRecursion P (map (λ e. e.0) es)
+    by_entries : (es : List (ℕ × Region)) → EachEntry (λ r q. get c.regions r ≡ Some q) es → AllByRecursion P (map (λ e. e.0) es)
     by_entries [] all = tt
     by_entries (e ∷ es) all = (h e.0 (e.1, all.0), by_entries es all.1)
 
@@ -385,12 +386,12 @@ module _ (pot_of : ℕ → ℕ) (wants : FinMap nat_cmp ℕ) (c : CampaignValue)
   found_is n = get-from_entries nat_cmp_total (flat_map (shares_in pot_of wants c.units) (keys c.regions)) n
 
   -- a share found among those of a region of the campaign is the unit's share
-  pub given_is : (r n s : ℕ) → IsThere c.regions r → find nat_cmp n (shares_in pot_of wants c.units r) ≡ Some s → share_of pot_of wants c n ≡ Some s
+  pub given_is : (r n s : ℕ) → HasValue c.regions r → find nat_cmp n (shares_in pot_of wants c.units r) ≡ Some s → share_of pot_of wants c n ≡ Some s
   given_is r n s (q, is) found =
       found_is n ∙ there (shares_in pot_of wants c.units) n r s (λ k t also. gives_one pot_of wants c.units n k r t s also found) found (keys c.regions) (sym (contains_key-keys c.regions r) ∙ ap is_some is)
 
   -- each share of a region of the campaign is its unit's share
-  pub region_agrees : (r : ℕ) → IsThere c.regions r → AllByRecursion (λ e. share_of pot_of wants c e.0 ≡ Some e.1) (shares_in pot_of wants c.units r)
+  pub region_agrees : (r : ℕ) → HasValue c.regions r → AllByRecursion (λ e. share_of pot_of wants c e.0 ≡ Some e.1) (shares_in pot_of wants c.units r)
   region_agrees r region = each_found (λ e. share_of pot_of wants c e.0 ≡ Some e.1) (shares_in pot_of wants c.units r) (given_apart pot_of wants c.units r) (λ n s is. given_is r n s region is)
 
   -- once no region is left to come, the map into which all shares were put is `pot_shares` of the definition
@@ -433,7 +434,7 @@ module _ (wants : FinMap nat_cmp ℕ) (c : CampaignValue) where
       )
 
   -- the region of a unit that has a want is among the regions with wants
-  taker_asks : (n : ℕ) (u : Unit) → IsThere wants n → get c.units n ≡ Some u → is_some (get (regions_with_wants wants c) u.region) ≡ true
+  taker_asks : (n : ℕ) (u : Unit) → HasValue wants n → get c.units n ≡ Some u → is_some (get (regions_with_wants wants c) u.region) ≡ true
   taker_asks n u (want, wanted) is =
       every-from_each (λ k x. (v : Unit) → get c.units k ≡ Some v → is_some (get (regions_with_wants wants c) v.region) ≡ true) wants (as_pairs _ (entries wants) (asked_each empty (entries wants))) n want wanted u is
 
@@ -478,7 +479,7 @@ pub only_takers_get : OnlyTakersGet
 only_takers_get pot_of wants c n s is =
     let (r, region, given) = somewhere (shares_in pot_of wants c.units) n s (keys c.regions) (sym (found_is pot_of wants c n) ∙ is) in
     let ((u, at, here), (want, wanted)) = given_takes pot_of wants c.units r n s given in
-    let stands : IsThere c.regions u.region = subst (IsThere c.regions) (sym here) (is_there (get c.regions r) (contains_key-keys c.regions r ∙ region)) in
+    let stands : HasValue c.regions u.region = subst (HasValue c.regions) (sym here) (is_there (get c.regions r) (contains_key-keys c.regions r ∙ region)) in
     let (t, also, low) = each_taker_gets pot_of wants c n want u wanted at stands in
     let same : t ≡ s = cc in
     (want, u, wanted, subst (λ k. k ≤ want) same low, at, stands)

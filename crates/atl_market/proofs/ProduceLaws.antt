@@ -31,7 +31,7 @@ use Rattle.atl_phase.specs.Meaning.{BookBound, LeavesWell, both_move, most_moved
 use Rattle.atl_phase.specs.Bounds.{HasRoom, HaveRoom, moved_times}
 use Rattle.atl_phase.specs.PhaseOrders.{Task}
 use Rattle.atl_records.proofs.HoldingLaws.{amount_within}
-use Rattle.atl_phase.proofs.MeaningLaws.{MovesLess, both_leave_well, less_room, room_behind, room_less, well_unchanged, well_within}
+use Rattle.atl_phase.proofs.MeaningLaws.{IsBoundWithin, both_leave_well, less_room, room_behind, room_less, well_unchanged, well_within}
 use Rattle.atl_market.specs.Making.{CanMake, CanMakeOf, CanProduce, CanUse, HasRoomAndRaw}
 use Rattle.atl_market.specs.PotPhase.{after_sharing, given_by, item_in, items_by}
 use Rattle.atl_market.specs.Bounds.{CanInTurn}
@@ -41,7 +41,7 @@ use Rattle.atl_market.specs.Unordered.{OthersAreNoWorse}
 use Rattle.atl_market.proofs.DrawLaws.{all_pairs}
 use Rattle.atl_market.proofs.MakesLaws.{makes_give}
 use Rattle.atl_market.proofs.UnorderedLaws.{others_no_worse}
-use Rattle.atl_market.proofs.GoodsLaws.{made_others, made_well, no_more, used_others, used_unit, used_well}
+use Rattle.atl_market.proofs.ItemUseLaws.{made_others, made_well, no_more, used_others, used_unit, used_well}
 use Rattle.atl_market.proofs.ThereLaws.{by_option}
 use Rattle.atl_market.proofs.TurnLaws.{first_room, later_room, turns_leave_well}
 use Rattle.atl_market.proofs.WantLaws.{few_given, given_is_named}
@@ -58,13 +58,13 @@ off : (a b : ℕ) → a ≢ b → (if a == b then holding_limit else 0) ≤ 0
 off a b apart = let other : (a == b) ≡ false = grind (arith, nat_tests) in rw other (omega arith)
 
 -- the bound on using one item is, for each amount of the books, at most that of PRODUCE
-used_less : (r : ℕ) → MovesLess (moves_only holding_limit booked.Used (things.Item r)) (produce_moves holding_limit)
+used_less : (r : ℕ) → IsBoundWithin (moves_only holding_limit booked.Used (things.Item r)) (produce_moves holding_limit)
 used_less r booked.Made (things.Item j) = on (amount_number booked.Made (things.Item j) == amount_number booked.Used (things.Item r))
 used_less r booked.Used (things.Item j) = on (amount_number booked.Used (things.Item j) == amount_number booked.Used (things.Item r))
 used_less r e t = off (amount_number e t) (amount_number booked.Used (things.Item r)) (omega arith)
 
 -- the bound on making one item is, for each amount of the books, at most that of PRODUCE
-made_less : (i : ℕ) → MovesLess (moves_only holding_limit booked.Made (things.Item i)) (produce_moves holding_limit)
+made_less : (i : ℕ) → IsBoundWithin (moves_only holding_limit booked.Made (things.Item i)) (produce_moves holding_limit)
 made_less i booked.Made (things.Item j) = on (amount_number booked.Made (things.Item j) == amount_number booked.Made (things.Item i))
 made_less i booked.Used (things.Item j) = on (amount_number booked.Used (things.Item j) == amount_number booked.Made (things.Item i))
 made_less i e t = off (amount_number e t) (amount_number booked.Made (things.Item i)) (omega arith)
@@ -84,7 +84,7 @@ made_none : (i j : ℕ) → (if amount_number booked.Used (things.Item j) == amo
 made_none i j = off (amount_number booked.Used (things.Item j)) (amount_number booked.Made (things.Item i)) (omega arith)
 
 -- the bounds on using one item and making another are together within that of PRODUCE
-both_less : (r i : ℕ) → MovesLess (both_move (moves_only holding_limit booked.Used (things.Item r)) (moves_only holding_limit booked.Made (things.Item i))) (produce_moves holding_limit)
+both_less : (r i : ℕ) → IsBoundWithin (both_move (moves_only holding_limit booked.Used (things.Item r)) (moves_only holding_limit booked.Made (things.Item i))) (produce_moves holding_limit)
 both_less r i booked.Made (things.Item j) = omega (arith, used_none r j, made_less i booked.Made (things.Item j))
 both_less r i booked.Used (things.Item j) = omega (arith, used_less r booked.Used (things.Item j), made_none i j)
 both_less r i e t = omega (arith, used_less r e t, made_less i e t)
@@ -321,7 +321,7 @@ module _ (w : WorldValue) (c : CampaignValue) (world : IsWorld w) (steady : IsSt
   few = omega (arith, few_given produce_pots w c (makes_give w c) os, steady.numbers.few_units)
 
   -- the production of all units that make something moves each amount of the books by less than 10^14 altogether
-  little : MovesLess (moved_times (length shares) (produce_moves holding_limit)) (produce_moves most_moved)
+  little : IsBoundWithin (moved_times (length shares) (produce_moves holding_limit)) (produce_moves most_moved)
   little e t = scaled (length shares) holding_limit most_moved (omega (arith, few)) e t
 
   -- all shares of PRODUCE can be made in turn, in a steady campaign whose books have room for the phase

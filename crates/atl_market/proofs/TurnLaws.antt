@@ -11,7 +11,7 @@ use Rattle.atl_records.specs.Books.{amount_number}
 use Rattle.atl_campaign.specs.Campaign.{CampaignValue}
 use Rattle.atl_phase.specs.Meaning.{BookBound, Condition, LeavesWell, both_move, most_moved, moves_only}
 use Rattle.atl_phase.specs.Bounds.{HaveRoom, moved_times}
-use Rattle.atl_phase.proofs.MeaningLaws.{MovesLess, both_leave_well, room_behind, room_less, well_unchanged, well_within}
+use Rattle.atl_phase.proofs.MeaningLaws.{IsBoundWithin, both_leave_well, room_behind, room_less, well_unchanged, well_within}
 use Rattle.atl_market.specs.Bounds.{CanInTurn}
 
 -- As many steps as there may be units, each of which moves one amount by at most 999,999,999, move it by less than
@@ -25,7 +25,7 @@ few_holdings k few a b e t = by_test (amount_number e t == amount_number a b)
     by_test false = omega (arith, few)
 
 -- the bounds on one step and on the steps after it are together at most the bound on all steps
-pub one_more : {B : Type 0} (moving : BookBound) (x : B) (xs : List B) → MovesLess (both_move moving (moved_times (length xs) moving)) (moved_times (length (x ∷ xs)) moving)
+pub one_more : {B : Type 0} (moving : BookBound) (x : B) (xs : List B) → IsBoundWithin (both_move moving (moved_times (length xs) moving)) (moved_times (length (x ∷ xs)) moving)
 one_more moving x xs e t = let one : length (x ∷ xs) * moving e t ≡ length xs * moving e t + moving e t = suc-mul (length xs) (moving e t) in omega arith
 
 -- books with room for all steps together have room for the first step

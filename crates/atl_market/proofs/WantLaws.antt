@@ -27,7 +27,7 @@ use Rattle.atl_records.proofs.EveryLaws.{every-empty, every-insert, get-insert_o
 use Rattle.atl_campaign.proofs.RegionLaws.{get-insert_same}
 use Rattle.atl_phase.specs.PhaseOrders.{Task}
 use Rattle.atl_phase.specs.OrderEffects.{of_faction}
-use Rattle.atl_phase.proofs.ListedLaws.{find_is}
+use Rattle.atl_phase.proofs.MapOfListLaws.{find_is}
 use Rattle.atl_market.proofs.PotLaws.{put_in_turn}
 use Rattle.atl_market.specs.PotPhase.{PotMeaning, given_by, item_by, item_in, items_by, unit_for, want_by, wants_by}
 use Rattle.atl_market.specs.Pots.{AreWants}

@@ -24,7 +24,7 @@ use Rattle.atl_campaign.specs.Campaign.{CampaignValue, with_amount, with_money}
 use Rattle.atl_records.specs.Amounts.{unit_amount}
 use Rattle.atl_campaign.specs.Totals.{total}
 use Rattle.atl_campaign.proofs.ReadBackLaws.{Rise, entries_rise}
-use Rattle.atl_records.proofs.BookLaws.{booked-after_booking, share_of}
+use Rattle.atl_records.proofs.BookLaws.{booked-after_booking, booked_for}
 use Rattle.atl_records.proofs.EveryLaws.{each-from_every}
 use Rattle.atl_campaign.proofs.HoldingLaws.{may_hold_money, steady-unit_amount, total-unit_amount}
 use Rattle.atl_campaign.proofs.RegionLaws.{steady-amount, total-amount}
@@ -66,11 +66,11 @@ module _ (w : WorldValue) (c : CampaignValue) (n : ℕ) (u : Unit) (money : ℕ)
   wages_are = ap (λ d. with_amount d Wages Money (pos money)) (richer_is c n u money is)
 
   -- once the unit got its wages, the total of each thing has grown by what is booked of it
-  total_paid : (t : Thing) → pos (total wages_paid t) ≡ pos (total c t) +ℤ share_of t Money (pos money)
+  total_paid : (t : Thing) → pos (total wages_paid t) ≡ pos (total c t) +ℤ booked_for t Money (pos money)
   total_paid t = total_of t (total-amount given Wages Money t (pos money)) (total-unit_amount w c n u more is t)
     where
       -- the total of money, people or an item grows by what is booked, given what paying and booking change of it
-      total_of : (t : Thing) → total wages_paid t ≡ total given t → total given t + unit_amount t u.holding ≡ total c t + unit_amount t more → pos (total wages_paid t) ≡ pos (total c t) +ℤ share_of t Money (pos money)
+      total_of : (t : Thing) → total wages_paid t ≡ total given t → total given t + unit_amount t u.holding ≡ total c t + unit_amount t more → pos (total wages_paid t) ≡ pos (total c t) +ℤ booked_for t Money (pos money)
       total_of Money a b = omega (arith, ints, a, b)
       total_of People a b = omega (arith, ints, a, b)
       total_of (Item i) a b =
@@ -92,7 +92,7 @@ module _ (w : WorldValue) (c : CampaignValue) (n : ℕ) (u : Unit) (money : ℕ)
     leaves_it = steady-amount w given Wages Money (pos money) (omega arith) (steady-unit_amount w c n u more is (may_hold_money w c n (u.holding.money + money) u is fits steady) steady);
     same_month = same_month_by refl;
     balances = λ old t.
-        total_paid t ∙ ap (λ z. z +ℤ share_of t Money (pos money)) (old t)
+        total_paid t ∙ ap (λ z. z +ℤ booked_for t Money (pos money)) (old t)
         ∙ sym (booked-after_booking c.books Wages Money (pos money) t);
     near = booked-near c.books Wages Money (pos money) holding_limit (within-pos money holding_limit (omega (arith, fits)));
   }

@@ -13,19 +13,19 @@ use Rattle.std.specs.FinMap.Entries.{below_all, by_order}
 use Rattle.std.proofs.lemmas.Bool.{and_parts, cases_eq, false_from_ne_true, false≢true, not-true}
 use Rattle.std.proofs.lemmas.Bool.Decides.{nat_tests}
 use Rattle.atl_world.proofs.GeneralLaws.{equal_turned}
-use Rattle.atl_records.specs.Every.{EachOf}
+use Rattle.atl_records.specs.Every.{EachEntry}
 use Rattle.atl_campaign.specs.Campaign.{CampaignValue}
 use Rattle.atl_records.specs.declared.records.Unit.{Unit}
 use Rattle.atl_campaign.proofs.ReadBackLaws.{append_apart, append_each, entries_rise, flat_apart}
 use Rattle.atl_campaign.proofs.GroupLaws.{filter_apart, filter_each}
 use Rattle.atl_records.proofs.EveryLaws.{each-from_every, get-insert_other, other_number, same_number}
-use Rattle.atl_campaign.proofs.OrderLaws.{each_so}
+use Rattle.atl_campaign.proofs.MapOfRowsLaws.{each_so}
 use Rattle.atl_phase.specs.Month.{MonthValue}
 use Rattle.atl_phase.specs.PhaseOrders.{Task, is_month_long, key_of, orders_by_unit, task_of}
 use Rattle.atl_phase.specs.declared.phase_order.Arrangement.TheVariants.{ByUnit}
 use Rattle.atl_phase.specs.declared.phase_order.PhaseOrder.{PhaseOrder}
 use Rattle.atl_phase.proofs.MappedLaws.{no_entries}
-use Rattle.atl_phase.proofs.OrderLaws.{listed_tasks}
+use Rattle.atl_phase.proofs.OrderKeyLaws.{listed_tasks}
 use Rattle.atl_phase.specs.OrderEffects.{is_of_faction}
 use Rattle.atl_market.specs.Puts.{with_each}
 use Rattle.atl_market.specs.Idle.{all_idle, all_work, idle_by, own_unit, own_writers}
@@ -149,7 +149,7 @@ module _ (c : CampaignValue) where
     idle_if n u false is there = tt
 
     -- the work that the code adds for some units is the work of units without an order (`IsIdle`)
-    idle_each : (es : List (ℕ × Unit)) → EachOf (λ n u. get c.units n ≡ Some u) es → AllByRecursion IsIdle (flat_map (idle_by writers) es)
+    idle_each : (es : List (ℕ × Unit)) → EachEntry (λ n u. get c.units n ≡ Some u) es → AllByRecursion IsIdle (flat_map (idle_by writers) es)
     idle_each [] h = tt
     idle_each ((n, u) ∷ es) h = append_each IsIdle (idle_by writers (n, u)) (flat_map (idle_by writers) es) (idle_if n u _ refl h.0) (idle_each es h.1)
 
@@ -256,7 +256,7 @@ module _ (c : CampaignValue) (ts : List Task) where
   one_idle n u is = ap (λ b. cond (nat_lt 0 u.holding.men && not b) (idle_task n u.faction ∷ []) []) (is_writer c ts n u is)
 
   -- the orders of WORK that the code adds for some units are those that are defined for them (`of_idle`)
-  idle_are : (es : List (ℕ × Unit)) → EachOf (λ n u. get c.units n ≡ Some u) es → flat_map (idle_by (own_writers c ts)) es ≡ of_idle es
+  idle_are : (es : List (ℕ × Unit)) → EachEntry (λ n u. get c.units n ≡ Some u) es → flat_map (idle_by (own_writers c ts)) es ≡ of_idle es
   idle_are [] h = refl
   idle_are ((n, u) ∷ es) h =
       ap (λ os. os ++ flat_map (idle_by (own_writers c ts)) es) (one_idle n u h.0)

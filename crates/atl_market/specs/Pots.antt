@@ -4,7 +4,7 @@ use Rattle.std.specs.List.{flat_map, zip}
 use Rattle.std.specs.Ordering.{nat_cmp}
 use Rattle.std.specs.FinMap.{FinMap, get, keys, from_entries}
 use Rattle.atl_world.specs.Limits.{most_amount}
-use Rattle.atl_records.specs.Every.{Every, IsThere}
+use Rattle.atl_records.specs.Every.{Every, HasValue}
 use Rattle.atl_campaign.specs.Campaign.{CampaignValue, numbers_in}
 use Rattle.atl_records.specs.declared.records.Unit.{Unit}
 use Rattle.atl_shares.specs.Share.{shares}
@@ -57,7 +57,7 @@ OnlyTakersGet =
     × (get wants number ≡ Some want)
     × (share ≤ want)
     × (get c.units number ≡ Some u)
-    × IsThere c.regions u.region
+    × HasValue c.regions u.region
 
 -- each unit that has a want and is in a region of the campaign has a share, at most its want
 abbrev pub EachTakerGets : Type 0
@@ -65,21 +65,21 @@ EachTakerGets =
     (pot_of : ℕ → ℕ) (wants : FinMap nat_cmp ℕ) (c : CampaignValue) (number want : ℕ) (u : Unit)
     → get wants number ≡ Some want
     → get c.units number ≡ Some u
-    → IsThere c.regions u.region
+    → HasValue c.regions u.region
     → (share : ℕ) × (share_of pot_of wants c number ≡ Some share) × (share ≤ want)
 
 -- the units of a region that have a want get the shares of its pot by their wants, in unit order
 abbrev pub SharesEachPot : Type 0
 SharesEachPot =
     (pot_of : ℕ → ℕ) (wants : FinMap nat_cmp ℕ) (c : CampaignValue) (region : ℕ)
-    → IsThere c.regions region
+    → HasValue c.regions region
     → map (share_of pot_of wants c) (takers_in wants c.units region) ≡ map Some (shares (pot_of region) (wants_in wants c.units region))
 
 -- the units of a region that have a want get its whole pot together, or all that they want where that is less
 abbrev pub GivesEachPot : Type 0
 GivesEachPot =
     (pot_of : ℕ → ℕ) (wants : FinMap nat_cmp ℕ) (c : CampaignValue) (region : ℕ)
-    → IsThere c.regions region
+    → HasValue c.regions region
     → sum (map (amount_given pot_of wants c) (takers_in wants c.units region)) ≡ min (pot_of region) (sum (wants_in wants c.units region))
 
 -- The shares in a region follow from its pot, its units with a want and their wants alone: two campaigns in which these
@@ -87,8 +87,8 @@ GivesEachPot =
 abbrev pub OtherRegionsDoNotCount : Type 0
 OtherRegionsDoNotCount =
     (pot_of other_pots : ℕ → ℕ) (wants other_wants : FinMap nat_cmp ℕ) (c other : CampaignValue) (region : ℕ)
-    → IsThere c.regions region
-    → IsThere other.regions region
+    → HasValue c.regions region
+    → HasValue other.regions region
     → pot_of region ≡ other_pots region
     → takers_in wants c.units region ≡ takers_in other_wants other.units region
     → wants_in wants c.units region ≡ wants_in other_wants other.units region

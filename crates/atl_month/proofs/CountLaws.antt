@@ -4,14 +4,14 @@ use Rattle.std.specs.Prelude.{is_some}
 use Rattle.std.specs.Ordering.{nat_cmp}
 use Rattle.std.specs.Cmp.{nat_cmp_total}
 use Rattle.std.specs.FinMap.{FinMap, empty_of_len, entries, find, get, get-empty, get-entries, len, len-entries, len-remove, remove}
-use Rattle.atl_records.specs.Every.{IsThere}
+use Rattle.atl_records.specs.Every.{HasValue}
 use Rattle.atl_records.proofs.EveryLaws.{first, none_some}
 use Rattle.atl_records.proofs.RemovedLaws.{get-remove_other, still}
 
 module _ {V : Type 0} where
   -- the first map has each number of the second
   abbrev HasAllNumbers : FinMap nat_cmp V → FinMap nat_cmp V → Type 0
-  HasAllNumbers a b = (n : ℕ) → IsThere b n → IsThere a n
+  HasAllNumbers a b = (n : ℕ) → HasValue b n → HasValue a n
 
   -- removing a number that a map has makes the map smaller by 1
   len_without : (m : FinMap nat_cmp V) (n : ℕ) (v : V) → get m n ≡ Some v → len (remove m n) ≡ len m - 1
@@ -53,7 +53,7 @@ module _ {V : Type 0} where
   has_all_back a b count all n (v, here) = by_value (get b n) refl
     where
       -- for `has_all_back`: map `b` has number `n`, since a look-up of `n` in `b` can't find nothing
-      by_value : (o : Option V) → get b n ≡ o → IsThere b n
+      by_value : (o : Option V) → get b n ≡ o → HasValue b n
       by_value (Some x) is = (x, is)
       by_value None none =
           let others : HasAllNumbers (remove a n) b = λ m there.

@@ -8,7 +8,7 @@ use Rattle.std.proofs.lemmas.Int.{ints}
 use Rattle.atl_world.specs.Worlds.{WorldValue}
 use Rattle.atl_records.specs.declared.event.Event.{Event}
 use Rattle.atl_records.specs.Books.{IsWithin, amount_in}
-use Rattle.atl_records.specs.Every.{IsThere, Every}
+use Rattle.atl_records.specs.Every.{HasValue, Every}
 use Rattle.atl_campaign.specs.Good.{AreAmountsWithin, IsGood, IsSound, IsSteady, amount_bound}
 use Rattle.atl_records.specs.Limits.{last_month}
 use Rattle.atl_campaign.specs.Campaign.{CampaignValue}
@@ -20,7 +20,7 @@ use Rattle.atl_phase.specs.Month.{MonthValue, by_faction}
 use Rattle.atl_phase.specs.Meaning.{BookBound, Condition, IsNear, IsSameMonth, LeavesWell, Meaning, Frame}
 use Rattle.atl_phase.specs.Bounds.{HaveRoom}
 use Rattle.atl_phase.proofs.MonthLaws.{mailings_have_no_order}
-use Rattle.atl_phase.proofs.MeaningLaws.{MovesLess, near_more, room_when_sound}
+use Rattle.atl_phase.proofs.MeaningLaws.{IsBoundWithin, near_more, room_when_sound}
 use Rattle.atl_month.specs.Month.{BooksAreNear, MailOrderDoesNotCount, after_month, month_meaning, month_moves, month_of, new_month, phases_moving, early_phases, last_phases, later_phases, month_keeps}
 use Rattle.atl_month.specs.Sweep.{IsSwept}
 use Rattle.atl_month.proofs.CountLaws.{has_all_back}
@@ -47,7 +47,7 @@ module _ (w : WorldValue) (d : CampaignValue) where
   unfolding total
   finished_balances old t = old t
 
-module _ (w : WorldValue) (c d : CampaignValue) (moving : BookBound) (little : MovesLess moving moves_in_month) (early : c.month < last_month) (well : LeavesWell IsSwept moving w c d) where
+module _ (w : WorldValue) (c d : CampaignValue) (moving : BookBound) (little : IsBoundWithin moving moves_in_month) (early : c.month < last_month) (well : LeavesWell IsSwept moving w c d) where
   -- The phases of a month leave the number of the month last closed, the reports and the set of factions
   -- (`IsSameMonth`).
   abbrev same : IsSameMonth c d
@@ -95,7 +95,7 @@ module _ {leaves : Condition} (w : WorldValue) (c d : CampaignValue) (well : Lea
   books_near e t = near_more (phases_moving e t) (month_moves e t) (amount_in c.books e t) (amount_in d.books e t) (month_within e t) (well.near e t)
 
   -- each faction of a campaign is still there after the phases of a month
-  pub factions_stay : (n : ℕ) → IsThere c.factions n → IsThere d.factions n
+  pub factions_stay : (n : ℕ) → HasValue c.factions n → HasValue d.factions n
   factions_stay = has_all_back c.factions d.factions well.same_month.count well.same_month.factions
 
 -- the books of a sound campaign have room for the phases of a month

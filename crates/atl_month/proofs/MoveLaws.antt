@@ -7,7 +7,7 @@ use Rattle.atl_records.specs.Limits.{most_in_month}
 use Rattle.atl_records.proofs.EveryEntryLaws.{each_entry}
 use Rattle.atl_phase.specs.Meaning.{BookBound}
 use Rattle.atl_phase.specs.PhaseSpecs.{EachPhase, MovesItsOwn}
-use Rattle.atl_phase.proofs.MeaningLaws.{MovesLess}
+use Rattle.atl_phase.proofs.MeaningLaws.{IsBoundWithin}
 use Rattle.atl_phase.proofs.PhaseSpecLaws.{each_also, moved_within}
 use Rattle.atl_month.specs.Month.{PhasesMoveLittle, TwoMoveAtMost, early_phases, last_phases, later_phases, month_moves, moving_phases, phases_moving}
 use Rattle.atl_month.proofs.PhaseLaws.{IsPhase, early_are, last_move, later_are}
@@ -29,7 +29,7 @@ pub each_little : PhasesMoveLittle
 each_little = (early_move, later_move, last_move)
 
 -- the phases of a month together move no amount further than `month_moves`
-pub month_within : MovesLess phases_moving month_moves
+pub month_within : IsBoundWithin phases_moving month_moves
 month_within e t =
     omega (arith, moved_within early_phases early_move e t, moved_within later_phases later_move e t, moved_within last_phases last_move e t)
 
@@ -46,5 +46,5 @@ two_at_most e People = few (moving_phases e People) (each_entry (λ k. nat_le (m
 two_at_most e (Item i) = few (moving_phases e (Item i)) (each_entry (λ k. nat_le (moving_phases k (Item i)) 2) refl e)
 
 -- the phases of a month together move no amount further than `moves_in_month`
-pub phases_little : MovesLess phases_moving moves_in_month
+pub phases_little : IsBoundWithin phases_moving moves_in_month
 phases_little e t = omega (arith, month_within e t, two_at_most e t)

@@ -15,7 +15,7 @@ use Rattle.atl_records.specs.declared.books.Entry.TheVariants.{Lost}
 use Rattle.atl_records.specs.declared.books.Thing.{Thing}
 use Rattle.atl_records.specs.declared.books.Thing.TheVariants.{Item, Money, People}
 use Rattle.atl_records.specs.declared.records.Unit.{Unit}
-use Rattle.atl_records.specs.Every.{EachOf, Every}
+use Rattle.atl_records.specs.Every.{EachEntry, Every}
 use Rattle.atl_campaign.specs.Founding.{things_of}
 use Rattle.atl_campaign.specs.Good.{IsSteady}
 use Rattle.atl_records.specs.Holdings.{HoldingValue, amount_of, with_amount_of}
@@ -34,7 +34,7 @@ use Rattle.atl_records.proofs.HoldingLaws.{amount_within, every_amount, set_same
 use Rattle.atl_phase.proofs.BookingLaws.{booked-near, within-neg}
 use Rattle.atl_phase.proofs.NoWorseLaws.{no_worse, no_worse_twice}
 use Rattle.atl_phase.specs.Bounds.{moving_items}
-use Rattle.atl_instant.proofs.QuitLaws.{owing_items, part_of}
+use Rattle.atl_instant.proofs.QuitLaws.{held_in_items, part_of}
 use Rattle.atl_month.specs.Sweep.{IsKept, accepted_of, after_passing_item, after_passing_money, with_lost}
 use Rattle.std.proofs.lemmas.Bool.{cases_eq}
 
@@ -303,8 +303,8 @@ module _ (w : WorldValue) (c : CampaignValue) (n k : ℕ) (apart : n ≢ k) (ste
 -- ---- all that a unit has
 
 -- giving items to unit `k` in turn, each up to its room, with the rest booked as lost, passes all on (`PassesOn`)
-pub pass_items : (w : WorldValue) (c : CampaignValue) (n k : ℕ) → n ≢ k → (es : List (ℕ × ℕ)) → EachOf (λ i a. i < length w.items) es → IsSteady w c
-    → PassesOn w n (owing_items es) (moving_items es) c (fold (after_passing_item k) c es)
+pub pass_items : (w : WorldValue) (c : CampaignValue) (n k : ℕ) → n ≢ k → (es : List (ℕ × ℕ)) → EachEntry (λ i a. i < length w.items) es → IsSteady w c
+    → PassesOn w n (held_in_items es) (moving_items es) c (fold (after_passing_item k) c es)
 pass_items w c n k apart [] known steady = passes-refl w n c steady
 pass_items w c n k apart ((i, a) ∷ es) known steady =
     let one = pass_item w c n k apart steady i a known.0 in

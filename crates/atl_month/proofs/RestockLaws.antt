@@ -22,14 +22,14 @@ use Rattle.atl_records.specs.declared.records.Region.{Region}
 use Rattle.atl_records.specs.Books.{amount_in, booked, thing_at, thing_index, amount_number}
 use Rattle.atl_campaign.specs.Campaign.{MarkedCampaign, CampaignValue, with_amount, with_stock}
 use Rattle.atl_campaign.specs.Covers.{MarksChanges}
-use Rattle.atl_records.specs.Every.{EachOf, IsThere}
+use Rattle.atl_records.specs.Every.{EachEntry, HasValue}
 use Rattle.atl_campaign.specs.Founding.{things_of}
 use Rattle.atl_campaign.specs.Good.{IsSteady}
 use Rattle.atl_records.specs.Holdings.{amount_of}
 use Rattle.atl_campaign.specs.Marking.{MarksStock, mark_amount}
 use Rattle.atl_campaign.specs.Stocks.{stock_limit, stock_of}
 use Rattle.atl_campaign.specs.Totals.{Balances, total}
-use Rattle.atl_records.proofs.AccountLaws.{at_place}
+use Rattle.atl_records.proofs.AccountLaws.{thing_at_index}
 use Rattle.atl_records.proofs.BookLaws.{booked-after_booking}
 use Rattle.atl_campaign.proofs.CoverLaws.{marks-stock}
 use Rattle.atl_records.proofs.EveryEntryLaws.{entry_small}
@@ -128,7 +128,7 @@ module _ (w : WorldValue) (c : CampaignValue) (n i : ℕ) (m : Market) (r : Regi
   filled_total : (t : Thing) → total filled t ≡ total c t + cond (thing_index t == 2 + i) more 0
   filled_total t = elim (cases_eq (thing_index t) (2 + i)) [
     | inl place ↦
-        let same : t ≡ Item i = sym (at_place t) ∙ ap thing_at place ∙ at_place (Item i) in
+        let same : t ≡ Item i = sym (thing_at_index t) ∙ ap thing_at place ∙ thing_at_index (Item i) in
         let its = total-stock c n i (stock + more) r here in
         subst (λ (u : Thing). total filled u ≡ total c u + cond (thing_index u == 2 + i) more 0) (sym same) (grind (arith, nat_tests, its))
     | inr apart ↦ let kept = total-stock_other c n i (stock + more) r here t (λ same. apart (ap thing_index same)) in grind (arith, nat_tests, kept)
@@ -164,7 +164,7 @@ module _ (w : WorldValue) (c : CampaignValue) (n i : ℕ) (m : Market) (r : Regi
 abbrev pub IsMarketOf : WorldValue → (n i : ℕ) → Market → Type 0
 IsMarketOf w n i m = (market_of w n i ≡ Some m) × IsMarket (length w.items) i m
 
-module _ (w : WorldValue) (n : ℕ) (there : IsThere w.regions n) where
+module _ (w : WorldValue) (n : ℕ) (there : HasValue w.regions n) where
   -- New goods of a market of the region keep a steady campaign steady and its books balanced, and book at most
   -- 999,999,999 of its item.
   pub one_leaves_well : (c : CampaignValue) (x : ℕ × Market) → IsMarketOf w n x.0 x.1 → IsSteady w c → LeavesWell IsSteady (moves_only most_amount Stocked (Item x.0)) w c (after_market_restock n c x)
@@ -172,7 +172,7 @@ module _ (w : WorldValue) (n : ℕ) (there : IsThere w.regions n) where
 
   -- New goods of a region's markets, in turn, keep a steady campaign steady and its books balanced, and book at most
   -- `stocking`.
-  all_leave_well : (xs : List (ℕ × Market)) → EachOf (IsMarketOf w n) xs → (c : CampaignValue) → IsSteady w c → LeavesWell IsSteady (stocking xs) w c (after_restock n c xs)
+  all_leave_well : (xs : List (ℕ × Market)) → EachEntry (IsMarketOf w n) xs → (c : CampaignValue) → IsSteady w c → LeavesWell IsSteady (stocking xs) w c (after_restock n c xs)
   all_leave_well [] each c steady = well_unchanged (stocking []) w c steady
   all_leave_well (x ∷ xs) each c steady =
       let one = one_leaves_well c x each.0 steady in
@@ -193,7 +193,7 @@ module _ (w : WorldValue) (world : IsWorld w) (n : ℕ) where
   none_of c is = ap (λ o. after_restock n c (entries (option_map_or (λ (q : RegionPlan). q.markets) o empty))) is ∙ ap (after_restock n c) none_there
 
   -- each market of a region's plan is the world's market for its item there
-  pub markets_are : (p : RegionPlan) → get w.regions n ≡ Some p → EachOf (IsMarketOf w n) (entries p.markets)
+  pub markets_are : (p : RegionPlan) → get w.regions n ≡ Some p → EachEntry (IsMarketOf w n) (entries p.markets)
   markets_are p is = each-from_every (IsMarketOf w n) p.markets (λ i m at. (ap (λ o. option_and_then (λ (q : RegionPlan). get q.markets i) o) is ∙ at, (world.regions n p is).markets i m at))
 
   -- Restocking a region keeps a steady campaign steady and its books balanced, and books at most 999,999,999 of each
@@ -235,7 +235,7 @@ room_for_market x xs c room = room_less (moves_only most_amount Stocked (Item x.
 
 -- If the books have room for the new goods of all markets, they have room for those of the other markets after the
 -- first market got its own.
-pub room_behind_market : (w : WorldValue) (n : ℕ) → IsThere w.regions n → (x : ℕ × Market) (xs : List (ℕ × Market)) (c : CampaignValue) → IsMarketOf w n x.0 x.1 → IsSteady w c → HaveRoom (stocking (x ∷ xs)) c → HaveRoom (stocking xs) (after_market_restock n c x)
+pub room_behind_market : (w : WorldValue) (n : ℕ) → HasValue w.regions n → (x : ℕ × Market) (xs : List (ℕ × Market)) (c : CampaignValue) → IsMarketOf w n x.0 x.1 → IsSteady w c → HaveRoom (stocking (x ∷ xs)) c → HaveRoom (stocking xs) (after_market_restock n c x)
 room_behind_market w n there x xs c of steady room = room_behind (moves_only most_amount Stocked (Item x.0)) (stocking xs) w c (after_market_restock n c x) (one_leaves_well w n there c x of steady) room
 
 -- setting a stock and booking the new goods marks all that these two steps change

@@ -25,7 +25,7 @@ use Rattle.atl_campaign.specs.Marking.{mark_amount, mark_region}
 use Rattle.atl_campaign.specs.Campaign.{MarkedCampaign, CampaignValue, with_amount, with_peasants, with_region_money}
 use Rattle.atl_records.specs.Amounts.{region_amount}
 use Rattle.atl_campaign.specs.Totals.{Balances, total}
-use Rattle.atl_records.proofs.BookLaws.{booked-after_booking, share_of}
+use Rattle.atl_records.proofs.BookLaws.{booked-after_booking, booked_for}
 use Rattle.atl_campaign.proofs.CoverLaws.{marks-region, marks-trans}
 use Rattle.atl_campaign.proofs.RegionLaws.{IsRegion-money, IsRegion-peasants, region-changed, steady-amount, steady-region, total-amount, total-region}
 use Rattle.atl_records.proofs.EveryLaws.{none_some}
@@ -86,7 +86,7 @@ module _ (w : WorldValue) (c : CampaignValue) (n : ℕ) (r : Region) (born earne
       (steady-region more_money peopled n (more_people r) peopled_there w (IsRegion-money (more_people r) (r.money + earned) m grown) stocks (steady-region more_people c n r is w grown stocks old)))
 
   -- births and income raise the total of people by those born and that of money by the income, and no other total
-  total_grown : (t : Thing) → pos (total (with_growth c n r.peasants r.money born earned) t) ≡ (pos (total c t) +ℤ share_of t People (pos born)) +ℤ share_of t Money (pos earned)
+  total_grown : (t : Thing) → pos (total (with_growth c n r.peasants r.money born earned) t) ≡ (pos (total c t) +ℤ booked_for t People (pos born)) +ℤ booked_for t Money (pos earned)
   total_grown t =
       total_of t (total-amount counted Income Money t (pos earned)) (total-amount paid Births People t (pos born))
       (total-region more_people c n r is t) (total-region more_money peopled n (more_people r) peopled_there t)
@@ -95,7 +95,7 @@ module _ (w : WorldValue) (c : CampaignValue) (n : ℕ) (r : Region) (born earne
       -- (births, income, their booking) changes the total.
       total_of : (t : Thing) → total (with_growth c n r.peasants r.money born earned) t ≡ total counted t → total counted t ≡ total paid t
           → total peopled t + region_amount t r ≡ total c t + region_amount t (more_people r) → total paid t + region_amount t (more_people r) ≡ total peopled t + region_amount t (more_money (more_people r))
-          → pos (total (with_growth c n r.peasants r.money born earned) t) ≡ (pos (total c t) +ℤ share_of t People (pos born)) +ℤ share_of t Money (pos earned)
+          → pos (total (with_growth c n r.peasants r.money born earned) t) ≡ (pos (total c t) +ℤ booked_for t People (pos born)) +ℤ booked_for t Money (pos earned)
       total_of Money a b g h = omega (arith, ints, a, b, g, h)
       total_of People a b g h = omega (arith, ints, a, b, g, h)
       total_of (Item i) a b g h = grind (arith, ints, nat_tests, a, b, g, h)
@@ -108,8 +108,8 @@ module _ (w : WorldValue) (c : CampaignValue) (n : ℕ) (r : Region) (born earne
   growth_balances : Balances c → Balances (with_growth c n r.peasants r.money born earned)
   growth_balances old t =
       total_grown t
-      ∙ ap (λ z. (z +ℤ share_of t People (pos born)) +ℤ share_of t Money (pos earned)) (old t)
-      ∙ ap (λ z. z +ℤ share_of t Money (pos earned)) (sym (booked-after_booking c.books Births People (pos born) t))
+      ∙ ap (λ z. (z +ℤ booked_for t People (pos born)) +ℤ booked_for t Money (pos earned)) (old t)
+      ∙ ap (λ z. z +ℤ booked_for t Money (pos earned)) (sym (booked-after_booking c.books Births People (pos born) t))
       ∙ sym (booked-after_booking one_booked Income Money (pos earned) t)
 
   -- Births and income of at most 999,999,999 each move Births of people and Income of money by at most that, and

@@ -17,7 +17,7 @@ use Rattle.atl_records.specs.declared.books.Thing.{Thing}
 use Rattle.atl_records.specs.declared.books.Thing.TheVariants.{Item, Money, People}
 use Rattle.atl_records.specs.declared.records.Faction.{Faction}
 use Rattle.atl_records.specs.declared.records.Unit.{Unit}
-use Rattle.atl_records.specs.Every.{EachOf, Every, IsThere}
+use Rattle.atl_records.specs.Every.{EachEntry, Every, HasValue}
 use Rattle.atl_campaign.specs.Good.{IsSteady}
 use Rattle.atl_records.specs.Holdings.{HoldingValue, amount_of}
 use Rattle.atl_records.specs.Limits.{holding_limit}
@@ -30,7 +30,7 @@ use Rattle.atl_phase.specs.Meaning.{BookBound, IsNear, LeavesWell, both_move, mo
 use Rattle.atl_records.proofs.HoldingLaws.{amount_within}
 use Rattle.atl_phase.proofs.MeaningLaws.{near_more, near_room, room_less}
 use Rattle.atl_phase.specs.Bounds.{moving_items, HaveRoom}
-use Rattle.atl_instant.proofs.QuitLaws.{no_money, no_people, of_item, owing_items, part_of, moves_what_leaves}
+use Rattle.atl_instant.proofs.QuitLaws.{no_money, no_people, of_item, held_in_items, part_of, moves_what_leaves}
 use Rattle.atl_month.specs.Sweep.{IsKept, after_passing_all, after_passing_money, loses_by, receiver, receives, accepted_of, after_passing_item, with_lost}
 use Rattle.atl_records.proofs.RemovedLaws.{get-remove_other, still}
 use Rattle.atl_campaign.proofs.NumberListLaws.{IsListed, listed_passing}
@@ -43,7 +43,7 @@ use Rattle.atl_instant.specs.Quit.{loss_under}
 
 -- how much of each thing a unit with this holding passes on
 abbrev owing_all : HoldingValue → Thing → ℕ
-owing_all h s = part_of s Money h.money + owing_items (entries h.items) s
+owing_all h s = part_of s Money h.money + held_in_items (entries h.items) s
 
 -- the bound on what passing on all of a holding books: Lost of its money and of each item
 abbrev pub moving_all : HoldingValue → BookBound
@@ -54,7 +54,7 @@ all_owed : (h : HoldingValue) → h.men ≡ 0 → (s : Thing) → owing_all h s 
 all_owed h none Money = omega (arith, no_money (entries h.items))
 all_owed h none People = omega (arith, none, no_people (entries h.items))
 all_owed h none (Item j) =
-    let items : owing_items (entries h.items) (Item j) ≡ amount_of h.items j = of_item j (entries h.items) (sorted h.items) ∙ ap (λ (o : Option ℕ). unwrap_or o 0) (sym (get-entries h.items j)) in
+    let items : held_in_items (entries h.items) (Item j) ≡ amount_of h.items j = of_item j (entries h.items) (sorted h.items) ∙ ap (λ (o : Option ℕ). unwrap_or o 0) (sym (get-entries h.items j)) in
     grind (arith, nat_tests)
 
 -- ---- how far it moves the books
@@ -95,7 +95,7 @@ module _ (w : WorldValue) (c : CampaignValue) (n : ℕ) (u : Unit) (is : get c.u
   to = receiver c u.region u.faction
 
   -- each item that the unit holds is one of the world
-  known : EachOf (λ i a. i < length w.items) (entries u.holding.items)
+  known : EachEntry (λ i a. i < length w.items) (entries u.holding.items)
   known = each-from_every (λ i a. i < length w.items) u.holding.items (steady.known.units n u is).items
 
   -- the campaign after unit `n` passed on what it has
@@ -158,7 +158,7 @@ module _ (w : WorldValue) (c : CampaignValue) (n : ℕ) (u : Unit) (is : get c.u
           month = only.month ∙ passing.same.month;
           reports = only.reports ∙ passing.same.reports;
           count = ap len only.factions ∙ passing.same.count;
-          factions = λ k h. passing.same.factions k (subst (λ (m : FinMap nat_cmp Faction). IsThere m k) only.factions h);
+          factions = λ k h. passing.same.factions k (subst (λ (m : FinMap nat_cmp Faction). HasValue m k) only.factions h);
         };
         balances = balanced;
         near = λ e s.

@@ -22,7 +22,7 @@ use Rattle.atl_records.specs.declared.books.Thing.{Thing}
 use Rattle.atl_records.specs.declared.books.Thing.TheVariants.{Money, People, Item}
 use Rattle.atl_records.specs.declared.records.Unit.{Unit}
 use Rattle.atl_records.specs.Books.{BooksValue, amount_in, after_booking}
-use Rattle.atl_records.specs.Every.{EachOf, Every}
+use Rattle.atl_records.specs.Every.{EachEntry, Every}
 use Rattle.atl_campaign.specs.Good.{IsSteady, guards}
 use Rattle.atl_records.specs.Holdings.{AreAmounts, HoldingValue, amount_of, with_amount_of}
 use Rattle.atl_campaign.specs.Lending.{with_held}
@@ -31,14 +31,14 @@ use Rattle.atl_campaign.specs.Campaign.{CampaignValue, with_amount}
 use Rattle.atl_records.specs.Amounts.{unit_amount}
 use Rattle.atl_campaign.specs.Totals.{Balances, total}
 use Rattle.atl_campaign.proofs.ReadBackLaws.{Rise, entries_rise}
-use Rattle.atl_records.proofs.BookLaws.{booked-after_booking, share_of}
+use Rattle.atl_records.proofs.BookLaws.{booked-after_booking, booked_for}
 use Rattle.atl_records.proofs.EveryLaws.{each-from_every, every-empty, get-insert_other, every-from_each}
 use Rattle.atl_campaign.proofs.HoldingLaws.{MayHold, steady-unit_amount, total-unit_amount}
 use Rattle.atl_campaign.proofs.RegionLaws.{steady-amount, total-amount, get-insert_same}
 use Rattle.atl_phase.specs.Meaning.{IsNear, LeavesWell, BookBound, moves_only, most_moved}
 use Rattle.atl_phase.specs.Bounds.{HaveRoom, moved_times}
 use Rattle.atl_phase.specs.Holdings.{with_days}
-use Rattle.atl_phase.proofs.MeaningLaws.{MovesLess, near_twice, room_less, same_month_by, well_within}
+use Rattle.atl_phase.proofs.MeaningLaws.{IsBoundWithin, near_twice, room_less, same_month_by, well_within}
 use Rattle.atl_phase.proofs.BookingLaws.{booked-near, within-neg}
 use Rattle.atl_instant.specs.Amounts.{amounts_for}
 use Rattle.atl_instant.specs.Transfer.{going_of}
@@ -187,7 +187,7 @@ module _ (w : WorldValue) (c : CampaignValue) (s : UpkeepResult) (u : Unit) (is 
 
   -- the total of money falls by what the unit paid, that of people by those who starved, and each other total stays
   total_after : (t : Thing)
-      → pos (total after t) ≡ (pos (total c t) +ℤ share_of t Money (neg_ℤ (pos s.paid))) +ℤ share_of t People (neg_ℤ (pos s.starved))
+      → pos (total after t) ≡ (pos (total c t) +ℤ booked_for t Money (neg_ℤ (pos s.paid))) +ℤ booked_for t People (neg_ℤ (pos s.starved))
   total_after t =
       total_of t (total-amount paid_off Starved People t (neg_ℤ (pos s.starved))) (total-amount held_back Upkeep Money t (neg_ℤ (pos s.paid)))
       (total-unit_amount w c s.unit u now is t)
@@ -196,7 +196,7 @@ module _ (w : WorldValue) (c : CampaignValue) (s : UpkeepResult) (u : Unit) (is 
       -- how each step (holding, booking of money, of people) changes it.
       total_of : (t : Thing) → total after t ≡ total paid_off t → total paid_off t ≡ total held_back t
           → total held_back t + unit_amount t old ≡ total c t + unit_amount t now
-          → pos (total after t) ≡ (pos (total c t) +ℤ share_of t Money (neg_ℤ (pos s.paid))) +ℤ share_of t People (neg_ℤ (pos s.starved))
+          → pos (total after t) ≡ (pos (total c t) +ℤ booked_for t Money (neg_ℤ (pos s.paid))) +ℤ booked_for t People (neg_ℤ (pos s.starved))
       total_of Money a b g = omega (arith, ints, a, b, g, spare.paid)
       total_of People a b g = omega (arith, ints, a, b, g, with_less.0, spare.starved)
       total_of (Item i) a b g = let items = ap (λ m. amount_of m i) with_less.4 in grind (arith, ints, nat_tests, a, b, g, items)
@@ -209,8 +209,8 @@ module _ (w : WorldValue) (c : CampaignValue) (s : UpkeepResult) (u : Unit) (is 
   upkeep_balances : Balances c → Balances after
   upkeep_balances before t =
       total_after t
-      ∙ ap (λ z. (z +ℤ share_of t Money (neg_ℤ (pos s.paid))) +ℤ share_of t People (neg_ℤ (pos s.starved))) (before t)
-      ∙ ap (λ z. z +ℤ share_of t People (neg_ℤ (pos s.starved)))
+      ∙ ap (λ z. (z +ℤ booked_for t Money (neg_ℤ (pos s.paid))) +ℤ booked_for t People (neg_ℤ (pos s.starved))) (before t)
+      ∙ ap (λ z. z +ℤ booked_for t People (neg_ℤ (pos s.starved)))
       (sym (booked-after_booking c.books Upkeep Money (neg_ℤ (pos s.paid)) t))
       ∙ sym (booked-after_booking one_booked Starved People (neg_ℤ (pos s.starved)) t)
 
@@ -267,7 +267,7 @@ other_unit c s n apart = by_unit (get c.units s.unit)
 -- If the campaign has the listed units, all with higher numbers than the unit that pays, it has them as listed also
 -- after that unit paid.
 pub each_still : (c : CampaignValue) (s : UpkeepResult) (es : List (ℕ × Unit)) → AllByRecursion (λ e. s.unit < e.0) es
-    → EachOf (λ n u. get c.units n ≡ Some u) es → EachOf (λ n u. get (upkeep_at c s).units n ≡ Some u) es
+    → EachEntry (λ n u. get c.units n ≡ Some u) es → EachEntry (λ n u. get (upkeep_at c s).units n ≡ Some u) es
 each_still c s [] above there = tt
 each_still c s (e ∷ es) above there = (other_unit c s e.0 (λ same. omega (arith, above.0, same)) ∙ there.0, each_still c s es above.1 there.1)
 
@@ -290,7 +290,7 @@ module _ (w : WorldValue) (some : 1 ≤ w.rules.maintenance) (all : List UpkeepI
 
   -- The upkeep of some units can be paid in turn, if the campaign has them as listed, and its books have room for the
   -- upkeep of all.
-  settled_in_turn : (es : List (ℕ × Unit)) (c : CampaignValue) → Rise es → EachOf (λ n u. get c.units n ≡ Some u) es
+  settled_in_turn : (es : List (ℕ × Unit)) (c : CampaignValue) → Rise es → EachEntry (λ n u. get c.units n ≡ Some u) es
       → IsSteady w c → HaveRoom (moved_times (length (each_of es)) step_moves) c → CanInTurn (CanPayUpkeep w) upkeep_at c (each_of es)
   settled_in_turn [] c rise there steady room = tt
   settled_in_turn ((n, u) ∷ es) c rise there steady room =
@@ -333,7 +333,7 @@ module _ (w : WorldValue) (c : CampaignValue) (some : 1 ≤ w.rules.maintenance)
   few = omega (arith, length-map (upkeep_inputs_of c) (settled_one w.rules.maintenance (upkeep_inputs_of c)), length-map (entries c.units) upkeep_input_of, len-entries c.units, steady.numbers.few_units)
 
   -- the upkeep of all units together moves each amount of the books by less than 10^14
-  little : MovesLess (moved_times (length list) (takes_up_to most_amount)) (takes_up_to most_moved)
+  little : IsBoundWithin (moved_times (length list) (takes_up_to most_amount)) (takes_up_to most_moved)
   little e t = grind (arith, few)
 
   -- each unit can pay what upkeep takes from it when its turn comes
@@ -441,8 +441,8 @@ module _ (m : ℕ) (all : List UpkeepInput) where
   IsSettled after n u = get after.units n ≡ Some (unit_after_upkeep (settled_one m all (upkeep_input_of (n, u))) u)
 
   -- after the upkeep of some units in turn, each of them has what its upkeep among all units leaves it
-  each_settled : (es : List (ℕ × Unit)) (c : CampaignValue) → Rise es → EachOf (λ n u. get c.units n ≡ Some u) es
-      → EachOf (IsSettled (fold upkeep_at c (settled_each m all es))) es
+  each_settled : (es : List (ℕ × Unit)) (c : CampaignValue) → Rise es → EachEntry (λ n u. get c.units n ≡ Some u) es
+      → EachEntry (IsSettled (fold upkeep_at c (settled_each m all es))) es
   each_settled [] c rise there = tt
   each_settled ((n, u) ∷ es) c rise there =
       let s = settled_one m all (upkeep_input_of (n, u)) in

@@ -3,7 +3,7 @@ ghost use Rattle.std.specs.Prelude.{◌≡◌, ◌<◌, ℕ, All, IfOk, length, 
 ghost use Rattle.std.specs.FinMap.{len};
 ghost use Rattle.atl_orders.specs.Mailing.{IsReadWith, reading_of};
 ghost use Rattle.atl_campaign.specs.Covers.{MarksChanges};
-ghost use Rattle.atl_records.specs.Every.{IsThere};
+ghost use Rattle.atl_records.specs.Every.{HasValue};
 ghost use Rattle.atl_campaign.specs.Good.{IsGood};
 ghost use Rattle.atl_records.specs.Limits.{last_month};
 ghost use Rattle.atl_phase.specs.Month.{HaveOwnFactions, by_faction};
@@ -50,7 +50,7 @@ pub fn close_month(
     ensures good { IfOk result (λ r. IsGood world.now (after_month r.0.value)) }
     ensures same { IfOk result (λ r. IsSameMonth campaign.value r.0.value) }
     ensures factions { IfOk result
-        (λ r. (n : ℕ) → IsThere campaign.value.factions n → IsThere r.0.value.factions n) }
+        (λ r. (n : ℕ) → HasValue campaign.value.factions n → HasValue r.0.value.factions n) }
     ensures books { IfOk result (λ r. BooksAreNear month_moves campaign.value r.0.value) }
     ensures keeps { IfOk result
         (λ r. month_keeps world.now

@@ -4,7 +4,7 @@ ghost use Rattle.std.specs.Prelude.{◌≡◌, ◌≤◌, ◌<◌, ◌+◌, IfOk
 ghost use Rattle.atl_world.specs.Limits.{most_amount};
 ghost use Rattle.atl_records.specs.Books.{amount_in};
 ghost use Rattle.atl_campaign.specs.Covers.{MarksChanges};
-ghost use Rattle.atl_records.specs.Every.{EachOf};
+ghost use Rattle.atl_records.specs.Every.{EachEntry};
 ghost use Rattle.atl_campaign.specs.Good.{IsSteady};
 ghost use Rattle.atl_records.specs.declared.books.Entry.TheVariants.{Lost};
 ghost use Rattle.atl_records.specs.declared.books.Thing.TheVariants.{Item, Money};
@@ -89,7 +89,7 @@ fn pass_items(
     items: &[(u16, u32)],
 ) -> Result<(), AllocError>
     requires steady { IsSteady world.now campaign.old.value }
-    requires known { EachOf (λ i amount. i < length world.now.items) items.now }
+    requires known { EachEntry (λ i amount. i < length world.now.items) items.now }
     requires room { HaveRoom (moving_items items.now) campaign.old.value }
     ensures what { OnOk result
         (campaign.new.value ≡ fold (after_passing_item to) campaign.old.value items.now) }

@@ -18,10 +18,10 @@ use Rattle.atl_orders.specs.Words.{WordText, words, begins, number_of}
 use Rattle.atl_orders.specs.Operands.{number_at, alias_at}
 use Rattle.atl_orders.specs.Orders.{OrderValue, said_by}
 use Rattle.atl_orders.specs.Aliasing.{no_alias}
-use Rattle.atl_orders.specs.Lines.{lines}
+use Rattle.atl_orders.specs.TextLines.{lines}
 use Rattle.atl_orders.specs.Reading.{is_plain, keyword_of, Effect, nothing, faulty, says, LineStep, target, effect_for, order_effect, unit_step, end_step, block_step, form_step, keyword_step, words_step, line_step}
 use Rattle.atl_orders.specs.Mailing.{EntryValue, entry_of, effects, faction_of, HeaderValue, header_line, header_from, after_header, reading}
-use Rattle.atl_orders.proofs.OrderLaws.{Holds, Counted, Sound, count_holds, from_one, number_within, said_sound}
+use Rattle.atl_orders.proofs.OperandLaws.{Holds, Counted, Sound, count_holds, from_one, number_within, said_sound}
 use Rattle.atl_orders.specs.Bounds.{IsWithin, IsNumber, IsAlias, IsUnitRef, IsOrderOf, IsEntry, LinesRise, IsReading, ReadingsKeepBounds}
 
 -- ---- lines

@@ -3,6 +3,6 @@ pub mod LineLaws
 pub mod UnitLaws
 pub mod RuleLaws
 pub mod TextLaws
-pub mod OrderLaws
+pub mod OperandLaws
 pub mod BoundLaws
 pub mod SenderLaws

@@ -7,7 +7,7 @@ use Rattle.atl_orders.specs.Positions.{EndsWith, EndsAt, StartsWith}
 use Rattle.std.proofs.lemmas.Bool.{eq-eqb, ne_eqb}
 use Rattle.std.proofs.lemmas.Bool.Decides.{nat_tests}
 use Rattle.atl_orders.specs.Letters.{carriage_return}
-use Rattle.atl_orders.specs.Lines.{is_feed, with_front, pieces, without_return, lines}
+use Rattle.atl_orders.specs.TextLines.{is_feed, with_front, pieces, without_return, lines}
 
 -- a text b ∷ bs with a line feed is split at its first one, whether that is b or in bs, if bs is split at its own first
 feed_step : (t : Bool) (b : ℕ) (bs : List ℕ) (m : ℕ) → cond (not t) (1 + m) 0 < suc (length bs) → (m < length bs → pieces bs ≡ take m bs ∷ pieces (drop (m + 1) bs)) → cond t ([] ∷ pieces bs) (with_front b (pieces bs)) ≡ take (cond (not t) (1 + m) 0) (b ∷ bs) ∷ pieces (drop (cond (not t) (1 + m) 0 + 1) (b ∷ bs))

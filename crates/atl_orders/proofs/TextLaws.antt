@@ -9,15 +9,15 @@ use Rattle.atl_orders.specs.declared.fault.MailFault.TheVariants.{NoHeader}
 use Rattle.atl_orders.specs.declared.reading.ReaderState.TheVariants.{Nowhere}
 use Rattle.atl_orders.specs.Limits.{most_bytes}
 use Rattle.atl_orders.specs.Aliasing.{no_alias}
-use Rattle.atl_orders.specs.Lines.{lines}
+use Rattle.atl_orders.specs.TextLines.{lines}
 use Rattle.atl_orders.specs.Words.{words}
 use Rattle.atl_orders.specs.Mailing.{faction_of, header_line, header_from, Reading, after_header, reading}
 use Rattle.atl_orders.specs.Rules.{is_header, HaveNoHeader, HaveHeader, TextSays, too_long, no_header, bad_header, mailing}
 use Rattle.atl_orders.proofs.RuleLaws.{body_fits, body_only}
 
 -- a line is no header
-abbrev IsOutside : List ℕ → Type 0
-IsOutside line = is_header line ≡ false
+abbrev IsNoHeader : List ℕ → Type 0
+IsNoHeader line = is_header line ≡ false
 
 -- ---- the first header of lines
 
@@ -39,35 +39,35 @@ from_none : (n : ℕ) → 0 + n ≡ n
 from_none n = omega arith
 
 -- if a line that is no header is put in front of lines, their first header stays the first
-more : (n : ℕ) (line : List ℕ) (rest : List (List ℕ)) → IsOutside line → header_from n (line ∷ rest) ≡ header_from (n + 1) rest → Found (n + 1) rest → Found n (line ∷ rest)
-more n line rest h e (none a f) = none (All-cons IsOutside line rest h a) (e ∙ f)
-more n line rest h e (one above header below is f) =
-    one (line ∷ above) header below (record { whole = ap (λ l. line ∷ l) is.whole; leads = is.leads; first = All-cons IsOutside line above h is.first })
+with_line_above : (n : ℕ) (line : List ℕ) (rest : List (List ℕ)) → IsNoHeader line → header_from n (line ∷ rest) ≡ header_from (n + 1) rest → Found (n + 1) rest → Found n (line ∷ rest)
+with_line_above n line rest h e (none a f) = none (All-cons IsNoHeader line rest h a) (e ∙ f)
+with_line_above n line rest h e (one above header below is f) =
+    one (line ∷ above) header below (record { whole = ap (λ l. line ∷ l) is.whole; leads = is.leads; first = All-cons IsNoHeader line above h is.first })
     (e ∙ f ∙ ap (λ k. header_line k below (faction_of (words header))) (later n (length above)))
 
 -- lines have no header or a first one (`Found`), whether their first line, line n, is a header or not, if this holds of
 -- the lines after it
-tested : (t : Bool) (n : ℕ) (line : List ℕ) (rest : List (List ℕ)) → is_header line ≡ t → header_from n (line ∷ rest) ≡ cond t (header_line n rest (faction_of (words line))) (header_from (n + 1) rest) → Found (n + 1) rest → Found n (line ∷ rest)
-tested true n line rest h e f = one [] line rest (record { whole = refl; leads = h; first = All-nil IsOutside }) (e ∙ ap (λ k. header_line k rest (faction_of (words line))) (sym (from_none n)))
-tested false n line rest h e f = more n line rest h e f
+with_first_line : (t : Bool) (n : ℕ) (line : List ℕ) (rest : List (List ℕ)) → is_header line ≡ t → header_from n (line ∷ rest) ≡ cond t (header_line n rest (faction_of (words line))) (header_from (n + 1) rest) → Found (n + 1) rest → Found n (line ∷ rest)
+with_first_line true n line rest h e f = one [] line rest (record { whole = refl; leads = h; first = All-nil IsNoHeader }) (e ∙ ap (λ k. header_line k rest (faction_of (words line))) (sym (from_none n)))
+with_first_line false n line rest h e f = with_line_above n line rest h e f
 
 -- any lines have no header or a first one, and `header_from` gives NoHeader or what that header gives (`Found`)
-found : (n : ℕ) (all : List (List ℕ)) → Found n all
+has_header_or_none : (n : ℕ) (all : List (List ℕ)) → Found n all
 unfolding header_from
-found n [] = none (All-nil IsOutside) refl
-found n (line ∷ rest) = tested (is_header line) n line rest refl refl (found (n + 1) rest)
+has_header_or_none n [] = none (All-nil IsNoHeader) refl
+has_header_or_none n (line ∷ rest) = with_first_line (is_header line) n line rest refl refl (has_header_or_none (n + 1) rest)
 
 -- `header_from` gives NoHeader for lines without a header
 no_one : (n : ℕ) (all : List (List ℕ)) → HaveNoHeader all → header_from n all ≡ Err NoHeader
 unfolding header_from
 no_one n [] a = refl
-no_one n (line ∷ rest) a = rw (All-head IsOutside line rest a) (no_one (n + 1) rest (All-tail IsOutside line rest a))
+no_one n (line ∷ rest) a = rw (All-head IsNoHeader line rest a) (no_one (n + 1) rest (All-tail IsNoHeader line rest a))
 
 -- `header_from` gives for lines with a header what their first header gives
 first_one : (n : ℕ) (above : List (List ℕ)) (header : List ℕ) (below : List (List ℕ)) → HaveNoHeader above → is_header header ≡ true → header_from n (above ++ header ∷ below) ≡ header_line (length above + n) below (faction_of (words header))
 unfolding header_from
 first_one n [] header below a h = rw h (ap (λ k. header_line k below (faction_of (words header))) (sym (from_none n)))
-first_one n (line ∷ above) header below a h = rw (All-head IsOutside line above a) (first_one (n + 1) above header below (All-tail IsOutside line above a) h ∙ ap (λ k. header_line k below (faction_of (words header))) (later n (length above)))
+first_one n (line ∷ above) header below a h = rw (All-head IsNoHeader line above a) (first_one (n + 1) above header below (All-tail IsNoHeader line above a) h ∙ ap (λ k. header_line k below (faction_of (words header))) (later n (length above)))
 
 -- ---- a whole text
 
@@ -90,7 +90,7 @@ module _ (world : WorldValue) (text : List ℕ) where
   -- the rules (`TextSays`) allow the result that the function `reading` gives for a text
   pub text_fits : TextSays world text (reading world text)
   unfolding reading
-  text_fits = cond_both (nat_lt most_bytes (length text)) _ _ (TextSays world text) (λ h. too_long (grind (arith, nat_tests)) refl) (λ h. found_fits (grind (arith, nat_tests)) (found 1 (lines text)))
+  text_fits = cond_both (nat_lt most_bytes (length text)) _ _ (TextSays world text) (λ h. too_long (grind (arith, nat_tests)) refl) (λ h. found_fits (grind (arith, nat_tests)) (has_header_or_none 1 (lines text)))
 
   -- the test for more than most_bytes bytes is true of a text that has more
   long_is : most_bytes < length text → nat_lt most_bytes (length text) ≡ true

@@ -3,7 +3,7 @@ pub mod Limits
 pub mod Aliasing
 pub mod Faulting
 pub mod Words
-pub mod Lines
+pub mod TextLines
 pub mod Verbs
 pub mod Operands
 pub mod Orders

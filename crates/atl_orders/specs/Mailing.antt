@@ -13,7 +13,7 @@ use Rattle.atl_orders.specs.declared.mailing.Entry.{Entry}
 use Rattle.atl_orders.specs.declared.mailing.Mailing.{Mailing}
 use Rattle.atl_orders.specs.Aliasing.{no_alias}
 use Rattle.atl_orders.specs.Words.{WordText, words, begins, number_of}
-use Rattle.atl_orders.specs.Lines.{lines}
+use Rattle.atl_orders.specs.TextLines.{lines}
 use Rattle.atl_orders.specs.Operands.{not_zero}
 use Rattle.atl_orders.specs.Orders.{OrderValue, order_value}
 use Rattle.atl_orders.specs.Reading.{Effect, nothing, faulty, says, line_step}

@@ -17,7 +17,7 @@ use Rattle.atl_orders.specs.declared.fault.MailFault.{MailFault}
 use Rattle.atl_orders.specs.declared.fault.MailFault.TheVariants.{TooLong, NoHeader, BadHeader}
 use Rattle.atl_orders.specs.Limits.{most_bytes}
 use Rattle.atl_orders.specs.Aliasing.{no_alias, with_alias}
-use Rattle.atl_orders.specs.Lines.{lines}
+use Rattle.atl_orders.specs.TextLines.{lines}
 use Rattle.atl_orders.specs.Words.{WordText, words, begins}
 use Rattle.atl_orders.specs.Operands.{number_at, alias_at}
 use Rattle.atl_orders.specs.Orders.{OrderValue, said_by}
@@ -32,49 +32,49 @@ outer (Forming parent alias) = Some (At parent)
 outer (Skipping parent) = Some (outside parent)
 
 -- a word, which is the first of a line, is this keyword
-abbrev pub Leads : WordText → Keyword → Type 0
-Leads w k = keyword_of w ≡ Some k
+abbrev pub FirstWordIs : WordText → Keyword → Type 0
+FirstWordIs w k = keyword_of w ≡ Some k
 
 -- the rules for a line with words, by the first word w: the line has the step s
 pub data WordsSay (world : WorldValue) (state : ReaderState) (given : ℕ → Bool) (w : WordText) (ws : List WordText) (s : LineStep) : Type 0 where
   -- UNIT with a number: further orders are for the unit of this number, and an open block ends
-  unit_named : Leads w keywords.Unit → (n : ℕ) (rest : List WordText) → number_at ws ≡ Ok (n, rest)
+  unit_named : FirstWordIs w keywords.Unit → (n : ℕ) (rest : List WordText) → number_at ws ≡ Ok (n, rest)
       → s ≡ step nothing (At n) given → WordsSay world state given w ws s
   -- UNIT with a faulty number: the line has this fault, further orders are for no unit, and an open block ends
-  unit_faulty : Leads w keywords.Unit → (fault : LineFault) → number_at ws ≡ Err fault
+  unit_faulty : FirstWordIs w keywords.Unit → (fault : LineFault) → number_at ws ≡ Err fault
       → s ≡ step (faulty fault) Nowhere given → WordsSay world state given w ws s
   -- END in a block: the block is closed
-  block_closed : Leads w keywords.End → (out : ReaderState) → outer state ≡ Some out
+  block_closed : FirstWordIs w keywords.End → (out : ReaderState) → outer state ≡ Some out
       → s ≡ step nothing out given → WordsSay world state given w ws s
   -- END outside of blocks: the line has the fault EndAlone
-  end_alone : Leads w keywords.End → outer state ≡ None
+  end_alone : FirstWordIs w keywords.End → outer state ≡ None
       → s ≡ step (faulty EndAlone) state given → WordsSay world state given w ws s
   -- FORM in a block: the line has the fault NestedForm, and the block stays open
-  form_nested : Leads w keywords.Form → (out : ReaderState) → outer state ≡ Some out
+  form_nested : FirstWordIs w keywords.Form → (out : ReaderState) → outer state ≡ Some out
       → s ≡ step (faulty NestedForm) state given → WordsSay world state given w ws s
   -- FORM where no unit is named: the line has the fault NoUnit, and a block opens that is skipped
-  form_nowhere : Leads w keywords.Form → state ≡ Nowhere
+  form_nowhere : FirstWordIs w keywords.Form → state ≡ Nowhere
       → s ≡ step (faulty NoUnit) (Skipping None) given → WordsSay world state given w ws s
   -- FORM with a faulty alias: the line has this fault, and a block opens that is skipped
-  form_faulty : Leads w keywords.Form → (n : ℕ) → state ≡ At n → (fault : LineFault) → alias_at ws ≡ Err fault
+  form_faulty : FirstWordIs w keywords.Form → (n : ℕ) → state ≡ At n → (fault : LineFault) → alias_at ws ≡ Err fault
       → s ≡ step (faulty fault) (Skipping (Some n)) given → WordsSay world state given w ws s
   -- FORM with an alias that an earlier FORM gave: the line has the fault BadAlias, and a block opens that is skipped
-  form_again : Leads w keywords.Form → (n : ℕ) → state ≡ At n
+  form_again : FirstWordIs w keywords.Form → (n : ℕ) → state ≡ At n
       → (alias : ℕ) (rest : List WordText) → alias_at ws ≡ Ok (alias, rest) → given alias ≡ true
       → s ≡ step (faulty BadAlias) (Skipping (Some n)) given → WordsSay world state given w ws s
   -- FORM with a new alias: the order FORM for the named unit; the alias is given now, and the new unit's block opens
-  form_new : Leads w keywords.Form → (n : ℕ) → state ≡ At n
+  form_new : FirstWordIs w keywords.Form → (n : ℕ) → state ≡ At n
       → (alias : ℕ) (rest : List WordText) → alias_at ws ≡ Ok (alias, rest) → given alias ≡ false
       → s ≡ step (says (Number n) (form_value alias)) (Forming n alias) (with_alias given alias) → WordsSay world state given w ws s
   -- an order where no unit is named, or in a block that is skipped: the line has the fault NoUnit
-  order_nowhere : (verb : Verb) → Leads w (keywords.Order verb) → target state ≡ None
+  order_nowhere : (verb : Verb) → FirstWordIs w (keywords.Order verb) → target state ≡ None
       → s ≡ step (faulty NoUnit) state given → WordsSay world state given w ws s
   -- an order whose words have a fault: the line has this fault
-  order_faulty : (verb : Verb) → Leads w (keywords.Order verb) → (unit : UnitRef) → target state ≡ Some unit
+  order_faulty : (verb : Verb) → FirstWordIs w (keywords.Order verb) → (unit : UnitRef) → target state ≡ Some unit
       → (fault : LineFault) → said_by world verb ws ≡ Err fault
       → s ≡ step (faulty fault) state given → WordsSay world state given w ws s
   -- an order whose words have no fault: it is for the named unit, or in a block for the new unit
-  order_said : (verb : Verb) → Leads w (keywords.Order verb) → (unit : UnitRef) → target state ≡ Some unit
+  order_said : (verb : Verb) → FirstWordIs w (keywords.Order verb) → (unit : UnitRef) → target state ≡ Some unit
       → (order_value : OrderValue) → said_by world verb ws ≡ Ok order_value
       → s ≡ step (says unit order_value) state given → WordsSay world state given w ws s
   -- any other first word: the line has the fault UnknownOrder

@@ -9,7 +9,7 @@ use Rattle.atl_orders.specs.declared.reading.LineResult.{LineResult}
 use Rattle.atl_orders.specs.declared.reading.LineResult.TheVariants as outcomes
 use Rattle.atl_orders.specs.declared.reading.ReaderState.{ReaderState}
 use Rattle.atl_orders.specs.declared.words.Word.{Word}
-use Rattle.atl_orders.specs.Lines.{lines}
+use Rattle.atl_orders.specs.TextLines.{lines}
 use Rattle.atl_orders.specs.Mailing.{entry_of, fault_of, HeaderValue, Reading}
 use Rattle.atl_world.specs.Steps.{◌>>=◌}
 use Rattle.atl_orders.specs.Orders.{order_value}

@@ -3,7 +3,7 @@
 ghost use Rattle.std.specs.Prelude.{◌≡◌, ◌≤◌, ◌<◌, ◌∷◌, length, IfSome};
 ghost use Rattle.std.specs.List.{position};
 ghost use Rattle.std.specs.Option.{option_copied};
-ghost use Rattle.atl_orders.specs.Lines.{is_feed, without_return, lines};
+ghost use Rattle.atl_orders.specs.TextLines.{is_feed, without_return, lines};
 ghost use Rattle.atl_orders.specs.Views.{lines_of_rest, rest_size};
 ghost use Rattle.atl_orders.specs.Positions.{StartsWith, EndsWith};
 

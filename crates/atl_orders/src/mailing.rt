@@ -6,7 +6,7 @@ ghost use Rattle.atl_orders.specs.declared.fault.MailFault.TheVariants.{Memory};
 ghost use Rattle.atl_orders.specs.Limits.{most_bytes};
 ghost use Rattle.atl_orders.specs.Words.{words};
 ghost use Rattle.atl_orders.specs.Positions.{EndsWith};
-ghost use Rattle.atl_orders.specs.Lines.{lines};
+ghost use Rattle.atl_orders.specs.TextLines.{lines};
 ghost use Rattle.atl_orders.specs.Views.{rest_size, effect_of, header_value, with_line};
 ghost use Rattle.atl_orders.specs.Mailing.{faction_of, header_from, after_header, reading, reading_of, IsMailingOf, IsReadWith, Reads};
 

@@ -9,7 +9,7 @@ use Rattle.atl_records.specs.declared.books.Thing.{Thing}
 use Rattle.atl_records.specs.declared.books.Thing.TheVariants.{Item, Money, People}
 use Rattle.atl_records.specs.declared.records.Unit.{Unit}
 use Rattle.atl_records.specs.Amounts.{unit_amount}
-use Rattle.atl_records.specs.Every.{EachOf}
+use Rattle.atl_records.specs.Every.{EachEntry}
 use Rattle.atl_records.specs.Holdings.{HoldingValue, IsHolding}
 use Rattle.atl_records.specs.Limits.{holding_limit, most_units}
 use Rattle.atl_records.proofs.EveryLaws.{each-from_every}
@@ -19,7 +19,7 @@ use Rattle.atl_campaign.specs.Good.{IsSteady}
 use Rattle.atl_phase.specs.Meaning.{most_moved}
 
 -- a sum of numbers of at most `most` is at most their count times `most`
-pub sum_within : {V : Type 0} (f : V → ℕ) (most : ℕ) (es : List (ℕ × V)) → EachOf (λ n v. f v ≤ most) es → sum_by (λ e. f e.1) es ≤ length es * most
+pub sum_within : {V : Type 0} (f : V → ℕ) (most : ℕ) (es : List (ℕ × V)) → EachEntry (λ n v. f v ≤ most) es → sum_by (λ e. f e.1) es ≤ length es * most
 sum_within f most [] each = omega arith
 sum_within {V} f most (e ∷ es) each =
     more (sum_by (λ (d : ℕ × V). f d.1) (e ∷ es)) (f e.1) (sum_by (λ (d : ℕ × V). f d.1) es) (length (e ∷ es) * most) (length es * most) most (sum_by-cons (λ (d : ℕ × V). f d.1) e es) (suc-mul (length es) most) each.0 (sum_within f most es each.1)

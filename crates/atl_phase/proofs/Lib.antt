@@ -1,8 +1,8 @@
-pub mod ListedLaws
+pub mod MapOfListLaws
 pub mod MonthLaws
 pub mod StandingLaws
 pub mod MappedLaws
-pub mod OrderLaws
+pub mod OrderKeyLaws
 pub mod PickedLaws
 pub mod OrderIndexLaws
 pub mod PhaseOrderLaws

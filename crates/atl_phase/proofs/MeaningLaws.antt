@@ -11,7 +11,7 @@ use Rattle.atl_records.specs.declared.books.Entry.{Entry}
 use Rattle.atl_records.specs.declared.books.Thing.{Thing}
 use Rattle.atl_records.specs.Books.{IsWithin, amount_in}
 use Rattle.atl_records.specs.declared.records.Faction.{Faction}
-use Rattle.atl_records.specs.Every.{IsThere}
+use Rattle.atl_records.specs.Every.{HasValue}
 use Rattle.atl_campaign.specs.Good.{IsSound, amount_bound}
 use Rattle.atl_phase.specs.Month.{MonthValue}
 use Rattle.atl_phase.specs.Meaning.{BookBound, Condition, Frame, IsNear, IsSameMonth, LeavesWell, Meaning, both_keep, both_move}
@@ -38,15 +38,15 @@ pub less_room : (j k : ℕ) (a : ℤ) → j ≤ k → HasRoom k a → HasRoom j 
 less_room j k a l room = record { above = omega (arith, ints, room.above); below = omega (arith, ints, room.below) }
 
 -- the first bound is at most the second for each amount
-abbrev pub MovesLess : BookBound → BookBound → Type 0
-MovesLess less more = (e : Entry) (t : Thing) → less e t ≤ more e t
+abbrev pub IsBoundWithin : BookBound → BookBound → Type 0
+IsBoundWithin less more = (e : Entry) (t : Thing) → less e t ≤ more e t
 
 -- books with room for a bound have room for another, if that is at most as great for each amount
-pub room_less : (j k : BookBound) (c : CampaignValue) → MovesLess j k → HaveRoom k c → HaveRoom j c
+pub room_less : (j k : BookBound) (c : CampaignValue) → IsBoundWithin j k → HaveRoom k c → HaveRoom j c
 room_less j k c l room e t = less_room (j e t) (k e t) (amount_in c.books e t) (l e t) (room e t)
 
 -- the books of a sound campaign have room for any bound of at most 5*10^18
-pub room_when_sound : (w : WorldValue) (c : CampaignValue) (moving : BookBound) → MovesLess moving (λ e t. 5000000000000000000) → IsSound w c → HaveRoom moving c
+pub room_when_sound : (w : WorldValue) (c : CampaignValue) (moving : BookBound) → IsBoundWithin moving (λ e t. 5000000000000000000) → IsSound w c → HaveRoom moving c
 room_when_sound w c moving l sound e t =
     let few : amount_bound c ≤ 3000000000000000000 = omega (arith, sound.steady.numbers.month, sound.steady.numbers.few_factions) in
     within (amount_in c.books e t) (amount_bound c) (moving e t) few (l e t) (sound.amounts e t)
@@ -67,7 +67,7 @@ counted_month c = (c.month, c.reports)
 
 -- campaign d is of the same month as c (`IsSameMonth`) if its month, its reports and its number of factions are those
 -- of c, and no faction is added
-pub same_month_among : {c d : CampaignValue} → counted_month d ≡ counted_month c → len d.factions ≡ len c.factions → ((n : ℕ) → IsThere d.factions n → IsThere c.factions n) → IsSameMonth c d
+pub same_month_among : {c d : CampaignValue} → counted_month d ≡ counted_month c → len d.factions ≡ len c.factions → ((n : ℕ) → HasValue d.factions n → HasValue c.factions n) → IsSameMonth c d
 same_month_among {c} {d} same count factions = record {
   month = ap (λ (p : ℕ × FinMap nat_cmp (List ℕ)). p.0) same;
   reports = ap (λ (p : ℕ × FinMap nat_cmp (List ℕ)). p.1) same;
@@ -83,7 +83,7 @@ kept_in_month c = (counted_month c, c.factions)
 pub same_month_by : {c d : CampaignValue} → kept_in_month d ≡ kept_in_month c → IsSameMonth c d
 same_month_by {c} {d} same =
     let factions : d.factions ≡ c.factions = ap (λ (p : (ℕ × FinMap nat_cmp (List ℕ)) × FinMap nat_cmp Faction). p.1) same in
-    same_month_among (ap (λ (p : (ℕ × FinMap nat_cmp (List ℕ)) × FinMap nat_cmp Faction). p.0) same) (ap len factions) (λ n there. subst (λ (m : FinMap nat_cmp Faction). IsThere m n) factions there)
+    same_month_among (ap (λ (p : (ℕ × FinMap nat_cmp (List ℕ)) × FinMap nat_cmp Faction). p.0) same) (ap len factions) (λ n there. subst (λ (m : FinMap nat_cmp Faction). HasValue m n) factions there)
 
 -- an unchanged campaign is of the same month as before (`IsSameMonth`)
 pub same_month : (c : CampaignValue) → IsSameMonth c c
@@ -113,7 +113,7 @@ pub both_keep_well : (first : Meaning) (early late : Frame) (w : WorldValue) (m 
 both_keep_well first early late w m n a b c is one two = rw (sym is) (one, two)
 
 -- a phase that keeps the books balanced and within a bound (`LeavesWell`) keeps them within a greater bound, too
-pub well_within : {leaves : Condition} (j k : BookBound) (w : WorldValue) (a b : CampaignValue) → MovesLess j k → LeavesWell leaves j w a b → LeavesWell leaves k w a b
+pub well_within : {leaves : Condition} (j k : BookBound) (w : WorldValue) (a b : CampaignValue) → IsBoundWithin j k → LeavesWell leaves j w a b → LeavesWell leaves k w a b
 well_within j k w a b l h = record { leaves_it = h.leaves_it; same_month = h.same_month; balances = h.balances; near = λ e t. near_more (j e t) (k e t) (amount_in a.books e t) (amount_in b.books e t) (l e t) (h.near e t) }
 
 -- a phase that changes nothing keeps the books in balance and within any bound (`LeavesWell`), if `leaves` holds of c
@@ -123,7 +123,7 @@ well_unchanged moving w c h = record { leaves_it = h; same_month = same_month c;
 -- steps of one kind in turn, each of which keeps the books in balance and within one bound (`LeavesWell`)
 module _ {A : Type 0} {leaves : Condition} (moving : BookBound) (w : WorldValue) (step : CampaignValue → A → CampaignValue) (each : (c : CampaignValue) (x : A) → leaves w c → LeavesWell leaves moving w c (step c x)) where
   -- the bound of one step, added to that of the steps `xs`, is at most the bound of x and these steps together
-  more : {B : Type 0} (x : B) (xs : List B) → MovesLess (both_move moving (moved_times (length xs) moving)) (moved_times (length (x ∷ xs)) moving)
+  more : {B : Type 0} (x : B) (xs : List B) → IsBoundWithin (both_move moving (moved_times (length xs) moving)) (moved_times (length (x ∷ xs)) moving)
   more x xs e t = let one : length (x ∷ xs) * moving e t ≡ length xs * moving e t + moving e t = suc-mul (length xs) (moving e t) in omega arith
 
   -- steps in turn keep books balanced and within their number times one step's bound, if each does so (`LeavesWell`)

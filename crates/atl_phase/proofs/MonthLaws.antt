@@ -19,7 +19,7 @@ use Rattle.atl_orders.specs.Mailing.{Reading, reading_of}
 use Rattle.atl_campaign.proofs.KeyLaws.{IsDistinct-map, IsDistinct-of_map}
 use Rattle.atl_phase.specs.Month.{HaveOwnFactions, HaveNoOrder, by_faction}
 use Rattle.atl_phase.specs.OrderIndices.{AreByFaction, no_mailing}
-use Rattle.atl_phase.proofs.ListedLaws.{find_is, from_entries-permutation, sorted_strictly}
+use Rattle.atl_phase.proofs.MapOfListLaws.{find_is, from_entries-permutation, sorted_strictly}
 
 -- the pair of a mailing's faction, which is its key in a map, and its reading
 abbrev pub under_faction : Mailing → ℕ × Reading
@@ -38,8 +38,8 @@ mailings_have_no_order ms ns apart p =
     ∙ sym (by_faction_is ns)
 
 -- mailings of different factions are strictly sorted by faction once they are sorted by it
-pub rise : (ms ns : List Mailing) → HaveOwnFactions ms → IsPermutation ms ns → IsSortedByKey (λ m. m.faction) nat_cmp ns → AreByFaction ns
-rise ms ns apart p = sorted_strictly (on_total (λ (m : Mailing). m.faction) nat_cmp_total) ms ns p (IsDistinct-of_map (λ (m : Mailing). m.faction) (eq_by_cmp nat_cmp) ms apart)
+pub sorted_by_faction : (ms ns : List Mailing) → HaveOwnFactions ms → IsPermutation ms ns → IsSortedByKey (λ m. m.faction) nat_cmp ns → AreByFaction ns
+sorted_by_faction ms ns apart p = sorted_strictly (on_total (λ (m : Mailing). m.faction) nat_cmp_total) ms ns p (IsDistinct-of_map (λ (m : Mailing). m.faction) (eq_by_cmp nat_cmp) ms apart)
 
 -- ---- a mailing that is looked for
 

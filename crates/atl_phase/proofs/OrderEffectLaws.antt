@@ -34,35 +34,35 @@ use Rattle.atl_phase.proofs.PhaseOrderLaws.{orders_are_in_mailings}
 -- ---- amounts
 
 -- an unchanged amount of the books uses nothing of its remaining bound (`UsesBound`)
-pub drawn_same : (r : ℕ) (a : ℤ) → UsesBound r r a a
-drawn_same r a = record { above = omega (arith, ints); below = omega (arith, ints) }
+pub bound_unused : (r : ℕ) (a : ℤ) → UsesBound r r a a
+bound_unused r a = record { above = omega (arith, ints); below = omega (arith, ints) }
 
 -- an amount that stays uses nothing of its remaining bound (`UsesBound`), if the bound stays the same
-pub not_drawn : (r s : ℕ) (a b : ℤ) → s ≡ r → b ≡ a → UsesBound r s a b
-not_drawn r s a b e f = record { above = omega (arith, ints, e, f); below = omega (arith, ints, e, f) }
+pub bound_unused_by : (r s : ℕ) (a b : ℤ) → s ≡ r → b ≡ a → UsesBound r s a b
+bound_unused_by r s a b e f = record { above = omega (arith, ints, e, f); below = omega (arith, ints, e, f) }
 
 -- two moves of an amount in turn, each by at most what its remaining bound falls, are one such move (`UsesBound`)
-pub drawn_twice : (r s t : ℕ) (a b c : ℤ) → UsesBound r s a b → UsesBound s t b c → UsesBound r t a c
-drawn_twice r s t a b c one two = record { above = omega (arith, ints, one.above, two.above); below = omega (arith, ints, one.below, two.below) }
+pub bound_used_twice : (r s t : ℕ) (a b c : ℤ) → UsesBound r s a b → UsesBound s t b c → UsesBound r t a c
+bound_used_twice r s t a b c one two = record { above = omega (arith, ints, one.above, two.above); below = omega (arith, ints, one.below, two.below) }
 
 -- an amount that moves by at most x moves by no more than its remaining bound falls (`UsesBound`), if that falls by x
-pub drawn_near : (x reserve left : ℕ) (a b : ℤ) → left + x ≡ reserve → IsNear x a b → UsesBound reserve left a b
-drawn_near x reserve left a b e near = record { above = omega (arith, ints, e, near.above); below = omega (arith, ints, e, near.below) }
+pub bound_used_near : (x reserve left : ℕ) (a b : ℤ) → left + x ≡ reserve → IsNear x a b → UsesBound reserve left a b
+bound_used_near x reserve left a b e near = record { above = omega (arith, ints, e, near.above); below = omega (arith, ints, e, near.below) }
 
 -- an amount that moves by at most what its remaining bound r falls moves by at most `most`, if r is at most `most`
-near_drawn : (r s most : ℕ) (a b : ℤ) → r ≤ most → UsesBound r s a b → IsNear most a b
-near_drawn r s most a b l h = record { above = omega (arith, ints, h.above); below = omega (arith, ints, h.below) }
+near_by_bound : (r s most : ℕ) (a b : ℤ) → r ≤ most → UsesBound r s a b → IsNear most a b
+near_by_bound r s most a b l h = record { above = omega (arith, ints, h.above); below = omega (arith, ints, h.below) }
 
 -- an amount with room for its remaining bound has room, after a move (`UsesBound`), for the bound that remains then
-room_drawn : (r s : ℕ) (a b : ℤ) → UsesBound r s a b → HasRoom r a → HasRoom s b
-room_drawn r s a b h room = record { above = omega (arith, ints, h.above, room.above); below = omega (arith, ints, h.below, room.below) }
+room_after_use : (r s : ℕ) (a b : ℤ) → UsesBound r s a b → HasRoom r a → HasRoom s b
+room_after_use r s a b h room = record { above = omega (arith, ints, h.above, room.above); below = omega (arith, ints, h.below, room.below) }
 
 -- ---- steps
 
 -- a step that changes nothing keeps `holds` true, the month and the books' balance, and uses nothing of the remaining
 -- bound (`StepsWell`)
 pub well_same : {holds : Condition} {reserve : RemainingBound} (w : WorldValue) (c : CampaignValue) → holds w c → StepsWell holds reserve w c c
-well_same {holds} {reserve} w c h = record { holds_still = h; same_month = same_month c; balances = λ b. b; drawn = λ e t. drawn_same (reserve c e t) (amount_in c.books e t) }
+well_same {holds} {reserve} w c h = record { holds_still = h; same_month = same_month c; balances = λ b. b; uses_bound = λ e t. bound_unused (reserve c e t) (amount_in c.books e t) }
 
 -- two steps in turn, which each keep `holds`, month and balance and move the books within their bound, do so together
 -- (`StepsWell`)
@@ -71,12 +71,12 @@ well_twice {holds} {reserve} w a b c one two = record {
   holds_still = two.holds_still;
   same_month = same_month_twice a b c one.same_month two.same_month;
   balances = λ h. two.balances (one.balances h);
-  drawn = λ e t. drawn_twice (reserve a e t) (reserve b e t) (reserve c e t) (amount_in a.books e t) (amount_in b.books e t) (amount_in c.books e t) (one.drawn e t) (two.drawn e t);
+  uses_bound = λ e t. bound_used_twice (reserve a e t) (reserve b e t) (reserve c e t) (amount_in a.books e t) (amount_in b.books e t) (amount_in c.books e t) (one.uses_bound e t) (two.uses_bound e t);
 }
 
 -- books with room for the remaining bound have room, after a step within it (`StepsWell`), for what remains of it
 pub room_left : {holds : Condition} {reserve : RemainingBound} (w : WorldValue) (a b : CampaignValue) → StepsWell holds reserve w a b → HaveRoom (reserve a) a → HaveRoom (reserve b) b
-room_left {holds} {reserve} w a b well room e t = room_drawn (reserve a e t) (reserve b e t) (amount_in a.books e t) (amount_in b.books e t) (well.drawn e t) (room e t)
+room_left {holds} {reserve} w a b well room e t = room_after_use (reserve a e t) (reserve b e t) (amount_in a.books e t) (amount_in b.books e t) (well.uses_bound e t) (room e t)
 
 -- a step within a remaining bound (`StepsWell`) is within a bound of the phase that is at least as large (`LeavesWell`)
 pub leaves_well : {holds : Condition} {reserve : RemainingBound} {moving : BookBound} (w : WorldValue) (a b : CampaignValue) → ((e : Entry) (t : Thing) → reserve a e t ≤ moving e t) → StepsWell holds reserve w a b → LeavesWell holds moving w a b
@@ -84,14 +84,14 @@ leaves_well {holds} {reserve} {moving} w a b l h = record {
   leaves_it = h.holds_still;
   same_month = h.same_month;
   balances = h.balances;
-  near = λ e t. near_drawn (reserve a e t) (reserve b e t) (moving e t) (amount_in a.books e t) (amount_in b.books e t) (l e t) (h.drawn e t);
+  near = λ e t. near_by_bound (reserve a e t) (reserve b e t) (moving e t) (amount_in a.books e t) (amount_in b.books e t) (l e t) (h.uses_bound e t);
 }
 
 -- ---- what stays
 
 -- to be no worse off (`IsNoWorse`) is reflexive and transitive, and keeps the faction
 pub no_worse_spares : IsUnaffectedRelation IsNoWorse
-no_worse_spares = record { same = no_worse; again = no_worse_twice; faction = λ u v h. h.faction }
+no_worse_spares = record { same = no_worse; transitive = no_worse_twice; faction = λ u v h. h.faction }
 
 -- ---- orders
 
@@ -122,8 +122,8 @@ with_some p = (p.0, Some p.1)
 
 -- the campaign and the outcome that an order's effect makes are the order's result, with the outcome in `Some`, if the
 -- phase doesn't pass the order over
-pub told_some : (deed : OrderEffect) (c d : CampaignValue) (faction n : ℕ) (o : Outcome) → (d, o) ≡ faction_effect deed c faction n → (d, Some o) ≡ order_result (Some deed) c faction n
-told_some deed c d faction n o is = ap with_some is
+pub result_of_effect : (deed : OrderEffect) (c d : CampaignValue) (faction n : ℕ) (o : Outcome) → (d, o) ≡ faction_effect deed c faction n → (d, Some o) ≡ order_result (Some deed) c faction n
+result_of_effect deed c d faction n o is = ap with_some is
 
 module _ (step : OrderMeaning) {holds : Condition} {reserve : RemainingBound} {moving : BookBound} {concerns : Affects} {spares : Unaffected} (orderly : IsOrderly step holds reserve moving concerns spares) (w : WorldValue) where
   -- an order of a phase that is `IsOrderly` keeps `holds` true, the month and the books' balance, and moves no amount
@@ -135,19 +135,19 @@ module _ (step : OrderMeaning) {holds : Condition} {reserve : RemainingBound} {m
   -- `holds` is true before the order, and its phase is `IsOrderly`
   order_spares : (a : Aliases) (c : CampaignValue) (t : Task) → holds w c → (n : ℕ) (u : Unit) → get c.units n ≡ Some u → (concerns t n u.faction → ⊥) → IsUnaffected spares (order_result (step w a t) c t.faction t.unit).0 n u
   order_spares a c t h n u there other =
-      ordered_cases (λ d. IsUnaffected spares d n u) (step w a t) c t (record { unit = u; there = there; spared = orderly.sparing.same u }) (λ x own. orderly.spared w a c t x h own n u there other)
+      ordered_cases (λ d. IsUnaffected spares d n u) (step w a t) c t (record { unit = u; there = there; spared = orderly.spares_is_relation.same u }) (λ x own. orderly.spared w a c t x h own n u there other)
 
   -- a unit that none of some orders concerns is there after them, and `spares` relates what it was to what it is then,
   -- if `holds` is true before, the orders can be read with the world, and their phase is `IsOrderly`
   orders_spare_one : (c : CampaignValue) (m : MonthValue) (ts : List Task) → holds w c → AllByRecursion (λ t. IsOrderOf w t.order_value) ts → (n : ℕ) (u : Unit) → get c.units n ≡ Some u → AllByRecursion (λ t. concerns t n u.faction → ⊥) ts
       → IsUnaffected spares (fold (one_order step w) (c, m) ts).0 n u
-  orders_spare_one c m [] h fit n u there others = record { unit = u; there = there; spared = orderly.sparing.same u }
+  orders_spare_one c m [] h fit n u there others = record { unit = u; there = there; spared = orderly.spares_is_relation.same u }
   orders_spare_one c m (t ∷ ts) h fit n u there others =
       let next = one_order step w (c, m) t in
       let one = order_spares m.aliases c t h n u there others.0 in
-      let same_faction = orderly.sparing.faction u one.unit one.spared in
+      let same_faction = orderly.spares_is_relation.faction u one.unit one.spared in
       let rest = orders_spare_one next.0 next.1 ts (order_well m.aliases c t h fit.0).holds_still fit.1 n one.unit one.there (subst (λ f. AllByRecursion (λ t. concerns t n f → ⊥) ts) (sym same_faction) others.1) in
-      record { unit = rest.unit; there = rest.there; spared = orderly.sparing.again u one.unit rest.unit one.spared rest.spared }
+      record { unit = rest.unit; there = rest.there; spared = orderly.spares_is_relation.transitive u one.unit rest.unit one.spared rest.spared }
 
   -- each unit that none of some orders concerns is there after them, and `spares` relates what it was to what it is
   -- then, if `holds` is true before, the orders can be read with the world, and their phase is `IsOrderly`
@@ -180,10 +180,10 @@ module _ (w : WorldValue) where
 -- ---- the mailings stay
 
 -- adding an event to a month leaves the readings of its mailings as they are
-told_readings : (m : MonthValue) (t : Task) (o : Option Outcome) → (with_event_of m t o).readings ≡ m.readings
-told_readings m t None = refl
-told_readings m t (Some outcome) = refl
+event_keeps_readings : (m : MonthValue) (t : Task) (o : Option Outcome) → (with_event_of m t o).readings ≡ m.readings
+event_keeps_readings m t None = refl
+event_keeps_readings m t (Some outcome) = refl
 
 -- an order leaves the readings of the month as they are
 pub order_readings : (step : OrderMeaning) (w : WorldValue) (p : CampaignValue × MonthValue) (t : Task) → (one_order step w p t).1.readings ≡ p.1.readings
-order_readings step w p t = told_readings p.1 t (order_result (step w p.1.aliases t) p.0 t.faction t.unit).1
+order_readings step w p t = event_keeps_readings p.1 t (order_result (step w p.1.aliases t) p.0 t.faction t.unit).1

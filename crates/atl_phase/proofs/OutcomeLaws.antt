@@ -1,5 +1,5 @@
 -- Laws of the tests of a list of faults: if no fault applies, each test fails.
-use Rattle.std.proofs.Common.{◌≡◌, ◌==◌, ℕ, ◌≤◌, Bool, true, false, not, ◌&&◌, List, ◌∷◌, None, refl, arith}
+use Rattle.std.proofs.Common.{◌≡◌, ◌==◌, ℕ, ◌≤◌, Bool, true, false, not, List, ◌∷◌, None, refl, arith}
 use Rattle.std.specs.Prelude.{nat_lt}
 use Rattle.std.proofs.lemmas.Bool.{not-false}
 use Rattle.std.proofs.lemmas.Bool.Decides.{nat_tests}
@@ -22,8 +22,3 @@ not_apart a b is = let same : (a == b) ≡ true = not-false (a == b) is in grind
 -- where the test `a < b` is false, b is at most a
 pub not_less : (a b : ℕ) → nat_lt a b ≡ false → b ≤ a
 not_less a b is = grind (arith, nat_tests)
-
--- if a fault that is tested by `not itself && fits` doesn't apply, and `itself` is false, `fits` is false
-pub unless_itself : (itself fits : Bool) → (not itself && fits) ≡ false → itself ≡ false → fits ≡ false
-unless_itself true fits is other = cc
-unless_itself false fits is other = is

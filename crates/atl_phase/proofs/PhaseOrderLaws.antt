@@ -12,10 +12,10 @@ use Rattle.std.proofs.lemmas.Bool.{and_parts}
 use Rattle.std.proofs.lemmas.List.Elements.{All-from_recursion, All-map, recursion_from_All}
 use Rattle.atl_orders.specs.declared.verb.Verb.{Verb}
 use Rattle.atl_orders.specs.Mailing.{EntryValue, Reading}
-use Rattle.atl_records.specs.Every.{EachOf}
+use Rattle.atl_records.specs.Every.{EachEntry}
 use Rattle.atl_records.proofs.EveryLaws.{each-from_every}
 use Rattle.atl_campaign.proofs.GroupLaws.{kept}
-use Rattle.atl_campaign.proofs.OrderLaws.{each_so}
+use Rattle.atl_campaign.proofs.MapOfRowsLaws.{each_so}
 use Rattle.atl_campaign.proofs.ReadBackLaws.{append_each}
 use Rattle.atl_phase.specs.declared.phase_order.Arrangement.{Arrangement}
 use Rattle.atl_phase.specs.Month.{Aliases}
@@ -71,7 +71,7 @@ module _ (is_of : Verb → Bool) (aliases : Aliases) (readings : FinMap nat_cmp 
       )
 
   -- each order of these mailings that the phase takes is in its faction's mailing and counts (`Counts`)
-  all_count : (es : List (ℕ × Reading)) → EachOf (λ f r. get readings f ≡ Some r) es → AllByRecursion Counts (flat_map (λ e. tasks_for is_of (tasks_of aliases e.0 e.1)) es)
+  all_count : (es : List (ℕ × Reading)) → EachEntry (λ f r. get readings f ≡ Some r) es → AllByRecursion Counts (flat_map (λ e. tasks_for is_of (tasks_of aliases e.0 e.1)) es)
   all_count [] h = tt
   all_count (e ∷ es) h =
       let ts = tasks_of aliases e.0 e.1 in

@@ -19,8 +19,8 @@ use Rattle.atl_phase.specs.declared.phase_order.PhaseOrder.{PhaseOrder}
 use Rattle.atl_phase.specs.Month.{Aliases, by_faction}
 use Rattle.atl_phase.specs.PhaseOrders.{Task, key_of, orders_of, stands, task_of, tasks_for, tasks_of}
 use Rattle.atl_phase.specs.OrderIndices.{AreOrderIndices, every_verb, has_verb, task_at, tasks_picked}
-use Rattle.atl_phase.proofs.ListedLaws.{entries-passing}
-use Rattle.atl_phase.proofs.OrderLaws.{all_apart, same_key}
+use Rattle.atl_phase.proofs.MapOfListLaws.{entries-passing}
+use Rattle.atl_phase.proofs.OrderKeyLaws.{all_apart, same_key}
 
 -- for `values-passing`: to map elements by f and keep those that pass p is to keep those whose f passes p, and map them
 filter-map : {X Y : Type 0} (p : Y → Bool) (f : X → Y) (xs : List X) → filter p (map f xs) ≡ map f (filter (λ x. p (f x)) xs)

@@ -132,11 +132,6 @@ module _ (w : WorldValue) (c : CampaignValue) (n : ℕ) (u : Unit) (s : ℕ) (is
   still_owned : (q : ℕ) (y : Structure) → get c.structures q ≡ Some y → y.owner ≢ n → (y.owner ≡ 0 → s ≢ q) → IsOwned behind q y
   still_owned q y there other free = owner_stays c behind n away q y (steady.owners q y there) other (λ none v here inside. free none (sym (stands v here) ∙ inside))
 
-  -- the structure that a unit is inside, given as `Some x`; given None, the structure that another unit v is inside
-  structure_in : Option Unit → Unit → ℕ
-  structure_in (Some x) v = x.structure
-  structure_in None v = v.structure
-
   -- after unit n went, structure q, which it entered and didn't leave, has its right owner: unit n if nobody owned q
   -- (`z`), and else the old owner
   entered_owned : (q : ℕ) (y : Structure) → get c.structures q ≡ Some y → q ≢ old_place → q ≡ s → (z : Bool) → (y.owner == 0) ≡ z → IsOwned behind q (if z then owned_by n y else y)

@@ -24,7 +24,7 @@ use Rattle.atl_phase.specs.Month.{Aliases}
 use Rattle.atl_phase.specs.Fit.{AreFit}
 use Rattle.atl_phase.specs.PhaseOrders.{Task, key_of, last_line, orders_of, slot_number, stands, stands_in, tasks_of}
 use Rattle.atl_phase.specs.StandOnce.{OneOrderStands, are_same_slot, share_slot}
-use Rattle.atl_phase.proofs.ListedLaws.{by_key, entries_rise}
+use Rattle.atl_phase.proofs.MapOfListLaws.{by_key, entries_rise}
 use Rattle.atl_phase.proofs.PhaseOrderLaws.{Counts, orders_count}
 
 -- ---- lines

@@ -19,7 +19,7 @@ use Rattle.atl_phase.specs.NoWorse.{IsNoWorse}
 use Rattle.atl_phase.specs.OrderEffects.{IsOwnOrder, IsUnaffected, OrderEffect}
 use Rattle.atl_phase.specs.Bounds.{IsUnitOf, StepsWell, nothing_remaining}
 use Rattle.atl_phase.proofs.NoWorseLaws.{no_worse}
-use Rattle.atl_phase.proofs.OrderEffectLaws.{not_drawn}
+use Rattle.atl_phase.proofs.OrderEffectLaws.{bound_unused_by}
 
 -- a step that leaves month, books and totals as they are keeps the books in balance within a remaining bound of 0
 -- (`StepsWell`), if `holds` is true of the campaign after it
@@ -28,7 +28,7 @@ stays_well holds w c d still same books totals = record {
   holds_still = still;
   same_month = same;
   balances = λ old t. ap pos (totals t) ∙ old t ∙ ap (λ b. booked b t) (sym books);
-  drawn = λ e t. not_drawn 0 0 (amount_in c.books e t) (amount_in d.books e t) refl (ap (λ b. amount_in b e t) books);
+  uses_bound = λ e t. bound_unused_by 0 0 (amount_in c.books e t) (amount_in d.books e t) refl (ap (λ b. amount_in b e t) books);
 }
 
 -- a step that leaves month, books and totals as they are keeps the books in balance within a remaining bound of 0

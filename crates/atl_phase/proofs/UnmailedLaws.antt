@@ -240,11 +240,12 @@ none_ordered is_of arrangement m f none k d l same =
     none_some h.reading (sym none ∙ ap (get m.readings) (sym same) ∙ h.of_faction)
 
 -- one more event of an order adds no men who starved to the events
-pub told_of_order : (events : List Event) (t : Task) (outcome : Outcome) (n : ℕ) → starved_in (events ++ event_for t outcome ∷ []) n ≡ starved_in events n
-told_of_order events t outcome n =
+pub order_event_starves_none : (events : List Event) (t : Task) (outcome : Outcome) (n : ℕ) → starved_in (events ++ event_for t outcome ∷ []) n ≡ starved_in events n
+order_event_starves_none events t outcome n =
     sum_by_push (λ (e : Event). if e.unit == n then men_starved_by e.verb e.outcome else 0) events (event_for t outcome) ∙ by_unit (t.unit == n) (starved_in events n)
   where
-    -- for `told_of_order`: an event that reports nobody as starved adds 0 to the count x, be it of unit n (`b`) or not
+    -- for `order_event_starves_none`: an event that reports nobody as starved adds 0 to the count x, be it of unit n
+    -- (`b`) or not
     by_unit : (b : Bool) (x : ℕ) → x + (if b then 0 else 0) ≡ x
     by_unit true x = omega arith
     by_unit false x = omega arith
@@ -283,18 +284,18 @@ module _ (step : OrderMeaning) where
   orders_readings w p (t ∷ ts) = orders_readings w (one_order step w p t) ts ∙ order_readings step w p t
 
   -- one order adds no men who starved to the events
-  order_told : (w : WorldValue) (p : CampaignValue × MonthValue) (t : Task) (n : ℕ) → starved_in (one_order step w p t).1.events n ≡ starved_in p.1.events n
-  order_told w p t n = by_outcome (order_result (step w p.1.aliases t) p.0 t.faction t.unit).1
+  order_starves_none : (w : WorldValue) (p : CampaignValue × MonthValue) (t : Task) (n : ℕ) → starved_in (one_order step w p t).1.events n ≡ starved_in p.1.events n
+  order_starves_none w p t n = by_outcome (order_result (step w p.1.aliases t) p.0 t.faction t.unit).1
     where
       -- an order adds no men who starved to the events, whether it has an outcome `o` or is passed over
       by_outcome : (o : Option Outcome) → starved_in (with_event_of p.1 t o).events n ≡ starved_in p.1.events n
       by_outcome None = refl
-      by_outcome (Some outcome) = told_of_order p.1.events t outcome n
+      by_outcome (Some outcome) = order_event_starves_none p.1.events t outcome n
 
   -- orders carried out one by one add no men who starved to the events
-  orders_told : (w : WorldValue) (p : CampaignValue × MonthValue) (ts : List Task) (n : ℕ) → starved_in (fold (one_order step w) p ts).1.events n ≡ starved_in p.1.events n
-  orders_told w p [] n = refl
-  orders_told w p (t ∷ ts) n = orders_told w (one_order step w p t) ts n ∙ order_told w p t n
+  orders_starve_none : (w : WorldValue) (p : CampaignValue × MonthValue) (ts : List Task) (n : ℕ) → starved_in (fold (one_order step w) p ts).1.events n ≡ starved_in p.1.events n
+  orders_starve_none w p [] n = refl
+  orders_starve_none w p (t ∷ ts) n = orders_starve_none w (one_order step w p t) ts n ∙ order_starves_none w p t n
 
   module _ (is_of : Verb → Bool) where
     -- a phase that carries out its orders one by one leaves the readings of the month as they are
@@ -305,7 +306,7 @@ module _ (step : OrderMeaning) where
     -- a phase that carries out its orders one by one adds no men who starved to the events
     pub carried_starve_none : (w : WorldValue) (c : CampaignValue) (m : MonthValue) (n : ℕ) → starved_in (meaning_by_orders step is_of w c m).1.events n ≡ starved_in m.events n
     unfolding meaning_by_orders
-    carried_starve_none w c m n = orders_told w (c, m) (values (orders_of is_of ByUnit m.aliases m.readings)) n
+    carried_starve_none w c m n = orders_starve_none w (c, m) (values (orders_of is_of ByUnit m.aliases m.readings)) n
 
     -- a phase that carries out its orders one by one leaves units of factions without a mailing their men, if each
     -- order leaves the units of other factions theirs (`SparesMen`)

@@ -62,14 +62,14 @@ pub record StepsWell (holds : Condition) (reserve : RemainingBound) (w : WorldVa
   -- the books balance after the step if they did before
   pub balances : Balances before → Balances after
   -- each amount of the books moves by at most what its remaining bound falls
-  pub drawn : (e : Entry) (t : Thing) → UsesBound (reserve before e t) (reserve after e t) (amount_in before.books e t) (amount_in after.books e t)
+  pub uses_bound : (e : Entry) (t : Thing) → UsesBound (reserve before e t) (reserve after e t) (amount_in before.books e t) (amount_in after.books e t)
 
 -- `spares` is reflexive and transitive, and relates only units of the same faction
 pub record IsUnaffectedRelation (spares : Unaffected) : Type 0 where
   -- `spares` relates each unit to itself, so a unit that doesn't change is spared
   pub same : (u : Unit) → spares u u
   -- `spares` is transitive: a unit that is spared by each of two changes in turn is spared by both together
-  pub again : (u v x : Unit) → spares u v → spares v x → spares u x
+  pub transitive : (u v x : Unit) → spares u v → spares v x → spares u x
   -- `spares` relates only units of the same faction, so a unit that is spared keeps its faction
   pub faction : (u v : Unit) → spares u v → v.faction ≡ u.faction
 
@@ -89,7 +89,7 @@ pub record IsOrderly (step : OrderMeaning) (holds : Condition) (reserve : Remain
   pub well : (w : WorldValue) (a : Aliases) (c : CampaignValue) (t : Task) (x : Unit) → holds w c → IsOrderOf w t.order_value → IsUnitOf c t x →
       IfSome (step w a t) (λ deed. StepsWell holds reserve w c (deed c x).0)
   -- `spares` can be used over several orders: it is reflexive, transitive, and keeps the faction
-  pub sparing : IsUnaffectedRelation spares
+  pub spares_is_relation : IsUnaffectedRelation spares
   -- each unit that an order for a unit of its writer's faction doesn't concern is there after the order, and `spares`
   -- relates what it was to what it is then
   pub spared : (w : WorldValue) (a : Aliases) (c : CampaignValue) (t : Task) (x : Unit) → holds w c → IsUnitOf c t x →

@@ -5,7 +5,7 @@ use Rattle.atl_world.specs.Worlds.{WorldValue}
 use Rattle.atl_records.specs.declared.books.Entry.{Entry}
 use Rattle.atl_records.specs.declared.books.Thing.{Thing}
 use Rattle.atl_records.specs.Books.{amount_in, amount_number}
-use Rattle.atl_records.specs.Every.{IsThere}
+use Rattle.atl_records.specs.Every.{HasValue}
 use Rattle.atl_campaign.specs.Campaign.{CampaignValue}
 use Rattle.atl_campaign.specs.Totals.{Balances}
 use Rattle.atl_phase.specs.Month.{MonthValue}
@@ -80,7 +80,7 @@ pub record IsSameMonth (before after : CampaignValue) : Type 0 where
   -- there are as many factions as before
   pub count : len after.factions ≡ len before.factions
   -- no faction is added
-  pub factions : (n : ℕ) → IsThere after.factions n → IsThere before.factions n
+  pub factions : (n : ℕ) → HasValue after.factions n → HasValue before.factions n
 
 -- After a phase `leaves` is true of the campaign, which is of the same month,
 -- and whose books balance if they did before.

@@ -38,13 +38,13 @@ pub record MonthValue : Type 0 where
 -- ---- the encoding of a month for the logic
 
 -- the encoding, which the kit requires of each type, of what an order says, with its names as texts
-abbrev pub said_code : Coded OrderValue
-said_code = (order.the_row (sequence.the_row u8)).coded
+abbrev pub order_value_code : Coded OrderValue
+order_value_code = (order.the_row (sequence.the_row u8)).coded
 
 -- the encoding, which the kit requires of each type, of an entry of a mailing: its line, its target and its order
 abbrev pub entry_code : Coded EntryValue
 entry_code =
-    code_by (ℕ × (UnitRef × OrderValue)) (coded× coded_ℕ (coded× target.the_row.coded said_code))
+    code_by (ℕ × (UnitRef × OrderValue)) (coded× coded_ℕ (coded× target.the_row.coded order_value_code))
     (λ e. (e.line, (e.target, e.order_value)))
     (λ p. record { line = p.0; target = p.1.0; order_value = p.1.1 })
     (λ _. refl)

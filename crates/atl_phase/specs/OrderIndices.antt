@@ -132,8 +132,8 @@ tasks_picked is_of mailings places = filter (has_verb is_of) (map (task_at maili
 
 -- The invariant of a month: its mailings are sorted by faction, and its gathered indices by unit.
 -- The gathered indices, if there are any, name all orders that count.
-pub record IsSortedMonth {Z : Type 0} (aliases : Aliases) (mailings : List Mailing) (standing : Option (Vec OrderIndex Z)) : Type 0 where
+pub record IsSortedMonth {Z : Type 0} (aliases : Aliases) (mailings : List Mailing) (gathered_indices : Option (Vec OrderIndex Z)) : Type 0 where
   -- the month's mailings are sorted by faction, and no two are of one faction
   pub sorted : AreByFaction mailings
   -- the gathered indices, if there are any, name all orders that count, sorted by unit
-  pub gathered : IfSome standing (λ places. AreOrderIndices ByUnit aliases mailings places.items)
+  pub gathered : IfSome gathered_indices (λ places. AreOrderIndices ByUnit aliases mailings places.items)

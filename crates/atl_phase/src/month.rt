@@ -27,13 +27,13 @@ pub struct Month {
     // The events so far, in the order in which they came.
     events: Vec<Event>,
     // The indices of the orders that count, by unit, line and faction; None until gathered.
-    standing: Option<Vec<OrderIndex>>,
+    gathered_indices: Option<Vec<OrderIndex>>,
 }
 
 /// Drops all parts of a month by one call (`let_go!`), which the prover meets only once.
 impl Drop for Month {
     fn drop(self) {
-        let_go!(self: Month { mailings, aliases, words, events, standing });
+        let_go!(self: Month { mailings, aliases, words, events, gathered_indices });
     }
 }
 
@@ -56,7 +56,7 @@ impl Model for Month {
       events = a.events.items;
     } };
 
-    ghost invariant = { λ a. IsSortedMonth a.aliases a.mailings.items a.standing };
+    ghost invariant = { λ a. IsSortedMonth a.aliases a.mailings.items a.gathered_indices };
 }
 
 /// Makes a month of its mailings, and reads its orders, aliases, dice words and events.
@@ -79,7 +79,7 @@ impl Month {
             aliases: Numbered::new(alloc),
             words,
             events: Vec::new(alloc),
-            standing: None,
+            gathered_indices: None,
         }
     }
 
@@ -106,7 +106,7 @@ impl Month {
             aliases: _,
             words: _,
             events,
-            standing: _,
+            gathered_indices: _,
         } = self;
         events
     }
@@ -135,7 +135,7 @@ impl Month {
             { aliases = with_alias self.old.aliases faction alias unit }) }
         ensures err { OnErr result (self.new ≡ self.old) }
     {
-        self.standing = None;
+        self.gathered_indices = None;
         self.aliases.insert_under(alloc, faction, alias, unit)
     }
 
@@ -145,7 +145,7 @@ impl Month {
         ensures { self.new ≡ self.old }
     {
         let places = order_indices(alloc, Arrangement::ByUnit, &self.aliases, &self.mailings)?;
-        self.standing = Some(places);
+        self.gathered_indices = Some(places);
         Ok(())
     }
 
@@ -162,7 +162,7 @@ impl Month {
         ensures { IfOk result (λ list. map task_of list.items
             ≡ values (orders_of P.is_of arrangement self.now.aliases self.now.readings)) }
     {
-        match (arrangement, &self.standing) {
+        match (arrangement, &self.gathered_indices) {
             (Arrangement::ByUnit, Some(places)) => {
                 phase_orders_at(alloc, phase, &self.mailings, places)
             }

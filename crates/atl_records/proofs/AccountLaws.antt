@@ -12,16 +12,16 @@ use Rattle.atl_records.specs.Books.{Account, account_cmp, all_entries, entry_ind
 use Rattle.atl_records.proofs.EveryEntryLaws.{entry_there}
 
 -- the thing that thing_at gives for the number i has the number i
-pub place_at : (i : ℕ) → thing_index (thing_at i) ≡ i
-place_at zero = refl
-place_at (suc zero) = refl
-place_at (suc (suc i)) = omega arith
+pub index_of_thing_at : (i : ℕ) → thing_index (thing_at i) ≡ i
+index_of_thing_at zero = refl
+index_of_thing_at (suc zero) = refl
+index_of_thing_at (suc (suc i)) = omega arith
 
 -- thing_at gives for the number of thing t the thing t
-pub at_place : (t : Thing) → thing_at (thing_index t) ≡ t
-at_place Money = refl
-at_place People = refl
-at_place (Item i) = item_at (2 + i) i (omega arith)
+pub thing_at_index : (t : Thing) → thing_at (thing_index t) ≡ t
+thing_at_index Money = refl
+thing_at_index People = refl
+thing_at_index (Item i) = item_at (2 + i) i (omega arith)
   where
     -- the thing with number i + 2 is item i
     item_at : (n i : ℕ) → n ≡ suc (suc i) → thing_at n ≡ Item i
@@ -31,7 +31,7 @@ at_place (Item i) = item_at (2 + i) i (omega arith)
 
 -- things with the same number are equal
 pub same_thing : (t u : Thing) → thing_index t ≡ thing_index u → t ≡ u
-same_thing t u h = sym (at_place t) ∙ ap thing_at h ∙ at_place u
+same_thing t u h = sym (thing_at_index t) ∙ ap thing_at h ∙ thing_at_index u
 
 -- if Some d is Some e, the entries d and e are equal
 inside : (d e : Entry) → Some d ≡ Some e → d ≡ e

@@ -9,7 +9,7 @@ use Rattle.std.proofs.lemmas.Bool.Decides.{nat_tests}
 use Rattle.atl_records.specs.declared.books.Entry.{Entry}
 use Rattle.atl_records.specs.declared.books.Entry.TheVariants.{Founding}
 use Rattle.atl_records.specs.declared.books.Thing.{Thing}
-use Rattle.atl_records.specs.Books.{Account, BooksValue, account_cmp, all_entries, entry_index, is_zero, thing_index, amount_in, with_amount, after_booking, sum_of, booked, no_amounts, AreBooks, IsWithin, IsSmall}
+use Rattle.atl_records.specs.Books.{Account, BooksValue, account_cmp, all_entries, entry_index, is_zero, thing_index, amount_in, with_amount, after_booking, sum_of, booked, no_amounts, AreBooks, IsWithin, LeavesRoomForJoining}
 use Rattle.atl_records.proofs.AccountLaws.{account_total, account_same, account_itself, cases_account, apart_entries, apart_things, same_account}
 use Rattle.atl_records.proofs.EveryLaws.{none_some}
 
@@ -93,12 +93,12 @@ AreBooks-after_booking things books e t n old there = AreBooks-with_amount books
 -- ---- what is booked of a thing
 
 -- what a booking of n for thing u adds to the sum of thing t: n where t is u, else 0
-abbrev pub share_of : Thing → Thing → ℤ → ℤ
-share_of t u n = cond (thing_index t == thing_index u) n (pos 0)
+abbrev pub booked_for : Thing → Thing → ℤ → ℤ
+booked_for t u n = cond (thing_index t == thing_index u) n (pos 0)
 
 -- what a booking of n under entry e adds to the amount under entry f: n where f is e, else 0
-abbrev under : Entry → ℤ → Entry → ℤ
-under e n f = cond (entry_index f == entry_index e) n (pos 0)
+abbrev added_under : Entry → ℤ → Entry → ℤ
+added_under e n f = cond (entry_index f == entry_index e) n (pos 0)
 
 -- an amount plus 0 is the amount: for amounts to which a booking adds nothing
 nothing : (z : ℤ) → z ≡ z +ℤ pos 0
@@ -113,14 +113,14 @@ sum_of-raised : (a b : Entry → ℤ) (es : List Entry) → sum_of (map (λ e. a
 sum_of-raised a b [] = nothing (pos 0)
 sum_of-raised a b (e ∷ es) = ap (λ z. (a e +ℤ b e) +ℤ z) (sum_of-raised a b es) ∙ regroup (a e) (b e) (sum_of (map a es)) (sum_of (map b es))
 
--- what a booking of n under entry e adds to the amounts under all entries (`under`), summed over the entries, is n
-once : (e : Entry) (n : ℤ) → sum_of (map (under e n) all_entries) ≡ n
-once Founding n = omega (arith, ints)
-once _ n = omega (arith, ints)
+-- what a booking of n under entry e adds to the amounts under all entries (`added_under`), summed over them, is n
+sum_of_one_booking : (e : Entry) (n : ℤ) → sum_of (map (added_under e n) all_entries) ≡ n
+sum_of_one_booking Founding n = omega (arith, ints)
+sum_of_one_booking _ n = omega (arith, ints)
 
 module _ (books : BooksValue) (e : Entry) (u : Thing) (n : ℤ) where
-  -- a booking of n adds n to the thing's amount under its entry, and nothing under any other (`under`)
-  raised : (f : Entry) → amount_in (after_booking books e u n) f u ≡ amount_in books f u +ℤ under e n f
+  -- a booking of n adds n to the thing's amount under its entry, and nothing under any other (`added_under`)
+  raised : (f : Entry) → amount_in (after_booking books e u n) f u ≡ amount_in books f u +ℤ added_under e n f
   raised f =
       elim (cases_eq (entry_index f) (entry_index e)) [
         | inl same ↦
@@ -138,11 +138,11 @@ module _ (books : BooksValue) (e : Entry) (u : Thing) (n : ℤ) where
   raised_sum : booked (after_booking books e u n) u ≡ booked books u +ℤ n
   unfolding booked
   raised_sum =
-      let each : (f : Entry) → amount_in (after_booking books e u n) f u ≡ amount_in books f u +ℤ under e n f = raised in
-      (λ i. sum_of (map (λ f. each f i) all_entries)) ∙ sum_of-raised (λ f. amount_in books f u) (under e n) all_entries ∙ ap (λ z. booked books u +ℤ z) (once e n)
+      let each : (f : Entry) → amount_in (after_booking books e u n) f u ≡ amount_in books f u +ℤ added_under e n f = raised in
+      (λ i. sum_of (map (λ f. each f i) all_entries)) ∙ sum_of-raised (λ f. amount_in books f u) (added_under e n) all_entries ∙ ap (λ z. booked books u +ℤ z) (sum_of_one_booking e n)
 
-  -- a booking of n for thing u raises the sum of thing t's amounts by n if t is u, and else by 0 (`share_of`)
-  pub booked-after_booking : (t : Thing) → booked (after_booking books e u n) t ≡ booked books t +ℤ share_of t u n
+  -- a booking of n for thing u raises the sum of thing t's amounts by n if t is u, and else by 0 (`booked_for`)
+  pub booked-after_booking : (t : Thing) → booked (after_booking books e u n) t ≡ booked books t +ℤ booked_for t u n
   unfolding booked
   booked-after_booking t =
       elim (cases_eq (thing_index t) (thing_index u)) [
@@ -238,6 +238,6 @@ IsWithin-after_booking books e u n bound more old l f t =
       | inr is ↦ stays _ _ bound n more is (old f t) l
     ]
 
--- an amount from -bound to bound, with a bound of at most 4 * 10^18, is from -2^62 - 1 to 2^62 (`IsSmall`)
-pub IsSmall-within : (z : ℤ) (bound : ℕ) → IsWithin bound z → bound ≤ 4000000000000000000 → IsSmall z
-IsSmall-within z bound h l = (omega (arith, ints, h.most), omega (arith, ints, h.least))
+-- an amount from -bound to bound, with a bound of at most 4 * 10^18, is from -2^62 - 1 to 2^62 (`LeavesRoomForJoining`)
+pub LeavesRoomForJoining-within : (z : ℤ) (bound : ℕ) → IsWithin bound z → bound ≤ 4000000000000000000 → LeavesRoomForJoining z
+LeavesRoomForJoining-within z bound h l = (omega (arith, ints, h.most), omega (arith, ints, h.least))

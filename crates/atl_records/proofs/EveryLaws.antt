@@ -1,5 +1,5 @@
--- Laws of what holds of each value of a map (`Every`), of each entry of a list (`EachOf`), and of which numbers have a
--- value (`IsThere`): after an insertion, by the list of a map's entries, and with a function applied to each value.
+-- Laws of what holds of each value of a map (`Every`) or entry of a list (`EachEntry`), and of which numbers have a
+-- value (`HasValue`): after an insertion, by the list of a map's entries, and with a function applied to each value.
 use Rattle.std.proofs.Common.{◌≡◌, ◌≢◌, ◌==◌, ◌↔◌, ℕ, zero, suc, ◌<◌, T, Bool, true, false, ◌||◌, cond, List, [], ◌∷◌, length, get_or, map, filter, Option, Some, None, option_map, refl, sym, ap, ◌∙◌, subst, arith}
 use Rattle.std.specs.declared.cmp.Ordering.TheVariants.{Less, Equal, Greater}
 use Rattle.std.specs.List.{list_any}
@@ -11,7 +11,7 @@ use Rattle.std.proofs.lemmas.Bool.{and_parts, false≢true}
 use Rattle.atl_world.specs.Sums.{numbers_where, mapped}
 use Rattle.atl_world.proofs.MappedLaws.{get-mapped}
 use Rattle.atl_world.proofs.SumLaws.{chosen-cons}
-use Rattle.atl_records.specs.Every.{EachOf, Every, IsThere}
+use Rattle.atl_records.specs.Every.{EachEntry, Every, HasValue}
 use Rattle.std.proofs.lemmas.Bool.Decides.{nat_tests}
 
 -- a Bool that holds as a proposition (`T b`) is true
@@ -44,11 +44,11 @@ module _ {V : Type 0} where
   at_or m k v n = cond (is_eq (nat_cmp n k)) (Some v) (get m n)
 
   -- if at_or gives a value for n, the map with v put under k has a value under n
-  there_by : (m : FinMap nat_cmp V) (k n : ℕ) (v : V) → (x : V) × (at_or m k v n ≡ Some x) → IsThere (insert m k v) n
+  there_by : (m : FinMap nat_cmp V) (k n : ℕ) (v : V) → (x : V) × (at_or m k v n ≡ Some x) → HasValue (insert m k v) n
   there_by m k n v (x, is) = (x, get-insert nat_cmp_total m k v n ∙ is)
 
   -- a map with a value put under k has a value under k
-  pub there-new : (m : FinMap nat_cmp V) (k : ℕ) (v : V) → IsThere (insert m k v) k
+  pub there-new : (m : FinMap nat_cmp V) (k : ℕ) (v : V) → HasValue (insert m k v) k
   there-new m k v =
       there_by m k k v (elim (nat_cmp k k) as (λ o. nat_cmp k k ≡ o → (x : V) × (cond (is_eq o) (Some v) (get m k) ≡ Some x)) [
         | Less ↦ λ e. let l = ranked k k Less (sym e) in absurd (omega arith)
@@ -57,7 +57,7 @@ module _ {V : Type 0} where
       ] refl)
 
   -- a number that has a value in a map still has one once a value is put in under k
-  pub there-insert : (m : FinMap nat_cmp V) (k n : ℕ) (v : V) → IsThere m n → IsThere (insert m k v) n
+  pub there-insert : (m : FinMap nat_cmp V) (k n : ℕ) (v : V) → HasValue m n → HasValue (insert m k v) n
   there-insert m k n v (x, is) =
       there_by m k n v (elim (nat_cmp n k) as (λ o. (y : V) × (cond (is_eq o) (Some v) (get m n) ≡ Some y)) [ Less ↦ (x, is) | Equal ↦ (v, refl) | Greater ↦ (x, is) ])
 
@@ -100,8 +100,8 @@ module _ {V : Type 0} where
         | Greater ↦ λ o. let l = ranked e.0 e.0 Greater (sym o) in absurd (omega arith)
       ] refl
 
-  -- if P holds of each entry of a list (EachOf), it holds of each value that is found in it
-  pub found_of : (P : ℕ → V → Type 0) (es : List (ℕ × V)) (n : ℕ) (v : V) → EachOf P es → find nat_cmp n es ≡ Some v → P n v
+  -- if P holds of each entry of a list (EachEntry), it holds of each value that is found in it
+  pub found_of : (P : ℕ → V → Type 0) (es : List (ℕ × V)) (n : ℕ) (v : V) → EachEntry P es → find nat_cmp n es ≡ Some v → P n v
   found_of P [] n v h is = none_some v is
   found_of P (e ∷ es) n v h is =
       elim (nat_cmp n e.0) as (λ o. nat_cmp n e.0 ≡ o → cond (is_eq o) (Some e.1) (find nat_cmp n es) ≡ Some v → P n v) [
@@ -111,7 +111,7 @@ module _ {V : Type 0} where
       ] refl is
 
   -- if P holds of each value that is found in a sorted list, it holds of each of its entries
-  pub each_of : (P : ℕ → V → Type 0) (es : List (ℕ × V)) → is_sorted nat_cmp es ≡ true → ((n : ℕ) (v : V) → find nat_cmp n es ≡ Some v → P n v) → EachOf P es
+  pub each_of : (P : ℕ → V → Type 0) (es : List (ℕ × V)) → is_sorted nat_cmp es ≡ true → ((n : ℕ) (v : V) → find nat_cmp n es ≡ Some v → P n v) → EachEntry P es
   each_of P [] s h = tt
   each_of P (e ∷ es) s h = (h e.0 e.1 (first e es), each_of P es (and_parts _ _ s).1 (λ n v is. h n v (later e es n v s is)))
 
@@ -120,11 +120,11 @@ module _ {V : Type 0} where
   sorted m = is_true _ (entries_sorted m)
 
   -- if P holds of each entry of a map, it holds of every value
-  pub every-from_each : (P : ℕ → V → Type 0) (m : FinMap nat_cmp V) → EachOf P (entries m) → Every P m
+  pub every-from_each : (P : ℕ → V → Type 0) (m : FinMap nat_cmp V) → EachEntry P (entries m) → Every P m
   every-from_each P m h n v is = found_of P (entries m) n v h (sym (get-entries m n) ∙ is)
 
   -- if P holds of every value of a map, it holds of each entry
-  pub each-from_every : (P : ℕ → V → Type 0) (m : FinMap nat_cmp V) → Every P m → EachOf P (entries m)
+  pub each-from_every : (P : ℕ → V → Type 0) (m : FinMap nat_cmp V) → Every P m → EachEntry P (entries m)
   each-from_every P m h = each_of P (entries m) (sorted m) (λ n v is. h n v (get-entries m n ∙ is))
 
   -- if no value of a list's entries passes the test p, each value that is found in the list fails it
@@ -193,15 +193,15 @@ module _ {V W : Type 0} (f : V → W) where
   every-mapped P m h n x is = let (v, there, same) = under (get m n) x (sym (get-mapped f m n) ∙ is) in subst (P n) same (h n v there)
 
   -- a map with f applied to each value has values under the same numbers as the map itself
-  pub there-mapped : (m : FinMap nat_cmp V) (n : ℕ) → IsThere (mapped f m) n ↔ IsThere m n
+  pub there-mapped : (m : FinMap nat_cmp V) (n : ℕ) → HasValue (mapped f m) n ↔ HasValue m n
   there-mapped m n = (back, forth)
     where
       -- a number that has a value in the map with f applied to each value has one in the map itself
-      back : IsThere (mapped f m) n → IsThere m n
+      back : HasValue (mapped f m) n → HasValue m n
       back (x, is) = let (v, there, same) = under (get m n) x (sym (get-mapped f m n) ∙ is) in (v, there)
 
       -- a number that has a value in the map itself has one in the map with f applied to each value
-      forth : IsThere m n → IsThere (mapped f m) n
+      forth : HasValue m n → HasValue (mapped f m) n
       forth (v, is) = (f v, get-mapped f m n ∙ ap (option_map f) is)
 
 -- ---- numbers compared

@@ -14,7 +14,7 @@ use Rattle.atl_records.specs.declared.books.Entry.TheVariants.{Founding}
 use Rattle.atl_records.specs.declared.books.Thing.{Thing}
 use Rattle.atl_records.specs.Books.{Account, BooksValue, account_cmp, all_entries, amount_in, AreBooks, booked, entry_index, no_amounts, sum_of, thing_at, thing_index, with_amount}
 use Rattle.atl_records.specs.Grids.{IsGrid, row_of, cell, with_cell, accounts_under, accounts, filled, as_books}
-use Rattle.atl_records.proofs.AccountLaws.{account_total, account_same, account_itself, apart_entries, apart_things, at_place, cases_account, same_account, same_entry}
+use Rattle.atl_records.proofs.AccountLaws.{account_total, account_same, account_itself, apart_entries, apart_things, thing_at_index, cases_account, same_account, same_entry}
 use Rattle.atl_records.proofs.BookLaws.{amount_listed, get-with_amount, listed, listed_some, same_value}
 use Rattle.atl_records.proofs.EveryEntryLaws.{entry_in_place, entry_small}
 
@@ -60,7 +60,7 @@ any_under e t a zero l h = absurd (omega arith)
 any_under e t a (suc n) l h =
     let others = list_any (eq_by_cmp account_cmp (e, t)) (map (λ i. (e, thing_at i)) (range_with_len (a + 1) n)) in
     elim (cases_eq a (thing_index t)) [
-      | inl same ↦ ap (λ b. b || others) (ap (λ u. eq_by_cmp account_cmp (e, t) (e, u)) (ap thing_at same ∙ at_place t) ∙ account_itself (e, t))
+      | inl same ↦ ap (λ b. b || others) (ap (λ u. eq_by_cmp account_cmp (e, t) (e, u)) (ap thing_at same ∙ thing_at_index t) ∙ account_itself (e, t))
       | inr apart ↦ or_later (eq_by_cmp account_cmp (e, t) (e, thing_at a)) others (any_under e t (a + 1) n (omega arith) (omega arith))
     ]
 

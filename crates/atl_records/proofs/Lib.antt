@@ -5,5 +5,5 @@ pub mod EveryLaws
 pub mod GridLaws
 pub mod HoldingLaws
 pub mod LevelLaws
-pub mod ListedLaws
+pub mod AmountListLaws
 pub mod RemovedLaws

@@ -114,8 +114,8 @@ pub record AreBooks (things : ℕ) (books : BooksValue) : Type 0 where
   pub listed : (e : Entry) (t : Thing) (amount : ℤ) → get books.amounts (e, t) ≡ Some amount → (thing_index t < things) × (amount ≢ pos 0)
 
 -- an amount from -2^62 - 1 to 2^62, to which the money or people of a joining can be added within 64 bits
-abbrev pub IsSmall : ℤ → Type 0
-IsSmall z = (z ≤ℤ pos (2 ^ 62)) × (negsuc (2 ^ 62) ≤ℤ z)
+abbrev pub LeavesRoomForJoining : ℤ → Type 0
+LeavesRoomForJoining z = (z ≤ℤ pos (2 ^ 62)) × (negsuc (2 ^ 62) ≤ℤ z)
 
 -- an amount from -bound to bound
 pub record IsWithin (bound : ℕ) (amount : ℤ) : Type 0 where

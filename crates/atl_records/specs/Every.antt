@@ -8,10 +8,10 @@ abbrev pub Every : {V : Type 0} → (ℕ → V → Type 0) → FinMap nat_cmp V 
 Every P m = (n : ℕ) → (v : _) → get m n ≡ Some v → P n v
 
 -- a map has a value under the number n
-abbrev pub IsThere : {V : Type 0} → FinMap nat_cmp V → ℕ → Type 0
-IsThere {V} m n = (v : V) × (get m n ≡ Some v)
+abbrev pub HasValue : {V : Type 0} → FinMap nat_cmp V → ℕ → Type 0
+HasValue {V} m n = (v : V) × (get m n ≡ Some v)
 
 -- a condition on a number and its value holds of each entry of a list
-abbrev pub EachOf : {V : Type 0} → (ℕ → V → Type 0) → List (ℕ × V) → Type 0
-EachOf P [] = ⊤
-EachOf P (e ∷ es) = P e.0 e.1 × EachOf P es
+abbrev pub EachEntry : {V : Type 0} → (ℕ → V → Type 0) → List (ℕ × V) → Type 0
+EachEntry P [] = ⊤
+EachEntry P (e ∷ es) = P e.0 e.1 × EachEntry P es

@@ -86,8 +86,8 @@ impl Entry {
     }
 
     /// The index of the entry in each row of the books, from 0.
-    fn place(self) -> usize
-        ensures place { result ≡ entry_index self }
+    fn column(self) -> usize
+        ensures index { result ≡ entry_index self }
         ensures small { result < entry_count }
     {
         self.number() as usize - 1
@@ -121,8 +121,8 @@ impl Thing {
     }
 
     /// The index of the thing's row in the books, from 0.
-    fn place(self) -> usize
-        ensures place { result ≡ thing_index self }
+    fn row_index(self) -> usize
+        ensures index { result ≡ thing_index self }
         ensures small { result < possible_things }
     {
         self.number() as usize
@@ -210,7 +210,7 @@ impl Books {
         requires { thing_index thing < self.now.things }
         ensures { result ≡ amount_in self.now entry thing }
     {
-        self.rows[thing.place()][entry.place()]
+        self.rows[thing.row_index()][entry.column()]
     }
 
     /// Sets the amount of a thing under an entry. The books must have the thing. It takes no
@@ -219,9 +219,9 @@ impl Books {
         requires { thing_index thing < self.old.things }
         ensures { self.new ≡ with_amount self.old entry thing amount }
     {
-        let row = thing.place();
-        let place = entry.place();
-        self.rows[row][place] = amount;
+        let row = thing.row_index();
+        let column = entry.column();
+        self.rows[row][column] = amount;
     }
 
     /// The sum of a thing's amounts over all entries. The books must have the thing.
@@ -229,7 +229,7 @@ impl Books {
         requires { thing_index thing < self.now.things }
         ensures { result ≡ booked self.now thing }
     {
-        row_sum(&self.rows[thing.place()])
+        row_sum(&self.rows[thing.row_index()])
     }
 
     /// Adds `amount`, of either sign, to what the books have of a thing under an entry. The books

@@ -8,7 +8,7 @@ use Rattle.atl_orders.specs.declared.fault.FaultyLine.{FaultyLine}
 use Rattle.atl_records.specs.declared.event.Event.{Event}
 use Rattle.atl_report.specs.Events.{faulty_lines, event_lines, own_events, results_text, orders_part}
 use Rattle.atl_report.specs.Sight.{view_of}
-use Rattle.atl_report.specs.Report.{header_line, region_parts, report_of, OthersEventsAreNotTold, OnlyWhatIsSeenIsTold}
+use Rattle.atl_report.specs.Report.{header_line, region_parts, report_of, OthersEventsAreNotReported, OnlyWhatIsSeenIsReported}
 
 -- without faulty lines, the text of faulty lines and events is `None.`, if no event of the list passes the test
 none_passes : (p : Event → Bool) (es : List Event) → list_any p es ≡ false → results_text [] (filter p es) ≡ codes "None.\n"
@@ -58,12 +58,12 @@ results_lines faction [] events h = by_test (list_any (λ (e : Event). e.faction
     by_test false h rest = absurd (false≢true (sym h))
 
 -- two lists of events with the same events of a faction give that faction the same report
-pub others_events_are_not_reported : OthersEventsAreNotTold
+pub others_events_are_not_reported : OthersEventsAreNotReported
 unfolding report_of orders_part
 others_events_are_not_reported w v faults events others h = ap (λ own. header_line v ++ ((codes "Orders:\n" ++ results_text faults own) ++ region_parts w v.regions)) h
 
 -- two campaigns of which a faction sees the same give it one report, for the same faulty lines and own events
-pub only_what_is_seen_is_reported : OnlyWhatIsSeenIsTold
+pub only_what_is_seen_is_reported : OnlyWhatIsSeenIsReported
 unfolding view_of
 only_what_is_seen_is_reported w c d faction faults events others seen results_text =
     others_events_are_not_reported w (view_of w c faction) faults events others results_text ∙ ap (λ v. report_of w v faults others) seen

@@ -15,7 +15,7 @@ use Rattle.atl_world.proofs.TrackLaws.{is_true}
 use Rattle.atl_world.proofs.GeneralLaws.{key_turned}
 use Rattle.atl_records.specs.declared.records.Region.{Region}
 use Rattle.atl_records.specs.declared.records.Unit.{Unit}
-use Rattle.atl_records.specs.Every.{EachOf}
+use Rattle.atl_records.specs.Every.{EachEntry}
 use Rattle.atl_campaign.specs.Campaign.{CampaignValue, numbers_of}
 use Rattle.atl_records.proofs.EveryLaws.{each-from_every}
 use Rattle.atl_report.specs.Watching.{is_watching, sees_region}
@@ -207,7 +207,7 @@ entries-with_all_watched c f =
 module _ {A : Type 0} (m : FinMap nat_cmp Region) (make : ℕ → Region → A) where
   -- if the map `m` has each entry of `es`, then to look up in `m` the regions of those entries that pass `p`, by
   -- number, and apply `make` to each, gives what `make` gives of these entries
-  looked_up : (p : ℕ × Region → Bool) (es : List (ℕ × Region)) → EachOf (λ n r. get m n ≡ Some r) es
+  looked_up : (p : ℕ × Region → Bool) (es : List (ℕ × Region)) → EachEntry (λ n r. get m n ≡ Some r) es
       → filter_map (λ (e : ℕ × Prim.Unit {0}). option_map (make e.0) (get m e.0)) (map number_alone (filter p es)) ≡ map (λ e. make e.0 e.1) (filter p es)
   looked_up p [] h = refl
   looked_up p (e ∷ es) h =

@@ -163,15 +163,15 @@ unfoldable pub report_of : WorldValue → View → List FaultyLine → List Even
 report_of w v faults events = header_line v ▸ orders_part v.faction faults events ▸ region_parts w v.regions
 
 -- the law that two lists of events with the same events of a faction give it the same report
-abbrev pub OthersEventsAreNotTold : Type 0
-OthersEventsAreNotTold =
+abbrev pub OthersEventsAreNotReported : Type 0
+OthersEventsAreNotReported =
     (w : WorldValue) (v : View) (faults : List FaultyLine) (events others : List Event)
     → own_events v.faction events ≡ own_events v.faction others
     → report_of w v faults events ≡ report_of w v faults others
 
 -- the law that a faction that sees the same of two campaigns gets one report, for the same faulty lines and own events
-abbrev pub OnlyWhatIsSeenIsTold : Type 0
-OnlyWhatIsSeenIsTold =
+abbrev pub OnlyWhatIsSeenIsReported : Type 0
+OnlyWhatIsSeenIsReported =
     (w : WorldValue) (c d : CampaignValue) (faction : ℕ) (faults : List FaultyLine) (events others : List Event)
     → view_of w c faction ≡ view_of w d faction
     → own_events faction events ≡ own_events faction others

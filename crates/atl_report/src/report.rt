@@ -2,7 +2,7 @@
 ghost use Rattle.std.specs.Prelude.{◌≡◌, ◌++◌, ◌&&◌, IfOk, OnOk, [], codes, if◌then◌else◌, is_none, string_bytes};
 ghost use Rattle.std.specs.Option.{option_map_or};
 ghost use Rattle.atl_report.specs.Each.{each_text, separated_texts};
-ghost use Rattle.atl_report.specs.Report.{header_line, unit_head, guard_text, inside_text, item_text, skill_text, goods_text, unit_line, structure_text, structure_line, region_line, exit_text, exit_texts, exits_text, exits_line, market_text, market_line, market_lines, region_part, report_of, OthersEventsAreNotTold, OnlyWhatIsSeenIsTold};
+ghost use Rattle.atl_report.specs.Report.{header_line, unit_head, guard_text, inside_text, item_text, skill_text, goods_text, unit_line, structure_text, structure_line, region_line, exit_text, exit_texts, exits_text, exits_line, market_text, market_line, market_lines, region_part, report_of, OthersEventsAreNotReported, OnlyWhatIsSeenIsReported};
 
 use crate::events::write_orders;
 use crate::views::{
@@ -399,12 +399,12 @@ pub fn report_text(
 
 /// The law that events of other factions make no difference to a faction's report. It does nothing.
 pub fn others_events_are_not_reported()
-    ensures { OthersEventsAreNotTold }
+    ensures { OthersEventsAreNotReported }
 {}
 
 /// The law that a report depends only on the faction's view, its faulty lines and its own events.
 /// Two campaigns of one world with the same view, faulty lines and own events give one report. It
 /// does nothing.
 pub fn only_what_is_seen_is_reported()
-    ensures { OnlyWhatIsSeenIsTold }
+    ensures { OnlyWhatIsSeenIsReported }
 {}

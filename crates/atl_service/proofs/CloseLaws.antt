@@ -18,12 +18,12 @@ use Rattle.atl_orders.specs.declared.fault.MailFault.{MailFault}
 use Rattle.atl_orders.specs.declared.fault.MailFault.TheVariants.{TooLong, NoHeader, BadHeader, Memory}
 use Rattle.atl_orders.specs.declared.mailing.Mailing.{Mailing}
 use Rattle.atl_orders.specs.Limits.{most_bytes}
-use Rattle.atl_orders.specs.Lines.{lines}
+use Rattle.atl_orders.specs.TextLines.{lines}
 use Rattle.atl_orders.specs.Mailing.{IsMailingOf, IsReadWith, Reading, Reads, after_header, header_from, reading, reading_of}
 use Rattle.atl_records.specs.declared.event.Event.{Event}
 use Rattle.atl_records.specs.declared.records.Faction.{Faction}
 use Rattle.atl_campaign.specs.Covers.{MarksChanges}
-use Rattle.atl_records.specs.Every.{EachOf, IsThere}
+use Rattle.atl_records.specs.Every.{EachEntry, HasValue}
 use Rattle.atl_campaign.specs.Good.{IsGood}
 use Rattle.atl_records.specs.Limits.{most_things}
 use Rattle.atl_campaign.specs.Marking.{mark_all_mail, mark_campaign_row, mark_report}
@@ -86,7 +86,7 @@ module _ (w : WorldValue) where
   texts_read es = flat_map (λ e. read_of (reading w e.1)) es
 
   -- the readings of stored mailings name the factions under whose numbers they are stored
-  factions_read : (es : List (ℕ × List ℕ)) → EachOf IsMailingOf es → map (λ r. r.faction) (texts_read es) ≡ map (λ e. e.0) es
+  factions_read : (es : List (ℕ × List ℕ)) → EachEntry IsMailingOf es → map (λ r. r.faction) (texts_read es) ≡ map (λ e. e.0) es
   factions_read [] h = refl
   factions_read (e ∷ es) h =
       let (r, is, own) = reads w e.0 e.1 h.0 in
@@ -98,7 +98,7 @@ factions_of [] = refl
 factions_of (m ∷ ms) = ap (λ ns. m.faction ∷ ns) (factions_of ms)
 
 -- each stored mailing of a good campaign is a mailing of its faction
-sent_by : (w : WorldValue) (c : CampaignValue) → IsGood w c → EachOf IsMailingOf (entries c.mail)
+sent_by : (w : WorldValue) (c : CampaignValue) → IsGood w c → EachEntry IsMailingOf (entries c.mail)
 sent_by w c good = each-from_every IsMailingOf c.mail (λ n text there. (good.sound.mail n text there).0)
 
 -- no two mailings read from a good campaign are of one faction
@@ -137,7 +137,7 @@ module _ (w : WorldValue) (events : List Event) where
       good_reports faults (reported_to w faults events c n) ns there (IsGood-with_report w c n (report_of w (view_of w c n) (faults n) events) here good)
 
 -- what is true of every faction's number is true of the numbers of the factions that pass a test
-there_among : (P : ℕ → Type 0) (p : Faction → Bool) (es : List (ℕ × Faction)) → EachOf (λ n f. P n) es → AllByRecursion P (numbers_among p es)
+there_among : (P : ℕ → Type 0) (p : Faction → Bool) (es : List (ℕ × Faction)) → EachEntry (λ n f. P n) es → AllByRecursion P (numbers_among p es)
 there_among P p [] all = tt
 there_among P p (e ∷ es) (here, all) = at (p e.1) (there_among P p es all)
   where
@@ -148,8 +148,8 @@ there_among P p (e ∷ es) (here, all) = at (p e.1) (there_among P p es all)
     at false rest = rest
 
 -- if no faction was removed, the factions that weren't gone before are in the campaign after
-pub active_there : (before after : CampaignValue) → ((n : ℕ) → IsThere before.factions n → IsThere after.factions n) → AreThere after (active before)
-active_there before after stay = there_among (IsThere after.factions) (λ f. not f.gone) (entries before.factions) (each-from_every (λ n f. IsThere after.factions n) before.factions (λ n f is. stay n (f, is)))
+pub active_there : (before after : CampaignValue) → ((n : ℕ) → HasValue before.factions n → HasValue after.factions n) → AreThere after (active before)
+active_there before after stay = there_among (HasValue after.factions) (λ f. not f.gone) (entries before.factions) (each-from_every (λ n f. HasValue after.factions n) before.factions (λ n f is. stay n (f, is)))
 
 -- ---- the month
 
@@ -227,7 +227,7 @@ read_goes_on w c ms ns faults faults' here rest n text m left one_more read kept
       subst (All (IsReadWith w)) (sym one_more) (All-push (IsReadWith w) ms m all read),
       ap (λ fs. entries fs ++ faulty_lines_in w rest) put ∙ ap (λ es. es ++ faulty_lines_in w rest) (insert_last faults (wrong w c) n m.faults (faulty_lines_in w rest) told_now)
           ∙ append_assoc (entries faults) ((n, m.faults) ∷ []) (faulty_lines_in w rest) ∙ told_now,
-      (subst (EachOf IsMailingOf) left sent).1,
+      (subst (EachEntry IsMailingOf) left sent).1,
     )
 
 -- if no mailing is left to read, all mail is read (`HasRead`)

@@ -8,7 +8,7 @@ use Rattle.atl_world.specs.Sums.{mapped}
 use Rattle.atl_orders.specs.declared.fault.FaultyLine.{FaultyLine}
 use Rattle.atl_orders.specs.declared.mailing.Mailing.{Mailing}
 use Rattle.atl_orders.specs.Mailing.{IsMailingOf, IsReadWith, reading, reading_of}
-use Rattle.atl_records.specs.Every.{EachOf, IsThere}
+use Rattle.atl_records.specs.Every.{EachEntry, HasValue}
 use Rattle.atl_records.specs.Limits.{last_month}
 use Rattle.atl_campaign.specs.Campaign.{CampaignValue}
 use Rattle.atl_service.specs.declared.closing.ReadMail.{ReadMail}
@@ -25,7 +25,7 @@ ReadSoFar w c mailings faults rest =
     (map reading_of mailings ++ flat_map (λ e. read_of (reading w e.1)) rest ≡ readings w c)
     × All (IsReadWith w) mailings
     × (entries faults ++ map (λ e. (e.0, faults_of (reading w e.1))) rest ≡ entries (mapped (λ text. faults_of (reading w text)) c.mail))
-    × EachOf IsMailingOf rest
+    × EachEntry IsMailingOf rest
 
 -- All mail of the campaign is read: `r` has the mailings in the factions' order, and the faulty lines of each under its
 -- faction's number.
@@ -39,7 +39,7 @@ pub record HasRead (w : WorldValue) (c : CampaignValue) (r : ReadMail) : Type 0 
 
 -- Each of these numbers is the number of a faction of the campaign.
 abbrev pub AreThere : CampaignValue → List ℕ → Type 0
-AreThere c factions = AllByRecursion (λ n. IsThere c.factions n) factions
+AreThere c factions = AllByRecursion (λ n. HasValue c.factions n) factions
 
 -- the campaign with a new report for each faction that the month's result lists, with its faulty lines and events
 abbrev pub reported_to_all : WorldValue → CampaignValue → MonthResult → CampaignValue

@@ -17,10 +17,10 @@ use Rattle.atl_campaign.specs.FromRows.{put_amounts}
 use Rattle.atl_campaign.specs.RowRules.{books_key, HaveKeys}
 use Rattle.atl_campaign.specs.Rows.{amounts_rows, books_row, books_rows}
 use Rattle.atl_campaign.proofs.ReadBackLaws.{each_permuted, each_back, read_whole, apart_keys, keys_permuted, same_size}
-use Rattle.atl_records.proofs.AccountLaws.{account_total, at_place, same_account}
+use Rattle.atl_records.proofs.AccountLaws.{account_total, thing_at_index, same_account}
 use Rattle.atl_records.proofs.BookLaws.{AreBooks-no_amounts, same_books}
 use Rattle.atl_records.proofs.EveryEntryLaws.{entry_small, numbered_entry}
-use Rattle.atl_records.proofs.ListedLaws.{amounts_sorted, each_amount, amount_of_each}
+use Rattle.atl_records.proofs.AmountListLaws.{amounts_sorted, each_amount, amount_of_each}
 use Rattle.atl_state.proofs.BooksRowLaws.{IsBooked, books_order}
 use Rattle.atl_campaign.proofs.FromRowLaws.{put-books}
 use Rattle.atl_campaign.proofs.HasLaws.{same}
@@ -115,7 +115,7 @@ module _ (things : ℕ) (few : things ≤ 4294967294) (books : BooksValue) (are 
         account = (e, t);
         row = refl;
         named = ap entry_numbered entry ∙ numbered_entry e;
-        numbered = ap thing_at thing ∙ at_place t;
+        numbered = ap thing_at thing ∙ thing_at_index t;
         there = omega (arith, thing, inside);
         some = some;
       })

@@ -5,13 +5,13 @@ use Rattle.std.specs.List.Sorted.{IsPermutation}
 use Rattle.std.specs.Ordering.{nat_cmp}
 use Rattle.std.specs.FinMap.{FinMap, get, entries}
 use Rattle.std.proofs.lemmas.Bool.{not-true, not_from_false}
-use Rattle.atl_records.specs.Every.{EachOf, Every}
+use Rattle.atl_records.specs.Every.{EachEntry, Every}
 use Rattle.atl_campaign.specs.FromRows.{by_number}
 use Rattle.atl_campaign.specs.Rows.{rows_by}
 use Rattle.atl_campaign.proofs.ReadBackLaws.{each_permuted, each_back, by_number_is, append_each, each_appended, every_row, rows_every, rows_apart, entries_rise}
 use Rattle.atl_records.proofs.EveryLaws.{every-from_each, each-from_every}
 use Rattle.atl_campaign.proofs.GroupLaws.{filter_apart, kept, unkept}
-use Rattle.atl_campaign.proofs.OrderLaws.{Apart, rows_found}
+use Rattle.atl_campaign.proofs.MapOfRowsLaws.{Apart, rows_found}
 
 -- ---- what holds for each element of joined lists
 
@@ -29,15 +29,15 @@ module _ {X R : Type 0} (P : R → Type 0) (f : X → List R) where
 -- ---- the rows of all groups
 
 module _ {U R : Type 0} (f : ℕ × U → List R) (P : R → Type 0) where
-  -- If P holds for all rows f (n, u) of each entry's number n and value u (`EachOf`), it holds for all rows f e of each
-  -- entry e.
-  of_each : (es : List (ℕ × U)) → EachOf (λ n u. AllByRecursion P (f (n, u))) es → AllByRecursion (λ e. AllByRecursion P (f e)) es
+  -- If P holds for all rows f (n, u) of each entry's number n and value u (`EachEntry`), it holds for all rows f e of
+  -- each entry e.
+  of_each : (es : List (ℕ × U)) → EachEntry (λ n u. AllByRecursion P (f (n, u))) es → AllByRecursion (λ e. AllByRecursion P (f e)) es
   of_each [] h = tt
   of_each (e ∷ es) h = (h.0, of_each es h.1)
 
   -- If P holds for all rows f e of each entry e, it holds for all rows f (n, u) of each entry's number n and value u
-  -- (`EachOf`).
-  each_of : (es : List (ℕ × U)) → AllByRecursion (λ e. AllByRecursion P (f e)) es → EachOf (λ n u. AllByRecursion P (f (n, u))) es
+  -- (`EachEntry`).
+  each_of : (es : List (ℕ × U)) → AllByRecursion (λ e. AllByRecursion P (f e)) es → EachEntry (λ n u. AllByRecursion P (f (n, u))) es
   each_of [] h = tt
   each_of (e ∷ es) h = (h.0, each_of es h.1)
 

@@ -19,11 +19,11 @@ use Rattle.atl_campaign.specs.FromRows.{as_u32, with_books_row, put_amounts}
 use Rattle.atl_records.specs.Limits.{entry_count}
 use Rattle.atl_campaign.specs.RowRules.{Key, books_key}
 use Rattle.atl_campaign.specs.Rows.{amounts_rows, books_row, books_rows}
-use Rattle.atl_records.proofs.AccountLaws.{account_total, cases_account, place_at}
+use Rattle.atl_records.proofs.AccountLaws.{account_total, cases_account, index_of_thing_at}
 use Rattle.atl_records.proofs.BookLaws.{AreBooks-no_amounts, AreBooks-with_amount, get-with_amount, listed, zero_not}
 use Rattle.atl_records.proofs.EveryEntryLaws.{entry_at, numbered_entry}
 use Rattle.atl_records.proofs.EveryLaws.{none_some}
-use Rattle.atl_records.proofs.ListedLaws.{entries-none}
+use Rattle.atl_records.proofs.AmountListLaws.{entries-none}
 use Rattle.atl_campaign.proofs.HasLaws.{IsWhole, same, ties_itself}
 
 -- ---- one more amount
@@ -78,7 +78,7 @@ booked_row things r entry thing least most there some =
     let (e, at) = entry_at (as_u32 r.entry - 1) (omega arith) in
     let number = one_up (as_u32 r.entry) (entry_index e) least at in
     let entries = ap pos number ∙ sym entry in
-    let places = ap pos (place_at (as_u32 r.thing)) ∙ sym thing in
+    let places = ap pos (index_of_thing_at (as_u32 r.thing)) ∙ sym thing in
     record {
       account = (e, thing_at (as_u32 r.thing));
       row = λ i. record { entry = entries i; thing = places i; amount = r.amount };
@@ -90,7 +90,7 @@ booked_row things r entry thing least most there some =
 
 -- the thing of the account that a row is read as (IsBooked) is one of the first `things` things
 pub account_there : (things : ℕ) (r : StoredBooks) (h : IsBooked things r) → thing_index h.account.1 < things
-account_there things r h = let is = sym (ap thing_index h.numbered) ∙ place_at (as_u32 r.thing) in omega (arith, is, h.there)
+account_there things r h = let is = sym (ap thing_index h.numbered) ∙ index_of_thing_at (as_u32 r.thing) in omega (arith, is, h.there)
 
 -- putting a row that is read as an account (IsBooked) into books sets the amount of that account
 pub with_booked_row : (things : ℕ) (books : BooksValue) (r : StoredBooks) → AreBooks things books → (h : IsBooked things r) → with_books_row books r ≡ with_amount books h.account.0 h.account.1 r.amount

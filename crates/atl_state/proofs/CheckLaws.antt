@@ -19,7 +19,7 @@ use Rattle.std.specs.List.{list_all, AllByRecursion}
 use Rattle.atl_records.specs.Books.{BooksValue, amount_in, AreBooks, entry_index, no_amounts}
 use Rattle.atl_campaign.specs.Founding.{things_of}
 use Rattle.atl_campaign.specs.FromRows.{as_u32, stocks_of, region_of, put_amounts, campaign_row_of, campaign_of}
-use Rattle.atl_records.specs.Every.{Every, IsThere}
+use Rattle.atl_records.specs.Every.{Every, HasValue}
 use Rattle.atl_campaign.specs.Good.{AreOfMarkets, HasNoStocks, IsGood}
 use Rattle.atl_campaign.specs.RowRules.{is_one_campaign_row, is_entry_in, is_booked, campaign_row_in_range, people_in_range, region_in_range, structure_in_range, books_in_range, books_bound, market_in_range}
 use Rattle.atl_campaign.specs.Totals.{IsCountable}
@@ -30,7 +30,7 @@ use Rattle.atl_campaign.proofs.ReadBackLaws.{each_back, read_whole}
 use Rattle.atl_records.proofs.EveryEntryLaws.{entry_small}
 use Rattle.atl_campaign.proofs.FromRowLaws.{by_number-every, from_le, AreInRange-said, HaveMen-said}
 use Rattle.atl_state.proofs.NamedLaws.{AreNamed-said, AreAmountsWithin-said}
-use Rattle.atl_campaign.proofs.OrderLaws.{each_passes}
+use Rattle.atl_campaign.proofs.MapOfRowsLaws.{each_passes}
 use Rattle.atl_state.proofs.SaidLaws.{RowsKeep, ranges, none_in_first, books_said, rows_said}
 
 -- the rule with a number from 1 to 12; the last rule for any other number
@@ -179,7 +179,7 @@ module _ (f : Format) (w : WorldValue) (p : Parts) where
   stocks-said k = (k Known (omega arith)).0.markets
 
   -- if rows keep rules 1 to 7, the region of each unit read from them exists
-  pub places-said : KeepsRulesBelow f w p 8 → Every (λ n u. IsThere (campaign_of w p).regions u.region) (campaign_of w p).units
+  pub places-said : KeepsRulesBelow f w p 8 → Every (λ n u. HasValue (campaign_of w p).regions u.region) (campaign_of w p).units
   places-said k n u is = ((k Known (omega arith)).0.units n u is).region
 
   -- rows that keep rules 1 to 3 have exactly one campaign row

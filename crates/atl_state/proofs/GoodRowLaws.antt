@@ -24,7 +24,7 @@ use Rattle.atl_records.specs.Books.{no_amounts}
 use Rattle.atl_state.specs.Checking.{Fits}
 use Rattle.atl_campaign.specs.Founding.{things_of}
 use Rattle.atl_campaign.specs.FromRows.{as_u32, as_u16, is_set, faction_of, stocks_of, region_of, structure_of, unit_of, by_number, put_amounts, things_had, no_campaign_row, campaign_row_of, campaign_of}
-use Rattle.atl_records.specs.Every.{Every, IsThere}
+use Rattle.atl_records.specs.Every.{Every, HasValue}
 use Rattle.atl_campaign.specs.Good.{IsNumbered, IsGood}
 use Rattle.atl_records.specs.Holdings.{AreAmounts}
 use Rattle.atl_records.specs.Limits.{last_month, last_unit, men_limit, holding_limit, most_structures, most_days, most_u16, most_u32}
@@ -38,7 +38,7 @@ use Rattle.atl_state.proofs.BackHasLaws.{AreHad, goods_of, goods_back}
 use Rattle.atl_state.proofs.BackStockRowLaws.{AreStocked, stocks_each, market_keys, stocks_back}
 use Rattle.atl_records.proofs.EveryLaws.{every-from_each}
 use Rattle.atl_campaign.proofs.HasLaws.{IsWhole, same}
-use Rattle.atl_campaign.proofs.OrderLaws.{Apart-keys}
+use Rattle.atl_campaign.proofs.MapOfRowsLaws.{Apart-keys}
 use Rattle.atl_campaign.proofs.RuleLaws.{each_numbered, every_before}
 use Rattle.atl_campaign.proofs.StateLaws.{same_state}
 use Rattle.atl_state.proofs.SaidLaws.{one_apart, none_or_below, small_size, small_limit}
@@ -210,19 +210,19 @@ module _ (w : WorldValue) (world : IsWorld w) (c : CampaignValue) (good : IsGood
   few_units = few_before c.units c.next_unit last_unit good.sound.steady.next.units good.sound.steady.numbers.next_unit_most
 
   -- the number of each region of a good campaign is at most last_region
-  pub region_small : (n : ℕ) → IsThere c.regions n → n ≤ last_region
+  pub region_small : (n : ℕ) → HasValue c.regions n → n ≤ last_region
   region_small n there = let known = (good.sound.steady.known.regions n).0 there in (world.regions n known.0 known.1).number_most
 
   -- the number of each faction of a good campaign is at most last_faction
-  pub faction_small : (n : ℕ) → IsThere c.factions n → n ≤ last_faction
+  pub faction_small : (n : ℕ) → HasValue c.factions n → n ≤ last_faction
   faction_small n there = (few_factions n there.0 there.1).1
 
   -- the number of each unit of a good campaign is at most last_unit
-  pub unit_small : (n : ℕ) → IsThere c.units n → n ≤ last_unit
+  pub unit_small : (n : ℕ) → HasValue c.units n → n ≤ last_unit
   unit_small n there = few_units n there.0 there.1
 
   -- the number of each structure of a good campaign is at most most_structures
-  pub structure_small : (n : ℕ) → IsThere c.structures n → n ≤ most_structures
+  pub structure_small : (n : ℕ) → HasValue c.structures n → n ≤ most_structures
   structure_small n there = (few_structures n there.0 there.1).1
 
   -- the numbers in every unit of a good campaign fit 32 bits (UnitFits)

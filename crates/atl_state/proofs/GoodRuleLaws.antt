@@ -30,7 +30,7 @@ use Rattle.atl_campaign.specs.declared.parts.StoredFaction.{StoredFaction}
 use Rattle.atl_records.specs.declared.records.Faction.{Faction}
 use Rattle.atl_records.specs.Books.{amount_in, entry_index, thing_index, IsWithin}
 use Rattle.atl_state.specs.Checking.{KeepsRule, IsWithoutMarkets, Fits, Checks, GivesBack}
-use Rattle.atl_records.specs.Every.{EachOf}
+use Rattle.atl_records.specs.Every.{EachEntry}
 use Rattle.atl_state.specs.Deciding.{JoinedNamesDiffer}
 use Rattle.atl_campaign.specs.Founding.{things_of}
 use Rattle.atl_campaign.specs.FromRows.{as_u32, faction_of, region_of, structure_of, unit_of, campaign_row_of, campaign_of}
@@ -91,7 +91,7 @@ text_apart : (a b : List ℕ) → a ≢ b → same_text a b ≡ false
 text_apart a b h = elim (same_text a b) as (λ t. same_text a b ≡ t → same_text a b ≡ false) [ true ↦ λ e. absurd (h ((bytes_eq-Decides a b).0 (sym (is_eq-slice_cmp a b) ∙ e))) | false ↦ λ e. e ] refl
 
 -- a faction's joined name compares unequal to those in the rows of listed factions, if all of these have other names
-others_named : (f : Faction) (es : List (ℕ × Faction)) → EachOf (λ n g. f.joined_as ≢ g.joined_as) es → AllByRecursion (λ (r : StoredFaction). same_text f.joined_as r.joined_as ≡ false) (rows_by faction_row es)
+others_named : (f : Faction) (es : List (ℕ × Faction)) → EachEntry (λ n g. f.joined_as ≢ g.joined_as) es → AllByRecursion (λ (r : StoredFaction). same_text f.joined_as r.joined_as ≡ false) (rows_by faction_row es)
 others_named f [] h = tt
 others_named f (e ∷ es) h = (text_apart f.joined_as e.1.joined_as h.0, others_named f es h.1)
 

@@ -11,7 +11,7 @@ use Rattle.atl_world.specs.Sums.{numbers_where}
 use Rattle.atl_world.proofs.SumLaws.{chosen-cons}
 use Rattle.atl_records.specs.declared.records.Unit.{Unit}
 use Rattle.atl_campaign.specs.Campaign.{CampaignValue, numbers_in}
-use Rattle.atl_records.specs.Every.{Every, IsThere}
+use Rattle.atl_records.specs.Every.{Every, HasValue}
 use Rattle.atl_campaign.specs.Good.{AreOfOneFaction, guards}
 use Rattle.atl_state.specs.Deciding.{agree, guard_of, one_holder}
 use Rattle.atl_records.proofs.EveryLaws.{none_some, passes-listed}
@@ -136,7 +136,7 @@ abbrev pub IsHeldByOne : CampaignValue → ℕ → Type 0
 IsHeldByOne c r = one_holder (guard_of c) None (numbers_in r c.units) ≡ true
 
 -- the guards of each region are of one faction, if those in each region's list are, and each unit's region exists
-pub of_one_faction : (c : CampaignValue) → Every (λ n u. IsThere c.regions u.region) c.units → Every (λ r x. IsHeldByOne c r) c.regions → AreOfOneFaction guards c
+pub of_one_faction : (c : CampaignValue) → Every (λ n u. HasValue c.regions u.region) c.units → Every (λ r x. IsHeldByOne c r) c.regions → AreOfOneFaction guards c
 of_one_faction c placed held n u is m v there on also same =
     let r = u.region in
     let (x, known) = placed n u is in

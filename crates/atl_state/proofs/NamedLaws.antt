@@ -29,7 +29,7 @@ use Rattle.atl_campaign.specs.Rows.{is_zero}
 use Rattle.atl_records.proofs.BookLaws.{amount-no_amounts, amount-with_amount, AreBooks-no_amounts, AreBooks-with_amount}
 use Rattle.atl_state.proofs.BooksRowLaws.{IsBooked, account_there, with_booked_row}
 use Rattle.atl_campaign.proofs.FromRowLaws.{by_number-every, from_le}
-use Rattle.atl_campaign.proofs.OrderLaws.{HasNumber, row_of, rows_found, same_count, each_passes}
+use Rattle.atl_campaign.proofs.MapOfRowsLaws.{HasNumber, row_of, rows_found, same_count, each_passes}
 use Rattle.atl_state.proofs.SaidLaws.{RowsKeep, factions_apart, all_booked, ranges}
 
 -- ---- joined names

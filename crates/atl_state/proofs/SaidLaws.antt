@@ -33,7 +33,7 @@ use Rattle.atl_records.specs.declared.records.Unit.{Unit}
 use Rattle.atl_records.specs.Books.{no_amounts}
 use Rattle.atl_campaign.specs.Founding.{things_of}
 use Rattle.atl_campaign.specs.FromRows.{as_u32, as_u16, is_set, is_of, faction_of, region_of, structure_of, unit_of, things_had, by_number, put_amounts, no_campaign_row, campaign_row_of, campaign_of}
-use Rattle.atl_records.specs.Every.{Every, IsThere}
+use Rattle.atl_records.specs.Every.{Every, HasValue}
 use Rattle.atl_campaign.specs.Good.{IsPlaced, IsBuilt, AreKnown, AreDays}
 use Rattle.atl_records.specs.Limits.{last_month, last_unit, men_limit, holding_limit, most_structures, entry_count, entries_in, most_u16, most_u32}
 use Rattle.atl_campaign.specs.RowRules.{one_key, is_from, is_one_campaign_row, are_of_format, campaign_row_in_range, faction_in_range, region_in_range, unit_in_range, has_in_range, structure_in_range, books_in_range, books_bound, market_in_range, is_within, faction_key, region_key, unit_key, structure_key, mail_key, report_key, AreRowsInRange, is_of_unit, is_of_market, is_entry_in, is_booked}
@@ -47,7 +47,7 @@ use Rattle.atl_campaign.proofs.GroupLaws.{unkept}
 use Rattle.atl_campaign.proofs.HasLaws.{IsWhole, HasWholeKey, IsExact, IsOfUnits, same, ties_itself, things_apart, has_order}
 use Rattle.atl_campaign.proofs.MarketLaws.{market_known}
 use Rattle.atl_state.proofs.StockRowLaws as market
-use Rattle.atl_campaign.proofs.OrderLaws.{Apart, HasNumber, Apart-keys, rows_order, rows_there, rows_found, each_row, row_of, each_passes, each_with, each_so}
+use Rattle.atl_campaign.proofs.MapOfRowsLaws.{Apart, HasNumber, Apart-keys, rows_order, rows_there, rows_found, each_row, row_of, each_passes, each_with, each_so}
 
 -- ---- numbers that are read as they are
 
@@ -79,11 +79,11 @@ one_apart x y a b d e =
     false≢true (sym (ap (λ z. same (one_key x) (one_key z)) one ∙ d) ∙ ties_itself (one_key x))
 
 -- a number that has a value in a map is at most `most`, if all numbers of the map are
-pub there_below : {V : Type 0} (m : FinMap nat_cmp V) (n most : ℕ) → Every (λ k v. k ≤ most) m → IsThere m n → n ≤ most
+pub there_below : {V : Type 0} (m : FinMap nat_cmp V) (n most : ℕ) → Every (λ k v. k ≤ most) m → HasValue m n → n ≤ most
 there_below m n most every there = every n there.0 there.1
 
 -- 0, or a number that has a value in a map, is at most `most`, if all numbers of the map are
-pub none_or_below : {V : Type 0} (m : FinMap nat_cmp V) (n most : ℕ) → Every (λ k v. k ≤ most) m → (n ≢ 0 → IsThere m n) → n ≤ most
+pub none_or_below : {V : Type 0} (m : FinMap nat_cmp V) (n most : ℕ) → Every (λ k v. k ≤ most) m → (n ≢ 0 → HasValue m n) → n ≤ most
 none_or_below m zero most every there = omega arith
 none_or_below m (suc n) most every there = there_below m (suc n) most every (there (λ e. absurd (omega arith)))
 
@@ -239,14 +239,14 @@ module _ (f : Format) (w : WorldValue) (p : Parts) (k : RowsKeep f w p) where
 
   -- ---- regions
   -- the numbers of the regions assembled from the rows are at most last_region
-  few_regions : (n : ℕ) → IsThere (by_number (λ r. as_u32 r.number) (region_of p.markets) p.regions) n → n ≤ last_region
+  few_regions : (n : ℕ) → HasValue (by_number (λ r. as_u32 r.number) (region_of p.markets) p.regions) n → n ≤ last_region
   unfolding campaign_of
   few_regions n there = let known = (k.known.regions n).0 there in (k.world.regions n known.0 known.1).number_most
 
   -- the numbers in the rows of `region` fit 32 bits, so they are read as they are (IsWhole)
   regions_whole : AllByRecursion (λ r. IsWhole r.number) p.regions
   regions_whole =
-      each_so (λ r. IsThere (by_number (λ r. as_u32 r.number) (region_of p.markets) p.regions) (as_u32 r.number)) (λ r. IsWhole r.number) (λ r there. let few = few_regions (as_u32 r.number) there in whole_below r.number (omega arith)) p.regions
+      each_so (λ r. HasValue (by_number (λ r. as_u32 r.number) (region_of p.markets) p.regions) (as_u32 r.number)) (λ r. IsWhole r.number) (λ r there. let few = few_regions (as_u32 r.number) there in whole_below r.number (omega arith)) p.regions
       (rows_there (λ r. as_u32 r.number) (region_of p.markets) p.regions)
 
   -- no two rows of `region` have the same number
@@ -355,7 +355,7 @@ module _ (f : Format) (w : WorldValue) (p : Parts) (k : RowsKeep f w p) where
   mail_whole : AllByRecursion (λ r. IsWhole r.faction) p.mail
   unfolding campaign_of
   mail_whole =
-      each_so (λ r. IsThere (by_number (λ r. as_u32 r.faction) (λ r. r.text) p.mail) (as_u32 r.faction)) (λ r. IsWhole r.faction)
+      each_so (λ r. HasValue (by_number (λ r. as_u32 r.faction) (λ r. r.text) p.mail) (as_u32 r.faction)) (λ r. IsWhole r.faction)
       (λ r there. let few = there_below (by_number (λ r. as_u32 r.number) faction_of p.factions) (as_u32 r.faction) last_faction few_factions (k.known.posts.mail (as_u32 r.faction) there.0 there.1) in whole_below r.faction (omega arith)) p.mail
       (rows_there (λ r. as_u32 r.faction) (λ r. r.text) p.mail)
 
@@ -370,7 +370,7 @@ module _ (f : Format) (w : WorldValue) (p : Parts) (k : RowsKeep f w p) where
   reports_whole : AllByRecursion (λ r. IsWhole r.faction) p.reports
   unfolding campaign_of
   reports_whole =
-      each_so (λ r. IsThere (by_number (λ r. as_u32 r.faction) (λ r. r.text) p.reports) (as_u32 r.faction)) (λ r. IsWhole r.faction)
+      each_so (λ r. HasValue (by_number (λ r. as_u32 r.faction) (λ r. r.text) p.reports) (as_u32 r.faction)) (λ r. IsWhole r.faction)
       (λ r there. let few = there_below (by_number (λ r. as_u32 r.number) faction_of p.factions) (as_u32 r.faction) last_faction few_factions (k.known.posts.reports (as_u32 r.faction) there.0 there.1) in whole_below r.faction (omega arith)) p.reports
       (rows_there (λ r. as_u32 r.faction) (λ r. r.text) p.reports)
 
@@ -415,7 +415,7 @@ module _ (f : Format) (w : WorldValue) (p : Parts) (k : RowsKeep f w p) where
 
   -- the item or skill of a row of `has` is among what all rows of `has` of this sort (0 items, 1 skills) give unit n
   abbrev ThingThere : ℕ → ℕ → StoredHas → Type 0
-  ThingThere n sort h = IsThere (things_had n sort p.has) (as_u32 h.thing)
+  ThingThere n sort h = HasValue (things_had n sort p.has) (as_u32 h.thing)
 
   -- the item or skill of each row of `has` is among what all rows of `has` of its sort (items or skills) give its unit
   things_there : AllByRecursion (λ h. (n : ℕ) → (sort : ℕ) → is_of n sort h ≡ true → ThingThere n sort h) p.has
@@ -423,12 +423,12 @@ module _ (f : Format) (w : WorldValue) (p : Parts) (k : RowsKeep f w p) where
       unkept (is_of n sort) (ThingThere n sort) p.has (rows_there (λ h. as_u32 h.thing) (λ h. as_u32 h.amount) (filter (is_of n sort) p.has))))
 
   -- the unit of each row of `has` exists
-  held_units : AllByRecursion (λ h. IsThere units (as_u32 h.unit)) p.has
+  held_units : AllByRecursion (λ h. HasValue units (as_u32 h.unit)) p.has
   unfolding campaign_of
-  held_units = each_passes (is_of_unit (campaign_of w p)) (λ h. IsThere units (as_u32 h.unit)) (λ h e. some_there (get units (as_u32 h.unit)) e) p.has k.held
+  held_units = each_passes (is_of_unit (campaign_of w p)) (λ h. HasValue units (as_u32 h.unit)) (λ h e. some_there (get units (as_u32 h.unit)) e) p.has k.held
 
   -- the number of an item or skill that a unit assembled from the rows has is below most_u32
-  few_things : (n sort thing : ℕ) → IsThere units n → (sort ≡ 1) ⊎ (sort ≡ 0) → IsThere (things_had n sort p.has) thing → thing < most_u32
+  few_things : (n sort thing : ℕ) → HasValue units n → (sort ≡ 1) ⊎ (sort ≡ 0) → HasValue (things_had n sort p.has) thing → thing < most_u32
   unfolding campaign_of
   few_things n sort thing there (inl skill) (v, is) =
       let placed = k.known.units n there.0 there.1 in
@@ -450,7 +450,7 @@ module _ (f : Format) (w : WorldValue) (p : Parts) (k : RowsKeep f w p) where
 
   -- The unit, sort and thing of a row of `has` fit 32 bits, if the row is in range, its unit exists, and its thing is
   -- read for its unit (ThingThere).
-  keyed : (h : StoredHas) → (IsThere units (as_u32 h.unit)) × (has_in_range h ≡ true) → ((n : ℕ) → (sort : ℕ) → is_of n sort h ≡ true → ThingThere n sort h) → HasWholeKey h
+  keyed : (h : StoredHas) → (HasValue units (as_u32 h.unit)) × (has_in_range h ≡ true) → ((n : ℕ) → (sort : ℕ) → is_of n sort h ≡ true → ThingThere n sort h) → HasWholeKey h
   keyed h (there, range) thing =
       let unit_few = there_below units (as_u32 h.unit) last_unit few_units there in
       let sort = sort_of h range in
@@ -459,11 +459,11 @@ module _ (f : Format) (w : WorldValue) (p : Parts) (k : RowsKeep f w p) where
 
   -- the unit of a row of `has` exists, and the row is in range
   abbrev Placed : StoredHas → Type 0
-  Placed h = (IsThere units (as_u32 h.unit)) × (has_in_range h ≡ true)
+  Placed h = (HasValue units (as_u32 h.unit)) × (has_in_range h ≡ true)
 
   -- the unit of each row of `has` exists, and each row is in range (Placed)
   all_placed : AllByRecursion Placed p.has
-  all_placed = each_with (λ h. IsThere units (as_u32 h.unit)) (λ h. has_in_range h ≡ true) Placed (λ h a b. (a, b)) p.has held_units (each_passes has_in_range (λ h. has_in_range h ≡ true) (λ h e. e) p.has ranges.has)
+  all_placed = each_with (λ h. HasValue units (as_u32 h.unit)) (λ h. has_in_range h ≡ true) Placed (λ h a b. (a, b)) p.has held_units (each_passes has_in_range (λ h. has_in_range h ≡ true) (λ h e. e) p.has ranges.has)
 
   -- the unit, sort and thing of each row of `has` fit 32 bits (HasWholeKey)
   all_keyed : AllByRecursion HasWholeKey p.has
@@ -480,7 +480,7 @@ module _ (f : Format) (w : WorldValue) (p : Parts) (k : RowsKeep f w p) where
 
   -- The amount of a row of `has` fits 32 bits and isn't 0, if the row's unit exists, the row is in range (SortOf), and
   -- its amount is found (IsFound).
-  exact_of : (h : StoredHas) → IsThere units (as_u32 h.unit) → SortOf h → ((n : ℕ) → (sort : ℕ) → is_of n sort h ≡ true → IsFound n sort h) → IsWhole h.amount × (is_zero h.amount ≡ false)
+  exact_of : (h : StoredHas) → HasValue units (as_u32 h.unit) → SortOf h → ((n : ℕ) → (sort : ℕ) → is_of n sort h ≡ true → IsFound n sort h) → IsWhole h.amount × (is_zero h.amount ≡ false)
   unfolding campaign_of
   exact_of h there (inl skill) found =
       let n = as_u32 h.unit in

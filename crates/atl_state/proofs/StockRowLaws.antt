@@ -16,7 +16,7 @@ use Rattle.atl_campaign.proofs.AssemblyLaws.{is_same}
 use Rattle.atl_campaign.proofs.GroupLaws as group
 use Rattle.atl_campaign.proofs.GroupLaws.{gathered, lines_order}
 use Rattle.atl_campaign.proofs.HasLaws.{IsWhole, same, ties_itself}
-use Rattle.atl_campaign.proofs.OrderLaws.{Apart, HasNumber, each_so, flat_order}
+use Rattle.atl_campaign.proofs.MapOfRowsLaws.{Apart, HasNumber, each_so, flat_order}
 
 -- the region and the item of a row of `market` fit 32 bits, so both are read as they are
 pub record HasWholeKey (m : StoredMarket) : Type 0 where

@@ -7,7 +7,7 @@ use Rattle.atl_records.specs.declared.records.Structure.{Structure}
 use Rattle.atl_records.specs.declared.records.Unit.{Unit}
 use Rattle.atl_campaign.specs.Campaign.{CampaignValue}
 use Rattle.atl_campaign.specs.Good.{guards}
-use Rattle.atl_records.specs.Every.{EachOf}
+use Rattle.atl_records.specs.Every.{EachEntry}
 
 -- structure n has no owner (0), or its owner is a unit inside it
 pub record HasOwnerInside (c : CampaignValue) (n : ℕ) (s : Structure) : Type 0 where
@@ -32,4 +32,4 @@ one_holder faction holder (n ∷ ns) = agree (faction n) holder && one_holder fa
 -- no two factions of the list joined under the same name
 abbrev pub JoinedNamesDiffer : List (ℕ × Faction) → Type 0
 JoinedNamesDiffer [] = ⊤
-JoinedNamesDiffer (e ∷ es) = EachOf (λ n f. e.1.joined_as ≢ f.joined_as) es × JoinedNamesDiffer es
+JoinedNamesDiffer (e ∷ es) = EachEntry (λ n f. e.1.joined_as ≢ f.joined_as) es × JoinedNamesDiffer es

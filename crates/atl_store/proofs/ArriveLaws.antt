@@ -20,12 +20,12 @@ use Rattle.atl_sql.specs.Sets.{Set, Is, put}
 use Rattle.atl_sql.specs.Tables.{Books, books_table}
 use Rattle.atl_sql.specs.Shown.{int, books_key, books_row}
 use Rattle.atl_sql.specs.Rows.{RowsOf, HasRowsOf, BooksRowsOf, things_of}
-use Rattle.atl_store.specs.Lines.{amount_lines}
+use Rattle.atl_store.specs.GroupedRows.{amount_lines}
 use Rattle.atl_store.specs.Arriving.{settled, WritesAmount}
 use Rattle.atl_sql.specs.Statements.{deletion, upsert}
 use Rattle.atl_store.specs.OwnStatements.{OfAmount, puts_amount, drops_amount, OfChange, changes_row, puts_row, drops_row}
 use Rattle.atl_store.proofs.EntryLaws.{same_number}
-use Rattle.atl_store.proofs.GoodsLaws.{optional_has, has_optional}
+use Rattle.atl_store.proofs.HasTableLaws.{optional_has, has_optional}
 use Rattle.atl_store.proofs.LedgerLaws.{two_same, differs_zero, is_differing, amount_is}
 use Rattle.atl_sql.specs.Inside.{Puts, Drops}
 

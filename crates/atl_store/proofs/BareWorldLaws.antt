@@ -9,7 +9,7 @@ use Rattle.atl_world.specs.Worlds.{WorldValue, is_land, without_market, without_
 use Rattle.atl_world.specs.declared.world.RegionPlan.{RegionPlan}
 use Rattle.atl_world.proofs.MappedLaws.{get-mapped}
 use Rattle.atl_campaign.specs.Campaign.{CampaignValue}
-use Rattle.atl_records.specs.Every.{IsThere}
+use Rattle.atl_records.specs.Every.{HasValue}
 use Rattle.atl_campaign.specs.Good.{HasNoStocks, IsGood}
 use Rattle.atl_records.specs.declared.records.Region.{Region}
 
@@ -25,7 +25,7 @@ module _ (v : WorldValue) (regions : FinMap nat_cmp RegionPlan) (c : CampaignVal
   w = record v { regions = regions }
 
   -- with nothing in stock, a campaign good in `v` is good in `w`, if both have regions and land under the same numbers
-  good_with : ((n : ℕ) → is_land_at w n ≡ is_land_at v n) → ((n : ℕ) → IsThere v.regions n → IsThere regions n) → ((n : ℕ) → IsThere regions n → IsThere v.regions n) → IsGood v c → IsGood w c
+  good_with : ((n : ℕ) → is_land_at w n ≡ is_land_at v n) → ((n : ℕ) → HasValue v.regions n → HasValue regions n) → ((n : ℕ) → HasValue regions n → HasValue v.regions n) → IsGood v c → IsGood w c
   good_with land ahead back good =
       let steady = good.sound.steady in
       record {
@@ -86,15 +86,15 @@ module _ (w : WorldValue) where
       by_plan (Some p) = refl
 
   -- each region of a world is a region of the world without its markets
-  bared : (n : ℕ) → IsThere w.regions n → IsThere (without_markets w).regions n
+  bared : (n : ℕ) → HasValue w.regions n → HasValue (without_markets w).regions n
   bared n (p, there) = (without_market p, get-mapped without_market w.regions n ∙ ap (option_map without_market) there)
 
   -- each region of a world without its markets is a region of the world
-  was_there : (n : ℕ) → IsThere (without_markets w).regions n → IsThere w.regions n
+  was_there : (n : ℕ) → HasValue (without_markets w).regions n → HasValue w.regions n
   was_there n (p, there) = by_plan (get w.regions n) refl (sym (get-mapped without_market w.regions n) ∙ there)
     where
       -- for `was_there`: if the look-up `o` of region `n`, with the market taken out, gives a plan, the region is there
-      by_plan : (o : Option RegionPlan) → get w.regions n ≡ o → option_map without_market o ≡ Some p → IsThere w.regions n
+      by_plan : (o : Option RegionPlan) → get w.regions n ≡ o → option_map without_market o ≡ Some p → HasValue w.regions n
       by_plan None is e = absurd cc
       by_plan (Some q) is e = (q, is)
 

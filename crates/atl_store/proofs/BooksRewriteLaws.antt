@@ -21,12 +21,12 @@ use Rattle.atl_records.proofs.AccountLaws.{same_account}
 use Rattle.atl_sql.specs.Tables.{books_table}
 use Rattle.atl_sql.specs.Shown.{int, books_key, books_row}
 use Rattle.atl_sql.specs.Rows.{BooksRowsOf}
-use Rattle.atl_store.specs.Lines.{amount_lines}
+use Rattle.atl_store.specs.GroupedRows.{amount_lines}
 use Rattle.atl_store.specs.Arriving.{WritesAmount}
 use Rattle.atl_sql.specs.Inside.{Inside, HasTables}
 use Rattle.atl_sql.specs.Marked.{accounts, amount_marked, is_marked_amount}
 use Rattle.atl_store.specs.Rewriting.{RewritesAmounts, RewritesBooks, is_number, is_among, of_amounts}
-use Rattle.atl_store.proofs.GoodsLaws.{optional_has, has_optional}
+use Rattle.atl_store.proofs.HasTableLaws.{optional_has, has_optional}
 use Rattle.atl_store.proofs.LedgerLaws.{two_same, differs_zero, is_differing}
 use Rattle.atl_store.proofs.RewriteLaws.{Remaining, one_less_remaining, all_rewritten, tied, is_itself, rewrites_key}
 use Rattle.atl_store.proofs.WholeLaws.{inside_weaker}

@@ -31,7 +31,7 @@ use Rattle.atl_sql.specs.Rows.{RowsOf, HasRowsOf, BooksRowsOf, MarketRowsOf, row
 use Rattle.atl_sql.specs.Marked.{begins_marked, has_thing, goods_marked, stocks_marked, amount_marked, is_marked}
 use Rattle.atl_store.specs.Changing.{Chosen, rows_after_rewrite, campaign_row_after, HasUnmarked, WritesChanges, HoldsUnmarked}
 use Rattle.atl_store.specs.Rewriting.{marked_things}
-use Rattle.atl_store.proofs.GoodsLaws.{had_of, of_had}
+use Rattle.atl_store.proofs.HasTableLaws.{had_of, of_had}
 use Rattle.atl_store.proofs.MarketLaws.{stock_had, had_stock}
 
 -- ---- a table whose unmarked rows are the campaign's

@@ -14,7 +14,7 @@ use Rattle.sqlite_rules.proofs.ListLemmas.{has_either, has_left, has_right}
 use Rattle.atl_sql.specs.Sets.{Set, Is, put, puts}
 use Rattle.atl_sql.specs.Shown.{int}
 use Rattle.atl_sql.specs.Rows.{RowsOf, lines_of}
-use Rattle.atl_store.specs.Lines.{DifferInKey}
+use Rattle.atl_store.specs.GroupedRows.{DifferInKey}
 use Rattle.atl_sql.proofs.ListLaws.{has_map, map_has}
 
 -- ---- an entry is in the list exactly where the map has it

@@ -12,7 +12,7 @@ use Rattle.atl_sql.specs.Sets.{Is, put, puts, rows_in}
 use Rattle.atl_sql.specs.Tables.{Part, Own, Books, table_of, all_parts, campaign_table, books_table}
 use Rattle.atl_sql.specs.Shown.{int}
 use Rattle.atl_sql.specs.Rows.{campaign_row_of, campaign_line, RowsOf, rows_for, lines_of}
-use Rattle.atl_store.specs.Lines.{AreGroups, groups_of, things_lines}
+use Rattle.atl_store.specs.GroupedRows.{AreGroups, groups_of, things_lines}
 use Rattle.atl_sql.specs.PutsCampaignRow.{PutsCampaignRow}
 use Rattle.atl_sql.specs.Making.{AreEmpty}
 use Rattle.atl_sql.specs.Inside.{Inside, HasTables, IsBlank, Both, PutsRows}

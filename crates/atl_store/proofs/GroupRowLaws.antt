@@ -13,7 +13,7 @@ use Rattle.atl_campaign.specs.Campaign.{CampaignValue}
 use Rattle.atl_sql.specs.Sets.{Set, Is, puts, rows_in}
 use Rattle.atl_sql.specs.Tables.{Part, key_of, table_of}
 use Rattle.atl_sql.specs.Shown.{int}
-use Rattle.atl_store.specs.Lines.{DifferInKey, AreGroups, groups_of}
+use Rattle.atl_store.specs.GroupedRows.{DifferInKey, AreGroups, groups_of}
 use Rattle.atl_sql.specs.Rows.{rows_for}
 use Rattle.atl_sql.specs.Statements.{upsert}
 use Rattle.atl_store.specs.OwnStatements.{OfRow, puts_row}

@@ -13,15 +13,15 @@ use Rattle.atl_campaign.specs.Campaign.{CampaignValue}
 use Rattle.atl_records.specs.Books.{AreBooks, BooksValue, all_entries, amount_in, entry_index, thing_at, thing_index}
 use Rattle.atl_records.specs.declared.books.Entry.{Entry}
 use Rattle.atl_records.specs.declared.books.Thing.{Thing}
-use Rattle.atl_records.proofs.AccountLaws.{place_at, at_place}
+use Rattle.atl_records.proofs.AccountLaws.{index_of_thing_at, thing_at_index}
 use Rattle.atl_records.proofs.BookLaws.{none_past}
 use Rattle.atl_records.proofs.EveryEntryLaws.{entry_there}
 use Rattle.atl_sql.specs.Sets.{Is, puts}
 use Rattle.atl_sql.specs.Shown.{books_key, books_row}
 use Rattle.atl_sql.specs.Rows.{BooksRowsOf}
-use Rattle.atl_store.specs.Lines.{DifferInKey, amount_lines, entries_lines, things_lines}
+use Rattle.atl_store.specs.GroupedRows.{DifferInKey, amount_lines, entries_lines, things_lines}
 use Rattle.atl_store.proofs.EntryLaws.{apart_append, filled, flat_has, has_flat}
-use Rattle.atl_store.proofs.GoodsLaws.{optional_has, has_optional, optional_apart}
+use Rattle.atl_store.proofs.HasTableLaws.{optional_has, has_optional, optional_apart}
 
 -- ---- entries by their indexes
 
@@ -127,7 +127,7 @@ module _ (c : CampaignValue) where
       let found = flat_has (λ place. entries_lines c (thing_at place) all_entries) (range_with_len (from + 1) count) y late in
       let two = entries_has (thing_at found.0) all_entries y found.2 in
       let keys = two_same (entry_index one.0 + 1) (thing_index (thing_at from)) (entry_index two.0 + 1) (thing_index (thing_at found.0)) (ap (take 2) (sym one.3) ∙ same ∙ ap (take 2) two.3) in
-      let places : from ≡ found.0 = sym (place_at from) ∙ keys.1 ∙ place_at found.0 in
+      let places : from ≡ found.0 = sym (index_of_thing_at from) ∙ keys.1 ∙ index_of_thing_at found.0 in
       absurd (omega (arith, places, (range_has (from + 1) count found.0 found.1).0)))
 
   -- each row that is made for the things numbered `places` is a row of `books` for the campaign
@@ -145,6 +145,6 @@ module _ (c : CampaignValue) where
         λ there. things_rows places r (is.0 there),
         λ of.
             let inside = has_range 0 c.books.things (thing_index of.1) (omega arith) (omega (arith, within c.books are of.0 of.1 of.2)) in
-            let here : Has (entries_lines c (thing_at (thing_index of.1)) all_entries) (row_at of.0 of.1) = subst (λ t. Has (entries_lines c t all_entries) (row_at of.0 of.1)) (sym (at_place of.1)) (has_entries of.1 all_entries of.0 (every_entry of.0) of.2) in
+            let here : Has (entries_lines c (thing_at (thing_index of.1)) all_entries) (row_at of.0 of.1) = subst (λ t. Has (entries_lines c t all_entries) (row_at of.0 of.1)) (sym (thing_at_index of.1)) (has_entries of.1 all_entries of.0 (every_entry of.0) of.2) in
             is.1 (subst (Has (things_lines c places)) (sym of.3) (has_flat (λ place. entries_lines c (thing_at place) all_entries) places (thing_index of.1) (row_at of.0 of.1) inside here)),
       )

@@ -10,7 +10,7 @@ pub mod UpgradeLaws
 pub mod BareWorldLaws
 pub mod SingleLaws
 pub mod EntryLaws
-pub mod GoodsLaws
+pub mod HasTableLaws
 pub mod ThingLaws
 pub mod MarketLaws
 pub mod LedgerLaws
@@ -26,7 +26,7 @@ pub mod ConfirmLaws
 pub mod PartsLaws
 pub mod KeyedLaws
 pub mod LoadedLaws
-pub mod ListedLaws
+pub mod SchemaTableLaws
 pub mod ReopenLaws
 pub mod AlikeLaws
 pub mod OneWorldLaws

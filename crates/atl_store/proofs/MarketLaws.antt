@@ -19,9 +19,9 @@ use Rattle.atl_store.specs.Rewriting.{FindsByNumbers, RewritesChosenStocks, is_t
 use Rattle.atl_store.proofs.RewriteLaws.{tied, is_itself, rewrites_key, kept_only}
 use Rattle.atl_store.proofs.WholeLaws.{inside_weaker}
 use Rattle.atl_sql.specs.Rows.{MarketRowsOf}
-use Rattle.atl_store.specs.Lines.{AreGroups, region_lines}
+use Rattle.atl_store.specs.GroupedRows.{AreGroups, region_lines}
 use Rattle.atl_store.proofs.EntryLaws.{got_entry, entry_got, in_order}
-use Rattle.atl_store.proofs.GoodsLaws.{amounts_have, have_amount, amounts_apart}
+use Rattle.atl_store.proofs.HasTableLaws.{amounts_have, have_amount, amounts_apart}
 use Rattle.sqlite.specs.Order.{Row}
 
 -- two rows of one region with the same key are of the same item

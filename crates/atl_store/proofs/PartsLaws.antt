@@ -33,7 +33,7 @@ use Rattle.atl_records.specs.declared.records.Faction.{Faction}
 use Rattle.atl_records.specs.declared.records.Region.{Region}
 use Rattle.atl_records.specs.declared.records.Unit.{Unit}
 use Rattle.atl_records.proofs.BookLaws.{get-listed, zero_not}
-use Rattle.atl_records.proofs.ListedLaws.{each_amount, amount_of_each}
+use Rattle.atl_records.proofs.AmountListLaws.{each_amount, amount_of_each}
 use Rattle.atl_sql.specs.declared.rows.has.ThingKind.{ThingKind}
 use Rattle.atl_sql.specs.declared.rows.has.ThingKind.TheVariants.{Item, Skill}
 use Rattle.atl_store.specs.Gathering.{HaveKeys}
@@ -45,7 +45,7 @@ use Rattle.atl_sql.specs.Tables.{Part, Own, Factions, Regions, Units, Goods, Str
 use Rattle.atl_sql.specs.Written.{sort_number}
 use Rattle.atl_sql.proofs.EditLaws.{has_permuted}
 use Rattle.atl_store.proofs.EntryLaws.{got_entry, entry_got, flat_has, has_flat}
-use Rattle.atl_store.proofs.GoodsLaws.{is_not_zero}
+use Rattle.atl_store.proofs.HasTableLaws.{is_not_zero}
 use Rattle.atl_store.proofs.KeyedLaws.{mapped_twice, lines_keys, one_keys, numbers_keyed}
 use Rattle.atl_sql.proofs.ListLaws.{has_map, map_has}
 use Rattle.atl_sql.proofs.PartLaws.{all_among, is_among, not_among}

@@ -9,7 +9,7 @@ use Rattle.atl_campaign.specs.Campaign.{CampaignValue}
 use Rattle.atl_store.specs.Keeps.{Keeps, LeavesAfterFault, Stores, HoldsCampaign}
 use Rattle.atl_store.specs.Reopening.{Reopens}
 use Rattle.atl_sql.specs.Tables.{HasAll}
-use Rattle.atl_store.proofs.ListedLaws.{one_schema}
+use Rattle.atl_store.proofs.SchemaTableLaws.{one_schema}
 
 module _ {S : Type 0} (g : Ghosts S) where
   -- a connection just opened to a file that stores a campaign keeps it, if a crash leaves only what was committed

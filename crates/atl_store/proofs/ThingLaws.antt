@@ -16,7 +16,7 @@ use Rattle.atl_sql.specs.Rows.{HasRowsOf, amount_under}
 use Rattle.atl_sql.specs.Inside.{Inside, HasTables, Puts, Drops}
 use Rattle.atl_sql.specs.Marked.{of_kind}
 use Rattle.atl_store.specs.Rewriting.{FindsByNumbers, RewritesThings, is_thing}
-use Rattle.atl_store.proofs.GoodsLaws.{three_same, had_of, of_had}
+use Rattle.atl_store.proofs.HasTableLaws.{three_same, had_of, of_had}
 use Rattle.atl_store.proofs.RewriteLaws.{tied, is_itself, rewrites_key, kept_only}
 use Rattle.atl_store.proofs.WholeLaws.{inside_weaker}
 

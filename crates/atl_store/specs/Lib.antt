@@ -1,6 +1,6 @@
 pub mod Faults
 pub mod OwnStatements
-pub mod Lines
+pub mod GroupedRows
 pub mod Filling
 pub mod Keeps
 pub mod Loading

@@ -2,7 +2,7 @@
 ghost use Rattle.std.specs.Prelude.{ℕ};
 ghost use Rattle.sqlite.specs.Order.{Row as SqlRow};
 ghost use Rattle.sqlite.specs.Table.{Table};
-ghost use Rattle.atl_store.specs.Lines.{thing_rows, amount_rows};
+ghost use Rattle.atl_store.specs.GroupedRows.{thing_rows, amount_rows};
 ghost use Rattle.atl_sql.specs.Writes.{WritesRow, WritesRows};
 
 use atl_world::Entries;

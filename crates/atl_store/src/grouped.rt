@@ -6,7 +6,7 @@ ghost use Rattle.sqlite.specs.Order.{Row as SqlRow};
 ghost use Rattle.atl_sql.specs.Tables.{Part, IsGroupedPart, key_of, table_of};
 ghost use Rattle.atl_sql.specs.Rows.{rows_for};
 ghost use Rattle.atl_sql.specs.Shown.{int};
-ghost use Rattle.atl_store.specs.Lines.{AreGroups};
+ghost use Rattle.atl_store.specs.GroupedRows.{AreGroups};
 ghost use Rattle.atl_store.specs.OwnStatements.{OfChange};
 ghost use Rattle.atl_sql.specs.Writes.{Writes, WritesRows, TakesOut};
 ghost use Rattle.atl_sql.specs.Inside.{Inside, HasTables};

@@ -4,7 +4,7 @@ ghost use Rattle.atl_sql.specs.Tables.{Markets, market_table};
 ghost use Rattle.atl_sql.specs.Shown.{market_row};
 ghost use Rattle.atl_sql.specs.Marked.{of_stock};
 ghost use Rattle.atl_sql.specs.Rows.{MarketRowsOf};
-ghost use Rattle.atl_store.specs.Lines.{region_lines, all_stocks_lines};
+ghost use Rattle.atl_store.specs.GroupedRows.{region_lines, all_stocks_lines};
 ghost use Rattle.atl_store.specs.OwnStatements.{OfChange};
 ghost use Rattle.atl_sql.specs.Writes.{Writes, WritesRows};
 ghost use Rattle.atl_sql.specs.Inside.{Inside, HasTables};

@@ -6,7 +6,7 @@ pub mod month;
 
 /// Makes the text of a world with one region from these literals: the money of a faction that
 /// joins, the region's jobs and peasants, and text to append.
-macro_rules! vale {
+macro_rules! world_of_one_region {
     ($start_money:literal, $places:literal, $peasants:literal, $more:literal) => {
         concat!(
             r#"[rules]
@@ -45,20 +45,20 @@ money = 500
 }
 
 /// The text of the small world: one region, without items, skills and markets.
-pub const SMALL: &str = vale!(1000, 100, 1000, "");
+pub const SMALL: &str = world_of_one_region!(1000, 100, 1000, "");
 
 /// The text of the small world where a faction that joins gets no money.
-pub const POOR: &str = vale!(0, 100, 1000, "");
+pub const POOR: &str = world_of_one_region!(0, 100, 1000, "");
 
 /// The text of the small world without jobs, where a faction that joins gets money for half a
 /// month.
-pub const BARREN: &str = vale!(5, 0, 1000, "");
+pub const BARREN: &str = world_of_one_region!(5, 0, 1000, "");
 
 /// The text of the small world with only three peasants.
-pub const THREE_PEASANTS: &str = vale!(1000, 100, 3, "");
+pub const THREE_PEASANTS: &str = world_of_one_region!(1000, 100, 3, "");
 
 /// The text of the small world with a second region to the east.
-pub const TWO_REGIONS: &str = vale!(
+pub const TWO_REGIONS: &str = world_of_one_region!(
     1000,
     100,
     1000,
@@ -74,7 +74,7 @@ west = 1
 );
 
 /// The text of the small world with an item (wood) and a skill (sailing).
-pub const WOOD_AND_SAILING: &str = vale!(
+pub const WOOD_AND_SAILING: &str = world_of_one_region!(
     1000,
     100,
     1000,
@@ -89,7 +89,7 @@ fee = 10
 );
 
 /// The text of the small world with an item (wood) and a market for it.
-pub const MART: &str = vale!(
+pub const MART: &str = world_of_one_region!(
     1000,
     100,
     1000,
@@ -108,7 +108,7 @@ carry = 0
 
 /// Makes the text of a world that is an island of three land regions and one of sea, from texts to
 /// insert after its first and its third region.
-macro_rules! isle {
+macro_rules! world_of_island {
     ($of_first:literal, $of_third:literal) => {
         concat!(
             r#"[rules]
@@ -233,10 +233,10 @@ south = 3
 }
 
 /// The text of the island without a market.
-pub const ISLE: &str = isle!("", "");
+pub const ISLE: &str = world_of_island!("", "");
 
 /// The text of the island with a market of wood in its first region.
-pub const ISLE_WITH_MARKET: &str = isle!(
+pub const ISLE_WITH_MARKET: &str = world_of_island!(
     r#"[[region.market]]
 item = "wood"
 price = 7
@@ -249,7 +249,7 @@ restock = 20
 
 /// The text of the island with markets in two regions: of wood and carts in the first one, and of
 /// carts in the third one.
-pub const ISLE_WITH_MARKETS: &str = isle!(
+pub const ISLE_WITH_MARKETS: &str = world_of_island!(
     r#"[[region.market]]
 item = "cart"
 price = 90

@@ -112,7 +112,7 @@ from_list-insert xs n i = sym (moved (n ∷ xs) (insert xs i n) (IsPermutation-i
 
 -- the set of a list is the set of the list without its i-th element n, with n put in
 from_list-put_back : (xs : List ℕ) (n i : ℕ) → IsAt xs n i → set.from_list {R = nat_cmp} xs ≡ set.insert (set.from_list (remove xs i)) n
-from_list-put_back xs n i h = moved xs (n ∷ remove xs i) (IsPermutation-remove xs i n h.within (sym (get_or_default xs i n 0 h.within ∙ h.is)))
+from_list-put_back xs n i h = moved xs (n ∷ remove xs i) (IsPermutation-remove xs i n h.within (sym (get_or_default xs i n 0 h.within ∙ h.number_there)))
 
 -- the number n at an index of a list is in the set of the list
 pub contains-stands : (xs : List ℕ) (n i : ℕ) → IsAt xs n i → set.contains {R = nat_cmp} (set.from_list xs) n ≡ true
@@ -154,7 +154,7 @@ not_falling xs s i j l m = non_decreasing_from_sorted xs s i j 0 l m
 
 -- if a binary search in a sorted list finds n, then n is at the index that the search returns
 pub searched-found : (xs : List ℕ) (n : ℕ) (r : Result ℕ ℕ) → IsRising xs → IsBinarySearchResult (λ y. nat_cmp y n) xs r → IfOk r (λ i. IsAt xs n i)
-searched-found xs n (Ok i) s h = let found = searched xs n (Ok i) h (not_falling xs s) in record { within = found.0; is = found.1 }
+searched-found xs n (Ok i) s h = let found = searched xs n (Ok i) h (not_falling xs s) in record { within = found.0; number_there = found.1 }
 searched-found xs n (Err i) s h = tt
 
 -- if a binary search in a sorted list doesn't find n, then n belongs at the index that the search returns

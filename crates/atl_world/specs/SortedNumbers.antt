@@ -9,7 +9,7 @@ pub record IsAt (xs : List ℕ) (n : ℕ) (i : ℕ) : Type 0 where
   -- i is an index of the list
   pub within : i < length xs
   -- the number at the index i is n
-  pub is : slice_index xs i ≡ n
+  pub number_there : slice_index xs i ≡ n
 
 -- the number n belongs at the index i of a list: all numbers before i are less than n, and all from i on are greater
 pub record BelongsAt (xs : List ℕ) (n : ℕ) (i : ℕ) : Type 0 where

@@ -9,7 +9,7 @@ ghost use Rattle.atl_world.specs.Names.{name_ok, pass_ok};
 ghost use Rattle.atl_world.specs.Worlds.{IsWorld};
 ghost use Rattle.atl_records.specs.declared.books.Entry.TheVariants.{Joining};
 ghost use Rattle.atl_records.specs.declared.books.Thing.TheVariants.{Money, People};
-ghost use Rattle.atl_records.specs.Books.{amount_in, after_booking, IsSmall};
+ghost use Rattle.atl_records.specs.Books.{amount_in, after_booking, LeavesRoomForJoining};
 ghost use Rattle.atl_campaign.specs.Good.{IsGood, IsSound};
 ghost use Rattle.atl_campaign.specs.Joining.{name_taken, is_full, home_of, new_faction, joined, Joins};
 ghost use Rattle.atl_records.specs.Limits.{holding_limit, last_unit};
@@ -98,8 +98,8 @@ fn make_faction(alloc: Global, number: u32, name: &[u8], pass: &[u8]) -> Result<
 /// of both so far has to be far from the ends of i64.
 fn book_joining(books: &mut Books, money: u32)
     requires things { 2 ≤ books.old.things }
-    requires money { IsSmall (amount_in books.old Joining Money) }
-    requires people { IsSmall (amount_in books.old Joining People) }
+    requires money { LeavesRoomForJoining (amount_in books.old Joining Money) }
+    requires people { LeavesRoomForJoining (amount_in books.old Joining People) }
     ensures { books.new ≡ after_booking (after_booking books.old Joining Money (pos money)) Joining
         People (pos 1) }
 {

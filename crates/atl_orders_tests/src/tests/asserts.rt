@@ -5,32 +5,32 @@ use std::fmt::Debug;
 use std::process::Abort;
 use std::test::Fail;
 
-/// Asserts that the text `told` equals `wanted`; the message of a failure names `row`, the case
+/// Asserts that the text `found` equals `wanted`; the message of a failure names `row`, the case
 /// that is tested.
-pub(crate) fn assert_row(rt: &impl Abort, row: &str, told: &str, wanted: &str) {
-    assert_eq!(rt; told, wanted, "at {row}");
+pub(crate) fn assert_text(rt: &impl Abort, row: &str, found: &str, wanted: &str) {
+    assert_eq!(rt; found, wanted, "at {row}");
 }
 
 /// Asserts that a number is the wanted one.
-pub(crate) fn assert_number(rt: &impl Abort, told: usize, wanted: usize) {
-    assert_eq!(rt; told, wanted);
+pub(crate) fn assert_number(rt: &impl Abort, found: usize, wanted: usize) {
+    assert_eq!(rt; found, wanted);
 }
 
 /// Asserts that a list of numbers is the wanted one.
-pub(crate) fn assert_numbers(rt: &impl Abort, told: &[u32], wanted: &[u32]) {
-    assert_eq!(rt; told, wanted);
+pub(crate) fn assert_numbers(rt: &impl Abort, found: &[u32], wanted: &[u32]) {
+    assert_eq!(rt; found, wanted);
 }
 
-/// Asserts that `Debug` prints the list `told` as `wanted`; the message of a failure names `row`,
+/// Asserts that `Debug` prints the list `found` as `wanted`; the message of a failure names `row`,
 /// the case that is tested.
 pub(crate) fn assert_shown<T: Debug>(
     rt: &impl Abort,
     alloc: Global,
     row: &str,
-    told: &[T],
+    found: &[T],
     wanted: &str,
 ) -> Result<(), Fail> {
-    let told = format!(in alloc; "{told:?}")?;
-    assert_row(rt, row, told.as_str(), wanted);
+    let found = format!(in alloc; "{found:?}")?;
+    assert_text(rt, row, found.as_str(), wanted);
     Ok(())
 }

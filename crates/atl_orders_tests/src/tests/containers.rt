@@ -1,6 +1,6 @@
 //! Tests of `Text`, `Sequence` and `Numbered` (a map by number), call by call, and of the names of
 //! world faults.
-use super::asserts::{assert_number, assert_numbers, assert_row};
+use super::asserts::{assert_number, assert_numbers, assert_text};
 use atl_tables::WorldFault;
 use atl_world::{Numbered, Sequence, Text};
 use std::alloc::Global;
@@ -10,8 +10,8 @@ use std::test::Fail;
 /// Asserts that a text and a copy of it have the wanted bytes.
 fn assert_text(rt: &impl Abort, alloc: Global, text: &Text, wanted: &str) -> Result<(), Fail> {
     assert!(rt; text.as_bytes() == wanted.as_bytes());
-    assert_row(rt, wanted, text.as_str(), wanted);
-    assert_row(rt, wanted, text.copy(alloc)?.as_str(), wanted);
+    assert_text(rt, wanted, text.as_str(), wanted);
+    assert_text(rt, wanted, text.copy(alloc)?.as_str(), wanted);
     Ok(())
 }
 
@@ -146,8 +146,8 @@ fn assert_fault(rt: &impl Abort, alloc: Global, row: &(u8, &str, &str)) -> Resul
     let (number, name, path) = *row;
     let fault = fault_of(number, Text::from_str(alloc, "rules.growth")?);
     assert_number(rt, fault.number().unwrap_or(0).into(), number.into());
-    assert_row(rt, name, fault.name(), name);
-    assert_row(rt, name, path_of(&fault), path);
+    assert_text(rt, name, fault.name(), name);
+    assert_text(rt, name, path_of(&fault), path);
     Ok(())
 }
 

@@ -1,12 +1,12 @@
 //! Tests that a faulty world text gets the right first fault with its path (docs/FORMATS.md,
 //! "Faults of a world file").
-use super::asserts::assert_row;
+use super::asserts::assert_text;
 use super::changes::{
     ARRAY_CHANGES, Change, EQUAL_MARKETS, HEAD_CHANGES, KEY_CHANGES, MARKET_CHANGES, NAME_CHANGES,
     NEIGHBOUR_CHANGES, OUTPUT_CHANGES, REFERENCE_CHANGES, RULES_CHANGES, SMALL_CHANGES,
     TITLE_CHANGES, TOO_MANY_MARKETS, TRUTH_CHANGES, TWIN_CHANGES, TWO_FAULTS,
 };
-use super::worlds::{MORE, changed, fault, small_with, with_markets};
+use super::worlds::{ITEM_SKILL_KIND, changed, fault, small_with, with_markets};
 use atl_test_worlds::SMALL;
 use atl_world::Format;
 use std::alloc::Global;
@@ -42,9 +42,9 @@ fn faults_are(
     first: &str,
 ) -> Result<(), Fail> {
     let told = fault(alloc, Format::Second, text)?;
-    assert_row(rt, row, told.as_str(), second);
+    assert_text(rt, row, told.as_str(), second);
     let told = fault(alloc, Format::First, text)?;
-    assert_row(rt, row, told.as_str(), first);
+    assert_text(rt, row, told.as_str(), first);
     Ok(())
 }
 
@@ -98,7 +98,7 @@ fn things_are(rt: &impl Abort, alloc: Global, text: &str) -> Result<(), Fail> {
 /// The reader reports the first fault of each edit of the world with an item, a skill and a kind.
 #[test]
 fn faulty_things(rt: HostRuntime) -> Result<(), Fail> {
-    let text = small_with(rt.alloc(), MORE)?;
+    let text = small_with(rt.alloc(), ITEM_SKILL_KIND)?;
     things_are(&rt, rt.alloc(), text.as_str())
 }
 
@@ -330,7 +330,7 @@ fn long_texts_are(
     for (long, times, wanted) in rows.iter() {
         let text = long_text(alloc, long, *times)?;
         let told = fault(alloc, Format::Second, text.as_str())?;
-        assert_row(rt, long.open, told.as_str(), wanted);
+        assert_text(rt, long.open, told.as_str(), wanted);
     }
     Ok(())
 }
@@ -363,7 +363,7 @@ fn with_regions(alloc: Global, count: u32) -> Result<String, Fail> {
 fn regions_are(rt: &impl Abort, alloc: Global, count: u32, wanted: &str) -> Result<(), Fail> {
     let text = with_regions(alloc, count)?;
     let told = fault(alloc, Format::Second, text.as_str())?;
-    assert_row(rt, "regions", told.as_str(), wanted);
+    assert_text(rt, "regions", told.as_str(), wanted);
     Ok(())
 }
 

@@ -1,7 +1,7 @@
 //! Tests of reading a mailing: each form of order, blocks, line ends, long texts, and the spans of
 //! names.
-use super::asserts::{assert_number, assert_row};
-use super::worlds::{THINGS, world_with};
+use super::asserts::{assert_number, assert_text};
+use super::worlds::{NAMED_THINGS, world_with};
 use atl_orders::{MailFault, Mailing, Operands, Span, read_mailing};
 use atl_world::{Text, World};
 use std::alloc::Global;
@@ -62,7 +62,7 @@ fn assert_read(
     wanted: &str,
 ) -> Result<(), Fail> {
     let told = told(alloc, world, text)?;
-    assert_row(rt, wanted, told.as_str(), wanted);
+    assert_text(rt, wanted, told.as_str(), wanted);
     Ok(())
 }
 
@@ -380,7 +380,7 @@ fn words_are(rt: &impl Abort, alloc: Global, world: &World) -> Result<(), Fail> 
     for (text, wanted) in WORDS.iter() {
         let mailing = read_mailing(alloc, world, text.as_bytes())?;
         let words = words_of(alloc, &mailing)?;
-        assert_row(rt, wanted, words.as_str(), wanted);
+        assert_text(rt, wanted, words.as_str(), wanted);
     }
     Ok(())
 }
@@ -443,7 +443,7 @@ fn all_is_read(rt: &impl Abort, alloc: Global, world: &World) -> Result<(), Fail
 /// refused.
 #[test]
 fn mailings(rt: HostRuntime) -> Result<(), Fail> {
-    let world = world_with(rt.alloc(), THINGS)?;
+    let world = world_with(rt.alloc(), NAMED_THINGS)?;
     all_is_read(&rt, rt.alloc(), &world)?;
     assert!(rt; MailFault::Memory.number().is_none());
     Ok(())

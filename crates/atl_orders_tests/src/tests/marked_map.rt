@@ -92,7 +92,7 @@ fn changes_value(map: &mut MarkedMap<u32>, number: u32, value: u32) {
 }
 
 /// Makes the call that a step names, on a map.
-fn does(map: &mut MarkedMap<u32>, step: Step) -> Result<(), Fail> {
+fn makes_call(map: &mut MarkedMap<u32>, step: Step) -> Result<(), Fail> {
     match step {
         Step::Insert(number, value) => inserts(map, number, value)?,
         Step::Put(number, value) => map.put(number, value)?,
@@ -127,7 +127,7 @@ fn assert_steps(
     rows: &[Row],
 ) -> Result<(), Fail> {
     for (step, values, marks) in rows.iter() {
-        does(map, *step)?;
+        makes_call(map, *step)?;
         assert_number(rt, map.len(), *values);
         assert_marks(rt, alloc, map, marks)?;
     }
@@ -147,7 +147,7 @@ fn is_changed(rt: &impl Abort, alloc: Global, map: &MarkedMap<u32>) -> Result<()
 /// A new, overwritten or removed value of a map marks its number, and a value that is taken out
 /// takes its mark along.
 #[test]
-fn tracked(rt: HostRuntime) -> Result<(), Fail> {
+fn changes_are_marked(rt: HostRuntime) -> Result<(), Fail> {
     let mut map = MarkedMap::of(rt.alloc(), filled(rt.alloc())?)?;
     assert_marks(&rt, rt.alloc(), &map, &[])?;
     assert_steps(&rt, rt.alloc(), &mut map, &CHANGES)?;
@@ -155,7 +155,7 @@ fn tracked(rt: HostRuntime) -> Result<(), Fail> {
 }
 
 /// Makes the calls of `ROUND` 200 times, and then those of `MARKS`.
-fn goes_round(rt: &impl Abort, alloc: Global, map: &mut MarkedMap<u32>) -> Result<(), Fail> {
+fn repeats_round(rt: &impl Abort, alloc: Global, map: &mut MarkedMap<u32>) -> Result<(), Fail> {
     for _ in 0..200 {
         assert_steps(rt, alloc, map, &ROUND)?;
     }
@@ -166,7 +166,7 @@ fn goes_round(rt: &impl Abort, alloc: Global, map: &mut MarkedMap<u32>) -> Resul
 #[test]
 fn marks_of_what_is_gone(rt: HostRuntime) -> Result<(), Fail> {
     let mut map = MarkedMap::of(rt.alloc(), filled(rt.alloc())?)?;
-    goes_round(&rt, rt.alloc(), &mut map)
+    repeats_round(&rt, rt.alloc(), &mut map)
 }
 
 /// How many numbers the map of the test `marks_in_any_order` has: one less than the prime 1009.
@@ -212,7 +212,7 @@ fn count_up(rt: &impl Abort, map: &MarkedMap<u32>, thirds: bool, count: usize) {
 
 /// Marks all numbers as `marks_each` does, takes out each third one, inserts these again, clears
 /// all marks, and asserts the marked numbers after each of these.
-fn mixes(rt: &impl Abort, map: &mut MarkedMap<u32>, falling: bool) -> Result<(), Fail> {
+fn mixes_marks(rt: &impl Abort, map: &mut MarkedMap<u32>, falling: bool) -> Result<(), Fail> {
     map.unmark();
     marks_each(map, falling);
     count_up(rt, map, true, 1008);
@@ -234,6 +234,6 @@ fn marks_in_any_order(rt: HostRuntime) -> Result<(), Fail> {
         map.put(number + 1, number)?;
     }
     count_up(&rt, &map, true, 1008);
-    mixes(&rt, &mut map, true)?;
-    mixes(&rt, &mut map, false)
+    mixes_marks(&rt, &mut map, true)?;
+    mixes_marks(&rt, &mut map, false)
 }

@@ -1,5 +1,5 @@
 //! Tests that the small world and the island are read in full, part by part.
-use super::asserts::{assert_number, assert_numbers, assert_row, assert_shown};
+use super::asserts::{assert_number, assert_numbers, assert_shown, assert_text};
 use atl_tables::read_world;
 use atl_test_worlds::{ISLE, SMALL};
 use atl_world::{RegionPlan, World};
@@ -125,7 +125,7 @@ fn regions_are(rt: &impl Abort, alloc: Global, world: &World, wanted: &Shown) ->
     assert_numbers(rt, world.land(), wanted.land);
     assert_number(rt, world.regions().len(), wanted.region_count);
     for (number, region) in wanted.regions.iter() {
-        assert_row(
+        assert_text(
             rt,
             region,
             region_text(alloc, world, *number)?.as_str(),

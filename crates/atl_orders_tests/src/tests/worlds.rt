@@ -6,7 +6,7 @@ use std::alloc::Global;
 use std::test::Fail;
 
 /// The text of one item, one skill and one kind, which tests append to the small world.
-pub(crate) const MORE: &str = r#"[[item]]
+pub(crate) const ITEM_SKILL_KIND: &str = r#"[[item]]
 name = "wood"
 weight = 5
 carry = 0
@@ -32,7 +32,7 @@ restock = 20
 "#;
 
 /// The text of the items, skills and kinds that the orders in the tests of mailings name.
-pub(crate) const THINGS: &str = r#"[[item]]
+pub(crate) const NAMED_THINGS: &str = r#"[[item]]
 name = "wood"
 weight = 5
 carry = 0
@@ -60,10 +60,10 @@ pub(crate) fn small_with(alloc: Global, more: &str) -> Result<String, Fail> {
     Ok(format!(in alloc; "{SMALL}{more}")?)
 }
 
-/// The text of the small world with `count` equal markets and `MORE` appended.
+/// The text of the small world with `count` equal markets and `ITEM_SKILL_KIND` appended.
 pub(crate) fn with_markets(alloc: Global, count: usize) -> Result<String, Fail> {
     let markets = MARKET.repeat(alloc, count)?;
-    Ok(format!(in alloc; "{SMALL}{markets}{MORE}")?)
+    Ok(format!(in alloc; "{SMALL}{markets}{ITEM_SKILL_KIND}")?)
 }
 
 /// The world of the small world's text with `more` appended.

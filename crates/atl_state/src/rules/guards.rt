@@ -1,7 +1,7 @@
 //! Rule 10: at most one faction guards a region.
 ghost use Rattle.std.specs.Prelude.{◌≡◌, None, ◌↔◌, IsTrue};
 ghost use Rattle.atl_state.specs.Deciding.{agree, guard_of, one_holder};
-ghost use Rattle.atl_records.specs.Every.{Every, IsThere};
+ghost use Rattle.atl_records.specs.Every.{Every, HasValue};
 ghost use Rattle.atl_campaign.specs.Good.{AreOfOneFaction, guards};
 ghost use Rattle.atl_campaign.specs.Campaign.{numbers_in};
 
@@ -46,7 +46,8 @@ fn has_one_holder(campaign: &Campaign, region: u32) -> bool
 /// Whether in each region all units that guard are of one faction. The region of each unit has to
 /// exist. It takes no memory.
 pub(crate) fn are_guarded(campaign: &Campaign) -> bool
-    requires { Every (λ n u. IsThere campaign.now.value.regions u.region) campaign.now.value.units }
+    requires { Every (λ n u. HasValue campaign.now.value.regions u.region)
+        campaign.now.value.units }
     ensures { IsTrue result ↔ (AreOfOneFaction guards campaign.now.value) }
 {
     campaign

@@ -3,7 +3,7 @@ ghost use Rattle.std.specs.Prelude.{◌≡◌, ◌≢◌, ◌<◌, ◌↔◌, �
 ghost use Rattle.std.specs.FinMap as map;
 ghost use Rattle.atl_world.specs.ByNumber.{market_of};
 ghost use Rattle.atl_records.specs.declared.records.Structure as builds;
-ghost use Rattle.atl_records.specs.Every.{EachOf, Every, IsThere};
+ghost use Rattle.atl_records.specs.Every.{EachEntry, Every, HasValue};
 ghost use Rattle.atl_campaign.specs.Good.{IsPlaced, IsBuilt, ArePosted, AreKnown, AreOfMarkets};
 
 use atl_campaign::Campaign;
@@ -12,28 +12,28 @@ use atl_world::{Entries, World};
 
 /// Whether a faction of the campaign, gone or not, has this number.
 fn is_faction(campaign: &Campaign, number: u32) -> bool
-    ensures { IsTrue result ↔ (IsThere campaign.now.value.factions number) }
+    ensures { IsTrue result ↔ (HasValue campaign.now.value.factions number) }
 {
     campaign.faction(number).is_some()
 }
 
 /// Whether a region of the campaign has this number.
 fn is_region(campaign: &Campaign, number: u32) -> bool
-    ensures { IsTrue result ↔ (IsThere campaign.now.value.regions number) }
+    ensures { IsTrue result ↔ (HasValue campaign.now.value.regions number) }
 {
     campaign.region(number).is_some()
 }
 
 /// Whether a unit of the campaign has this number.
 fn is_unit(campaign: &Campaign, number: u32) -> bool
-    ensures { IsTrue result ↔ (IsThere campaign.now.value.units number) }
+    ensures { IsTrue result ↔ (HasValue campaign.now.value.units number) }
 {
     campaign.unit(number).is_some()
 }
 
 /// Whether a region of the world has this number.
 fn is_of_world(world: &World, number: u32) -> bool
-    ensures { IsTrue result ↔ (IsThere world.now.regions number) }
+    ensures { IsTrue result ↔ (HasValue world.now.regions number) }
 {
     world.region(number).is_some()
 }
@@ -41,7 +41,7 @@ fn is_of_world(world: &World, number: u32) -> bool
 /// Whether each region of the campaign is one of the world's.
 fn are_of_world(world: &World, campaign: &Campaign) -> bool
     ensures { IsTrue result ↔
-        (Every (λ n r. IsThere world.now.regions n) campaign.now.value.regions) }
+        (Every (λ n r. HasValue world.now.regions n) campaign.now.value.regions) }
 {
     campaign
         .regions()
@@ -51,7 +51,7 @@ fn are_of_world(world: &World, campaign: &Campaign) -> bool
 /// Whether the campaign has each region of the world.
 fn are_all_there(world: &World, campaign: &Campaign) -> bool
     ensures { IsTrue result ↔
-        (Every (λ n p. IsThere campaign.now.value.regions n) world.now.regions) }
+        (Every (λ n p. HasValue campaign.now.value.regions n) world.now.regions) }
 {
     world
         .regions()
@@ -62,7 +62,7 @@ fn are_all_there(world: &World, campaign: &Campaign) -> bool
 /// Whether the campaign's regions are exactly the world's.
 fn are_regions_known(world: &World, campaign: &Campaign) -> bool
     ensures { IsTrue result ↔
-        ((n : ℕ) → IsThere campaign.now.value.regions n ↔ IsThere world.now.regions n) }
+        ((n : ℕ) → HasValue campaign.now.value.regions n ↔ HasValue world.now.regions n) }
 {
     are_of_world(world, campaign) && are_all_there(world, campaign)
 }
@@ -99,7 +99,7 @@ fn have_known_markets(world: &World, campaign: &Campaign) -> bool
 /// there.
 fn are_stocks_known(world: &World, campaign: &Campaign) -> bool
     ensures { IsTrue result ↔
-        (((n : ℕ) → IsThere campaign.now.value.regions n ↔ IsThere world.now.regions n)
+        (((n : ℕ) → HasValue campaign.now.value.regions n ↔ HasValue world.now.regions n)
         × Every (λ n r. AreOfMarkets world.now n r.stocks) campaign.now.value.regions) }
 {
     are_regions_known(world, campaign) && have_known_markets(world, campaign)
@@ -107,7 +107,7 @@ fn are_stocks_known(world: &World, campaign: &Campaign) -> bool
 
 /// Whether the numbers of all given items or skills are below `count`.
 fn are_below(mut entries: Entries<'_, u32>, count: usize) -> bool
-    ensures { IsTrue result ↔ (EachOf (λ n amount. n < count) entries.entry) }
+    ensures { IsTrue result ↔ (EachEntry (λ n amount. n < count) entries.entry) }
 {
     entries.all(|(number, _)| (number as usize) < count)
 }
@@ -142,8 +142,8 @@ fn is_inside_here(campaign: &Campaign, unit: &Unit) -> bool
 /// Whether a unit's faction and region exist.
 fn is_somewhere(campaign: &Campaign, unit: &Unit) -> bool
     ensures { IsTrue result ↔
-        (IsThere campaign.now.value.factions unit.now.faction
-        × IsThere campaign.now.value.regions unit.now.region) }
+        (HasValue campaign.now.value.factions unit.now.faction
+        × HasValue campaign.now.value.regions unit.now.region) }
 {
     is_faction(campaign, unit.faction) && is_region(campaign, unit.region)
 }
@@ -185,7 +185,7 @@ fn are_placed(world: &World, campaign: &Campaign) -> bool
 fn has_known_kind_and_region(world: &World, campaign: &Campaign, structure: &Structure) -> bool
     ensures { IsTrue result ↔
         ((structure.now.kind < length world.now.kinds)
-        × IsThere campaign.now.value.regions structure.now.region) }
+        × HasValue campaign.now.value.regions structure.now.region) }
 {
     usize::from(structure.kind) < world.kinds().len() && is_region(campaign, structure.region)
 }
@@ -193,7 +193,7 @@ fn has_known_kind_and_region(world: &World, campaign: &Campaign, structure: &Str
 /// Whether a structure's owner is nobody (0), or a unit that exists.
 fn is_owner_there(campaign: &Campaign, structure: &Structure) -> bool
     ensures { IsTrue result ↔
-        (structure.now.owner ≢ 0 → IsThere campaign.now.value.units structure.now.owner) }
+        (structure.now.owner ≢ 0 → HasValue campaign.now.value.units structure.now.owner) }
 {
     structure.owner == 0 || is_unit(campaign, structure.owner)
 }
@@ -222,7 +222,7 @@ fn are_structures_known(world: &World, campaign: &Campaign) -> bool
 /// Whether all mail is of factions that exist.
 fn are_mail_known(campaign: &Campaign) -> bool
     ensures { IsTrue result ↔
-        (Every (λ n text. IsThere campaign.now.value.factions n) campaign.now.value.mail) }
+        (Every (λ n text. HasValue campaign.now.value.factions n) campaign.now.value.mail) }
 {
     campaign
         .mail()
@@ -232,7 +232,7 @@ fn are_mail_known(campaign: &Campaign) -> bool
 /// Whether all reports are of factions that exist.
 fn are_reports_known(campaign: &Campaign) -> bool
     ensures { IsTrue result ↔
-        (Every (λ n text. IsThere campaign.now.value.factions n) campaign.now.value.reports) }
+        (Every (λ n text. HasValue campaign.now.value.factions n) campaign.now.value.reports) }
 {
     campaign
         .reports()
@@ -243,7 +243,7 @@ fn are_reports_known(campaign: &Campaign) -> bool
 /// exists.
 fn are_things_known(world: &World, campaign: &Campaign) -> bool
     ensures { IsTrue result ↔
-        ((((n : ℕ) → IsThere campaign.now.value.regions n ↔ IsThere world.now.regions n)
+        ((((n : ℕ) → HasValue campaign.now.value.regions n ↔ HasValue world.now.regions n)
         × Every (λ n r. AreOfMarkets world.now n r.stocks) campaign.now.value.regions)
         × (Every (λ n u. IsPlaced world.now campaign.now.value u) campaign.now.value.units
         × Every (λ n s. IsBuilt world.now campaign.now.value s) campaign.now.value.structures)) }

@@ -1,7 +1,7 @@
 //! Rule 5: the numbers that factions, structures and units get next.
 ghost use Rattle.std.specs.Prelude.{◌≡◌, ◌≤◌, ◌<◌, ◌+◌, ℕ, None, ◌↔◌, IsTrue};
 ghost use Rattle.std.specs.FinMap as map;
-ghost use Rattle.atl_records.specs.Every.{EachOf};
+ghost use Rattle.atl_records.specs.Every.{EachEntry};
 ghost use Rattle.atl_campaign.specs.Good.{AreNumbered, IsNumbered};
 
 use atl_campaign::Campaign;
@@ -9,7 +9,7 @@ use atl_world::Entries;
 
 /// Whether the numbers of all given factions, or structures, are at least `least` and below `next`.
 fn are_between<V>(mut entries: Entries<'_, V>, least: u32, next: u32) -> bool
-    ensures { IsTrue result ↔ (EachOf (λ n v. (least ≤ n) × (n < next)) entries.entry) }
+    ensures { IsTrue result ↔ (EachEntry (λ n v. (least ≤ n) × (n < next)) entries.entry) }
 {
     entries.all(|(number, _)| least <= number && number < next)
 }

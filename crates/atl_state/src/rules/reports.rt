@@ -1,13 +1,13 @@
 //! The part of rule 12 that every faction has a report.
 ghost use Rattle.std.specs.Prelude.{◌↔◌, IsTrue};
-ghost use Rattle.atl_records.specs.Every.{IsThere};
+ghost use Rattle.atl_records.specs.Every.{HasValue};
 ghost use Rattle.atl_campaign.specs.Good.{AreReported};
 
 use atl_campaign::Campaign;
 
 /// Whether a campaign has a report of the faction with this number.
 fn has_report(campaign: &Campaign, number: u32) -> bool
-    ensures { IsTrue result ↔ (IsThere campaign.now.value.reports number) }
+    ensures { IsTrue result ↔ (HasValue campaign.now.value.reports number) }
 {
     campaign.report(number).is_some()
 }

@@ -1,6 +1,6 @@
 use Rattle.std.proofs.Common.{◌++◌, ap, sym, ◌∙◌}
 use Rattle.atl_records.specs.Grids.{accounts}
-use Rattle.atl_records.proofs.ListedLaws.{entries-amounts}
+use Rattle.atl_records.proofs.AmountListLaws.{entries-amounts}
 use Rattle.atl_campaign.specs.Rows.{amounts_rows, rows_under}
 use Rattle.atl_campaign.proofs.rows.books_rows.Goals as goal
 

@@ -1,7 +1,7 @@
 use Rattle.std.proofs.Common.{◌≡◌, ◌<◌, length, drop}
 use Rattle.std.specs.Prelude.{fold}
 use Rattle.atl_campaign.specs.Covers.{MarksChanges}
-use Rattle.atl_records.specs.Every.{EachOf}
+use Rattle.atl_records.specs.Every.{EachEntry}
 use Rattle.atl_campaign.specs.Founding.{things_of}
 use Rattle.atl_phase.specs.Bounds.{HaveRoom, moving_items}
 use Rattle.atl_instant.specs.Quit.{with_item_loss}
@@ -13,7 +13,7 @@ abbrev pub invariant-loop-item : goal.invariant-loop-item
 invariant-loop-item l = record {
   rest : fold with_item_loss l.campaign.value (drop l.item-index l.items) ≡ fold with_item_loss l.initial.campaign.value l.items;
   things : l.campaign.value.books.things ≡ things_of l.world;
-  known : EachOf (λ i amount. i < length l.world.items) (drop l.item-index l.items);
+  known : EachEntry (λ i amount. i < length l.world.items) (drop l.item-index l.items);
   room : HaveRoom (moving_items (drop l.item-index l.items)) l.campaign.value;
   marks : MarksChanges l.initial.campaign l.campaign;
 }

@@ -1,5 +1,5 @@
 use Rattle.std.proofs.Common.{◌≡◌, ◌≤◌, ◌-◌, ◌*◌, ◌++◌, map}
-use Rattle.atl_records.specs.Every.{EachOf}
+use Rattle.atl_records.specs.Every.{EachEntry}
 use Rattle.atl_records.specs.Limits.{most_days}
 use Rattle.atl_instant.specs.SkillDays.{left_list}
 use Rattle.atl_instant.specs.Transfer.{days_going}
@@ -10,5 +10,5 @@ abbrev pub invariant-loop-skill : goal.invariant-loop-skill
 invariant-loop-skill l =
     (goal.iterator-loop-skill).can_next l.skill-iterator ×
     (goal.iterator-loop-skill).is_finite l.skill-iterator ×
-    EachOf (λ s days. (1 ≤ days) × (days ≤ most_days * l.holding.men)) l.skill-iterator ×
+    EachEntry (λ s days. (1 ≤ days) × (days ≤ most_days * l.holding.men)) l.skill-iterator ×
     (l.list.items ++ map (λ e. (e.0, e.1 - days_going l.going l.men e.1)) l.skill-iterator ≡ left_list l.going l.holding.men l.holding.days)

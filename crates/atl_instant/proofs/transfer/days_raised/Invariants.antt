@@ -1,5 +1,5 @@
 use Rattle.std.proofs.Common.{◌≡◌, ◌≤◌, ◌+◌, ◌*◌, ◌++◌, map}
-use Rattle.atl_records.specs.Every.{EachOf}
+use Rattle.atl_records.specs.Every.{EachEntry}
 use Rattle.atl_records.specs.Holdings.{amount_of}
 use Rattle.atl_records.specs.Limits.{most_days}
 use Rattle.atl_instant.specs.SkillDays.{raised_list}
@@ -12,5 +12,5 @@ abbrev pub invariant-loop-skill : goal.invariant-loop-skill
 invariant-loop-skill l =
     (goal.iterator-loop-skill).can_next l.skill-iterator ×
     (goal.iterator-loop-skill).is_finite l.skill-iterator ×
-    EachOf (λ s days. (1 ≤ days) × (days ≤ most_days * l.sender.men)) l.skill-iterator ×
+    EachEntry (λ s days. (1 ≤ days) × (days ≤ most_days * l.sender.men)) l.skill-iterator ×
     (l.list.items ++ map (λ e. (e.0, amount_of l.receiver.days e.0 + days_going l.going l.men e.1)) l.skill-iterator ≡ raised_list l.going l.sender.men l.sender.days l.receiver.days)

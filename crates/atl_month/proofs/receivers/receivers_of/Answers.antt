@@ -2,7 +2,7 @@ use Rattle.std.proofs.Common.{rules, ◌≡◌, ◌∷◌, ◌≤◌, ℕ, List,
 use Rattle.std.specs.FinMap.{entries}
 use Rattle.atl_world.specs.Sums.{numbers_among}
 use Rattle.atl_records.specs.declared.records.Unit.{Unit}
-use Rattle.atl_records.specs.Every.{EachOf}
+use Rattle.atl_records.specs.Every.{EachEntry}
 use Rattle.atl_campaign.specs.Owners.{first_or_zero}
 use Rattle.atl_records.proofs.EveryLaws.{each-from_every}
 use Rattle.atl_month.specs.Receivers.{or_if_zero, receiver_in, with_receiver_of}
@@ -31,7 +31,7 @@ loop-number-preserved c =
     let n = c.in-Some.number in
     let u = c.in-Some.unit.now in
     let listed : c.loop-number.number-iterator ≡ (n, u) ∷ c.next.new.self = search rules in
-    let least : EachOf (λ n u. 1 ≤ n) ((n, u) ∷ c.next.new.self) = subst (λ (l : List (ℕ × Unit)). EachOf (λ n u. 1 ≤ n) l) listed low in
+    let least : EachEntry (λ n u. 1 ≤ n) ((n, u) ∷ c.next.new.self) = subst (λ (l : List (ℕ × Unit)). EachEntry (λ n u. 1 ≤ n) l) listed low in
     let is : c.note.new.receivers ≡ with_receiver_of before n u = search rules in (
       tt,
       tt,

@@ -1,6 +1,6 @@
 use Rattle.std.proofs.Common.{◌≡◌, ◌≤◌, ℕ}
 use Rattle.atl_world.specs.Sums.{numbers_among}
-use Rattle.atl_records.specs.Every.{EachOf}
+use Rattle.atl_records.specs.Every.{EachEntry}
 use Rattle.atl_campaign.specs.Owners.{first_or_zero}
 use Rattle.atl_month.specs.Receivers.{or_if_zero, receiver_in}
 use Rattle.atl_month.specs.Sweep.{receiver, receives}
@@ -13,4 +13,4 @@ invariant-loop-number l =
     (goal.iterator-loop-number).can_next l.number-iterator ×
     (goal.iterator-loop-number).is_finite l.number-iterator ×
     ((region faction : ℕ) → or_if_zero (receiver_in l.receivers region faction) (first_or_zero (numbers_among (receives region faction) l.number-iterator)) ≡ receiver l.campaign.value region faction) ×
-    EachOf (λ n u. 1 ≤ n) l.number-iterator
+    EachEntry (λ n u. 1 ≤ n) l.number-iterator

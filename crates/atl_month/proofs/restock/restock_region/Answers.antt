@@ -3,7 +3,7 @@ use Rattle.std.specs.Prelude.{List, fold}
 use Rattle.std.specs.FinMap.{entries, get}
 use Rattle.atl_world.specs.Limits.{most_amount}
 use Rattle.atl_world.specs.declared.world.Market.{Market}
-use Rattle.atl_records.specs.Every.{EachOf, IsThere}
+use Rattle.atl_records.specs.Every.{EachEntry, HasValue}
 use Rattle.atl_campaign.proofs.CoverLaws.{marks-refl, marks-trans}
 use Rattle.atl_records.proofs.EveryLaws.{sorted}
 use Rattle.atl_phase.specs.Bounds.{HaveRoom}
@@ -30,7 +30,7 @@ loop-item-init c =
       can_next = tt;
       is_finite = tt;
       rest = ap (after_restock n before.value) (listed ∙ ap (λ m. entries m) (sym (markets_there w c.region.ensures.world n plan there)));
-      each = subst (EachOf (IsMarketOf w n)) (sym listed) (markets_are w c.region.ensures.world n plan there);
+      each = subst (EachEntry (IsMarketOf w n)) (sym listed) (markets_are w c.region.ensures.world n plan there);
       steady = c.requires.steady;
       room =
           subst (λ (es : List (ℕ × Market)). HaveRoom (stocking es) before.value) (sym listed)
@@ -54,8 +54,8 @@ loop-item-preserved c =
     let rest = c.next.new.self in
     let before = c.loop-item.campaign.value in
     let old = c.loop-item.invariant in
-    let there : IsThere w.regions n = (c.in-Some.plan.now, sym c.in-Some.ensures.value) in
-    let each = subst (EachOf (IsMarketOf w n)) c.in-Some-2.ensures.steps old.each in
+    let there : HasValue w.regions n = (c.in-Some.plan.now, sym c.in-Some.ensures.value) in
+    let each = subst (EachEntry (IsMarketOf w n)) c.in-Some-2.ensures.steps old.each in
     let room = subst (λ (es : List (ℕ × Market)). HaveRoom (stocking es) before) c.in-Some-2.ensures.steps old.room in
     let is : c.restock_market.new.campaign.value ≡ after_market_restock n before x = c.in_ok-restock_market.ensures.what in
     record {

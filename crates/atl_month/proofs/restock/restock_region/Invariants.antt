@@ -2,7 +2,7 @@ use Rattle.std.proofs.Common.{◌≡◌}
 use Rattle.std.specs.Prelude.{fold}
 use Rattle.std.specs.FinMap.{entries}
 use Rattle.atl_campaign.specs.Covers.{MarksChanges}
-use Rattle.atl_records.specs.Every.{EachOf}
+use Rattle.atl_records.specs.Every.{EachEntry}
 use Rattle.atl_campaign.specs.Good.{IsSteady}
 use Rattle.atl_phase.specs.Bounds.{HaveRoom}
 use Rattle.atl_month.specs.Restock.{after_market_restock, after_restock, markets_of}
@@ -20,7 +20,7 @@ invariant-loop-item l = record {
   -- restocking the markets still to come makes the campaign that restocking all of them makes
   rest : fold (after_market_restock l.region) l.campaign.value l.item-iterator ≡ after_restock l.region l.initial.campaign.value (entries (markets_of l.world l.region));
   -- each market still to come is the world's market of the region for its item
-  each : EachOf (IsMarketOf l.world l.region) l.item-iterator;
+  each : EachEntry (IsMarketOf l.world l.region) l.item-iterator;
   -- the campaign is steady
   steady : IsSteady l.world l.campaign.value;
   -- the books have room for the new goods of the markets still to come

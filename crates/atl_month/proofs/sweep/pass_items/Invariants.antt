@@ -1,7 +1,7 @@
 use Rattle.std.proofs.Common.{◌≡◌, ◌<◌, length, drop}
 use Rattle.std.specs.Prelude.{fold}
 use Rattle.atl_campaign.specs.Covers.{MarksChanges}
-use Rattle.atl_records.specs.Every.{EachOf}
+use Rattle.atl_records.specs.Every.{EachEntry}
 use Rattle.atl_campaign.specs.Good.{IsSteady}
 use Rattle.atl_phase.specs.Bounds.{HaveRoom, moving_items}
 use Rattle.atl_month.specs.Sweep.{after_passing_item}
@@ -16,7 +16,7 @@ invariant-loop-item l = record {
   -- the campaign is steady
   steady : IsSteady l.world l.campaign.value;
   -- the items still to come are items of the world
-  known : EachOf (λ i amount. i < length l.world.items) (drop l.item-index l.items);
+  known : EachEntry (λ i amount. i < length l.world.items) (drop l.item-index l.items);
   -- the books have room for what may be lost of the items still to come
   room : HaveRoom (moving_items (drop l.item-index l.items)) l.campaign.value;
   -- no mark is lost and all that changed is marked (`MarksChanges`)

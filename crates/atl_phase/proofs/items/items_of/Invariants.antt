@@ -1,6 +1,6 @@
 use Rattle.std.proofs.Common.{◌≡◌, ◌<◌, ◌++◌, length}
 use Rattle.std.specs.FinMap.{entries}
-use Rattle.atl_records.specs.Every.{EachOf}
+use Rattle.atl_records.specs.Every.{EachEntry}
 use Rattle.atl_phase.proofs.items.items_of.Given as goal
 
 -- before each item: the list and the items still to come are all items of the holding, and those to come are of the
@@ -10,4 +10,4 @@ invariant-loop-item l =
     (goal.iterator-loop-item).can_next l.item-iterator ×
     (goal.iterator-loop-item).is_finite l.item-iterator ×
     (l.list.items ++ l.item-iterator ≡ entries l.holding.items) ×
-    EachOf (λ i amount. i < length l.world.items) l.item-iterator
+    EachEntry (λ i amount. i < length l.world.items) l.item-iterator

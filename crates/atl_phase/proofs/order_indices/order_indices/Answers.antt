@@ -1,4 +1,4 @@
-use Rattle.atl_phase.proofs.OrderLaws as laws
+use Rattle.atl_phase.proofs.OrderKeyLaws as laws
 use Rattle.atl_phase.proofs.order_indices.order_indices.Goals as goal
 
 -- the sorted indices name, in the order of the arrangement, all orders that count (`AreOrderIndices`)

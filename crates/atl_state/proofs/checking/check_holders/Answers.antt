@@ -1,5 +1,5 @@
 use Rattle.std.proofs.Common.{sym, subst}
-use Rattle.atl_records.specs.Every.{Every, IsThere}
+use Rattle.atl_records.specs.Every.{Every, HasValue}
 use Rattle.atl_campaign.specs.Good.{AreOwned, AreAfloat, AreOfOneFaction, guards}
 use Rattle.atl_campaign.specs.Campaign.{CampaignValue}
 use Rattle.atl_state.specs.declared.checking.Rule.TheVariants.{Owners, Water, Guards, Books, Mail}
@@ -8,7 +8,7 @@ use Rattle.atl_state.proofs.checking.check_holders.Goals as goal
 
 -- what `are_guarded` requires: the region of each unit read from the rows exists
 pub are_guarded-requires : goal.are_guarded-requires
-are_guarded-requires c = subst (λ (s : CampaignValue). Every (λ n u. IsThere s.regions u.region) s.units) (sym c.requires.what) (places-said c.args.format c.args.world.now c.args.parts.now c.requires.before)
+are_guarded-requires c = subst (λ (s : CampaignValue). Every (λ n u. HasValue s.regions u.region) s.units) (sym c.requires.what) (places-said c.args.format c.args.world.now c.args.parts.now c.requires.before)
 
 -- rows that keep rules 1 to 7, and pass the tests of rules 8 to 12, keep all twelve rules
 pub returns : goal.returns

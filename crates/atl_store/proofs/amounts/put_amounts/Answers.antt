@@ -1,5 +1,5 @@
 use Rattle.std.proofs.Common.{ap}
-use Rattle.atl_store.specs.Lines.{thing_rows, amount_rows}
+use Rattle.atl_store.specs.GroupedRows.{thing_rows, amount_rows}
 use Rattle.atl_sql.proofs.PuttingLaws.{putting_begins, putting_more, putting_failed, putting_ends}
 use Rattle.atl_store.proofs.amounts.put_amounts.Goals as goal
 

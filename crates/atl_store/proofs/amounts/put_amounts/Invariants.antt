@@ -1,4 +1,4 @@
-use Rattle.atl_store.specs.Lines.{amount_rows}
+use Rattle.atl_store.specs.GroupedRows.{amount_rows}
 use Rattle.atl_sql.proofs.PuttingLaws.{Putting}
 use Rattle.atl_store.proofs.amounts.put_amounts.Given as goal
 

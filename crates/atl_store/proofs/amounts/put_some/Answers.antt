@@ -1,6 +1,6 @@
 use Rattle.std.proofs.Common.{Bool, if◌then◌else◌, [], ◌∷◌, ap}
-use Rattle.atl_store.specs.Lines.{thing_rows}
-use Rattle.atl_store.proofs.GoodsLaws.{is_not_zero}
+use Rattle.atl_store.specs.GroupedRows.{thing_rows}
+use Rattle.atl_store.proofs.HasTableLaws.{is_not_zero}
 use Rattle.atl_sql.proofs.PuttingLaws.{none_written, one_written}
 use Rattle.atl_store.proofs.amounts.put_some.Goals as goal
 

@@ -1,5 +1,5 @@
 use Rattle.atl_sql.specs.Tables.{has_table}
-use Rattle.atl_store.specs.Lines.{all_goods_lines}
+use Rattle.atl_store.specs.GroupedRows.{all_goods_lines}
 use Rattle.atl_sql.proofs.PuttingLaws.{Putting}
 use Rattle.atl_store.proofs.goods.put_all_goods.Given as goal
 

@@ -1,6 +1,6 @@
 use Rattle.std.proofs.Common.{drop}
 use Rattle.atl_sql.specs.Tables.{books_table}
-use Rattle.atl_store.specs.Lines.{entries_lines}
+use Rattle.atl_store.specs.GroupedRows.{entries_lines}
 use Rattle.atl_sql.proofs.PuttingLaws.{Putting}
 use Rattle.atl_store.proofs.ledger.put_entries.Given as goal
 

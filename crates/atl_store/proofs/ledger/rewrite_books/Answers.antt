@@ -2,7 +2,7 @@ use Rattle.std.proofs.Common.{◌≡◌, ◌+◌, ◌-◌, suc, map, ap, subst, 
 use Rattle.std.specs.List.{range_with_len}
 use Rattle.atl_records.specs.Books.{all_entries, entry_index, thing_index}
 use Rattle.atl_campaign.specs.Marks.{AreOfThings}
-use Rattle.atl_records.proofs.AccountLaws.{place_at}
+use Rattle.atl_records.proofs.AccountLaws.{index_of_thing_at}
 use Rattle.atl_sql.specs.Tables.{books_table}
 use Rattle.atl_sql.specs.Inside.{Inside, HasTables}
 use Rattle.atl_store.specs.Rewriting.{RewritesAmounts, is_number, is_among, of_amounts}
@@ -25,7 +25,7 @@ loop-number-preserved g c =
     let i = c.loop-number.number in
     let count = campaign.value.books.things in
     let left : count - i ≡ suc (count - (i + 1)) = omega (arith, c.loop-number-test.true, c.things-number-end.ensures.count) in
-    let place : thing_index c.of_number.result ≡ i = ap thing_index c.of_number.ensures ∙ place_at i in
+    let place : thing_index c.of_number.result ≡ i = ap thing_index c.of_number.ensures ∙ index_of_thing_at i in
     goes_on g.S.Store (λ old mid new so_far more. thing_nearer campaign i (range_with_len i (count - i)) (range_with_len (i + 1) (count - (i + 1))) (range_with_len 0 count) (ap (range_with_len i) left) old mid new so_far
     (subst (λ t. Inside HasTables (RewritesAmounts campaign (is_among (map entry_index all_entries)) (is_number t)) mid new) place more))
     c.loop-number.invariant c.in_ok-rewrite_entries.ensures

@@ -1,5 +1,5 @@
 use Rattle.atl_sql.specs.Tables.{market_table}
-use Rattle.atl_store.specs.Lines.{all_stocks_lines}
+use Rattle.atl_store.specs.GroupedRows.{all_stocks_lines}
 use Rattle.atl_sql.proofs.PuttingLaws.{Putting}
 use Rattle.atl_store.proofs.markets.put_all_stocks.Given as goal
 

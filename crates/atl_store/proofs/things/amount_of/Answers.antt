@@ -1,5 +1,5 @@
 use Rattle.std.proofs.Common.{sym}
-use Rattle.atl_store.proofs.GoodsLaws.{amount_none}
+use Rattle.atl_store.proofs.HasTableLaws.{amount_none}
 use Rattle.atl_store.proofs.things.amount_of.Goals as goal
 
 -- the amount for a unit that isn't there is 0, as the definition has it (`amount_under`)

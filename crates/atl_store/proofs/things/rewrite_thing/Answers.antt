@@ -1,7 +1,7 @@
 use Rattle.std.proofs.Common.{refl}
 use Rattle.atl_sql.specs.Tables.{Goods}
 use Rattle.atl_store.specs.OwnStatements.{changes_row, puts_row, drops_row}
-use Rattle.atl_store.proofs.GoodsLaws.{of_had}
+use Rattle.atl_store.proofs.HasTableLaws.{of_had}
 use Rattle.atl_store.proofs.ThingLaws.{no_thing, thing_put, thing_dropped}
 use Rattle.atl_sql.proofs.WriteLaws.{weaker, among_only}
 use Rattle.atl_store.proofs.things.rewrite_thing.Goals as goal

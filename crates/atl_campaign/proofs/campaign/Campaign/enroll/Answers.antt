@@ -12,7 +12,7 @@ use Rattle.atl_campaign.proofs.JoinLaws.{joining_small}
 use Rattle.atl_campaign.proofs.campaign.Campaign.enroll.Goals as goal
 
 -- enroll may call book_joining: the books have money and people, and what is booked of both under Joining is far from
--- the ends of 64 bits (IsSmall)
+-- the ends of 64 bits (LeavesRoomForJoining)
 pub book_joining-requires : goal.book_joining-requires
 book_joining-requires c =
     let books : c.self-2.inside.books ≡ c.args.self.now.value.books = ap (λ (m : MarkedCampaign). m.value.books) c.self-2.view_is ∙ ap (λ (s : CampaignValue). s.books) c.in-Ok.ensures.ok ∙ ap (λ (m : MarkedCampaign). m.value.books) c.self.view_is in

@@ -11,7 +11,7 @@ use Rattle.atl_phase.proofs.OrderEffectLaws.{leaves_well, well_same, well_twice}
 use Rattle.atl_instant.proofs.FormLaws.{all_formed, free_number, order_stays, order_well}
 use Rattle.atl_instant.proofs.form.FormPhasePhase.run.Goals as goal
 use Rattle.atl_orders.specs.declared.verb.Verb.TheVariants.{Form}
-use Rattle.atl_instant.specs.Forming.{form_apart}
+use Rattle.atl_instant.specs.Forming.{form_by_copy}
 use Rattle.atl_instant.specs.declared.form.Forming.{Forming}
 
 -- before the first copied order the loop's invariant holds: all orders are still to come, and nothing has changed
@@ -44,7 +44,7 @@ loop-order-preserved c =
     let what = ap (λ (p : CampaignValue × MonthValue). p.0) c.in_ok-form_one.ensures.step in
     let early = c.loop-order.invariant.well.holds_still in
     record {
-      orders = fold_behind form_apart xs i none before c.loop-order-test.true step c.loop-order.invariant.orders;
+      orders = fold_behind form_by_copy xs i none before c.loop-order-test.true step c.loop-order.invariant.orders;
       readings = ap (λ (p : CampaignValue × MonthValue). p.1.readings) step ∙ c.loop-order.invariant.readings;
       well = well_twice w old now _ c.loop-order.invariant.well (subst (λ d. StepsWell IsEarly nothing_remaining w now d) (sym what) (order_well w now early c.loop-order.month o));
       stays = λ n u there. subst (λ (d : CampaignValue). get d.units n ≡ Some u) (sym what) (order_stays w now early c.loop-order.month o n u (c.loop-order.invariant.stays n u there));
@@ -58,8 +58,8 @@ returns-clause-meaning c =
     let after_loop : CampaignValue × MonthValue = (c.loop-order.campaign.value, c.loop-order.month) in
     let same : ◌≡◌ {A = CampaignValue × MonthValue} (c.loop-order.campaign.value, c.gather.new.self) after_loop = ap (λ (m : MonthValue). (c.loop-order.campaign.value, m)) c.gather.ensures in
     same
-    ∙ fold_ended form_apart c.deref-order-items.result.now c.loop-order.order-index after_loop (omega (arith, c.loop-order-test.false)) c.loop-order.invariant.orders
-    ∙ ap (fold form_apart start) (c.deref-order-items.ensures.value ∙ c.in_ok-orders.ensures)
+    ∙ fold_ended form_by_copy c.deref-order-items.result.now c.loop-order.order-index after_loop (omega (arith, c.loop-order-test.false)) c.loop-order.invariant.orders
+    ∙ ap (fold form_by_copy start) (c.deref-order-items.ensures.value ∙ c.in_ok-orders.ensures)
     ∙ all_formed c.args._world.now c.args.campaign.value c.args.month
 
 -- the phase of FORM leaves the campaign early, in its month and in balance, and moves no amount of the books

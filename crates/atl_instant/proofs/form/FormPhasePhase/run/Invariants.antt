@@ -6,13 +6,13 @@ use Rattle.atl_records.specs.Every.{Every}
 use Rattle.atl_campaign.specs.Good.{IsEarly}
 use Rattle.atl_phase.specs.Bounds.{StepsWell, nothing_remaining}
 use Rattle.atl_instant.proofs.form.FormPhasePhase.run.Given as goal
-use Rattle.atl_instant.specs.Forming.{form_apart}
+use Rattle.atl_instant.specs.Forming.{form_by_copy}
 
 -- carrying out the copied orders still to come gives what carrying out all of them gives; the campaign so far is early
 -- and in balance, and each unit that was there is unchanged
 abbrev pub invariant-loop-order : goal.invariant-loop-order
 invariant-loop-order l = record {
-  orders : fold form_apart (l.campaign.value, l.month) (drop l.order-index l.order-items) ≡ fold form_apart (l.fn.campaign.value, l.fn.month) l.order-items;
+  orders : fold form_by_copy (l.campaign.value, l.month) (drop l.order-index l.order-items) ≡ fold form_by_copy (l.fn.campaign.value, l.fn.month) l.order-items;
   readings : l.month.readings ≡ l.fn.month.readings;
   well : StepsWell IsEarly nothing_remaining l._world l.fn.campaign.value l.campaign.value;
   stays : Every (λ n u. get l.campaign.value.units n ≡ Some u) l.fn.campaign.value.units;

@@ -1,5 +1,5 @@
 use Rattle.atl_orders.specs.Orders.{name_in}
-use Rattle.atl_phase.proofs.OrderEffectLaws.{told_some}
+use Rattle.atl_phase.proofs.OrderEffectLaws.{result_of_effect}
 use Rattle.atl_instant.specs.Name.{naming}
 use Rattle.atl_instant.proofs.name.NamePhaseOrderPhase.carry_out.Goals as goal
 
@@ -7,4 +7,4 @@ use Rattle.atl_instant.proofs.name.NamePhaseOrderPhase.carry_out.Goals as goal
 pub returns-in_ok-give_name-in-Name-clause-step : goal.returns-in_ok-give_name-in-Name-clause-step
 returns-in_ok-give_name-in-Name-clause-step c =
     let deed = naming c.args.world.now c.args.order.unit c.in-Name.kind (name_in c.args.order.mailing.now.text c.in-Name.span) in
-    rw c.in-Name.is (told_some deed _ _ _ _ _ c.in_ok-give_name-in-Name.ensures.value)
+    rw c.in-Name.is (result_of_effect deed _ _ _ _ _ c.in_ok-give_name-in-Name.ensures.value)

@@ -8,7 +8,7 @@ pub invariant_of-result : goal.invariant_of-result
 invariant_of-result c =
     let sort = c.sort_unstable_by_key in
     record {
-      sorted = laws.rise c.args.mailings.items sort.new.self.items c.requires sort.ensures.permutation (sort.ensures.sorted (λ m. m.faction) (always_returns_same _ _ _ (λ a r q k. search rules)));
+      sorted = laws.sorted_by_faction c.args.mailings.items sort.new.self.items c.requires sort.ensures.permutation (sort.ensures.sorted (λ m. m.faction) (always_returns_same _ _ _ (λ a r q k. search rules)));
       gathered = tt;
     }
 

@@ -1,6 +1,6 @@
 use Rattle.atl_sql.specs.Tables.{Markets}
 use Rattle.atl_sql.specs.Rows.{MarketRowsOf}
-use Rattle.atl_store.specs.Lines.{region_lines}
+use Rattle.atl_store.specs.GroupedRows.{region_lines}
 use Rattle.atl_store.specs.Filling.{FillsPart}
 use Rattle.atl_store.specs.OwnStatements.{puts_row}
 use Rattle.atl_store.proofs.FillLaws.{groups_fill}

@@ -1,11 +1,11 @@
 use Rattle.atl_sql.specs.Tables.{Goods}
 use Rattle.atl_sql.specs.Rows.{HasRowsOf}
-use Rattle.atl_store.specs.Lines.{unit_lines}
+use Rattle.atl_store.specs.GroupedRows.{unit_lines}
 use Rattle.atl_store.specs.Filling.{FillsPart}
 use Rattle.atl_store.specs.OwnStatements.{puts_row}
 use Rattle.atl_store.proofs.FillLaws.{groups_fill}
 use Rattle.atl_store.proofs.GroupRowLaws.{groups_rows}
-use Rattle.atl_store.proofs.GoodsLaws.{goods_grouped}
+use Rattle.atl_store.proofs.HasTableLaws.{goods_grouped}
 use Rattle.atl_store.proofs.TurnLaws.{in_turn_one}
 use Rattle.atl_store.proofs.WholeLaws.{done_as}
 use Rattle.atl_sql.proofs.WriteLaws.{among_each}

@@ -12,7 +12,7 @@ use Rattle.std.proofs.lemmas.Bool.Decides.{nat_tests}
 use Rattle.atl_records.specs.declared.books.Entry.{Entry}
 use Rattle.atl_records.specs.Books.{Account, BooksValue, account_cmp, all_entries, amount_in, AreBooks, entry_index, is_zero, thing_at, thing_index}
 use Rattle.atl_records.specs.Grids.{accounts, accounts_under, listed_of}
-use Rattle.atl_records.proofs.AccountLaws.{account_itself, account_same, account_total, cases_account, place_at}
+use Rattle.atl_records.proofs.AccountLaws.{account_itself, account_same, account_total, cases_account, index_of_thing_at}
 use Rattle.atl_records.proofs.BookLaws.{get-listed, listed, none_past, zero_is}
 use Rattle.atl_records.proofs.EveryLaws.{is_true, none_some}
 use Rattle.atl_records.proofs.GridLaws.{any_accounts}
@@ -35,7 +35,7 @@ less_entry a b h = ap (λ o. ordering_then o (nat_cmp (thing_index a.1) (thing_i
 -- of two accounts of one entry, the one whose thing has the lower number is less by account_cmp
 less_thing : (e : Entry) (i k : ℕ) → i < k → account_cmp (e, thing_at i) (e, thing_at k) ≡ Less
 less_thing e i k h =
-    ap (λ o. ordering_then o (nat_cmp (thing_index (thing_at i)) (thing_index (thing_at k)))) (tied_itself nat_cmp_total (entry_index e)) ∙ (λ j. nat_cmp (place_at i j) (place_at k j)) ∙ sym (nat_cmp_is i k Less h)
+    ap (λ o. ordering_then o (nat_cmp (thing_index (thing_at i)) (thing_index (thing_at k)))) (tied_itself nat_cmp_total (entry_index e)) ∙ (λ j. nat_cmp (index_of_thing_at i j) (index_of_thing_at k j)) ∙ sym (nat_cmp_is i k Less h)
 
 -- if P holds of the elements of two lists, it holds of those of both together
 all_append : {A : Type 0} (P : A → Type 0) (xs ys : List A) → AllByRecursion P xs → AllByRecursion P ys → AllByRecursion P (xs ++ ys)

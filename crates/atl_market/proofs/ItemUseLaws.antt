@@ -21,7 +21,7 @@ use Rattle.atl_records.specs.Limits.{holding_limit}
 use Rattle.atl_campaign.specs.Campaign.{CampaignValue, with_amount, with_item}
 use Rattle.atl_records.specs.Amounts.{unit_amount}
 use Rattle.atl_campaign.specs.Totals.{total}
-use Rattle.atl_records.proofs.BookLaws.{booked-after_booking, share_of}
+use Rattle.atl_records.proofs.BookLaws.{booked-after_booking, booked_for}
 use Rattle.atl_campaign.proofs.HavingLaws.{MayHave, may_have}
 use Rattle.atl_campaign.proofs.HoldingLaws.{steady-unit_amount, total-unit_amount}
 use Rattle.atl_campaign.proofs.RegionLaws.{get-insert_same, steady-amount, total-amount}
@@ -90,7 +90,7 @@ module _ (w : WorldValue) (c : CampaignValue) (n : ℕ) (u : Unit) (i amount : �
           unmoved x y t (amount_of u.holding.items j) a b ∙ sym (ap (λ p. pos t +ℤ cond p z (pos 0)) other)
 
       -- a thing's total changes by what is booked of it, given what setting the item and the booking change of it
-      total_of : (t : Thing) → total after t ≡ total with_set t → total with_set t + unit_amount t u.holding ≡ total c t + unit_amount t more → pos (total after t) ≡ pos (total c t) +ℤ share_of t (Item i) z
+      total_of : (t : Thing) → total after t ≡ total with_set t → total with_set t + unit_amount t u.holding ≡ total c t + unit_amount t more → pos (total after t) ≡ pos (total c t) +ℤ booked_for t (Item i) z
       total_of Money a b =
           let other : (0 == 2 + i) ≡ false = grind (arith, nat_tests) in
           unmoved (total after Money) (total with_set Money) (total c Money) u.holding.money a b ∙ sym (ap (λ p. pos (total c Money) +ℤ cond p z (pos 0)) other)
@@ -112,7 +112,7 @@ module _ (w : WorldValue) (c : CampaignValue) (n : ℕ) (u : Unit) (i amount : �
             same_month = same_month_by refl;
             balances = λ old t.
                 total_of t (total-amount with_set e (Item i) t z) (total-unit_amount w c n u more is t)
-                ∙ ap (λ y. y +ℤ share_of t (Item i) z) (old t) ∙ sym (booked-after_booking c.books e (Item i) z t);
+                ∙ ap (λ y. y +ℤ booked_for t (Item i) z) (old t) ∙ sym (booked-after_booking c.books e (Item i) z t);
             near = booked-near c.books e (Item i) z limit small;
           }
 

@@ -15,7 +15,7 @@ use Rattle.std.proofs.lemmas.List.Sorted.{IsPermutation-refl, IsPermutation-sym,
 use Rattle.atl_world.proofs.Maps.{entries-empty}
 use Rattle.atl_campaign.specs.FromRows.{put_rows, by_number}
 use Rattle.atl_campaign.specs.Rows.{rows_by}
-use Rattle.atl_records.specs.Every.{Every, IsThere}
+use Rattle.atl_records.specs.Every.{Every, HasValue}
 use Rattle.atl_campaign.proofs.AssemblyLaws.{get_same, get_other}
 use Rattle.atl_records.proofs.EveryLaws.{none_some, there-new, there-insert}
 
@@ -154,21 +154,21 @@ module _ {R V : Type 0} (number : R → ℕ) (value : R → V) where
   each_row P rows h every = every_row P (by_number number value rows) rows every (rows_found rows h)
 
   -- a number that has a value in a map still has one once rows are put into the map
-  pub put_there : (rows : List R) (m : FinMap nat_cmp V) (k : ℕ) → IsThere m k → IsThere (put_rows number value rows m) k
+  pub put_there : (rows : List R) (m : FinMap nat_cmp V) (k : ℕ) → HasValue m k → HasValue (put_rows number value rows m) k
   put_there [] m k h = h
   put_there (r ∷ rows) m k h = put_there rows (insert m (number r) (value r)) k (there-insert m (number r) k (value r) h)
 
   -- the number of each row has a value once the rows are put into a map
-  all_there : (rows : List R) (m : FinMap nat_cmp V) → AllByRecursion (λ r. IsThere (put_rows number value rows m) (number r)) rows
+  all_there : (rows : List R) (m : FinMap nat_cmp V) → AllByRecursion (λ r. HasValue (put_rows number value rows m) (number r)) rows
   all_there [] m = tt
   all_there (r ∷ rows) m = (put_there rows (insert m (number r) (value r)) (number r) (there-new m (number r) (value r)), all_there rows (insert m (number r) (value r)))
 
   -- the number of each row has a value in the map made of rows
-  pub rows_there : (rows : List R) → AllByRecursion (λ r. IsThere (by_number number value rows) (number r)) rows
+  pub rows_there : (rows : List R) → AllByRecursion (λ r. HasValue (by_number number value rows) (number r)) rows
   rows_there rows = all_there rows empty
 
   -- a number that has a value once rows are put into a map is that of a row, or had a value before
-  came_from : (rows : List R) (m : FinMap nat_cmp V) (n : ℕ) → IsThere (put_rows number value rows m) n → HasNumber number rows n ⊎ IsThere m n
+  came_from : (rows : List R) (m : FinMap nat_cmp V) (n : ℕ) → HasValue (put_rows number value rows m) n → HasNumber number rows n ⊎ HasValue m n
   came_from [] m n h = inr h
   came_from (r ∷ rows) m n h =
       elim (came_from rows (insert m (number r) (value r)) n h) [
@@ -181,11 +181,11 @@ module _ {R V : Type 0} (number : R → ℕ) (value : R → V) where
       ]
 
   -- no number has a value in the empty map
-  nothing_there : {P : Type 0} (n : ℕ) → IsThere (empty {X = V} {R = nat_cmp}) n → P
+  nothing_there : {P : Type 0} (n : ℕ) → HasValue (empty {X = V} {R = nat_cmp}) n → P
   nothing_there n h = none_some h.0 (sym (get-empty nat_cmp n) ∙ h.1)
 
   -- a number that has a value in the map made of rows is a row's
-  pub row_of : (rows : List R) (n : ℕ) → IsThere (by_number number value rows) n → HasNumber number rows n
+  pub row_of : (rows : List R) (n : ℕ) → HasValue (by_number number value rows) n → HasNumber number rows n
   row_of rows n h = elim (came_from rows empty n h) [ inl row ↦ row | inr there ↦ nothing_there n there ]
 
   -- the list of pairs made of rows is as long as the list of rows

@@ -16,7 +16,7 @@ use Rattle.atl_orders.specs.declared.verb.Verb.{Verb}
 use Rattle.atl_orders.specs.Mailing.{EntryValue, Reading, reading_of}
 use Rattle.atl_campaign.proofs.GroupLaws.{filter_apart, filter_each}
 use Rattle.atl_campaign.proofs.KeyLaws.{IsDistinct-of_map}
-use Rattle.atl_campaign.proofs.OrderLaws.{each_so}
+use Rattle.atl_campaign.proofs.MapOfRowsLaws.{each_so}
 use Rattle.atl_campaign.proofs.ReadBackLaws.{entries_rise, flat_apart}
 use Rattle.atl_phase.specs.declared.order_indices.OrderIndex.{OrderIndex}
 use Rattle.atl_phase.specs.declared.phase_order.Arrangement.{Arrangement}
@@ -25,7 +25,7 @@ use Rattle.atl_phase.specs.declared.phase_order.PhaseOrder.{PhaseOrder}
 use Rattle.atl_phase.specs.Month.{Aliases, by_faction}
 use Rattle.atl_phase.specs.PhaseOrders.{Task, task_of, tasks_from, tasks_of, tasks_for, key_of, unit_of}
 use Rattle.atl_phase.specs.OrderIndices.{AreByFaction, AreIndicesByMailing, AreOrderIndices, IsThere, all_tasks, every_verb, key_by, task_at}
-use Rattle.atl_phase.proofs.ListedLaws.{entries-sorted, entries_of}
+use Rattle.atl_phase.proofs.MapOfListLaws.{entries-sorted, entries_of}
 use Rattle.atl_phase.proofs.MonthLaws.{by_faction_is, under_faction}
 
 -- ---- keys that differ

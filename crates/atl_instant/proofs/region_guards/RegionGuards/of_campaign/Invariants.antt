@@ -1,6 +1,6 @@
 use Rattle.std.proofs.Common.{◌≡◌}
 use Rattle.atl_instant.specs.RegionGuards.{guard_map_of, with_guards_of}
-use Rattle.atl_instant.proofs.region_guards.RegionGuards.of.Given as goal
+use Rattle.atl_instant.proofs.region_guards.RegionGuards.of_campaign.Given as goal
 
 -- noting the units still to come in the map so far gives the map of all guards of the campaign
 abbrev pub invariant-loop-unit : goal.invariant-loop-unit
