@@ -7,7 +7,7 @@ use Rattle.sqlite.specs.declared.types.Value.TheVariants.{Int}
 use Rattle.sqlite.specs.Order.{Row}
 use Rattle.atl_world.specs.Groups.{group_of}
 use Rattle.atl_records.specs.Limits.{entry_count}
-use Rattle.atl_campaign.specs.Marks.{Marks, Things}
+use Rattle.atl_campaign.specs.Marks.{Marks, MarkedThings}
 use Rattle.atl_sql.specs.declared.rows.has.ThingKind.{ThingKind}
 use Rattle.atl_sql.specs.declared.rows.has.ThingKind.TheVariants.{Item, Skill}
 use Rattle.atl_sql.specs.Tables.{Part, Own, Factions, Regions, Units, Goods, Structures, Mail, Reports, Books, Markets}
@@ -39,7 +39,7 @@ abbrev pub begins_marked : FinSet nat_cmp → Row → Bool
 begins_marked marks r = begins (contains marks) r
 
 -- whether this item or skill of this unit, or this item of this region, is among the marked `things`
-abbrev pub has_thing : Things → ℕ → ℕ → Bool
+abbrev pub has_thing : MarkedThings → ℕ → ℕ → Bool
 has_thing things unit thing = is_some (get (group_of things unit) thing)
 
 -- whether a row of `has` is marked: with all goods of its unit, or as a single item or skill

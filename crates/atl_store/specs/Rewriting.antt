@@ -10,7 +10,7 @@ use Rattle.sqlite.specs.Table.{Table}
 use Rattle.sqlite_rules.specs.Lists.{Has}
 use Rattle.atl_records.specs.Limits.{entry_count}
 use Rattle.atl_campaign.specs.Campaign.{CampaignValue, MarkedCampaign}
-use Rattle.atl_campaign.specs.Marks.{Marks, Things}
+use Rattle.atl_campaign.specs.Marks.{Marks, MarkedThings}
 use Rattle.atl_sql.specs.declared.rows.has.ThingKind.{ThingKind}
 use Rattle.atl_sql.specs.declared.rows.has.ThingKind.TheVariants.{Item, Skill}
 use Rattle.atl_sql.specs.Sets.{Set, Is, rows_in}
@@ -84,7 +84,7 @@ abbrev pub RewritesThings : CampaignValue → ThingKind → (ℕ → ℕ → Boo
 RewritesThings c sort things old new = Rewrites has_table (of_kind sort things) (HasRowsOf c.units) old new
 
 -- the items, or the skills, that are marked one by one: their numbers, by the unit's number
-abbrev pub marked_things : Marks → ThingKind → Things
+abbrev pub marked_things : Marks → ThingKind → MarkedThings
 marked_things marks Item = marks.items
 marked_things marks Skill = marks.skills
 
