@@ -20,7 +20,7 @@ use Rattle.atl_records.specs.declared.records.Structure.{Structure}
 use Rattle.atl_records.specs.declared.records.Unit.{Unit}
 use Rattle.atl_records.specs.Books.{amount_in, amount_number}
 use Rattle.atl_records.specs.Holdings.{amount_of, with_amount_of}
-use Rattle.atl_campaign.specs.Covers.{Covers, ThingsStayMarked, StaysMarked, StayMarked, MarksChanges, bare, days_under, items_under, campaign_row_values, unstocked}
+use Rattle.atl_campaign.specs.Covers.{Covers, ThingsStayMarked, StaysMarked, StayMarked, MarksChanges, bare, days_under, items_under, said_by_campaign_row, unstocked}
 use Rattle.atl_campaign.specs.Marking.{MarksStock, mark_amount, mark_faction, mark_region, mark_unit_added}
 use Rattle.atl_campaign.specs.Marks.{Marks, MarkedThings, is_thing_marked, thing_marked, with_thing}
 use Rattle.atl_campaign.specs.Stocks.{stock_of}
@@ -264,7 +264,7 @@ shown Goods c k = tt
 shown Items c k = get (items_under (get c.units k.0)) k.1
 shown Skills c k = get (days_under (get c.units k.0)) k.1
 shown Books c k = amount_in c.books k.0 k.1
-shown Row c k = campaign_row_values c
+shown Row c k = said_by_campaign_row c
 
 -- each mark of part p that is set in the marks m is set in the marks n too
 abbrev pub Stays : Marks → Marks → MarkedPart → Type 0

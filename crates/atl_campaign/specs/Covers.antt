@@ -39,8 +39,8 @@ abbrev pub SameThings : FinSet nat_cmp → MarkedThings → (Option Unit → Fin
 SameThings goods things under before after = (n thing : ℕ) → is_thing_marked goods things n thing ≡ false → get (under (get after n)) thing ≡ get (under (get before n)) thing
 
 -- what the campaign row says of a campaign: its month, its pass text and its next numbers
-abbrev pub campaign_row_values : CampaignValue → ℕ × (List ℕ × (ℕ × (ℕ × ℕ)))
-campaign_row_values c = (c.month, (c.pass, (c.next_faction, (c.next_unit, c.next_structure))))
+abbrev pub said_by_campaign_row : CampaignValue → ℕ × (List ℕ × (ℕ × (ℕ × ℕ)))
+said_by_campaign_row c = (c.month, (c.pass, (c.next_faction, (c.next_unit, c.next_structure))))
 
 -- all that is not marked in m is the same in the campaigns before and after
 pub record Covers (m : Marks) (before after : CampaignValue) : Type 0 where
@@ -68,7 +68,7 @@ pub record Covers (m : Marks) (before after : CampaignValue) : Type 0 where
   pub books : (e : Entry) (t : Thing) → contains m.books (amount_number e t) ≡ false → amount_in after.books e t ≡ amount_in before.books e t
   -- the month, the pass text and the next numbers are the same in the campaigns before and after if the campaign row is
   -- not marked
-  pub row : m.row ≡ false → campaign_row_values after ≡ campaign_row_values before
+  pub row : m.row ≡ false → said_by_campaign_row after ≡ said_by_campaign_row before
 
 -- each number in the first dirty set is in the second: what was marked before some changes is marked after them
 abbrev pub StaysMarked : FinSet nat_cmp → FinSet nat_cmp → Type 0

@@ -10,7 +10,7 @@ use Rattle.sqlite.specs.Effect.{Database}
 use Rattle.sqlite.specs.Order.{Row}
 use Rattle.sqlite_trees.specs.Tree.{Trees}
 use Rattle.sqlite_rules.specs.Lists.{Has}
-use Rattle.atl_campaign.specs.Covers.{SameBut, SameThings, Covers, bare, campaign_row_values, unstocked}
+use Rattle.atl_campaign.specs.Covers.{SameBut, SameThings, Covers, bare, said_by_campaign_row, unstocked}
 use Rattle.atl_records.specs.Books.{BooksValue, amount_in, entry_index, thing_index, amount_number}
 use Rattle.atl_campaign.specs.Marks.{Marks, is_thing_marked}
 use Rattle.atl_campaign.specs.Campaign.{CampaignValue, MarkedCampaign}
@@ -157,7 +157,7 @@ abbrev head_in : ℕ × (List ℕ × (ℕ × (ℕ × ℕ))) → CampaignRowValue
 head_in row = record { month = row.0; pass = row.1.0; next_faction = row.1.1.0; next_unit = row.1.1.1.0; next_structure = row.1.1.1.1 }
 
 -- the campaign row after a write says what the campaign after it says, if it is marked (`b`) or nothing of it changed
-head_held : (b : Bool) (before after : CampaignValue) → (b ≡ false → campaign_row_values after ≡ campaign_row_values before) → campaign_row_after b after (campaign_row_of before) ≡ campaign_row_of after
+head_held : (b : Bool) (before after : CampaignValue) → (b ≡ false → said_by_campaign_row after ≡ said_by_campaign_row before) → campaign_row_after b after (campaign_row_of before) ≡ campaign_row_of after
 head_held true before after same = refl
 head_held false before after same = ap head_in (sym (same refl))
 
