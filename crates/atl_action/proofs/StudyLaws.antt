@@ -22,7 +22,7 @@ use Rattle.atl_records.specs.declared.event.Outcome.TheVariants.{Done}
 use Rattle.atl_records.specs.declared.records.Unit.{Unit}
 use Rattle.atl_campaign.specs.Good.{IsSteady}
 use Rattle.atl_records.specs.Holdings.{HoldingValue, amount_of}
-use Rattle.atl_campaign.specs.Lending.{with_held}
+use Rattle.atl_campaign.specs.Lending.{with_holding_at}
 use Rattle.atl_records.specs.Limits.{most_days}
 use Rattle.atl_campaign.specs.Campaign.{CampaignValue}
 use Rattle.atl_records.specs.Amounts.{unit_amount}
@@ -30,7 +30,7 @@ use Rattle.atl_campaign.specs.Totals.{Balances, total}
 use Rattle.atl_records.proofs.BookLaws.{booked-after_booking}
 use Rattle.atl_records.proofs.EveryLaws.{get-insert_other}
 use Rattle.atl_campaign.proofs.HavingLaws.{may_have}
-use Rattle.atl_campaign.proofs.HoldingLaws.{MayHold, steady-unit_amount, total-unit_amount}
+use Rattle.atl_campaign.proofs.HoldingLaws.{MayHaveWithoutNewGuard, steady-unit_amount, total-unit_amount}
 use Rattle.atl_campaign.proofs.RegionLaws.{steady-amount, total-amount}
 use Rattle.atl_phase.specs.Meaning.{moves_only}
 use Rattle.atl_phase.specs.Bounds.{HasRoom, HaveRoom, IsOrderly, IsUnaffectedRelation, StepsWell, UsesBound}
@@ -57,15 +57,15 @@ module _ (w : WorldValue) (c : CampaignValue) (n : ℕ) (u : Unit) (s cost days 
 
   -- the campaign in which the unit paid and has its days, before the cost is booked
   abbrev paid : CampaignValue
-  paid = with_held c n learned (Some u)
+  paid = with_holding_at c n learned (Some u)
 
   -- the campaign after the unit studied: it paid and has its days, and the cost is booked
   abbrev behind : CampaignValue
   behind = after_study c n u s cost days
 
-  -- the unit may hold (`MayHold`) what it holds after it studied, if the skill is of the world, and the days are at
-  -- most 450 for each man
-  may : s < length w.skills → days ≤ most_days * u.holding.men → MayHold w u learned
+  -- the unit may hold (`MayHaveWithoutNewGuard`) what it holds after it studied, if the skill is of the world, and the
+  -- days are at most 450 for each man
+  may : s < length w.skills → days ≤ most_days * u.holding.men → MayHaveWithoutNewGuard w u learned
   may known most =
       let old = may_have w c n u is steady in
       record {

@@ -16,9 +16,9 @@ use Rattle.atl_records.specs.declared.event.Outcome.TheVariants.{Done}
 use Rattle.atl_records.specs.declared.records.Structure.{Structure}
 use Rattle.atl_records.specs.declared.records.Unit.{Unit}
 use Rattle.atl_records.specs.Holdings.{HoldingValue, amount_of, with_amount_of}
-use Rattle.atl_campaign.specs.Lending.{with_held}
+use Rattle.atl_campaign.specs.Lending.{with_holding_at}
 use Rattle.atl_records.specs.Limits.{most_days}
-use Rattle.atl_campaign.specs.Campaign.{CampaignValue, with_amount}
+use Rattle.atl_campaign.specs.Campaign.{CampaignValue, with_booking}
 use Rattle.atl_phase.specs.Meaning.{BookBound, Frame, Meaning, most_moved, moves_only}
 use Rattle.atl_phase.specs.Outcomes.{first_fault, unless}
 use Rattle.atl_phase.specs.OrderEffects.{IsOwnOrder, OrderEffect, OrderMeaning, meaning_by_orders, spares_others}
@@ -55,7 +55,7 @@ with_study h s cost days = record h { money = h.money - cost; days = with_amount
 
 -- the campaign after unit n paid `cost`, which is booked as study, and has `days` of the skill
 abbrev pub after_study : CampaignValue → (n : ℕ) → Unit → (skill cost days : ℕ) → CampaignValue
-after_study c n u s cost days = with_amount (with_held c n (with_study u.holding s cost days) (Some u)) Study Money (neg_ℤ (pos cost))
+after_study c n u s cost days = with_booking (with_holding_at c n (with_study u.holding s cost days) (Some u)) Study Money (neg_ℤ (pos cost))
 
 -- the effect of STUDY: a unit with `taught` men taught pays the fee and gains days; with a fault nothing changes
 unfoldable pub study : WorldValue → (taught n skill : ℕ) → OrderEffect

@@ -9,7 +9,7 @@ use Rattle.std.specs.FinMap.{FinMap, get, insert, empty, get-insert, get-empty, 
 use Rattle.std.proofs.lemmas.Bool.{cases_eq, and_parts, false≢true}
 use Rattle.std.proofs.lemmas.Bool.Decides.{nat_tests}
 use Rattle.atl_campaign.specs.declared.parts.StoredHas.{StoredHas}
-use Rattle.atl_campaign.specs.FromRows.{as_u32, is_of, put_rows, things_had}
+use Rattle.atl_campaign.specs.FromRows.{as_u32, is_of_unit_and_sort, put_rows, things_had}
 use Rattle.atl_records.specs.Holdings.{AreAmounts}
 use Rattle.atl_records.specs.Limits.{holding_limit, most_u32}
 use Rattle.atl_campaign.specs.RowRules.{is_from, has_in_range}
@@ -88,7 +88,7 @@ item_amount r h sort =
     (range.1, range.2)
 
 -- a row of `has` that is of unit n's items and in range has an amount from 1 to holding_limit
-amount_in_range : (n : ℕ) (r : StoredHas) → has_in_range r ≡ true → is_of n 0 r ≡ true → (1 ≤ amount_of r) × (amount_of r ≤ holding_limit)
+amount_in_range : (n : ℕ) (r : StoredHas) → has_in_range r ≡ true → is_of_unit_and_sort n 0 r ≡ true → (1 ≤ amount_of r) × (amount_of r ≤ holding_limit)
 amount_in_range n r h of = item_amount r h (is_same (as_u32 r.sort) 0 (and_parts (as_u32 r.unit == n) (as_u32 r.sort == 0) of).1)
 
 -- for AreAmounts-insert: if Some a and Some b are equal, a and b are equal
@@ -107,16 +107,16 @@ AreAmounts-insert m k v h old item amount e =
 
 -- a map's amounts still are from 1 to holding_limit (AreAmounts) once row r, which is in range, is put in if it is of
 -- unit n's items (b)
-chosen : (n : ℕ) (r : StoredHas) (m : FinMap nat_cmp ℕ) (b : Bool) → is_of n 0 r ≡ b → has_in_range r ≡ true → AreAmounts m → AreAmounts (cond b (insert m (thing_of r) (amount_of r)) m)
+chosen : (n : ℕ) (r : StoredHas) (m : FinMap nat_cmp ℕ) (b : Bool) → is_of_unit_and_sort n 0 r ≡ b → has_in_range r ≡ true → AreAmounts m → AreAmounts (cond b (insert m (thing_of r) (amount_of r)) m)
 chosen n r m true of h old = AreAmounts-insert m (thing_of r) (amount_of r) (amount_in_range n r h of) old
 chosen n r m false of h old = old
 
 -- a map's amounts still are from 1 to holding_limit (AreAmounts) once unit n's rows of items, all in range, are put in
-put_in_range : (n : ℕ) (rows : List StoredHas) (m : FinMap nat_cmp ℕ) → list_all has_in_range rows ≡ true → AreAmounts m → AreAmounts (put_rows thing_of amount_of (filter (is_of n 0) rows) m)
+put_in_range : (n : ℕ) (rows : List StoredHas) (m : FinMap nat_cmp ℕ) → list_all has_in_range rows ≡ true → AreAmounts m → AreAmounts (put_rows thing_of amount_of (filter (is_of_unit_and_sort n 0) rows) m)
 put_in_range n [] m h old = old
 put_in_range n (r ∷ rows) m h old =
     let parts = and_parts (has_in_range r) (list_all has_in_range rows) h in
-    subst AreAmounts (sym (taken_or_not thing_of amount_of (is_of n 0) r rows (is_of n 0 r) m refl)) (put_in_range n rows (cond (is_of n 0 r) (insert m (thing_of r) (amount_of r)) m) parts.1 (chosen n r m (is_of n 0 r) refl parts.0 old))
+    subst AreAmounts (sym (taken_or_not thing_of amount_of (is_of_unit_and_sort n 0) r rows (is_of_unit_and_sort n 0 r) m refl)) (put_in_range n rows (cond (is_of_unit_and_sort n 0 r) (insert m (thing_of r) (amount_of r)) m) parts.1 (chosen n r m (is_of_unit_and_sort n 0 r) refl parts.0 old))
 
 -- for none_held: None is not Some of a number
 no_some : (x : ℕ) → None ≡ Some x → ⊥

@@ -20,11 +20,11 @@ use Rattle.atl_records.specs.declared.records.Structure.{Structure}
 use Rattle.atl_records.specs.declared.records.Unit.{Unit}
 use Rattle.atl_records.specs.Books.{amount_in, amount_number}
 use Rattle.atl_records.specs.Holdings.{amount_of, with_amount_of}
-use Rattle.atl_campaign.specs.Covers.{Covers, ThingsStayMarked, StaysMarked, StayMarked, MarksChanges, bare, days_under, items_under, own_row, unstocked}
+use Rattle.atl_campaign.specs.Covers.{Covers, ThingsStayMarked, StaysMarked, StayMarked, MarksChanges, bare, days_under, items_under, said_by_campaign_row, unstocked}
 use Rattle.atl_campaign.specs.Marking.{MarksStock, mark_amount, mark_faction, mark_region, mark_unit_added}
-use Rattle.atl_campaign.specs.Marks.{Marks, Things, is_thing_marked, thing_marked, with_thing}
+use Rattle.atl_campaign.specs.Marks.{Marks, MarkedThings, is_thing_marked, thing_marked, with_thing}
 use Rattle.atl_campaign.specs.Stocks.{stock_of}
-use Rattle.atl_campaign.specs.Campaign.{CampaignValue, MarkedCampaign, faction_changed, region_changed, with_amount, with_stock}
+use Rattle.atl_campaign.specs.Campaign.{CampaignValue, MarkedCampaign, faction_changed, region_changed, with_booking, with_stock}
 use Rattle.atl_records.proofs.EveryLaws.{get-insert_other}
 use Rattle.atl_records.proofs.HoldingLaws.{set_amount, set_other}
 use Rattle.atl_campaign.proofs.RegionLaws.{amount-other}
@@ -113,14 +113,14 @@ neither true b h = absurd (true≢false h)
 neither false b h = (refl, h)
 
 -- each item, skill or stock that was marked still is once all goods of unit n, or all stocks of region n, are marked
-pub whole_stays : (goods : FinSet nat_cmp) (things : Things) (n : ℕ) → ThingsStayMarked goods things (insert goods n) things
+pub whole_stays : (goods : FinSet nat_cmp) (things : MarkedThings) (n : ℕ) → ThingsStayMarked goods things (insert goods n) things
 whole_stays goods things n k t = both_stay (contains goods k) (contains (insert goods n) k) (is_some (get (group_of things k) t)) (is_some (get (group_of things k) t)) (put_stays goods n k) (λ h. h)
 
 -- if thing t of unit or region k is not marked once all those of n are, k differs from n
-pub apart_by_whole : (goods : FinSet nat_cmp) (things : Things) (n k t : ℕ) → is_thing_marked (insert goods n) things k t ≡ false → k ≢ n
+pub apart_by_whole : (goods : FinSet nat_cmp) (things : MarkedThings) (n k t : ℕ) → is_thing_marked (insert goods n) things k t ≡ false → k ≢ n
 apart_by_whole goods things n k t free = apart_by goods n k (neither (contains (insert goods n) k) (is_some (get (group_of things k) t)) free).0
 
-module _ (goods : FinSet nat_cmp) (things : Things) (n thing : ℕ) where
+module _ (goods : FinSet nat_cmp) (things : MarkedThings) (n thing : ℕ) where
   -- once `thing` of unit or region n is marked, thing t of unit or region k has a mark of its own exactly if it is that
   -- thing or had such a mark before
   put_in : (k t : ℕ) → is_some (get (group_of (with_thing things n thing) k) t) ≡ cond (eq_by_cmp nat_cmp k n) (eq_by_cmp nat_cmp t thing || is_some (get (group_of things n) t)) (is_some (get (group_of things k) t))
@@ -264,7 +264,7 @@ shown Goods c k = tt
 shown Items c k = get (items_under (get c.units k.0)) k.1
 shown Skills c k = get (days_under (get c.units k.0)) k.1
 shown Books c k = amount_in c.books k.0 k.1
-shown Row c k = own_row c
+shown Row c k = said_by_campaign_row c
 
 -- each mark of part p that is set in the marks m is set in the marks n too
 abbrev pub Stays : Marks → Marks → MarkedPart → Type 0
@@ -508,9 +508,9 @@ marks-unit c units n others =
     ])
 
 -- adding to an amount of the books, with that amount marked, marks all that changes (MarksChanges)
-pub marks-amount : (c : MarkedCampaign) (f : Entry) (u : Thing) (z : ℤ) → MarksChanges c (record { value = with_amount c.value f u z; marks = mark_amount c f u })
+pub marks-amount : (c : MarkedCampaign) (f : Entry) (u : Thing) (z : ℤ) → MarksChanges c (record { value = with_booking c.value f u z; marks = mark_amount c f u })
 marks-amount c f u z =
-    let next : MarkedCampaign = record { value = with_amount c.value f u z; marks = mark_amount c f u } in
+    let next : MarkedCampaign = record { value = with_booking c.value f u z; marks = mark_amount c f u } in
     part_by_part c next
     (λ p. elim p as (Stays c.marks next.marks) [ Books ↦ put_stays c.marks.books (amount_number f u) | _ ↦ λ k h. h ])
     (λ p. elim p as (KeepsUnmarked next.marks c.value next.value) [ Books ↦ λ k free. amount-other c.value.books k.0 f k.1 u z (apart_by c.marks.books (amount_number f u) (amount_number k.0 k.1) free) | _ ↦ λ k free. refl ])

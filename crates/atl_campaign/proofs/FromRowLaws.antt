@@ -29,7 +29,7 @@ use Rattle.atl_records.specs.Every.{Every}
 use Rattle.atl_campaign.specs.Good.{IsRegion, AreInRange, HaveMen}
 use Rattle.atl_records.specs.Holdings.{IsHolding}
 use Rattle.atl_records.specs.Limits.{last_month, most_units, last_unit, men_limit, holding_limit, most_structures, most_u32}
-use Rattle.atl_campaign.specs.RowRules.{is_from, campaign_row_in_range, faction_in_range, region_in_range, unit_in_range, has_in_range, structure_in_range, books_in_range, books_bound, market_in_range, are_few, people_in_range, numbers_in_range, AreRowsInRange}
+use Rattle.atl_campaign.specs.RowRules.{is_from, campaign_row_in_range, faction_in_range, region_in_range, unit_in_range, has_in_range, structure_in_range, books_in_range, books_bound, market_in_range, are_few, first_tables_in_range, numbers_in_range, AreRowsInRange}
 use Rattle.atl_campaign.specs.Stocks.{stock_limit}
 use Rattle.atl_campaign.proofs.AssemblyLaws.{is_same, AreAmounts-had}
 use Rattle.atl_campaign.proofs.ReadBackLaws.{every_by}
@@ -212,7 +212,7 @@ pub record NumberRanges (w : WorldValue) (p : Parts) : Type 0 where
 pub number_ranges : (w : WorldValue) (p : Parts) → numbers_in_range w p ≡ true → NumberRanges w p
 number_ranges w p h =
     let head = campaign_row_in_range (campaign_row_of p) in
-    let people = people_in_range p in
+    let people = first_tables_in_range p in
     let structures = list_all (structure_in_range w) p.structures in
     let books = list_all (books_in_range (books_bound p)) p.books in
     let markets = list_all (market_in_range w) p.markets in

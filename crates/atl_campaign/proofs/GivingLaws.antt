@@ -11,8 +11,8 @@ use Rattle.atl_campaign.specs.declared.parts.StoredHas.{StoredHas}
 use Rattle.atl_campaign.specs.declared.parts.StoredMarket.{StoredMarket}
 use Rattle.atl_campaign.specs.declared.parts.StoredRegion.{StoredRegion}
 use Rattle.atl_campaign.specs.declared.parts.StoredUnit.{StoredUnit}
-use Rattle.atl_campaign.specs.Assembling.{bare_unit, bare_region, with_has_row, with_market_row, give}
-use Rattle.atl_campaign.specs.FromRows.{as_u32, is_of, put_rows, by_number, unit_with, unit_of, region_with, region_of}
+use Rattle.atl_campaign.specs.Assembling.{bare_unit, bare_region, with_has_row, with_market_row, with_rows_added}
+use Rattle.atl_campaign.specs.FromRows.{as_u32, is_of_unit_and_sort, put_rows, by_number, unit_with, unit_of, region_with, region_of}
 use Rattle.atl_campaign.proofs.AssemblyLaws.{get_same, get_other, taken_or_not, is_same}
 
 -- ---- what may be there
@@ -39,9 +39,9 @@ at_other f m k n (Some v) apart = get_other m k n (f v) apart
 
 module _ {R V : Type 0} (owner : R → ℕ) (more : R → V → V) where
   -- the value v of number n with each row of number n added to it, in the order of the rows
-  abbrev pub given : ℕ → List R → V → V
-  given n [] v = v
-  given n (r ∷ rows) v = given n rows (cond (owner r == n) (more r v) v)
+  abbrev pub value_with_rows : ℕ → List R → V → V
+  value_with_rows n [] v = v
+  value_with_rows n (r ∷ rows) v = value_with_rows n rows (cond (owner r == n) (more r v) v)
 
   -- adding one row to a map of values changes the value under the row's number alone
   get-changed : (r : R) (m : FinMap nat_cmp V) (n : ℕ) → get (changed (more r) m (owner r)) n ≡ option_map (λ v. cond (owner r == n) (more r v) v) (get m n)
@@ -56,15 +56,15 @@ module _ {R V : Type 0} (owner : R → ℕ) (more : R → V → V) where
             at_other (more r) m k n (get m k) (λ e. apart (sym e)) ∙ map_none (get m n) ∙ ap (λ b. option_map (λ v. cond b (more r v) v) (get m n)) (sym other)
       ]
 
-  -- adding rows to a map of values adds to each value the rows of its number (`given`)
-  get-give : (rows : List R) (m : FinMap nat_cmp V) (n : ℕ) → get (give owner more rows m) n ≡ option_map (given n rows) (get m n)
+  -- adding rows to a map of values adds to each value the rows of its number (`value_with_rows`)
+  get-give : (rows : List R) (m : FinMap nat_cmp V) (n : ℕ) → get (with_rows_added owner more rows m) n ≡ option_map (value_with_rows n rows) (get m n)
   get-give [] m n = map_none (get m n)
-  get-give (r ∷ rows) m n = get-give rows (changed (more r) m (owner r)) n ∙ ap (option_map (given n rows)) (get-changed r m n) ∙ map_twice (given n rows) (λ v. cond (owner r == n) (more r v) v) (get m n)
+  get-give (r ∷ rows) m n = get-give rows (changed (more r) m (owner r)) n ∙ ap (option_map (value_with_rows n rows)) (get-changed r m n) ∙ map_twice (value_with_rows n rows) (λ v. cond (owner r == n) (more r v) v) (get m n)
 
-  module _ {T : Type 0} (number : T → ℕ) (before after : T → V) (rows : List R) (each : (t : T) → given (number t) rows (before t) ≡ after t) where
+  module _ {T : Type 0} (number : T → ℕ) (before after : T → V) (rows : List R) (each : (t : T) → value_with_rows (number t) rows (before t) ≡ after t) where
     -- both maps have the same numbers, and the second has each value of the first with the rows of its number added
     abbrev Becomes : FinMap nat_cmp V → FinMap nat_cmp V → Type 0
-    Becomes m l = (n : ℕ) → option_map (given n rows) (get m n) ≡ get l n
+    Becomes m l = (n : ℕ) → option_map (value_with_rows n rows) (get m n) ≡ get l n
 
     -- if adding the rows to m gives l (Becomes), it also does once t is put into m without its rows, and into l with
     -- them
@@ -73,9 +73,9 @@ module _ {R V : Type 0} (owner : R → ℕ) (more : R → V → V) where
         let k = number t in
         elim (cases_eq k n) [
           | inl same ↦
-              subst (λ q. option_map (given q rows) (get (insert m k (before t)) q) ≡ get (insert l k (after t)) q) same
-              (ap (option_map (given k rows)) (get_same m k (before t)) ∙ ap Some (each t) ∙ sym (get_same l k (after t)))
-          | inr apart ↦ ap (option_map (given n rows)) (get_other m k n (before t) (λ e. apart (sym e))) ∙ all n ∙ sym (get_other l k n (after t) (λ e. apart (sym e)))
+              subst (λ q. option_map (value_with_rows q rows) (get (insert m k (before t)) q) ≡ get (insert l k (after t)) q) same
+              (ap (option_map (value_with_rows k rows)) (get_same m k (before t)) ∙ ap Some (each t) ∙ sym (get_same l k (after t)))
+          | inr apart ↦ ap (option_map (value_with_rows n rows)) (get_other m k n (before t) (λ e. apart (sym e))) ∙ all n ∙ sym (get_other l k n (after t) (λ e. apart (sym e)))
         ]
 
     -- if adding the rows to m gives l (Becomes), it also does once all ts are put into m without their rows, and into l
@@ -86,9 +86,9 @@ module _ {R V : Type 0} (owner : R → ℕ) (more : R → V → V) where
 
     -- adding all rows to the map that ts make by `before`, each value without its rows, gives the map by `after`, each
     -- with them
-    pub give_all : (ts : List T) → give owner more rows (by_number number before ts) ≡ by_number number after ts
+    pub give_all : (ts : List T) → with_rows_added owner more rows (by_number number before ts) ≡ by_number number after ts
     give_all ts =
-        let none : Becomes empty empty = λ n. ap (option_map (given n rows)) (get-empty nat_cmp n) ∙ sym (get-empty nat_cmp n) in
+        let none : Becomes empty empty = λ n. ap (option_map (value_with_rows n rows)) (get-empty nat_cmp n) ∙ sym (get-empty nat_cmp n) in
         same_map nat_cmp_total nat_cmp-IsAntisymmetric _ _ (λ n. get-give rows (by_number number before ts) n ∙ put_each ts empty empty none n)
 
 -- ---- units
@@ -116,18 +116,18 @@ no_skill s h = ap (λ k. k == 1) (is_same s 0 h)
 
 -- a unit, once the rows of `has` of number n are added to it, has also the items and days that these name
 unit_given : (r : StoredUnit) (n : ℕ) (has : List StoredHas) (items days : FinMap nat_cmp ℕ)
-    → given (λ h. as_u32 h.unit) with_has_row n has (unit_with r items days) ≡ unit_with r (put_rows thing_of amount_of (filter (is_of n 0) has) items) (put_rows thing_of amount_of (filter (is_of n 1) has) days)
+    → value_with_rows (λ h. as_u32 h.unit) with_has_row n has (unit_with r items days) ≡ unit_with r (put_rows thing_of amount_of (filter (is_of_unit_and_sort n 0) has) items) (put_rows thing_of amount_of (filter (is_of_unit_and_sort n 1) has) days)
 unit_given r n [] items days = refl
 unit_given r n (h ∷ has) items days =
     let items' = insert items (thing_of h) (amount_of h) in
     let days' = insert days (thing_of h) (amount_of h) in
-    ap (given (λ h. as_u32 h.unit) with_has_row n has) (picked r items items' days days' (as_u32 h.unit == n) (as_u32 h.sort == 0) (as_u32 h.sort == 1) (no_skill (as_u32 h.sort)))
-    ∙ unit_given r n has (cond (is_of n 0 h) items' items) (cond (is_of n 1 h) days' days)
-    ∙ ap (λ m. unit_with r m (put_rows thing_of amount_of (filter (is_of n 1) has) (cond (is_of n 1 h) days' days))) (sym (taken_or_not thing_of amount_of (is_of n 0) h has (is_of n 0 h) items refl))
-    ∙ ap (λ m. unit_with r (put_rows thing_of amount_of (filter (is_of n 0) (h ∷ has)) items) m) (sym (taken_or_not thing_of amount_of (is_of n 1) h has (is_of n 1 h) days refl))
+    ap (value_with_rows (λ h. as_u32 h.unit) with_has_row n has) (picked r items items' days days' (as_u32 h.unit == n) (as_u32 h.sort == 0) (as_u32 h.sort == 1) (no_skill (as_u32 h.sort)))
+    ∙ unit_given r n has (cond (is_of_unit_and_sort n 0 h) items' items) (cond (is_of_unit_and_sort n 1 h) days' days)
+    ∙ ap (λ m. unit_with r m (put_rows thing_of amount_of (filter (is_of_unit_and_sort n 1) has) (cond (is_of_unit_and_sort n 1 h) days' days))) (sym (taken_or_not thing_of amount_of (is_of_unit_and_sort n 0) h has (is_of_unit_and_sort n 0 h) items refl))
+    ∙ ap (λ m. unit_with r (put_rows thing_of amount_of (filter (is_of_unit_and_sort n 0) (h ∷ has)) items) m) (sym (taken_or_not thing_of amount_of (is_of_unit_and_sort n 1) h has (is_of_unit_and_sort n 1 h) days refl))
 
 -- units without goods (bare_unit), once all rows of `has` are added, are the units assembled with these rows (unit_of)
-pub units_given : (has : List StoredHas) (rows : List StoredUnit) → give (λ h. as_u32 h.unit) with_has_row has (by_number (λ r. as_u32 r.number) bare_unit rows) ≡ by_number (λ r. as_u32 r.number) (unit_of has) rows
+pub units_given : (has : List StoredHas) (rows : List StoredUnit) → with_rows_added (λ h. as_u32 h.unit) with_has_row has (by_number (λ r. as_u32 r.number) bare_unit rows) ≡ by_number (λ r. as_u32 r.number) (unit_of has) rows
 units_given has rows = give_all (λ (h : StoredHas). as_u32 h.unit) with_has_row (λ (r : StoredUnit). as_u32 r.number) bare_unit (unit_of has) has (λ r. unit_given r (as_u32 r.number) has empty empty) rows
 
 -- ---- regions
@@ -148,16 +148,16 @@ stocked r stocks stocks' false = refl
 
 -- a region, once the rows of `market` of number n are added to it, has also the stocks that these name
 region_given : (r : StoredRegion) (n : ℕ) (markets : List StoredMarket) (stocks : FinMap nat_cmp ℕ)
-    → given (λ m. as_u32 m.region) with_market_row n markets (region_with r stocks) ≡ region_with r (put_rows item_of stock_of (filter (λ m. as_u32 m.region == n) markets) stocks)
+    → value_with_rows (λ m. as_u32 m.region) with_market_row n markets (region_with r stocks) ≡ region_with r (put_rows item_of stock_of (filter (λ m. as_u32 m.region == n) markets) stocks)
 region_given r n [] stocks = refl
 region_given r n (m ∷ markets) stocks =
     let mine = as_u32 m.region == n in
     let stocks' = insert stocks (item_of m) (stock_of m) in
-    ap (given (λ m. as_u32 m.region) with_market_row n markets) (stocked r stocks stocks' mine)
+    ap (value_with_rows (λ m. as_u32 m.region) with_market_row n markets) (stocked r stocks stocks' mine)
     ∙ region_given r n markets (cond mine stocks' stocks)
     ∙ ap (region_with r) (sym (taken_or_not item_of stock_of (λ m. as_u32 m.region == n) m markets mine stocks refl))
 
 -- regions without stocks (bare_region), once all rows of `market` are added, are those assembled with them (region_of)
 pub regions_given : (markets : List StoredMarket) (rows : List StoredRegion)
-    → give (λ m. as_u32 m.region) with_market_row markets (by_number (λ r. as_u32 r.number) bare_region rows) ≡ by_number (λ r. as_u32 r.number) (region_of markets) rows
+    → with_rows_added (λ m. as_u32 m.region) with_market_row markets (by_number (λ r. as_u32 r.number) bare_region rows) ≡ by_number (λ r. as_u32 r.number) (region_of markets) rows
 regions_given markets rows = give_all (λ (m : StoredMarket). as_u32 m.region) with_market_row (λ (r : StoredRegion). as_u32 r.number) bare_region (region_of markets) markets (λ r. region_given r (as_u32 r.number) markets empty) rows

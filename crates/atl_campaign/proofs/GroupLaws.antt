@@ -9,7 +9,7 @@ use Rattle.std.proofs.lemmas.List.Sorted.{IsPermutation-refl, IsPermutation-sym,
 use Rattle.atl_campaign.specs.FromRows.{by_number}
 use Rattle.atl_campaign.specs.Rows.{rows_by}
 use Rattle.atl_campaign.proofs.KeyLaws.{IsDistinct-map, IsDistinct-of_map}
-use Rattle.atl_campaign.proofs.MapOfRowsLaws.{Apart, Apart-keys, HasNumber, each_so, flat_order}
+use Rattle.atl_campaign.proofs.MapOfRowsLaws.{HaveDistinctNumbers, HaveDistinctNumbers-keys, HasNumber, each_so, flat_order}
 
 -- ---- rows that pass a test
 
@@ -112,7 +112,7 @@ module _ {R U : Type 0} (group : R → ℕ) (number : U → ℕ) where
 
   -- the rows of all groups, one group after another, are the rows in some order, if no two groups have the same number
   -- and each row is of one
-  by_group : (units : List U) (rows : List R) → Apart number units → AllByRecursion (λ r. HasNumber number units (group r)) rows → IsPermutation (flat_map (λ u. of_group (number u) rows) units) rows
+  by_group : (units : List U) (rows : List R) → HaveDistinctNumbers number units → AllByRecursion (λ r. HasNumber number units (group r)) rows → IsPermutation (flat_map (λ u. of_group (number u) rows) units) rows
   by_group [] [] apart all = IsPermutation-refl []
   by_group [] (r ∷ rows) apart all = absurd all.0
   by_group (u ∷ units) rows apart all =
@@ -132,7 +132,7 @@ module _ {R U : Type 0} (group : R → ℕ) (number : U → ℕ) where
 
   -- if f gives each group's rows in some order, it gives all rows in some order, if no two groups have the same number
   -- and each row is of one
-  pub gathered : (f : U → List R) (units : List U) (rows : List R) → ((u : U) → IsPermutation (f u) (of_group (number u) rows)) → Apart number units → AllByRecursion (λ r. HasNumber number units (group r)) rows
+  pub gathered : (f : U → List R) (units : List U) (rows : List R) → ((u : U) → IsPermutation (f u) (of_group (number u) rows)) → HaveDistinctNumbers number units → AllByRecursion (λ r. HasNumber number units (group r)) rows
       → IsPermutation (flat_map f units) rows
   gathered f units rows same apart all =
       let groups = flat_map (λ u. of_group (number u) rows) units in
@@ -142,24 +142,25 @@ module _ {R U : Type 0} (group : R → ℕ) (number : U → ℕ) where
 
 module _ {R K : Type 0} (key : R → K) (same : K → K → Bool) (itself : (k : K) → same k k ≡ true) (thing : R → ℕ) (mine : R → Bool) (P : R → Type 0) where
   -- a row of the group, which is what the test `mine` tells, for which P holds
-  abbrev pub IsMine : R → Type 0
-  IsMine r = P r × (mine r ≡ true)
+  abbrev pub IsOfGroupWithP : R → Type 0
+  IsOfGroupWithP r = P r × (mine r ≡ true)
 
-  -- if P holds of each row, the rows that the test `mine` lets through are rows of the group for which P holds (IsMine)
-  pub all_mine : (rows : List R) → AllByRecursion P rows → AllByRecursion IsMine (filter mine rows)
-  all_mine rows all = kept mine IsMine rows (each_so P (λ r. mine r ≡ true → IsMine r) (λ r one passes. (one, passes)) rows all)
+  -- if P holds of each row, the rows that the test `mine` lets through are rows of the group for which P holds
+  -- (IsOfGroupWithP)
+  pub all_mine : (rows : List R) → AllByRecursion P rows → AllByRecursion IsOfGroupWithP (filter mine rows)
+  all_mine rows all = kept mine IsOfGroupWithP rows (each_so P (λ r. mine r ≡ true → IsOfGroupWithP r) (λ r one passes. (one, passes)) rows all)
 
   -- if rows of one thing have one key, no thing occurs twice among rows with different keys
-  module _ (same_key : (r s : R) → IsMine r → IsMine s → thing r ≡ thing s → ◌≡◌ {A = K} (key s) (key r)) where
+  module _ (same_key : (r s : R) → IsOfGroupWithP r → IsOfGroupWithP s → thing r ≡ thing s → ◌≡◌ {A = K} (key s) (key r)) where
     -- rows of the group with different keys are of different things, if rows of one thing have one key
-    other_thing : (r s : R) → IsMine r → IsMine s → same (key s) (key r) ≡ false → thing r ≢ thing s
+    other_thing : (r s : R) → IsOfGroupWithP r → IsOfGroupWithP s → same (key s) (key r) ≡ false → thing r ≢ thing s
     other_thing r s a b d e = false≢true (sym (ap (same (key s)) (same_key r s a b e) ∙ d) ∙ itself (key s))
 
     -- no two rows of the group are of one thing, if rows of one thing have one key and no two rows have equal keys
-    pub things_apart : (rows : List R) → AllByRecursion P rows → IsDistinct same (map key rows) → Apart thing (filter mine rows)
+    pub things_apart : (rows : List R) → AllByRecursion P rows → IsDistinct same (map key rows) → HaveDistinctNumbers thing (filter mine rows)
     things_apart rows all d =
         let keys = IsDistinct-map key same (filter mine rows) (filter_apart mine (λ r s. same (key r) (key s)) rows (IsDistinct-of_map key same rows d)) in
-        Apart-keys key thing same IsMine (λ r s a b. other_thing s r b a) (filter mine rows) (all_mine rows all) keys
+        HaveDistinctNumbers-keys key thing same IsOfGroupWithP (λ r s a b. other_thing s r b a) (filter mine rows) (all_mine rows all) keys
 
 -- ---- the amounts of a group
 
@@ -178,7 +179,7 @@ module _ {R : Type 0} (thing amount : R → ℕ) where
 
     -- the map of a group's things and amounts is written as just the group's rows, in some order, if things differ.
     -- Each row is to be the one written for its thing and amount, and to pass the test.
-    pub lines_order : (rows : List R) → Apart thing rows → AllByRecursion (λ r. (row (thing r) (amount r) ≡ r) × (some r ≡ true)) rows → IsPermutation (filter some (rows_by row (entries (by_number thing amount rows)))) rows
+    pub lines_order : (rows : List R) → HaveDistinctNumbers thing rows → AllByRecursion (λ r. (row (thing r) (amount r) ≡ r) × (some r ≡ true)) rows → IsPermutation (filter some (rows_by row (entries (by_number thing amount rows)))) rows
     lines_order rows apart all =
         let es = entries (by_number thing amount rows) in
         let order = flat_order thing amount line rows apart in

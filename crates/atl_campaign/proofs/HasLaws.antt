@@ -12,13 +12,13 @@ use Rattle.std.proofs.lemmas.List.Sorted.{IsPermutation-refl, IsPermutation-sym,
 use Rattle.atl_campaign.specs.declared.parts.StoredHas.{StoredHas}
 use Rattle.atl_campaign.specs.declared.parts.StoredUnit.{StoredUnit}
 use Rattle.atl_records.specs.declared.records.Unit.{Unit}
-use Rattle.atl_campaign.specs.FromRows.{as_u32, is_of, things_had, unit_of, by_number}
+use Rattle.atl_campaign.specs.FromRows.{as_u32, is_of_unit_and_sort, things_had, unit_of, by_number}
 use Rattle.atl_campaign.specs.RowRules.{Key, key_cmp, has_key}
 use Rattle.atl_campaign.specs.Rows.{is_zero, has_row, rows_of_sort, held_rows, has_rows}
 use Rattle.atl_campaign.proofs.AssemblyLaws.{is_same}
 use Rattle.atl_campaign.proofs.GroupLaws as group
 use Rattle.atl_campaign.proofs.GroupLaws.{filter_both, filter_each, gathered, lines_order, of_group}
-use Rattle.atl_campaign.proofs.MapOfRowsLaws.{Apart, HasNumber, each_so, flat_order}
+use Rattle.atl_campaign.proofs.MapOfRowsLaws.{HaveDistinctNumbers, HasNumber, each_so, flat_order}
 
 -- a row of `has` is of one of the given units, and of sort 0 (items) or 1 (days)
 abbrev pub IsOfUnits : List StoredUnit → StoredHas → Type 0
@@ -29,12 +29,12 @@ abbrev rows_of_unit : ℕ → List StoredHas → List StoredHas
 rows_of_unit n has = of_group (λ h. as_u32 h.unit) (λ (r : StoredUnit). as_u32 r.number) n has
 
 -- a unit's rows of items followed by its rows of days are all its rows, in some order, if each row is of one of these
-by_sort : (n : ℕ) (has : List StoredHas) → AllByRecursion (λ h. (as_u32 h.sort ≡ 0) ⊎ (as_u32 h.sort ≡ 1)) has → IsPermutation (filter (is_of n 0) has ++ filter (is_of n 1) has) (rows_of_unit n has)
+by_sort : (n : ℕ) (has : List StoredHas) → AllByRecursion (λ h. (as_u32 h.sort ≡ 0) ⊎ (as_u32 h.sort ≡ 1)) has → IsPermutation (filter (is_of_unit_and_sort n 0) has ++ filter (is_of_unit_and_sort n 1) has) (rows_of_unit n has)
 by_sort n has sorts =
     let mine = rows_of_unit n has in
     let of_sort = λ (s : ℕ). filter (λ (h : StoredHas). as_u32 h.sort == s) mine in
     let all = filter_each (λ h. as_u32 h.unit == n) (λ h. HasNumber (λ s. s) (0 ∷ 1 ∷ []) (as_u32 h.sort)) has (each_so (λ h. (as_u32 h.sort ≡ 0) ⊎ (as_u32 h.sort ≡ 1)) (λ h. HasNumber (λ s. s) (0 ∷ 1 ∷ []) (as_u32 h.sort)) among has sorts) in
-    subst (λ hs. IsPermutation hs mine) (ap (λ hs. of_sort 0 ++ hs) (append-nil (of_sort 1)) ∙ ap (λ hs. hs ++ of_sort 1) (both 0) ∙ ap (λ hs. filter (is_of n 0) has ++ hs) (both 1))
+    subst (λ hs. IsPermutation hs mine) (ap (λ hs. of_sort 0 ++ hs) (append-nil (of_sort 1)) ∙ ap (λ hs. hs ++ of_sort 1) (both 0) ∙ ap (λ hs. filter (is_of_unit_and_sort n 0) has ++ hs) (both 1))
     (gathered (λ h. as_u32 h.sort) (λ s. s) of_sort (0 ∷ 1 ∷ []) mine (λ s. IsPermutation-refl (of_sort s)) (((λ e. absurd (omega arith)), tt), (tt, tt)) all)
   where
     -- the sort of a row of items or days is one of 0 and 1
@@ -43,7 +43,7 @@ by_sort n has sorts =
     among h (inr skill) = inr (inl (sym skill))
 
     -- filtering unit n's rows by a sort is filtering all rows by unit n and that sort
-    both : (s : ℕ) → filter (λ h. as_u32 h.sort == s) (rows_of_unit n has) ≡ filter (is_of n s) has
+    both : (s : ℕ) → filter (λ h. as_u32 h.sort == s) (rows_of_unit n has) ≡ filter (is_of_unit_and_sort n s) has
     both s = filter_both (λ h. as_u32 h.unit == n) (λ h. as_u32 h.sort == s) has
 
 -- ---- the things of a unit
@@ -80,7 +80,7 @@ amount_of h = as_u32 h.amount
 
 -- a row of unit n and of one sort (0 items, 1 days), whose key is read as it is
 abbrev IsHadBy : ℕ → ℕ → StoredHas → Type 0
-IsHadBy n sort h = HasWholeKey h × (is_of n sort h ≡ true)
+IsHadBy n sort h = HasWholeKey h × (is_of_unit_and_sort n sort h ≡ true)
 
 -- a row that is read as one of unit n, and whose key is read as it is, has the unit number n
 its_unit : (n sort : ℕ) (h : StoredHas) → IsHadBy n sort h → h.unit ≡ pos n
@@ -111,15 +111,15 @@ pub ties_itself : (k : Key) → same k k ≡ true
 ties_itself k = (eq_by_cmp_equiv (then_total (then_total (on_total (λ (t : Key). t.0) int_cmp_total) (on_total (λ (t : Key). t.1) int_cmp_total)) (on_total (λ (t : Key). t.2) int_cmp_total))).refl k
 
 -- no two rows of `has` of unit n and one sort are of one thing, if keys are read as they are, and no two are equal
-pub things_apart : (n sort : ℕ) (has : List StoredHas) → AllByRecursion HasWholeKey has → IsDistinct same (map has_key has) → Apart thing_of (filter (is_of n sort) has)
-things_apart n sort = group.things_apart has_key same ties_itself thing_of (is_of n sort) HasWholeKey (same_key n sort)
+pub things_apart : (n sort : ℕ) (has : List StoredHas) → AllByRecursion HasWholeKey has → IsDistinct same (map has_key has) → HaveDistinctNumbers thing_of (filter (is_of_unit_and_sort n sort) has)
+things_apart n sort = group.things_apart has_key same ties_itself thing_of (is_of_unit_and_sort n sort) HasWholeKey (same_key n sort)
 
 -- the goods of one sort read for unit n are written as the rows of unit n and that sort, in some order, if each row is
 -- exact (IsExact), and no two have equal keys
-sort_order : (n sort : ℕ) (has : List StoredHas) → AllByRecursion IsExact has → IsDistinct same (map has_key has) → IsPermutation (rows_of_sort n sort (entries (things_had n sort has))) (filter (is_of n sort) has)
+sort_order : (n sort : ℕ) (has : List StoredHas) → AllByRecursion IsExact has → IsDistinct same (map has_key has) → IsPermutation (rows_of_sort n sort (entries (things_had n sort has))) (filter (is_of_unit_and_sort n sort) has)
 sort_order n sort has all d =
-    lines_order thing_of amount_of (has_row n sort) (λ h. not (is_zero h.amount)) (filter (is_of n sort) has) (things_apart n sort has (each_so IsExact HasWholeKey (λ h one. one.keys) has all) d)
-    (each_so (λ h. IsExact h × (is_of n sort h ≡ true)) (λ h. (has_row n sort (thing_of h) (amount_of h) ≡ h) × (not (is_zero h.amount) ≡ true)) (λ h had. (same_row n sort h (had.0.keys, had.1) had.0.amount, ap not had.0.some)) (filter (is_of n sort) has) (group.all_mine has_key same ties_itself thing_of (is_of n sort) IsExact has all))
+    lines_order thing_of amount_of (has_row n sort) (λ h. not (is_zero h.amount)) (filter (is_of_unit_and_sort n sort) has) (things_apart n sort has (each_so IsExact HasWholeKey (λ h one. one.keys) has all) d)
+    (each_so (λ h. IsExact h × (is_of_unit_and_sort n sort h ≡ true)) (λ h. (has_row n sort (thing_of h) (amount_of h) ≡ h) × (not (is_zero h.amount) ≡ true)) (λ h had. (same_row n sort h (had.0.keys, had.1) had.0.amount, ap not had.0.some)) (filter (is_of_unit_and_sort n sort) has) (group.all_mine has_key same ties_itself thing_of (is_of_unit_and_sort n sort) IsExact has all))
 
 -- the items and days read for unit n are written as the rows of unit n, in some order, if each row is exact (IsExact)
 -- and of one of the two sorts, and no two have equal keys
@@ -128,8 +128,8 @@ unit_order : (n : ℕ) (has : List StoredHas) → AllByRecursion (λ h. (as_u32 
 unit_order n has sorts all d =
     let items = rows_of_sort n 0 (entries (things_had n 0 has)) in
     let days = rows_of_sort n 1 (entries (things_had n 1 has)) in
-    let rows = filter (is_of n 0) has ++ filter (is_of n 1) has in
-    IsPermutation-trans (items ++ days) rows (rows_of_unit n has) (IsPermutation-append items (filter (is_of n 0) has) days (filter (is_of n 1) has) (sort_order n 0 has all d) (sort_order n 1 has all d)) (by_sort n has sorts)
+    let rows = filter (is_of_unit_and_sort n 0) has ++ filter (is_of_unit_and_sort n 1) has in
+    IsPermutation-trans (items ++ days) rows (rows_of_unit n has) (IsPermutation-append items (filter (is_of_unit_and_sort n 0) has) days (filter (is_of_unit_and_sort n 1) has) (sort_order n 0 has all d) (sort_order n 1 has all d)) (by_sort n has sorts)
 
 -- the rows of `has` that a unit's items and days are written as
 abbrev unit_lines : ℕ × Unit → List StoredHas
@@ -137,7 +137,7 @@ unit_lines e = held_rows e.0 e.1.holding
 
 -- units assembled from rows are written as the same rows of `has`, in some order, if the units have different numbers,
 -- and each row of `has` is exact (IsExact), of one of the units, and of a key of its own
-pub has_order : (has : List StoredHas) (units : List StoredUnit) → Apart (λ r. as_u32 r.number) units → AllByRecursion (IsOfUnits units) has → AllByRecursion IsExact has → IsDistinct same (map has_key has)
+pub has_order : (has : List StoredHas) (units : List StoredUnit) → HaveDistinctNumbers (λ r. as_u32 r.number) units → AllByRecursion (IsOfUnits units) has → AllByRecursion IsExact has → IsDistinct same (map has_key has)
     → IsPermutation (has_rows (entries (by_number (λ r. as_u32 r.number) (unit_of has) units))) has
 has_order has units apart of all d =
     let lines = λ (r : StoredUnit). unit_lines (as_u32 r.number, unit_of has r) in

@@ -40,11 +40,11 @@ module _ (w : WorldValue) (c : CampaignValue) (n : ℕ) (u : Unit) (h : HoldingV
   new_unit = record u { holding = h }
 
   -- the campaign in which unit n has the holding h
-  abbrev supplied : CampaignValue
-  supplied = record c { units = insert c.units n new_unit }
+  abbrev with_new_holding : CampaignValue
+  with_new_holding = record c { units = insert c.units n new_unit }
 
   -- the campaign stays steady when unit n gets a holding that it may have, if each region's guards stay of one faction
-  pub steady-having : MayHave w h → AreOfOneFaction guards supplied → IsSteady w c → IsSteady w supplied
+  pub steady-having : MayHave w h → AreOfOneFaction guards with_new_holding → IsSteady w c → IsSteady w with_new_holding
   steady-having may guarded old = record {
     numbers = numbers_kept w c n u h is may.limits old.numbers;
     names = record {
@@ -64,7 +64,7 @@ module _ (w : WorldValue) (c : CampaignValue) (n : ℕ) (u : Unit) (h : HoldingV
   }
 
   -- the campaign stays early when unit n gets a holding that it may have, with the guard flag set only if it was set
-  pub early-having : MayHave w h → (h.guard ≡ true → u.holding.guard ≡ true) → IsEarly w c → IsEarly w supplied
+  pub early-having : MayHave w h → (h.guard ≡ true → u.holding.guard ≡ true) → IsEarly w c → IsEarly w with_new_holding
   early-having may flag early =
       let flags = of_one_faction_kept w c n u h is (λ x. x.holding.guard) flag early.flags in
       record { steady = steady-having may (λ k x here m y there g k2 same. flags k x here m y there (flagged x g) (flagged y k2) same) early.steady; flags = flags }

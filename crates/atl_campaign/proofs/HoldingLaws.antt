@@ -18,7 +18,7 @@ use Rattle.atl_records.specs.declared.records.Unit.{Unit}
 use Rattle.atl_records.specs.Every.{Every}
 use Rattle.atl_campaign.specs.Good.{AreAfloat, AreInRange, AreKnown, AreNumbered, AreOfOneFaction, AreOwned, GoneHaveNone, IsPlaced, IsSteady, guards}
 use Rattle.atl_records.specs.Holdings.{HoldingValue, IsHolding, has_amount, with_amount_of}
-use Rattle.atl_campaign.specs.Lending.{lent, with_held}
+use Rattle.atl_campaign.specs.Lending.{after_loan, with_holding_at}
 use Rattle.atl_campaign.specs.Marking.{mark_item, mark_skill, mark_unit_row, whole_marked}
 use Rattle.atl_campaign.specs.Marks.{thing_marked}
 use Rattle.atl_campaign.specs.Roster.{unless_has}
@@ -31,7 +31,7 @@ use Rattle.atl_records.proofs.HoldingLaws.{get-set_other, set_again}
 use Rattle.atl_campaign.proofs.RegionLaws.{get-insert_same, same_len}
 
 -- a holding that a unit may get: within the limits, of the world's items and skills, and guarding only if the unit did
-pub record MayHold (w : WorldValue) (u : Unit) (h : HoldingValue) : Type 0 where
+pub record MayHaveWithoutNewGuard (w : WorldValue) (u : Unit) (h : HoldingValue) : Type 0 where
   -- the men, the money and each item of the holding are within their limits
   pub limits : IsHolding h
   -- the holding's name keeps the rule of names
@@ -45,8 +45,9 @@ pub record MayHold (w : WorldValue) (u : Unit) (h : HoldingValue) : Type 0 where
   -- the unit guards with the holding only if the unit guarded before
   pub guard : guards (record u { holding = h }) ≡ true → guards u ≡ true
 
--- a unit of a steady campaign may get any money up to holding_limit, with the rest of its holding unchanged (MayHold)
-pub may_hold_money : (w : WorldValue) (c : CampaignValue) (n money : ℕ) (u : Unit) → get c.units n ≡ Some u → money ≤ holding_limit → IsSteady w c → MayHold w u (record u.holding { money = money })
+-- a unit of a steady campaign may get any money up to holding_limit, with the rest of its holding unchanged
+-- (MayHaveWithoutNewGuard)
+pub may_hold_money : (w : WorldValue) (c : CampaignValue) (n money : ℕ) (u : Unit) → get c.units n ≡ Some u → money ≤ holding_limit → IsSteady w c → MayHaveWithoutNewGuard w u (record u.holding { money = money })
 may_hold_money w c n money u is most steady =
     let place = steady.known.units n u is in
     let holding = (steady.numbers.units n u is).1 in
@@ -70,15 +71,15 @@ module _ (w : WorldValue) (c : CampaignValue) (n : ℕ) (u : Unit) (h : HoldingV
   new_unit = record u { holding = h }
 
   -- the campaign in which unit n has the holding h
-  abbrev supplied : CampaignValue
-  supplied = record c { units = insert c.units n new_unit }
+  abbrev with_new_holding : CampaignValue
+  with_new_holding = record c { units = insert c.units n new_unit }
 
   -- a number without a unit is not n, which has one
   free_apart : (k : ℕ) → get c.units k ≡ None → k ≢ n
   free_apart k free same = none_some u (sym free ∙ ap (get c.units) same ∙ is)
 
   -- counts and numbers stay in their ranges (AreInRange) when unit n gets the holding h, if h is within the limits
-  pub numbers_kept : IsHolding h → AreInRange w c → AreInRange w supplied
+  pub numbers_kept : IsHolding h → AreInRange w c → AreInRange w with_new_holding
   numbers_kept limits old = record {
     month = old.month;
     few_factions = old.few_factions;
@@ -95,11 +96,11 @@ module _ (w : WorldValue) (c : CampaignValue) (n : ℕ) (u : Unit) (h : HoldingV
   }
 
   -- all that is named by its number still exists when unit n gets holding h, if h's items and skills are the world's
-  pub known_kept : Every (λ i amount. i < length w.items) h.items → Every (λ s days. s < length w.skills) h.days → AreKnown w c → AreKnown w supplied
+  pub known_kept : Every (λ i amount. i < length w.items) h.items → Every (λ s days. s < length w.skills) h.days → AreKnown w c → AreKnown w with_new_holding
   known_kept items skills old = record {
     regions = old.regions;
     markets = old.markets;
-    units = every-insert (λ k x. IsPlaced w supplied x) c.units n new_unit
+    units = every-insert (λ k x. IsPlaced w with_new_holding x) c.units n new_unit
         (let p = old.units n u is in record { faction = p.faction; region = p.region; structure = p.structure; items = items; skills = skills })
         old.units;
     structures = λ k s there. let b = old.structures k s there in record { kind = b.kind; region = b.region; owner = λ owned. there-insert c.units n s.owner new_unit (b.owner owned) };
@@ -108,7 +109,7 @@ module _ (w : WorldValue) (c : CampaignValue) (n : ℕ) (u : Unit) (h : HoldingV
 
   -- with h held by unit n, factions and structures stay numbered without a gap, and units have numbers below the next
   -- unit number (AreNumbered)
-  pub next_kept : AreNumbered c → AreNumbered supplied
+  pub next_kept : AreNumbered c → AreNumbered with_new_holding
   next_kept old = record {
     factions = old.factions;
     structures = old.structures;
@@ -116,23 +117,23 @@ module _ (w : WorldValue) (c : CampaignValue) (n : ℕ) (u : Unit) (h : HoldingV
   }
 
   -- factions that are gone still have no units when unit n gets the holding h
-  gone_kept : GoneHaveNone c → GoneHaveNone supplied
+  gone_kept : GoneHaveNone c → GoneHaveNone with_new_holding
   gone_kept old m f there gone = numbers_where-insert_known (λ x. x.faction == m) c.units n u new_unit is refl ∙ old m f there gone
 
   -- a unit inside a structure is still inside it when unit n gets the holding h
-  inside_still : (k m : ℕ) → (x : Unit) × (get c.units k ≡ Some x) × (x.structure ≡ m) → (x : Unit) × (get supplied.units k ≡ Some x) × (x.structure ≡ m)
+  inside_still : (k m : ℕ) → (x : Unit) × (get c.units k ≡ Some x) × (x.structure ≡ m) → (x : Unit) × (get with_new_holding.units k ≡ Some x) × (x.structure ≡ m)
   inside_still k m (x, there, inside) =
-      elim (nat_cmp k n) as (λ o. nat_cmp k n ≡ o → (y : Unit) × (get supplied.units k ≡ Some y) × (y.structure ≡ m)) [
+      elim (nat_cmp k n) as (λ o. nat_cmp k n ≡ o → (y : Unit) × (get with_new_holding.units k ≡ Some y) × (y.structure ≡ m)) [
         | Less ↦ λ o. (x, get-insert_other c.units n k new_unit (λ same. let l = ranked k n Less (sym o) in absurd (omega arith)) ∙ there, inside)
         | Equal ↦ λ o.
             let same : k ≡ n = nat_cmp-IsAntisymmetric k n o in
             let one : Some x ≡ Some u = sym there ∙ ap (get c.units) same ∙ is in
-            (new_unit, ap (get supplied.units) same ∙ get-insert_same c.units n new_unit, sym (ap (λ p. structure_in p x) one) ∙ inside)
+            (new_unit, ap (get with_new_holding.units) same ∙ get-insert_same c.units n new_unit, sym (ap (λ p. structure_in p x) one) ∙ inside)
         | Greater ↦ λ o. (x, get-insert_other c.units n k new_unit (λ same. let l = ranked k n Greater (sym o) in absurd (omega arith)) ∙ there, inside)
       ] refl
 
   -- structures are still owned by units inside them when unit n gets the holding h
-  pub owners_kept : AreOwned c → AreOwned supplied
+  pub owners_kept : AreOwned c → AreOwned with_new_holding
   owners_kept old m s there =
       let o = old m s there in
       record {
@@ -141,7 +142,7 @@ module _ (w : WorldValue) (c : CampaignValue) (n : ℕ) (u : Unit) (h : HoldingV
       }
 
   -- units and structures on water are still afloat (AreAfloat) when unit n gets the holding h
-  water_kept : AreAfloat w c → AreAfloat w supplied
+  water_kept : AreAfloat w c → AreAfloat w with_new_holding
   water_kept old = record {
     units = every-insert _ c.units n new_unit (old.units n u is) old.units;
     structures = old.structures;
@@ -155,14 +156,14 @@ module _ (w : WorldValue) (c : CampaignValue) (n : ℕ) (u : Unit) (h : HoldingV
 
     -- in each region all units that pass a test are still of one faction when unit n gets the holding h, if n passes
     -- with h only where it did before
-    pub of_one_faction_kept : AreOfOneFaction test c → AreOfOneFaction test supplied
+    pub of_one_faction_kept : AreOfOneFaction test c → AreOfOneFaction test with_new_holding
     of_one_faction_kept old =
-        every-insert (λ k x. Every (λ m y. Agree x y) supplied.units) c.units n new_unit
+        every-insert (λ k x. Every (λ m y. Agree x y) with_new_holding.units) c.units n new_unit
         (every-insert (λ m y. Agree new_unit y) c.units n new_unit (λ g k same. refl) (λ m y there g k same. old n u is m y there (only g) k same))
         (λ k x here. every-insert (λ m y. Agree x y) c.units n new_unit (λ g k2 same. old k x here n u is g (only k2) same) (old k x here))
 
-  -- the campaign stays steady when unit n gets the holding h, if the unit may have that (MayHold)
-  pub steady-unit_amount : MayHold w u h → IsSteady w c → IsSteady w supplied
+  -- the campaign stays steady when unit n gets the holding h, if the unit may have that (MayHaveWithoutNewGuard)
+  pub steady-unit_amount : MayHaveWithoutNewGuard w u h → IsSteady w c → IsSteady w with_new_holding
   steady-unit_amount may old = record {
     numbers = numbers_kept may.limits old.numbers;
     names = record {
@@ -186,11 +187,11 @@ module _ (w : WorldValue) (c : CampaignValue) (n : ℕ) (u : Unit) (h : HoldingV
   regrouped r a b p q e = omega arith
 
   -- giving unit n the holding h changes a thing's total by what h has more or less of it than the old holding
-  pub total-unit_amount : (t : Thing) → total supplied t + unit_amount t u.holding ≡ total c t + unit_amount t h
+  pub total-unit_amount : (t : Thing) → total with_new_holding t + unit_amount t u.holding ≡ total c t + unit_amount t h
   unfolding total
   total-unit_amount t =
       let there = λ (x : Unit). unit_amount t x.holding in
-      regrouped (sum_over (λ (r : Region). region_amount t r) c.regions) (sum_over there supplied.units) (sum_over there c.units) (unit_amount t u.holding) (unit_amount t h)
+      regrouped (sum_over (λ (r : Region). region_amount t r) c.regions) (sum_over there with_new_holding.units) (sum_over there c.units) (unit_amount t u.holding) (unit_amount t h)
       (sum_over-insert_known there c.units n u new_unit is)
 
 -- ---- what is marked

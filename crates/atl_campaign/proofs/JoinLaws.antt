@@ -42,8 +42,8 @@ use Rattle.atl_campaign.proofs.TotalLaws.{total-with_unit}
 -- ---- the books
 
 -- for joined-balances: if the total x is what is booked, b, and n more come, which are p + q, then x + n is b + p + q
-two : (x n : ℕ) (b p q : ℤ) → pos x ≡ b → pos n ≡ p +ℤ q → pos (x + n) ≡ (b +ℤ p) +ℤ q
-two x n b p q h g = omega (arith, ints)
+total_after_join : (x n : ℕ) (b p q : ℤ) → pos x ≡ b → pos n ≡ p +ℤ q → pos (x + n) ≡ (b +ℤ p) +ℤ q
+total_after_join x n b p q h g = omega (arith, ints)
 
 -- the first unit of a faction that joins has 0 of each item, which is what the join books of the item
 none : (w : WorldValue) (word : ℕ) (c : CampaignValue) (i : ℕ) → (2 + i == 0) ≡ false → (2 + i == 1) ≡ false → pos (unit_amount (Item i) (first_unit w word c).holding) ≡ booked_for (Item i) Money (pos w.rules.start_money) +ℤ booked_for (Item i) People (pos 1)
@@ -62,7 +62,7 @@ unfolding joined total
 joined-balances w name pass word c free h t =
     let one = after_booking c.books Joining Money (pos w.rules.start_money) in
     ap pos (total-with_unit c c.next_unit (first_unit w word c) t free)
-    ∙ two (total c t) (unit_amount t (first_unit w word c).holding) (booked c.books t) (booked_for t Money (pos w.rules.start_money)) (booked_for t People (pos 1)) (h t) (held_booked w word c t)
+    ∙ total_after_join (total c t) (unit_amount t (first_unit w word c).holding) (booked c.books t) (booked_for t Money (pos w.rules.start_money)) (booked_for t People (pos 1)) (h t) (held_booked w word c t)
     ∙ ap (λ z. z +ℤ booked_for t People (pos 1)) (sym (booked-after_booking c.books Joining Money (pos w.rules.start_money) t))
     ∙ sym (booked-after_booking one Joining People (pos 1) t)
 

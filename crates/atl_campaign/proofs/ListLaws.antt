@@ -119,12 +119,12 @@ none_taken lists key n none k =
 -- ---- the lists of structures, which are lists by a key but for that under 0
 
 -- the lists of `some` are those of `all`, but with an empty list under 0
-abbrev AreBare : (some all : FinMap nat_cmp (List ℕ)) → Type 0
-AreBare some all = (k : ℕ) → list_of some k ≡ cond (k == 0) [] (list_of all k)
+abbrev AreListsBut0 : (some all : FinMap nat_cmp (List ℕ)) → Type 0
+AreListsBut0 some all = (k : ℕ) → list_of some k ≡ cond (k == 0) [] (list_of all k)
 
--- if `some` has the lists of `all`, but none under 0 (AreBare), it still does once f changes the list of a key in both,
--- or in `all` alone where the key is 0
-bare_put : (f : List ℕ → List ℕ) (some all : FinMap nat_cmp (List ℕ)) (key : ℕ) → AreBare some all → AreBare (cond (key == 0) some (insert some key (f (list_of some key)))) (insert all key (f (list_of all key)))
+-- if `some` has the lists of `all`, but none under 0 (AreListsBut0), it still does once f changes the list of a key in
+-- both, or in `all` alone where the key is 0
+bare_put : (f : List ℕ → List ℕ) (some all : FinMap nat_cmp (List ℕ)) (key : ℕ) → AreListsBut0 some all → AreListsBut0 (cond (key == 0) some (insert some key (f (list_of some key)))) (insert all key (f (list_of all key)))
 bare_put f some all key bare =
     elim (cases_eq key 0) [
       | inl none ↦ rw none (by_key all 0 (f (list_of all 0)) (λ r xs. list_of some r ≡ cond (r == 0) [] xs) (bare 0) (λ r _. bare r))
@@ -148,13 +148,13 @@ module _ (units : FinMap nat_cmp Unit) (lists : FinMap nat_cmp (List ℕ)) (are 
   unfolding whole outside
   whole_listed = by_key lists 0 outside (λ r xs. xs ≡ numbers_where (λ u. u.structure == r) units) refl (λ r ne. rw (other_number r 0 (λ e. ne (sym e))) at (are r))
 
-  -- the lists by structure (`lists`) are those of `whole`, but under 0, where they have none (AreBare)
-  whole_bare : AreBare lists whole
+  -- the lists by structure (`lists`) are those of `whole`, but under 0, where they have none (AreListsBut0)
+  whole_bare : AreListsBut0 lists whole
   unfolding whole
   whole_bare = by_key lists 0 outside (λ r xs. list_of lists r ≡ cond (r == 0) [] xs) (are 0) (λ r ne. rw (other_number r 0 (λ e. ne (sym e))) refl)
 
 -- lists with just the units of each structure number, but none under 0, are lists of the units inside (AreInsideLists)
-bare_inside : (units : FinMap nat_cmp Unit) (some all : FinMap nat_cmp (List ℕ)) → AreBare some all → AreLists (λ u. u.structure) units all → AreInsideLists units some
+bare_inside : (units : FinMap nat_cmp Unit) (some all : FinMap nat_cmp (List ℕ)) → AreListsBut0 some all → AreLists (λ u. u.structure) units all → AreInsideLists units some
 bare_inside units some all bare are k = bare k ∙ ap (cond (k == 0) []) (are k)
 
 module _ (units : FinMap nat_cmp Unit) (old new : FinMap nat_cmp (List ℕ)) (n key : ℕ) (u : Unit) (own : u.structure ≡ key) where
@@ -187,8 +187,8 @@ AreInsideLists-kept units lists n u v there same is =
 nobody_listed : (belongs_to : Unit → ℕ) → AreLists belongs_to empty empty
 nobody_listed belongs_to k = ap (λ o. unwrap_or o []) (get-empty nat_cmp k) ∙ sym (ap (λ es. map (λ e. e.0) (filter (λ e. belongs_to e.1 == k) es)) entries-empty)
 
--- for AreUnitLists-nobody: the empty map has the lists of the empty map, and none under 0 (AreBare)
-nobody_bare : AreBare empty empty
+-- for AreUnitLists-nobody: the empty map has the lists of the empty map, and none under 0 (AreListsBut0)
+nobody_bare : AreListsBut0 empty empty
 nobody_bare k = elim (k == 0) as (λ b. list_of empty k ≡ cond b [] (list_of empty k)) [
   | true ↦ ap (λ o. unwrap_or o []) (get-empty nat_cmp k)
   | false ↦ refl

@@ -20,9 +20,9 @@ use Rattle.atl_campaign.proofs.AssemblyLaws.{get_same, get_other}
 use Rattle.atl_records.proofs.EveryLaws.{none_some, there-new, there-insert}
 
 -- no two rows have the same number
-abbrev pub Apart : {R : Type 0} → (R → ℕ) → List R → Type 0
-Apart number [] = ⊤
-Apart number (r ∷ rows) = AllByRecursion (λ s. number s ≢ number r) rows × Apart number rows
+abbrev pub HaveDistinctNumbers : {R : Type 0} → (R → ℕ) → List R → Type 0
+HaveDistinctNumbers number [] = ⊤
+HaveDistinctNumbers number (r ∷ rows) = AllByRecursion (λ s. number s ≢ number r) rows × HaveDistinctNumbers number rows
 
 -- some row has the number n
 abbrev pub HasNumber : {R : Type 0} → (R → ℕ) → List R → ℕ → Type 0
@@ -71,7 +71,7 @@ module _ {R V : Type 0} (number : R → ℕ) (value : R → V) where
 
     -- the lists that f makes of a map's entries, joined, have those of `rows` too, in some order, once the rows, which
     -- have new numbers, are put in
-    put_order : (rows : List R) (m : FinMap nat_cmp V) → Apart number rows → AllByRecursion (λ s. get m (number s) ≡ None) rows → IsPermutation (flat_map f (entries m) ++ flat_of rows) (flat_map f (entries (put_rows number value rows m)))
+    put_order : (rows : List R) (m : FinMap nat_cmp V) → HaveDistinctNumbers number rows → AllByRecursion (λ s. get m (number s) ≡ None) rows → IsPermutation (flat_map f (entries m) ++ flat_of rows) (flat_map f (entries (put_rows number value rows m)))
     put_order [] m h n = subst (λ xs. IsPermutation xs (flat_map f (entries m))) (sym (append-nil (flat_map f (entries m)))) (IsPermutation-refl (flat_map f (entries m)))
     put_order (r ∷ rows) m h n =
         let k = number r in
@@ -85,7 +85,7 @@ module _ {R V : Type 0} (number : R → ℕ) (value : R → V) where
         (IsPermutation-trans ((f (k, v) ++ old) ++ flat_of rows) (new ++ flat_of rows) last one (put_order rows (insert m k v) h.1 (still_none m k v rows h.0 n.1)))
 
     -- the lists that f makes of rows with different numbers, joined, are those of their map's entries, in some order
-    pub flat_order : (rows : List R) → Apart number rows → IsPermutation (flat_of rows) (flat_map f (entries (by_number number value rows)))
+    pub flat_order : (rows : List R) → HaveDistinctNumbers number rows → IsPermutation (flat_of rows) (flat_map f (entries (by_number number value rows)))
     flat_order rows h =
         subst (λ es. IsPermutation (flat_map f es ++ flat_of rows) (flat_map f (entries (by_number number value rows)))) (entries-empty {X = V}) (put_order rows empty h (all_none rows))
 
@@ -96,7 +96,7 @@ module _ {R V : Type 0} (number : R → ℕ) (value : R → V) where
 
   -- the map made of rows with different numbers is written as just these rows, in some order.
   -- Each row is to be the one written for its number and value.
-  pub rows_order : (row : ℕ → V → R) (rows : List R) → Apart number rows → AllByRecursion (λ r. row (number r) (value r) ≡ r) rows → IsPermutation (rows_by row (entries (by_number number value rows))) rows
+  pub rows_order : (row : ℕ → V → R) (rows : List R) → HaveDistinctNumbers number rows → AllByRecursion (λ r. row (number r) (value r) ≡ r) rows → IsPermutation (rows_by row (entries (by_number number value rows))) rows
   rows_order row rows h same =
       let es = entries (by_number number value rows) in
       let line = λ (e : ℕ × V). row e.0 e.1 in
@@ -114,11 +114,11 @@ each_apart key number same P r apart (s ∷ rows) h d = (apart s h.0 d.0, each_a
 
 -- if P for two rows and different keys mean different numbers, no two rows of a list with distinct keys, of which P
 -- holds, have the same number
-pub Apart-keys : {R K : Type 0} (key : R → K) (number : R → ℕ) (same : K → K → Bool) (P : R → Type 0) → ((r s : R) → P r → P s → same (key r) (key s) ≡ false → number s ≢ number r)
-    → (rows : List R) → AllByRecursion P rows → IsDistinct same (map key rows) → Apart number rows
+pub HaveDistinctNumbers-keys : {R K : Type 0} (key : R → K) (number : R → ℕ) (same : K → K → Bool) (P : R → Type 0) → ((r s : R) → P r → P s → same (key r) (key s) ≡ false → number s ≢ number r)
+    → (rows : List R) → AllByRecursion P rows → IsDistinct same (map key rows) → HaveDistinctNumbers number rows
 unfolding IsDistinct
-Apart-keys key number same P apart [] h d = tt
-Apart-keys key number same P apart (r ∷ rows) h d = (each_apart key number same P r (λ s. apart r s h.0) rows h.1 d.0, Apart-keys key number same P apart rows h.1 d.1)
+HaveDistinctNumbers-keys key number same P apart [] h d = tt
+HaveDistinctNumbers-keys key number same P apart (r ∷ rows) h d = (each_apart key number same P r (λ s. apart r s h.0) rows h.1 d.0, HaveDistinctNumbers-keys key number same P apart rows h.1 d.1)
 
 -- ---- tests of each row
 
@@ -136,12 +136,12 @@ module _ {R V : Type 0} (number : R → ℕ) (value : R → V) where
   put_keep (r ∷ rows) m k h = put_keep rows (insert m (number r) (value r)) k h.1 ∙ get_other m (number r) k (value r) (λ e. h.0 (sym e))
 
   -- once rows with different numbers are put into a map, each row's value is found under its number
-  put_found : (rows : List R) (m : FinMap nat_cmp V) → Apart number rows → AllByRecursion (λ r. get (put_rows number value rows m) (number r) ≡ Some (value r)) rows
+  put_found : (rows : List R) (m : FinMap nat_cmp V) → HaveDistinctNumbers number rows → AllByRecursion (λ r. get (put_rows number value rows m) (number r) ≡ Some (value r)) rows
   put_found [] m h = tt
   put_found (r ∷ rows) m h = (put_keep rows (insert m (number r) (value r)) (number r) h.0 ∙ get_same m (number r) (value r), put_found rows (insert m (number r) (value r)) h.1)
 
   -- each row's value is found under its number in the map made of rows with different numbers
-  pub rows_found : (rows : List R) → Apart number rows → AllByRecursion (λ r. get (by_number number value rows) (number r) ≡ Some (value r)) rows
+  pub rows_found : (rows : List R) → HaveDistinctNumbers number rows → AllByRecursion (λ r. get (by_number number value rows) (number r) ≡ Some (value r)) rows
   rows_found rows h = put_found rows empty h
 
   -- if P holds of every value of a map, it holds of each row whose value is found under its number
@@ -150,7 +150,7 @@ module _ {R V : Type 0} (number : R → ℕ) (value : R → V) where
   every_row P m (r ∷ rows) every h = (every (number r) (value r) h.0, every_row P m rows every h.1)
 
   -- if P holds of every value of the map made of rows with different numbers, it holds of each row
-  pub each_row : (P : ℕ → V → Type 0) (rows : List R) → Apart number rows → Every P (by_number number value rows) → AllByRecursion (λ r. P (number r) (value r)) rows
+  pub each_row : (P : ℕ → V → Type 0) (rows : List R) → HaveDistinctNumbers number rows → Every P (by_number number value rows) → AllByRecursion (λ r. P (number r) (value r)) rows
   each_row P rows h every = every_row P (by_number number value rows) rows every (rows_found rows h)
 
   -- a number that has a value in a map still has one once rows are put into the map
@@ -194,7 +194,7 @@ module _ {R V : Type 0} (number : R → ℕ) (value : R → V) where
   count (r ∷ rows) = ap suc (count rows)
 
   -- the map made of rows with different numbers has as many values as rows
-  pub same_count : (rows : List R) → Apart number rows → len (by_number number value rows) ≡ length rows
+  pub same_count : (rows : List R) → HaveDistinctNumbers number rows → len (by_number number value rows) ≡ length rows
   same_count rows h =
       let es = entries (by_number number value rows) in
       let order = flat_order number value (λ e. e ∷ []) rows h in

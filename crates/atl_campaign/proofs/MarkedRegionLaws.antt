@@ -9,7 +9,7 @@ use Rattle.atl_world.specs.RoomySets.{RoomySet}
 use Rattle.atl_world.specs.Tracking.{marked_with}
 use Rattle.atl_world.proofs.TrackLaws.{Room-empty, Room-of, Room-over, Room-put, Room-unmarked}
 use Rattle.atl_records.specs.declared.records.Region.{Region}
-use Rattle.atl_campaign.specs.Marks.{AreStocksWithin, Things}
+use Rattle.atl_campaign.specs.Marks.{AreStocksWithin, MarkedThings}
 use Rattle.atl_campaign.specs.Regions.{AreRegions}
 use Rattle.atl_campaign.proofs.UnitLaws.{within_both, within_more, within_things}
 
@@ -42,7 +42,7 @@ AreRegions-none = record { within = within-none; rows_fit = Room-empty Region; m
 pub AreRegions-of : (regions : FinMap nat_cmp Region) → AreRegions regions (nothing_marked (len regions)) (nothing_marked (len regions)) (nothing_marked (len regions)) empty
 AreRegions-of regions = record { within = within-none; rows_fit = Room-of regions; markets_fit = Room-of regions; stocks_fit = Room-of regions }
 
-module _ (regions : FinMap nat_cmp Region) (rows markets stocks : RoomySet) (items : Things) (h : AreRegions regions rows markets stocks items) where
+module _ (regions : FinMap nat_cmp Region) (rows markets stocks : RoomySet) (items : MarkedThings) (h : AreRegions regions rows markets stocks items) where
   -- once all dirty sets are emptied, there is still room for all marks, and no stock is marked without its region
   -- (AreRegions)
   pub AreRegions-without_marks : AreRegions regions (cleared rows) (cleared markets) (cleared stocks) empty

@@ -17,13 +17,13 @@ use Rattle.std.proofs.lemmas.Cmp.{eq_by_cmp_equiv, int_cmp_total, on_total, then
 use Rattle.atl_records.specs.Limits.{most_u32}
 use Rattle.atl_records.specs.Every.{EachEntry, Every}
 use Rattle.atl_campaign.specs.FromRows.{as_u32, put_rows, by_number}
-use Rattle.atl_campaign.specs.RowRules.{Key, one_key, HaveKeys}
+use Rattle.atl_campaign.specs.RowRules.{Key, one_key, HaveDistinctKeys}
 use Rattle.atl_campaign.specs.Rows.{rows_by}
 use Rattle.atl_campaign.proofs.AssemblyLaws.{min_small}
 use Rattle.atl_records.proofs.EveryLaws.{none_some, every-empty, every-insert, every-from_each, each-from_every, sorted}
 use Rattle.atl_campaign.proofs.HasLaws.{IsWhole, same}
 use Rattle.atl_campaign.proofs.KeyLaws.{IsDistinct-map}
-use Rattle.atl_campaign.proofs.MapOfRowsLaws.{Apart, rows_found}
+use Rattle.atl_campaign.proofs.MapOfRowsLaws.{HaveDistinctNumbers, rows_found}
 use Rattle.atl_campaign.proofs.OrderedLaws.{below}
 
 -- ---- facts of each row, in another order
@@ -122,7 +122,7 @@ module _ {V R : Type 0} (row : ℕ → V → R) where
     ReadsBack n v = (number (row n v) ≡ n) × (value (row n v) ≡ v)
 
     -- rows of a map, in any order, make that map, if each is read back, and no two are read with the same number
-    pub map_back : (m : FinMap nat_cmp V) (rows : List R) → IsPermutation (rows_by row (entries m)) rows → Every ReadsBack m → Apart number rows → by_number number value rows ≡ m
+    pub map_back : (m : FinMap nat_cmp V) (rows : List R) → IsPermutation (rows_by row (entries m)) rows → Every ReadsBack m → HaveDistinctNumbers number rows → by_number number value rows ≡ m
     map_back m rows h same apart =
         by_number_is number value m rows (rows_so (λ r. get m (number r) ≡ Some (value r)) m rows h (λ n v is. let both = same n v is in ap (get m) both.0 ∙ is ∙ ap (λ x. Some x) (sym both.1)))
         (λ n v is.
@@ -267,5 +267,5 @@ same_symm : (a b : Key) → same a b ≡ same b a
 same_symm = (eq_by_cmp_equiv (then_total (then_total (on_total (λ (t : Key). t.0) int_cmp_total) (on_total (λ (t : Key). t.1) int_cmp_total)) (on_total (λ (t : Key). t.2) int_cmp_total))).symm
 
 -- if rows have distinct keys, they have distinct keys in any order
-pub keys_permuted : {R : Type 0} (key : R → Key) (xs ys : List R) → IsPermutation xs ys → IsDistinct (λ a b. same (key a) (key b)) xs → HaveKeys key ys
+pub keys_permuted : {R : Type 0} (key : R → Key) (xs ys : List R) → IsPermutation xs ys → IsDistinct (λ a b. same (key a) (key b)) xs → HaveDistinctKeys key ys
 keys_permuted key xs ys h d = IsDistinct-map key same ys (IsDistinct-IsPermutation (λ a b. same (key a) (key b)) (λ a b. same_symm (key a) (key b)) xs ys h d)

@@ -17,7 +17,7 @@ use Rattle.atl_records.specs.Books.{Account, AreBooks, BooksValue, amount_in, th
 use Rattle.atl_campaign.specs.Founding.{things_of}
 use Rattle.atl_records.specs.Every.{Every, HasValue}
 use Rattle.atl_campaign.specs.Good.{IsRegion, AreInRange, AreKnown, AreOfMarkets, IsSteady}
-use Rattle.atl_campaign.specs.Campaign.{CampaignValue, region_changed, with_amount}
+use Rattle.atl_campaign.specs.Campaign.{CampaignValue, region_changed, with_booking}
 use Rattle.atl_records.specs.Amounts.{region_amount, unit_amount}
 use Rattle.atl_campaign.specs.Totals.{total}
 use Rattle.atl_records.proofs.AccountLaws.{cases_account}
@@ -143,12 +143,12 @@ module _ (f : Region → Region) (c : CampaignValue) (n : ℕ) (r : Region) (is 
 -- ---- the books
 
 -- the campaign stays steady when an amount of one of the world's things is booked
-pub steady-amount : (w : WorldValue) (c : CampaignValue) (e : Entry) (t : Thing) (n : ℤ) → thing_index t < things_of w → IsSteady w c → IsSteady w (with_amount c e t n)
+pub steady-amount : (w : WorldValue) (c : CampaignValue) (e : Entry) (t : Thing) (n : ℤ) → thing_index t < things_of w → IsSteady w c → IsSteady w (with_booking c e t n)
 steady-amount w c e t n there old =
     stocked-steady w c c.regions (after_booking c.books e t n) refl (λ k. (λ h. h, λ h. h)) old.numbers.regions old.known.markets (AreBooks-after_booking (things_of w) c.books e t n old.numbers.books there) old
 
 -- booking an amount doesn't change the total that regions and units have of any thing
-pub total-amount : (c : CampaignValue) (e : Entry) (u t : Thing) (n : ℤ) → total (with_amount c e u n) t ≡ total c t
+pub total-amount : (c : CampaignValue) (e : Entry) (u t : Thing) (n : ℤ) → total (with_booking c e u n) t ≡ total c t
 unfolding total
 total-amount c e u t n = refl
 

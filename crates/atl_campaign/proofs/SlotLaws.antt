@@ -34,49 +34,50 @@ by_number q n P same apart =
 
 module _ {V : Type 0} where
   -- the value in slot k of a slab for Some k, if the slot has one; None for None
-  abbrev pub through : slab.Slab V → Option ℕ → Option V
-  through s None = None
-  through s (Some k) = slab.get s k
+  abbrev pub value_in_slot : slab.Slab V → Option ℕ → Option V
+  value_in_slot s None = None
+  value_in_slot s (Some k) = slab.get s k
 
   -- with an entry of n put in front of `rest`, looking up q gives that entry's value if q is n, else what `rest` gives
   find_entry_step : (n q : ℕ) (o : Option V) (rest : List (ℕ × V)) → is_some o ≡ true → find nat_cmp q (slot_entry_at n o rest) ≡ cond (eq_by_cmp nat_cmp q n) o (find nat_cmp q rest)
   find_entry_step n q None rest h = absurd (false≢true h)
   find_entry_step n q (Some v) rest h = refl
 
-  -- for find_lodged: the value in slot k or that in slot o (`through`), as b chooses, is the value in the chosen slot
-  through_cond : (b : Bool) (s : slab.Slab V) (k : ℕ) (o : Option ℕ) → cond b (slab.get s k) (through s o) ≡ through s (cond b (Some k) o)
-  through_cond true s k o = refl
-  through_cond false s k o = refl
+  -- for find_lodged: the value in slot k or that in slot o (`value_in_slot`), as b chooses, is the value in the chosen
+  -- slot
+  value_in_slot_cond : (b : Bool) (s : slab.Slab V) (k : ℕ) (o : Option ℕ) → cond b (slab.get s k) (value_in_slot s o) ≡ value_in_slot s (cond b (Some k) o)
+  value_in_slot_cond true s k o = refl
+  value_in_slot_cond false s k o = refl
 
   -- a look-up of a number among the entries with values gives the value in the slot that the index entries have for it
-  find_lodged : (s : slab.Slab V) (q : ℕ) (es : List (ℕ × ℕ)) → AreInUse es s → find nat_cmp q (slot_entries es s) ≡ through s (find nat_cmp q es)
+  find_lodged : (s : slab.Slab V) (q : ℕ) (es : List (ℕ × ℕ)) → AreInUse es s → find nat_cmp q (slot_entries es s) ≡ value_in_slot s (find nat_cmp q es)
   find_lodged s q [] h = refl
   find_lodged s q (e ∷ es) h =
       find_entry_step e.0 q (slab.get s e.1) (slot_entries es s) h.0 ∙ ap (cond (eq_by_cmp nat_cmp q e.0) (slab.get s e.1)) (find_lodged s q es h.1)
-      ∙ through_cond (eq_by_cmp nat_cmp q e.0) s e.1 (find nat_cmp q es)
+      ∙ value_in_slot_cond (eq_by_cmp nat_cmp q e.0) s e.1 (find nat_cmp q es)
 
   -- each slot that a number of the index leads to is in use
   pub all_in_use : (i : FinMap nat_cmp ℕ) (s : slab.Slab V) → HaveOwnSlots i s → AreInUse (entries i) s
   all_in_use i s held = each-from_every (λ n k. is_some (slab.get s k) ≡ true) i held.in_use
 
   -- where each number has its own slot, the map of values has under a number the value in the number's slot
-  pub get_values : (i : FinMap nat_cmp ℕ) (s : slab.Slab V) → HaveOwnSlots i s → (q : ℕ) → get (values_of i s) q ≡ through s (get i q)
+  pub get_values : (i : FinMap nat_cmp ℕ) (s : slab.Slab V) → HaveOwnSlots i s → (q : ℕ) → get (values_of i s) q ≡ value_in_slot s (get i q)
   get_values i s held q =
       get-from_entries nat_cmp_total (slot_entries (entries i) s) q
       ∙ find_lodged s q (entries i) (all_in_use i s held)
-      ∙ ap (through s) (sym (get-entries i q))
+      ∙ ap (value_in_slot s) (sym (get-entries i q))
 
-  -- the value in the slot that a number leads to (`through`) is the number's value in the map of values
-  pub value_under : (i : FinMap nat_cmp ℕ) (s : slab.Slab V) (m : FinMap nat_cmp V) (n : ℕ) (o : Option ℕ) → HaveOwnSlots i s → values_of i s ≡ m → o ≡ get i n → through s o ≡ get m n
-  value_under i s m n o held is there = ap (through s) there ∙ sym (get_values i s held n) ∙ ap (λ v. get v n) is
+  -- the value in the slot that a number leads to (`value_in_slot`) is the number's value in the map of values
+  pub value_under : (i : FinMap nat_cmp ℕ) (s : slab.Slab V) (m : FinMap nat_cmp V) (n : ℕ) (o : Option ℕ) → HaveOwnSlots i s → values_of i s ≡ m → o ≡ get i n → value_in_slot s o ≡ get m n
+  value_under i s m n o held is there = ap (value_in_slot s) there ∙ sym (get_values i s held n) ∙ ap (λ v. get v n) is
 
   -- for leads_nowhere: what a slot holds, o, is not both a value and None
   empty_slot : (o : Option V) → is_some o ≡ true → o ≡ None → ⊥
   empty_slot None h e = false≢true h
   empty_slot (Some x) h e = some_none x e
 
-  -- a number for which the index and the slab give no value (`through`) leads to no slot
-  leads_nowhere : (i : FinMap nat_cmp ℕ) (s : slab.Slab V) (n : ℕ) (o : Option ℕ) → get i n ≡ o → HaveOwnSlots i s → through s o ≡ None → o ≡ None
+  -- a number for which the index and the slab give no value (`value_in_slot`) leads to no slot
+  leads_nowhere : (i : FinMap nat_cmp ℕ) (s : slab.Slab V) (n : ℕ) (o : Option ℕ) → get i n ≡ o → HaveOwnSlots i s → value_in_slot s o ≡ None → o ≡ None
   leads_nowhere i s n None e held h = refl
   leads_nowhere i s n (Some k) e held h = absurd (empty_slot (slab.get s k) (held.in_use n k e) h)
 
@@ -94,7 +95,7 @@ module _ {V : Type 0} where
   lodged_same (e ∷ es) s t same = ap (λ o. slot_entry_at e.0 o (slot_entries es t)) (same e.1) ∙ ap (slot_entry_at e.0 (slab.get s e.1)) (lodged_same es s t same)
 
   -- a number that leads to a slot other than the updated one keeps its value
-  kept : (s t : slab.Slab V) (k : ℕ) (x : Option V) (o : Option ℕ) → slab.Updates s t k x → ((j : ℕ) → o ≡ Some j → j ≢ k) → through t o ≡ through s o
+  kept : (s t : slab.Slab V) (k : ℕ) (x : Option V) (o : Option ℕ) → slab.Updates s t k x → ((j : ℕ) → o ≡ Some j → j ≢ k) → value_in_slot t o ≡ value_in_slot s o
   kept s t k x None u h = refl
   kept s t k x (Some j) u h = u.others j (h j refl)
 
@@ -114,8 +115,8 @@ module _ {V : Type 0} where
   pub values_changed : (i : FinMap nat_cmp ℕ) (s t : slab.Slab V) (n k : ℕ) (x : V) → slab.Updates s t k (Some x) → HaveOwnSlots i s → get i n ≡ Some k → values_of i t ≡ insert (values_of i s) n x
   values_changed i s t n k x u held is = same_map nat_cmp_total nat_cmp-IsAntisymmetric _ _ (λ q.
       get_values i t (HaveOwnSlots-changed i s t k x u held) q
-      ∙ by_number q n (λ b. through t (get i q) ≡ cond b (Some x) (through s (get i q)))
-      (λ same. ap (λ m. through t (get i m)) same ∙ ap (through t) is ∙ u.changed)
+      ∙ by_number q n (λ b. value_in_slot t (get i q) ≡ cond b (Some x) (value_in_slot s (get i q)))
+      (λ same. ap (λ m. value_in_slot t (get i m)) same ∙ ap (value_in_slot t) is ∙ u.changed)
       (λ apart. kept s t k (Some x) (get i q) u (λ j h same. apart (held.by_one q n k (h ∙ ap Some same) is)))
       ∙ sym (get-insert nat_cmp_total (values_of i s) n x q ∙ ap (cond (eq_by_cmp nat_cmp q n) (Some x)) (get_values i s held q)))
 
@@ -144,8 +145,8 @@ module _ {V : Type 0} where
   -- and is otherwise the same
   pub values_added : (i : FinMap nat_cmp ℕ) (s t : slab.Slab V) (n k : ℕ) (x : V) → slab.Updates s t k (Some x) → slab.get s k ≡ None → HaveOwnSlots i s → values_of (insert i n k) t ≡ insert (values_of i s) n x
   values_added i s t n k x u vacant held = same_map nat_cmp_total nat_cmp-IsAntisymmetric _ _ (λ q.
-      get_values (insert i n k) t (HaveOwnSlots-added i s t n k x u vacant held) q ∙ ap (through t) (get-insert nat_cmp_total i n k q)
-      ∙ by_number q n (λ b. through t (cond b (Some k) (get i q)) ≡ cond b (Some x) (through s (get i q)))
+      get_values (insert i n k) t (HaveOwnSlots-added i s t n k x u vacant held) q ∙ ap (value_in_slot t) (get-insert nat_cmp_total i n k q)
+      ∙ by_number q n (λ b. value_in_slot t (cond b (Some k) (get i q)) ≡ cond b (Some x) (value_in_slot s (get i q)))
       (λ same. u.changed)
       (λ apart. kept s t k (Some x) (get i q) u (λ j h same. vacant_slot s j k same vacant (held.in_use q j h)))
       ∙ sym (get-insert nat_cmp_total (values_of i s) n x q ∙ ap (cond (eq_by_cmp nat_cmp q n) (Some x)) (get_values i s held q)))
@@ -171,8 +172,8 @@ module _ {V : Type 0} where
   -- giving up a number and its slot removes the value under the number
   pub values_removed : (i : FinMap nat_cmp ℕ) (s t : slab.Slab V) (n k : ℕ) → slab.Updates s t k None → get i n ≡ Some k → HaveOwnSlots i s → values_of (remove i n) t ≡ remove (values_of i s) n
   values_removed i s t n k u is held = same_map nat_cmp_total nat_cmp-IsAntisymmetric _ _ (λ q.
-      get_values (remove i n) t (HaveOwnSlots-removed i s t n k u is held) q ∙ ap (through t) (get-remove nat_cmp_total i n q)
-      ∙ by_number q n (λ b. through t (cond b None (get i q)) ≡ cond b None (through s (get i q)))
+      get_values (remove i n) t (HaveOwnSlots-removed i s t n k u is held) q ∙ ap (value_in_slot t) (get-remove nat_cmp_total i n q)
+      ∙ by_number q n (λ b. value_in_slot t (cond b None (get i q)) ≡ cond b None (value_in_slot s (get i q)))
       (λ same. refl)
       (λ apart. kept s t k None (get i q) u (λ j h same. apart (held.by_one q n k (h ∙ ap Some same) is)))
       ∙ sym (get-remove nat_cmp_total (values_of i s) n q ∙ ap (cond (eq_by_cmp nat_cmp q n) None) (get_values i s held q)))

@@ -15,7 +15,7 @@ use Rattle.atl_world.proofs.TrackLaws.{Room-empty, Room-of, Room-unmarked, Room-
 use Rattle.atl_records.specs.declared.records.Unit.{Unit}
 use Rattle.atl_records.specs.Holdings.{has_amount, with_amount_of}
 use Rattle.atl_records.proofs.HoldingLaws.{set_again}
-use Rattle.atl_campaign.specs.Marks.{Things, AreWithin, thing_marked}
+use Rattle.atl_campaign.specs.Marks.{MarkedThings, AreWithin, thing_marked}
 use Rattle.atl_campaign.specs.UnitRoom.{AreUnits}
 use Rattle.atl_campaign.specs.Roster.{Roster, unless_has, with_item_at}
 
@@ -58,7 +58,7 @@ within-none = record { rows_within = λ q e. e; goods_within = λ q e. e; items_
     nothing : (q : ℕ) → is_some (get {X = FinMap nat_cmp (Prim.Unit {0})} {R = nat_cmp} empty q) ≡ true → set.contains {R = nat_cmp} set.empty q ≡ true
     nothing q e = absurd (false≢true (sym (ap is_some (get-empty nat_cmp q)) ∙ e))
 
-module _ (marks rows goods : set.FinSet nat_cmp) (items skills : Things) (n : ℕ) (h : AreWithin marks rows goods items skills) where
+module _ (marks rows goods : set.FinSet nat_cmp) (items skills : MarkedThings) (n : ℕ) (h : AreWithin marks rows goods items skills) where
   -- each unit with a marked part is still marked (AreWithin) once a unit is marked with its row and its goods
   within-whole : AreWithin (set.insert marks n) (set.insert rows n) (set.insert goods n) items skills
   within-whole = record {
@@ -118,7 +118,7 @@ AreUnits-none = record { within = within-none; marks_fit = Room-empty Unit; rows
 pub AreUnits-of : (units : FinMap nat_cmp Unit) → AreUnits units (nothing_marked (len units)) (nothing_marked (len units)) (nothing_marked (len units)) empty empty
 AreUnits-of units = record { within = within-none; marks_fit = Room-of units; rows_fit = Room-of units; goods_fit = Room-of units }
 
-module _ (units : FinMap nat_cmp Unit) (marks rows goods : RoomySet) (items skills : Things) where
+module _ (units : FinMap nat_cmp Unit) (marks rows goods : RoomySet) (items skills : MarkedThings) where
   -- before a change, there is room for all marks of units, and each unit with a marked part is marked (AreUnits)
   abbrev Before : Type 0
   Before = AreUnits units marks rows goods items skills
@@ -212,7 +212,7 @@ HasRoom-added units marks more n w h = Room-inserted units more.numbers more.roo
 
 -- once a new unit is added, and marked in dirty sets with room for one more, there is still room for all marks, and
 -- still no part of a unit is marked without the unit (AreUnits)
-pub AreUnits-added : (units : FinMap nat_cmp Unit) (marks rows goods marks2 rows2 goods2 : RoomySet) (items skills : Things) (n : ℕ) (w : Unit) → IsWider units marks marks2 → IsWider units rows rows2 → IsWider units goods goods2
+pub AreUnits-added : (units : FinMap nat_cmp Unit) (marks rows goods marks2 rows2 goods2 : RoomySet) (items skills : MarkedThings) (n : ℕ) (w : Unit) → IsWider units marks marks2 → IsWider units rows rows2 → IsWider units goods goods2
     → AreUnits units marks rows goods items skills → AreUnits (insert units n w) (marking marks2 n) (marking rows2 n) (marking goods2 n) items skills
 AreUnits-added units marks rows goods marks2 rows2 goods2 items skills n w wider wider2 wider3 h = record {
   within = rw (wider.same, wider2.same, wider3.same) (within-whole marks.numbers rows.numbers goods.numbers items skills n h.within);

@@ -57,6 +57,6 @@ with_market_row r x = record x { stocks = insert x.stocks (as_u32 r.item) (as_u3
 
 -- the map changed row by row: each row changes, as `more` says, the value under the number that `owner` gives for the
 -- row, if there is one
-abbrev pub give : {R V : Type 0} → (R → ℕ) → (R → V → V) → List R → FinMap nat_cmp V → FinMap nat_cmp V
-give owner more [] m = m
-give owner more (r ∷ rows) m = give owner more rows (changed (more r) m (owner r))
+abbrev pub with_rows_added : {R V : Type 0} → (R → ℕ) → (R → V → V) → List R → FinMap nat_cmp V → FinMap nat_cmp V
+with_rows_added owner more [] m = m
+with_rows_added owner more (r ∷ rows) m = with_rows_added owner more rows (changed (more r) m (owner r))

@@ -203,8 +203,8 @@ abbrev pub with_month : CampaignValue → ℕ → CampaignValue
 with_month c n = record c { month = n }
 
 -- the campaign with an amount added to what is booked of a thing under an entry
-abbrev pub with_amount : CampaignValue → Entry → Thing → ℤ → CampaignValue
-with_amount c e t n = record c { books = after_booking c.books e t n }
+abbrev pub with_booking : CampaignValue → Entry → Thing → ℤ → CampaignValue
+with_booking c e t n = record c { books = after_booking c.books e t n }
 
 -- the campaign without mail
 abbrev pub without_mail : CampaignValue → CampaignValue

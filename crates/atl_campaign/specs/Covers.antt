@@ -8,7 +8,7 @@ use Rattle.atl_records.specs.declared.books.Thing.{Thing}
 use Rattle.atl_records.specs.declared.records.Region.{Region}
 use Rattle.atl_records.specs.declared.records.Unit.{Unit}
 use Rattle.atl_records.specs.Books.{amount_in, amount_number}
-use Rattle.atl_campaign.specs.Marks.{Marks, Things, is_thing_marked}
+use Rattle.atl_campaign.specs.Marks.{Marks, MarkedThings, is_thing_marked}
 use Rattle.atl_campaign.specs.Campaign.{CampaignValue, MarkedCampaign}
 use Rattle.atl_campaign.specs.Stocks.{stock_of}
 
@@ -35,12 +35,12 @@ days_under None = empty
 days_under (Some u) = u.holding.days
 
 -- of each item, or each skill (`under` picks which), that is not marked, each unit has as much in both maps
-abbrev pub SameThings : FinSet nat_cmp → Things → (Option Unit → FinMap nat_cmp ℕ) → FinMap nat_cmp Unit → FinMap nat_cmp Unit → Type 0
+abbrev pub SameThings : FinSet nat_cmp → MarkedThings → (Option Unit → FinMap nat_cmp ℕ) → FinMap nat_cmp Unit → FinMap nat_cmp Unit → Type 0
 SameThings goods things under before after = (n thing : ℕ) → is_thing_marked goods things n thing ≡ false → get (under (get after n)) thing ≡ get (under (get before n)) thing
 
 -- what the campaign row says of a campaign: its month, its pass text and its next numbers
-abbrev pub own_row : CampaignValue → ℕ × (List ℕ × (ℕ × (ℕ × ℕ)))
-own_row c = (c.month, (c.pass, (c.next_faction, (c.next_unit, c.next_structure))))
+abbrev pub said_by_campaign_row : CampaignValue → ℕ × (List ℕ × (ℕ × (ℕ × ℕ)))
+said_by_campaign_row c = (c.month, (c.pass, (c.next_faction, (c.next_unit, c.next_structure))))
 
 -- all that is not marked in m is the same in the campaigns before and after
 pub record Covers (m : Marks) (before after : CampaignValue) : Type 0 where
@@ -68,7 +68,7 @@ pub record Covers (m : Marks) (before after : CampaignValue) : Type 0 where
   pub books : (e : Entry) (t : Thing) → contains m.books (amount_number e t) ≡ false → amount_in after.books e t ≡ amount_in before.books e t
   -- the month, the pass text and the next numbers are the same in the campaigns before and after if the campaign row is
   -- not marked
-  pub row : m.row ≡ false → own_row after ≡ own_row before
+  pub row : m.row ≡ false → said_by_campaign_row after ≡ said_by_campaign_row before
 
 -- each number in the first dirty set is in the second: what was marked before some changes is marked after them
 abbrev pub StaysMarked : FinSet nat_cmp → FinSet nat_cmp → Type 0
@@ -76,7 +76,7 @@ StaysMarked before after = (n : ℕ) → contains before n ≡ true → contains
 
 -- each item, skill or stock that is marked before some changes, by itself or with all of its unit or region, is marked
 -- after them
-abbrev pub ThingsStayMarked : (goods : FinSet nat_cmp) (things : Things) (goods_after : FinSet nat_cmp) (things_after : Things) → Type 0
+abbrev pub ThingsStayMarked : (goods : FinSet nat_cmp) (things : MarkedThings) (goods_after : FinSet nat_cmp) (things_after : MarkedThings) → Type 0
 ThingsStayMarked goods things goods_after things_after = (n thing : ℕ) → is_thing_marked goods things n thing ≡ true → is_thing_marked goods_after things_after n thing ≡ true
 
 -- no mark is lost: all that is marked in `before`, the marks before some changes, is marked in `after`, those after

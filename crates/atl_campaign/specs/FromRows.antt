@@ -64,12 +64,12 @@ abbrev pub by_number : {R V : Type 0} → (R → ℕ) → (R → V) → List R �
 by_number number value rows = put_rows number value rows empty
 
 -- whether a row of `has` is of unit n and of a sort: 0 items, 1 skills
-abbrev pub is_of : ℕ → ℕ → StoredHas → Bool
-is_of n sort r = (as_u32 r.unit == n) && (as_u32 r.sort == sort)
+abbrev pub is_of_unit_and_sort : ℕ → ℕ → StoredHas → Bool
+is_of_unit_and_sort n sort r = (as_u32 r.unit == n) && (as_u32 r.sort == sort)
 
 -- the amounts that the rows of `has` give unit n: of items (sort 0) or of days of skills (sort 1), by their numbers
 abbrev pub things_had : ℕ → ℕ → List StoredHas → FinMap nat_cmp ℕ
-things_had n sort has = by_number (λ r. as_u32 r.thing) (λ r. as_u32 r.amount) (filter (is_of n sort) has)
+things_had n sort has = by_number (λ r. as_u32 r.thing) (λ r. as_u32 r.amount) (filter (is_of_unit_and_sort n sort) has)
 
 -- the unit that a row of `unit` says, with the given items and days of study
 abbrev pub unit_with : StoredUnit → FinMap nat_cmp ℕ → FinMap nat_cmp ℕ → Unit

@@ -10,19 +10,19 @@ use Rattle.atl_campaign.specs.contracts.campaign.Campaign.{the_row}
 use Rattle.atl_records.specs.contracts.holding.Holding as holding
 
 -- `with_holding` where unit n is looked up: n gets the holding h; for None nothing changes
-abbrev pub with_held : CampaignValue → ℕ → HoldingValue → Option Unit → CampaignValue
-with_held c n h None = c
-with_held c n h (Some u) = record c { units = insert c.units n (record u { holding = h }) }
+abbrev pub with_holding_at : CampaignValue → ℕ → HoldingValue → Option Unit → CampaignValue
+with_holding_at c n h None = c
+with_holding_at c n h (Some u) = record c { units = insert c.units n (record u { holding = h }) }
 
 -- the campaign with h as the holding of unit n, if there is one
 abbrev pub with_holding : CampaignValue → ℕ → HoldingValue → CampaignValue
-with_holding c n h = with_held c n h (get c.units n)
+with_holding c n h = with_holding_at c n h (get c.units n)
 
 -- the campaign with h as the holding of unit n after a loan; the unit, its row and all its goods are marked
-abbrev pub lent : MarkedCampaign → ℕ → HoldingValue → MarkedCampaign
-lent c n h = record { value = with_holding c.value n h; marks = mark_unit c n }
+abbrev pub after_loan : MarkedCampaign → ℕ → HoldingValue → MarkedCampaign
+after_loan c n h = record { value = with_holding c.value n h; marks = mark_unit c n }
 
 -- after a loan r of unit n's holding, campaign c has r's last value there, and the unit, row and goods are marked.
 -- Without a loan c is unchanged.
 abbrev pub LendsHolding : MutBor MarkedCampaign → ℕ → Option (MutBor HoldingValue) → Fml
-LendsHolding c n r = LendsIf the_row holding.the_row c r (lent c.now n) c.now
+LendsHolding c n r = LendsIf the_row holding.the_row c r (after_loan c.now n) c.now

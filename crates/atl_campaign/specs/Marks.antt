@@ -12,15 +12,15 @@ use Rattle.atl_records.specs.declared.books.Thing.{Thing}
 use Rattle.atl_records.specs.Books.{amount_number}
 
 -- what is marked one by one: the numbers of items or of skills by unit, or of items in stock by region
-abbrev pub Things : Type 0
-Things = map.FinMap nat_cmp (map.FinMap nat_cmp (Prim.Unit {0}))
+abbrev pub MarkedThings : Type 0
+MarkedThings = map.FinMap nat_cmp (map.FinMap nat_cmp (Prim.Unit {0}))
 
 -- the marked things with one more: `thing` of unit or region n
-abbrev pub with_thing : Things → ℕ → ℕ → Things
+abbrev pub with_thing : MarkedThings → ℕ → ℕ → MarkedThings
 with_thing things n thing = map.insert things n (map.insert (group_of things n) thing tt)
 
 -- the marked things with one more: `thing` of unit or region n; unchanged if None is given for that unit or region
-abbrev pub thing_marked : {V : Type 0} → Things → ℕ → ℕ → Option V → Things
+abbrev pub thing_marked : {V : Type 0} → MarkedThings → ℕ → ℕ → Option V → MarkedThings
 thing_marked things n thing None = things
 thing_marked things n thing (Some v) = with_thing things n thing
 
@@ -40,7 +40,7 @@ pub record Marks : Type 0 where
   -- the numbers of the regions all of whose stocks are marked
   pub stocks : FinSet nat_cmp
   -- the stocks that are marked one by one: the items' numbers, by the region's number
-  pub stock_items : Things
+  pub stock_items : MarkedThings
   -- the numbers of the units of which something is marked
   pub units : FinSet nat_cmp
   -- the numbers of the units whose rows are marked
@@ -48,9 +48,9 @@ pub record Marks : Type 0 where
   -- the numbers of the units all of whose items and days are marked
   pub goods : FinSet nat_cmp
   -- the items that are marked one by one: their numbers, by the unit's number
-  pub items : Things
+  pub items : MarkedThings
   -- the skills whose days are marked one by one: their numbers, by the unit's number
-  pub skills : Things
+  pub skills : MarkedThings
   -- the numbers of the structures that are marked
   pub structures : FinSet nat_cmp
   -- the numbers of the factions whose mail is marked
@@ -63,14 +63,14 @@ pub record Marks : Type 0 where
   pub row : Bool
 
 -- for proofs alone: marked single items, skills or stocks encoded as a map of maps
-abbrev pub things_code : Coded Things
+abbrev pub things_code : Coded MarkedThings
 things_code = map.code coded_ℕ (map.code coded_ℕ coded_unit)
 
 -- for proofs alone: marks encoded as nested pairs of their fields
 abbrev pub marks_code : Coded Marks
 marks_code =
     let numbers = code coded_ℕ in
-    code_by (FinSet nat_cmp × (FinSet nat_cmp × (FinSet nat_cmp × (FinSet nat_cmp × (Things × (FinSet nat_cmp × (FinSet nat_cmp × (FinSet nat_cmp × (Things × (Things × (FinSet nat_cmp × (FinSet nat_cmp × (FinSet nat_cmp × (FinSet nat_cmp × Bool))))))))))))))
+    code_by (FinSet nat_cmp × (FinSet nat_cmp × (FinSet nat_cmp × (FinSet nat_cmp × (MarkedThings × (FinSet nat_cmp × (FinSet nat_cmp × (FinSet nat_cmp × (MarkedThings × (MarkedThings × (FinSet nat_cmp × (FinSet nat_cmp × (FinSet nat_cmp × (FinSet nat_cmp × Bool))))))))))))))
     (coded× numbers (coded× numbers (coded× numbers (coded× numbers (coded× things_code (coded× numbers (coded× numbers (coded× numbers (coded× things_code (coded× things_code (coded× numbers (coded× numbers (coded× numbers (coded× numbers coded_bool))))))))))))))
     (λ m. (m.factions, (m.regions, (m.markets, (m.stocks, (m.stock_items, (m.units, (m.rows, (m.goods, (m.items, (m.skills, (m.structures, (m.mail, (m.reports, (m.books, m.row)))))))))))))))
     (λ p. record {
@@ -92,13 +92,13 @@ marks_code =
     })
     (λ _. refl)
 
--- whether an item or skill of unit n, or a stock of region n, is marked: by itself, in the given `Things`, or with all
--- of n's, as n is in the given set
-abbrev pub is_thing_marked : FinSet nat_cmp → Things → ℕ → ℕ → Bool
+-- whether an item or skill of unit n, or a stock of region n, is marked: by itself, in the given `MarkedThings`, or
+-- with all of n's, as n is in the given set
+abbrev pub is_thing_marked : FinSet nat_cmp → MarkedThings → ℕ → ℕ → Bool
 is_thing_marked goods things n thing = contains goods n || is_some (map.get (group_of things n) thing)
 
 -- a unit is marked if its row, all its goods, or one of its items or skills is marked
-pub record AreWithin (units rows goods : FinSet nat_cmp) (items skills : Things) : Type 0 where
+pub record AreWithin (units rows goods : FinSet nat_cmp) (items skills : MarkedThings) : Type 0 where
   -- a unit whose row is marked is marked itself (it is in `units`)
   pub rows_within : (n : ℕ) → contains rows n ≡ true → contains units n ≡ true
   -- a unit all of whose goods are marked is marked itself (it is in `units`)
@@ -109,7 +109,7 @@ pub record AreWithin (units rows goods : FinSet nat_cmp) (items skills : Things)
   pub skills_within : (n : ℕ) → is_some (map.get skills n) ≡ true → contains units n ≡ true
 
 -- a region is in `markets` if all its stocks are marked, or one of them is
-pub record AreStocksWithin (markets stocks : FinSet nat_cmp) (stock_items : Things) : Type 0 where
+pub record AreStocksWithin (markets stocks : FinSet nat_cmp) (stock_items : MarkedThings) : Type 0 where
   -- a region all of whose stocks are marked is one of which a stock is marked (it is in `markets`)
   pub stocks_within : (n : ℕ) → contains stocks n ≡ true → contains markets n ≡ true
   -- a region of which stocks are marked one by one (it has an entry in `stock_items`) is in `markets`

@@ -10,7 +10,7 @@ use Rattle.atl_world.specs.Tracking.{marked_with}
 use Rattle.atl_records.specs.Holdings.{with_amount_of}
 use Rattle.atl_records.specs.declared.records.Region.{Region}
 use Rattle.atl_records.specs.contracts.records.Region as region
-use Rattle.atl_campaign.specs.Marks.{AreStocksWithin, Things, thing_marked, things_code}
+use Rattle.atl_campaign.specs.Marks.{AreStocksWithin, MarkedThings, thing_marked, things_code}
 use Rattle.atl_campaign.specs.Stocks.{stock_in}
 
 -- The regions by number, with their marks: `rows` has the regions whose rows are marked, and `markets` those of which
@@ -25,13 +25,13 @@ pub record MarkedRegions : Type 0 where
   -- the numbers of the regions all of whose stocks are marked
   pub stocks : set.FinSet nat_cmp
   -- the stocks that are marked one by one: the items' numbers, by the region's number
-  pub items : Things
+  pub items : MarkedThings
 
 -- for proofs alone: regions with marks encoded as nested pairs of their fields
 abbrev pub regions_code : Coded MarkedRegions
 regions_code =
     let numbers = set.code coded_ℕ in
-    code_by (map.FinMap nat_cmp Region × (set.FinSet nat_cmp × (set.FinSet nat_cmp × (set.FinSet nat_cmp × Things))))
+    code_by (map.FinMap nat_cmp Region × (set.FinSet nat_cmp × (set.FinSet nat_cmp × (set.FinSet nat_cmp × MarkedThings))))
     (coded× (map.code coded_ℕ region.the_row.coded) (coded× numbers (coded× numbers (coded× numbers things_code))))
     (λ r. (r.values, (r.rows, (r.markets, (r.stocks, r.items)))))
     (λ p. record { values = p.0; rows = p.1.0; markets = p.1.1.0; stocks = p.1.1.1.0; items = p.1.1.1.1 })
@@ -78,7 +78,7 @@ MarksStockAt before after n item amount =
     (after ≡ record (with_item_marked_in before n item region) { values = after.values }) ⊎ (after ≡ record (with_stocks_marked_in before n region) { values = after.values })
 
 -- For proofs alone: there is room to mark each region's row and its stocks, and a marked stock has its region marked.
-pub record AreRegions (regions : map.FinMap nat_cmp Region) (rows markets stocks : RoomySet) (items : Things) : Type 0 where
+pub record AreRegions (regions : map.FinMap nat_cmp Region) (rows markets stocks : RoomySet) (items : MarkedThings) : Type 0 where
   -- a region is in `markets` if all its stocks are marked, or one of them is
   pub within : AreStocksWithin markets.numbers stocks.numbers items
   -- marking the row of any region takes no memory

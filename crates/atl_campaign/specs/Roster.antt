@@ -9,7 +9,7 @@ use Rattle.atl_world.specs.Tracking.{marked_with}
 use Rattle.atl_records.specs.declared.records.Unit.{Unit}
 use Rattle.atl_records.specs.contracts.records.Unit as unit
 use Rattle.atl_records.specs.Holdings.{has_amount}
-use Rattle.atl_campaign.specs.Marks.{Things, things_code, thing_marked}
+use Rattle.atl_campaign.specs.Marks.{MarkedThings, things_code, thing_marked}
 
 -- The units by number, with marks on units (`marks`), their rows, all goods of a unit, and single items and skills.
 -- A unit is in `marks` if any part of it is marked; `items` and `skills` are by unit.
@@ -23,15 +23,15 @@ pub record Roster : Type 0 where
   -- the numbers of the units all of whose items and days are marked
   pub goods : set.FinSet nat_cmp
   -- the items that are marked one by one: their numbers, by the unit's number
-  pub items : Things
+  pub items : MarkedThings
   -- the skills whose days are marked one by one: their numbers, by the unit's number
-  pub skills : Things
+  pub skills : MarkedThings
 
 -- for proofs alone: units with marks (Roster) encoded as nested pairs of their fields
 abbrev pub roster_code : Coded Roster
 roster_code =
     let numbers = set.code coded_ℕ in
-    code_by (map.FinMap nat_cmp Unit × (set.FinSet nat_cmp × (set.FinSet nat_cmp × (set.FinSet nat_cmp × (Things × Things)))))
+    code_by (map.FinMap nat_cmp Unit × (set.FinSet nat_cmp × (set.FinSet nat_cmp × (set.FinSet nat_cmp × (MarkedThings × MarkedThings)))))
     (coded× (map.code coded_ℕ unit.the_row.coded) (coded× numbers (coded× numbers (coded× numbers (coded× things_code things_code)))))
     (λ r. (r.values, (r.marks, (r.rows, (r.goods, (r.items, r.skills))))))
     (λ p. record { values = p.0; marks = p.1.0; rows = p.1.1.0; goods = p.1.1.1.0; items = p.1.1.1.1.0; skills = p.1.1.1.1.1 })
@@ -88,10 +88,10 @@ skill_marked_at r n skill = record r { marks = marked_with r.marks n (map.get r.
 
 -- `without_unit_at` where unit n is looked up: n is removed, and it, its row and all its goods are marked; for None
 -- nothing changes
-abbrev pub gone_at : Roster → ℕ → Option Unit → Roster
-gone_at r n None = r
-gone_at r n (Some u) = record (all_marked r n) { values = map.remove r.values n }
+abbrev pub without_unit_found : Roster → ℕ → Option Unit → Roster
+without_unit_found r n None = r
+without_unit_found r n (Some u) = record (all_marked r n) { values = map.remove r.values n }
 
 -- the roster without unit n; where it was there, it, its row and all its goods are marked
 abbrev pub without_unit_at : Roster → ℕ → Roster
-without_unit_at r n = gone_at r n (map.get r.values n)
+without_unit_at r n = without_unit_found r n (map.get r.values n)

@@ -144,29 +144,29 @@ abbrev pub market_key : StoredMarket → Key
 market_key r = (r.region, r.item, pos 0)
 
 -- no two rows of a table have the same key
-abbrev pub HaveKeys : {R : Type 0} → (R → Key) → List R → Type 0
-HaveKeys key rows = IsDistinct (eq_by_cmp key_cmp) (map key rows)
+abbrev pub HaveDistinctKeys : {R : Type 0} → (R → Key) → List R → Type 0
+HaveDistinctKeys key rows = IsDistinct (eq_by_cmp key_cmp) (map key rows)
 
 -- no two rows of a table have the same key, in each table but `campaign`
-pub record AreKeyed (p : Parts) : Type 0 where
+pub record HaveDistinctKeysByTable (p : Parts) : Type 0 where
   -- no two rows of `faction` have the same number
-  pub factions : HaveKeys faction_key p.factions
+  pub factions : HaveDistinctKeys faction_key p.factions
   -- no two rows of `region` have the same number
-  pub regions : HaveKeys region_key p.regions
+  pub regions : HaveDistinctKeys region_key p.regions
   -- no two rows of `unit` have the same number
-  pub units : HaveKeys unit_key p.units
+  pub units : HaveDistinctKeys unit_key p.units
   -- no two rows of `has` have the same unit, sort and thing
-  pub has : HaveKeys has_key p.has
+  pub has : HaveDistinctKeys has_key p.has
   -- no two rows of `structure` have the same number
-  pub structures : HaveKeys structure_key p.structures
+  pub structures : HaveDistinctKeys structure_key p.structures
   -- no two rows of `mail` are of the same faction
-  pub mail : HaveKeys mail_key p.mail
+  pub mail : HaveDistinctKeys mail_key p.mail
   -- no two rows of `report` are of the same faction
-  pub reports : HaveKeys report_key p.reports
+  pub reports : HaveDistinctKeys report_key p.reports
   -- no two rows of `books` have the same entry and thing
-  pub books : HaveKeys books_key p.books
+  pub books : HaveDistinctKeys books_key p.books
   -- no two rows of `market` have the same region and item
-  pub markets : HaveKeys market_key p.markets
+  pub markets : HaveDistinctKeys market_key p.markets
 
 -- ---- the numbers of all rows
 
@@ -175,17 +175,17 @@ abbrev pub are_few : Parts → Bool
 are_few p = ((nat_le (length p.factions) last_faction && nat_le (length p.regions) most_regions) && nat_le (length p.units) most_units) && nat_le (length p.structures) most_structures
 
 -- whether each row of `faction`, `region`, `unit` and `has` is in its ranges
-abbrev pub people_in_range : Parts → Bool
-people_in_range p = ((list_all faction_in_range p.factions && list_all region_in_range p.regions) && list_all unit_in_range p.units) && list_all has_in_range p.has
+abbrev pub first_tables_in_range : Parts → Bool
+first_tables_in_range p = ((list_all faction_in_range p.factions && list_all region_in_range p.regions) && list_all unit_in_range p.units) && list_all has_in_range p.has
 
 -- whether the campaign row and all rows of the other tables, but for mail and reports, are in their ranges
 abbrev pub numbers_in_range : WorldValue → Parts → Bool
-numbers_in_range w p = (((campaign_row_in_range (campaign_row_of p) && people_in_range p) && list_all (structure_in_range w) p.structures) && list_all (books_in_range (books_bound p)) p.books) && list_all (market_in_range w) p.markets
+numbers_in_range w p = (((campaign_row_in_range (campaign_row_of p) && first_tables_in_range p) && list_all (structure_in_range w) p.structures) && list_all (books_in_range (books_bound p)) p.books) && list_all (market_in_range w) p.markets
 
 -- rule 2: no two rows of a table have the same key, there are not too many rows, and each number is in its range
 pub record AreRowsInRange (w : WorldValue) (p : Parts) : Type 0 where
   -- no two rows of a table other than `campaign` have the same key
-  pub keys : AreKeyed p
+  pub keys : HaveDistinctKeysByTable p
   -- there are not too many factions, regions, units and structures
   pub few : IsTrue (are_few p)
   -- the numbers of the rows are in their ranges

@@ -68,7 +68,10 @@ impl Regions {
     }
 
     /// The given regions, with nothing marked. AllocError if there is no memory for their marks.
-    pub(crate) fn of(alloc: Global, values: Numbered<Region>) -> Result<Regions, AllocError>
+    pub(crate) fn unmarked_from(
+        alloc: Global,
+        values: Numbered<Region>,
+    ) -> Result<Regions, AllocError>
         ensures { IfOk result (λ regions. regions ≡ unmarked_regions values) }
     {
         let rows = Marks::with_room(alloc, values.len())?;

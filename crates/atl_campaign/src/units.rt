@@ -73,7 +73,7 @@ impl Units {
     }
 
     /// The given units, with nothing marked. AllocError if there is no memory for their marks.
-    pub(crate) fn of(alloc: Global, values: Arena<Unit>) -> Result<Units, AllocError>
+    pub(crate) fn unmarked_from(alloc: Global, values: Arena<Unit>) -> Result<Units, AllocError>
         ensures { IfOk result (λ units. units ≡ unmarked_units values) }
     {
         let marks = Marks::with_room(alloc, values.len())?;

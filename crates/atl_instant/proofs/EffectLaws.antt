@@ -14,7 +14,7 @@ use Rattle.atl_records.specs.declared.event.Outcome.{Outcome}
 use Rattle.atl_records.specs.declared.records.Unit.{Unit}
 use Rattle.atl_campaign.specs.Good.{IsEarly}
 use Rattle.atl_records.specs.Holdings.{HoldingValue}
-use Rattle.atl_campaign.specs.Lending.{with_held}
+use Rattle.atl_campaign.specs.Lending.{with_holding_at}
 use Rattle.atl_campaign.specs.Campaign.{CampaignValue}
 use Rattle.atl_records.specs.Amounts.{unit_amount}
 use Rattle.atl_campaign.specs.Totals.{total}
@@ -107,11 +107,11 @@ spares_men holds step keeps w a c t x own =
 module _ (c : CampaignValue) (from to : ℕ) (u v : Unit) (h k : HoldingValue) (giver : get c.units from ≡ Some u) (receiver : get c.units to ≡ Some v) (apart : to ≢ from) where
   -- the campaign after the giver has given, and before the receiver has got
   abbrev between : CampaignValue
-  between = with_held c from h (Some u)
+  between = with_holding_at c from h (Some u)
 
   -- the campaign in which the giver holds h and the receiver holds k
   abbrev pub moved : CampaignValue
-  moved = with_held between to k (Some v)
+  moved = with_holding_at between to k (Some v)
 
   -- the receiver is still there after the giver has given
   receiver_still : get between.units to ≡ Some v
@@ -119,10 +119,10 @@ module _ (c : CampaignValue) (from to : ℕ) (u v : Unit) (h k : HoldingValue) (
 
   -- setting first what the giver holds (x, which is h) and then what the receiver holds (y, which is k) makes the
   -- campaign `moved`
-  pub moved_is : (d e : CampaignValue) (x y : HoldingValue) → x ≡ h → y ≡ k → d ≡ with_held c from x (Some u) → (get d.units to ≡ Some v → e ≡ with_held d to y (Some v)) → e ≡ (if to == from then c else moved)
+  pub moved_is : (d e : CampaignValue) (x y : HoldingValue) → x ≡ h → y ≡ k → d ≡ with_holding_at c from x (Some u) → (get d.units to ≡ Some v → e ≡ with_holding_at d to y (Some v)) → e ≡ (if to == from then c else moved)
   moved_is d e x y x_is y_is first second =
       let other : (to == from) ≡ false = grind (arith, nat_tests) in
-      let made : d ≡ between = first ∙ ap (λ z. with_held c from z (Some u)) x_is in
+      let made : d ≡ between = first ∙ ap (λ z. with_holding_at c from z (Some u)) x_is in
       rw (second (ap (λ (s : CampaignValue). get s.units to) made ∙ receiver_still), y_is, made, other) refl
 
   -- giver and receiver together hold as much of each thing with h and k as they held before
@@ -160,17 +160,17 @@ module _ (c : CampaignValue) (from to : ℕ) (u v : Unit) (h k : HoldingValue) (
 -- for an order that moves something from unit `from` to `to`: P holds of the campaign after the order, if P holds of
 -- that before and, where no fault applies and `from` isn't `to`, of that after the move
 pub moved_cases : (P : CampaignValue → Type 0) (c : CampaignValue) (from to : ℕ) (u v : Unit) (h k : HoldingValue) (fault : Bool → Option EventFault) (o : Outcome) → P c
-    → (to ≢ from → fault false ≡ None → P (with_held (with_held c from h (Some u)) to k (Some v)))
-    → P (unless c (fault (to == from)) (if to == from then c else with_held (with_held c from h (Some u)) to k (Some v), o)).0
+    → (to ≢ from → fault false ≡ None → P (with_holding_at (with_holding_at c from h (Some u)) to k (Some v)))
+    → P (unless c (fault (to == from)) (if to == from then c else with_holding_at (with_holding_at c from h (Some u)) to k (Some v), o)).0
 moved_cases P c from to u v h k fault o same move = by_test (to == from) refl
   where
     -- for `moved_cases`: P holds of the campaign after the order, whether it has a fault (`x`) or not, and whether the
     -- unit is itself the receiver (`b`) or not
-    by_fault : (b : Bool) → (to == from) ≡ b → (x : Option EventFault) → fault b ≡ x → P (unless c x (if b then c else with_held (with_held c from h (Some u)) to k (Some v), o)).0
+    by_fault : (b : Bool) → (to == from) ≡ b → (x : Option EventFault) → fault b ≡ x → P (unless c x (if b then c else with_holding_at (with_holding_at c from h (Some u)) to k (Some v), o)).0
     by_fault b is (Some x) none = same
     by_fault true is None none = same
     by_fault false is None none = let apart : to ≢ from = grind (arith, nat_tests) in move apart none
 
     -- for `moved_cases`: P holds of the campaign after the order, whether the unit is itself the receiver (`b`) or not
-    by_test : (b : Bool) → (to == from) ≡ b → P (unless c (fault b) (if b then c else with_held (with_held c from h (Some u)) to k (Some v), o)).0
+    by_test : (b : Bool) → (to == from) ≡ b → P (unless c (fault b) (if b then c else with_holding_at (with_holding_at c from h (Some u)) to k (Some v), o)).0
     by_test b is = by_fault b is (fault b) refl

@@ -14,7 +14,7 @@ use Rattle.atl_records.specs.declared.event.Outcome.TheVariants.{Done}
 use Rattle.atl_records.specs.declared.records.Unit.{Unit}
 use Rattle.atl_campaign.specs.Good.{IsEarly}
 use Rattle.atl_records.specs.Holdings.{HoldingValue, IsHolding, amount_of, with_amount_of}
-use Rattle.atl_campaign.specs.Lending.{with_held}
+use Rattle.atl_campaign.specs.Lending.{with_holding_at}
 use Rattle.atl_records.specs.Limits.{holding_limit}
 use Rattle.atl_campaign.specs.Campaign.{CampaignValue}
 use Rattle.atl_records.specs.Amounts.{unit_amount}
@@ -129,7 +129,7 @@ better_off (Item i) n v = record { faction = refl; region = refl; structure = re
 module _ {fit : Type 0} (w : WorldValue) (c : CampaignValue) (from to : ℕ) (gift : Gift) (n : ℕ) (u : Unit) (giver : get c.units from ≡ Some u) (known : fit → IsKnown w gift) where
   -- a gift to another unit, if it can be given, keeps the campaign early, and other units no worse off (`Keeps`)
   moved_kept : (v : Unit) → get c.units to ≡ Some v → to ≢ from → CanGive gift n u v
-      → Keeps IsEarly fit w c from u.faction (with_held (with_held c from (with_held_of gift u.holding (held_of gift u.holding - n)) (Some u)) to (with_held_of gift v.holding (held_of gift v.holding + n)) (Some v))
+      → Keeps IsEarly fit w c from u.faction (with_holding_at (with_holding_at c from (with_held_of gift u.holding (held_of gift u.holding - n)) (Some u)) to (with_held_of gift v.holding (held_of gift v.holding + n)) (Some v))
   moved_kept v receiver apart can =
       let left = held_of gift u.holding - n in
       let more = held_of gift v.holding + n in

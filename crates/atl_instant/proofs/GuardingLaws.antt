@@ -19,7 +19,7 @@ use Rattle.atl_records.specs.declared.records.Unit.{Unit}
 use Rattle.atl_records.specs.Every.{Every}
 use Rattle.atl_campaign.specs.Good.{AreOfOneFaction, IsSteady, guards}
 use Rattle.atl_records.specs.Holdings.{HoldingValue}
-use Rattle.atl_campaign.specs.Lending.{with_held}
+use Rattle.atl_campaign.specs.Lending.{with_holding_at}
 use Rattle.atl_campaign.specs.Marking.{mark_unit_row}
 use Rattle.atl_campaign.specs.Campaign.{MarkedCampaign, CampaignValue, numbers_in, with_guard}
 use Rattle.atl_records.specs.Amounts.{unit_amount}
@@ -80,8 +80,8 @@ module _ (w : WorldValue) (c : CampaignValue) (n : ℕ) (u : Unit) (is : get c.u
       record { limits = record { men = may.limits.men; money = may.limits.money; items = may.limits.items }; name = ok; items = may.items; skills = may.skills; days = may.days }
 
   -- the campaign's total of each thing stays the same with the unit's other name and guard flag
-  pub total-labelled : (t : Thing) → total (with_held c n labelled (Some u)) t ≡ total c t
-  total-labelled t = same (total (with_held c n labelled (Some u)) t) (total c t) (unit_amount t u.holding) (unit_amount t labelled) (total-unit_amount w c n u labelled is t) (held_same t)
+  pub total-labelled : (t : Thing) → total (with_holding_at c n labelled (Some u)) t ≡ total c t
+  total-labelled t = same (total (with_holding_at c n labelled (Some u)) t) (total c t) (unit_amount t u.holding) (unit_amount t labelled) (total-unit_amount w c n u labelled is t) (held_same t)
     where
       -- the unit holds as much of each thing under its other name, and with its other flag
       held_same : (s : Thing) → unit_amount s labelled ≡ unit_amount s u.holding

@@ -16,7 +16,7 @@ use Rattle.atl_records.specs.declared.event.Outcome.TheVariants.{Done}
 use Rattle.atl_records.specs.declared.records.Structure.{Structure}
 use Rattle.atl_records.specs.declared.records.Unit.{Unit}
 use Rattle.atl_campaign.specs.Good.{IsEarly, IsOwned}
-use Rattle.atl_campaign.specs.Lending.{with_held}
+use Rattle.atl_campaign.specs.Lending.{with_holding_at}
 use Rattle.atl_campaign.specs.Campaign.{CampaignValue, with_faction_name, with_guard, with_structure_name, with_unit_name}
 use Rattle.atl_campaign.proofs.HavingLaws.{early-having}
 use Rattle.atl_phase.specs.NoWorse.{IsNoWorse}
@@ -49,11 +49,11 @@ module _ (fit : Type 0) (w : WorldValue) (c : CampaignValue) (n : ℕ) (u : Unit
 
   -- another name that follows the name rule, and a guard flag that isn't newly set, keep the campaign early and in
   -- balance (`StepsWell`)
-  label_well : (name : List ℕ) (flag : Bool) → IsTrue (name_ok name) → (flag ≡ true → u.holding.guard ≡ true) → IsEarly w c → (d : CampaignValue) → d ≡ with_held c n (labelled w c n u is name flag) (Some u) → StepsWell IsEarly nothing_remaining w c d
+  label_well : (name : List ℕ) (flag : Bool) → IsTrue (name_ok name) → (flag ≡ true → u.holding.guard ≡ true) → IsEarly w c → (d : CampaignValue) → d ≡ with_holding_at c n (labelled w c n u is name flag) (Some u) → StepsWell IsEarly nothing_remaining w c d
   label_well name flag ok old early d made =
       let h = labelled w c n u is name flag in
       subst (StepsWell IsEarly nothing_remaining w c) (sym made)
-      (unbooked_well w c (with_held c n h (Some u)) (early-having w c n u h is (may_label w c n u is name flag ok early.steady) old early) (same_month_by refl) refl (total-labelled w c n u is name flag))
+      (unbooked_well w c (with_holding_at c n h (Some u)) (early-having w c n u h is (may_label w c n u is name flag ok early.steady) old early) (same_month_by refl) refl (total-labelled w c n u is name flag))
 
   -- naming the unit keeps the campaign early, and other units no worse off (`Keeps`), if the name follows the name rule
   unit_named : (name : List ℕ) → (fit → IsTrue (name_ok name)) → Kept (with_unit_name c n name)

@@ -19,7 +19,7 @@ use Rattle.atl_records.specs.declared.records.Unit.{Unit}
 use Rattle.atl_records.specs.Every.{Every}
 use Rattle.atl_campaign.specs.Good.{IsEarly}
 use Rattle.atl_records.specs.Holdings.{HoldingValue, amount_of}
-use Rattle.atl_campaign.specs.Lending.{with_held}
+use Rattle.atl_campaign.specs.Lending.{with_holding_at}
 use Rattle.atl_records.specs.Limits.{men_limit, most_days}
 use Rattle.atl_campaign.specs.Campaign.{CampaignValue}
 use Rattle.atl_records.specs.Amounts.{unit_amount}
@@ -218,7 +218,7 @@ better_off n other v = record {
 module _ {fit : Type 0} (w : WorldValue) (c : CampaignValue) (from to n : ℕ) (u : Unit) (sender : get c.units from ≡ Some u) where
   -- a transfer to another unit, if it can be sent, keeps the campaign early, and other units no worse off (`Keeps`)
   moved_kept : (v : Unit) → get c.units to ≡ Some v → to ≢ from → CanSend n u v
-      → Keeps IsEarly fit w c from u.faction (with_held (with_held c from (after_sending n u.holding) (Some u)) to (after_receiving n u.holding v.holding) (Some v))
+      → Keeps IsEarly fit w c from u.faction (with_holding_at (with_holding_at c from (after_sending n u.holding) (Some u)) to (after_receiving n u.holding v.holding) (Some v))
   moved_kept v receiver apart can = record {
     well = λ early fits.
         let from_may = may_have w c from u sender early.steady in

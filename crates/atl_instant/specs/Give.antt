@@ -11,7 +11,7 @@ use Rattle.atl_records.specs.declared.event.Outcome.{Outcome}
 use Rattle.atl_records.specs.declared.event.Outcome.TheVariants.{Done}
 use Rattle.atl_records.specs.declared.records.Unit.{Unit}
 use Rattle.atl_records.specs.Holdings.{HoldingValue, amount_of, with_amount_of}
-use Rattle.atl_campaign.specs.Lending.{with_held}
+use Rattle.atl_campaign.specs.Lending.{with_holding_at}
 use Rattle.atl_records.specs.Limits.{holding_limit}
 use Rattle.atl_campaign.specs.Campaign.{CampaignValue}
 use Rattle.atl_phase.specs.Month.{Aliases}
@@ -60,7 +60,7 @@ abbrev pub after_gift : CampaignValue → (from to : ℕ) → Gift → (n : ℕ)
 after_gift c from to gift n (Some u) (Some v) =
     let less = with_held_of gift u.holding (held_of gift u.holding - n) in
     let more = with_held_of gift v.holding (held_of gift v.holding + n) in
-    if to == from then c else with_held (with_held c from less (Some u)) to more (Some v)
+    if to == from then c else with_holding_at (with_holding_at c from less (Some u)) to more (Some v)
 after_gift c from to gift n giver receiver = c
 
 -- the campaign and the outcome as unit u, under the number `from`, gives n of the gift to the receiver under `to`, if

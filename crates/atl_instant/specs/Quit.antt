@@ -18,7 +18,7 @@ use Rattle.atl_records.specs.declared.records.Unit.{Unit}
 use Rattle.atl_records.specs.Amounts.{unit_amount}
 use Rattle.atl_records.specs.Holdings.{HoldingValue}
 use Rattle.atl_campaign.specs.Owners.{without_unit}
-use Rattle.atl_campaign.specs.Campaign.{CampaignValue, numbers_of, with_amount}
+use Rattle.atl_campaign.specs.Campaign.{CampaignValue, numbers_of, with_booking}
 use Rattle.atl_phase.specs.Meaning.{BookBound, Frame, Meaning, most_moved}
 use Rattle.atl_phase.specs.Bounds.{RemainingBound}
 use Rattle.atl_phase.specs.Outcomes.{first_fault, unless}
@@ -41,7 +41,7 @@ loss_entry thing = Lost
 
 -- the campaign with this amount of a thing booked as gone: men as left, money and items as lost
 abbrev pub with_loss : CampaignValue → Thing → ℕ → CampaignValue
-with_loss c t amount = with_amount c (loss_entry t) t (neg_ℤ (pos amount))
+with_loss c t amount = with_booking c (loss_entry t) t (neg_ℤ (pos amount))
 
 -- the campaign with this amount of an item booked as lost
 abbrev pub with_item_loss : CampaignValue → ℕ × ℕ → CampaignValue

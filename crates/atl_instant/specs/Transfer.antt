@@ -11,7 +11,7 @@ use Rattle.atl_records.specs.declared.event.Outcome.{Outcome}
 use Rattle.atl_records.specs.declared.event.Outcome.TheVariants.{Done}
 use Rattle.atl_records.specs.declared.records.Unit.{Unit}
 use Rattle.atl_records.specs.Holdings.{HoldingValue, amount_of}
-use Rattle.atl_campaign.specs.Lending.{with_held}
+use Rattle.atl_campaign.specs.Lending.{with_holding_at}
 use Rattle.atl_records.specs.Limits.{men_limit}
 use Rattle.atl_campaign.specs.Campaign.{CampaignValue}
 use Rattle.atl_phase.specs.Month.{Aliases}
@@ -86,7 +86,7 @@ transfer_fault n itself u (Some v) =
 -- Nothing changes if both are one unit, or one of them isn't there.
 abbrev pub after_transfer : CampaignValue → (from to n : ℕ) → Option Unit → Option Unit → CampaignValue
 after_transfer c from to n (Some u) (Some v) =
-    if to == from then c else with_held (with_held c from (after_sending n u.holding) (Some u)) to (after_receiving n u.holding v.holding) (Some v)
+    if to == from then c else with_holding_at (with_holding_at c from (after_sending n u.holding) (Some u)) to (after_receiving n u.holding v.holding) (Some v)
 after_transfer c from to n sender receiver = c
 
 -- The campaign and the outcome as unit u sends n men to the receiver, if a receiver is there.

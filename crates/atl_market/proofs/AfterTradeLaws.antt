@@ -14,7 +14,7 @@ use Rattle.atl_records.specs.declared.records.Unit.{Unit}
 use Rattle.atl_records.specs.Every.{Every}
 use Rattle.atl_records.specs.Holdings.{HoldingValue, amount_of, with_amount_of}
 use Rattle.atl_campaign.specs.Campaign.{CampaignValue}
-use Rattle.atl_campaign.specs.Lending.{with_held}
+use Rattle.atl_campaign.specs.Lending.{with_holding_at}
 use Rattle.atl_campaign.specs.Stocks.{stock_of}
 use Rattle.atl_records.proofs.EveryLaws.{each-from_every, first, other_number, same_number}
 use Rattle.atl_records.proofs.HoldingLaws.{set_other, set_same}
@@ -62,11 +62,11 @@ traded_twice Buy stock s t = omega arith
 module _ (d : CampaignValue) (n : ℕ) (u : Unit) (i : ℕ) (entry : Entry) (deal : TradeResult) (is : get d.units n ≡ Some u) where
   -- the units after the result of a trade is set: unit `n` with its new holding, the others as they were
   dealt_units : (with_result d n u i entry deal).units ≡ insert d.units n (record u { holding = with_trade_result u.holding i deal })
-  dealt_units = ap (λ o. (with_held d n (with_trade_result u.holding i deal) o).units) is
+  dealt_units = ap (λ o. (with_holding_at d n (with_trade_result u.holding i deal) o).units) is
 
   -- the regions after the result of a trade is set: the unit's region with its new stock, the others as they were
   dealt_regions : (with_result d n u i entry deal).regions ≡ changed (λ r. restocked r i deal.stock) d.regions u.region
-  dealt_regions = ap (λ o. changed (λ r. restocked r i deal.stock) (with_held d n (with_trade_result u.holding i deal) o).regions u.region) is
+  dealt_regions = ap (λ o. changed (λ r. restocked r i deal.stock) (with_holding_at d n (with_trade_result u.holding i deal) o).regions u.region) is
 
 -- ---- one unit trades
 

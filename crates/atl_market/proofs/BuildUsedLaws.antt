@@ -18,7 +18,7 @@ use Rattle.atl_records.specs.Books.{amount_in, entry_index, thing_index, amount_
 use Rattle.atl_campaign.specs.Good.{IsSteady}
 use Rattle.atl_records.specs.Holdings.{HoldingValue, amount_of, with_amount_of}
 use Rattle.atl_records.specs.Limits.{entry_count}
-use Rattle.atl_campaign.specs.Campaign.{CampaignValue, with_amount}
+use Rattle.atl_campaign.specs.Campaign.{CampaignValue, with_booking}
 use Rattle.atl_records.proofs.EveryEntryLaws.{entry_small}
 use Rattle.atl_records.proofs.EveryLaws.{get-insert_other}
 use Rattle.atl_campaign.proofs.RegionLaws.{get-insert_same}
@@ -113,7 +113,7 @@ module _ (w : WorldValue) (c : CampaignValue) (n item amount : ℕ) (u : Unit) (
 
   -- the campaign after the unit used `amount` of the item, which is booked
   abbrev pub used : CampaignValue
-  used = with_amount (item_held c n u item (amount_of u.holding.items item - amount)) Used (Item item) (neg_ℤ (pos amount))
+  used = with_booking (item_held c n u item (amount_of u.holding.items item - amount)) Used (Item item) (neg_ℤ (pos amount))
 
   -- the unit is there after it used the item
   pub user_there : get used.units n ≡ Some user

@@ -13,7 +13,7 @@ use Rattle.atl_records.specs.declared.records.Unit.{Unit}
 use Rattle.atl_records.specs.Books.{IsWithin}
 use Rattle.atl_campaign.specs.Good.{IsEarly, IsSteady}
 use Rattle.atl_records.specs.Holdings.{HoldingValue, amount_of}
-use Rattle.atl_campaign.specs.Campaign.{CampaignValue, region_changed, with_amount}
+use Rattle.atl_campaign.specs.Campaign.{CampaignValue, region_changed, with_booking}
 use Rattle.atl_records.specs.Amounts.{region_amount, unit_amount}
 use Rattle.atl_campaign.specs.Totals.{total}
 use Rattle.atl_records.proofs.BookLaws.{booked-after_booking, booked_for}
@@ -45,7 +45,7 @@ module _ (w : WorldValue) (c : CampaignValue) (n : ℕ) (u : Unit) (q : Region) 
 
   -- the campaign in which unit `n` holds `more`, its region is changed by `f`, and the money `z` is booked
   abbrev exchanged : CampaignValue
-  exchanged = with_amount left entry Money z
+  exchanged = with_booking left entry Money z
 
   -- an exchange that keeps goods together (`KeepsTogether`) changes the total of each thing by what it books
   total_of : KeepsTogether u q f more z → (t : Thing) → pos (total exchanged t) ≡ pos (total c t) +ℤ booked_for t Money z

@@ -16,9 +16,9 @@ use Rattle.atl_records.specs.declared.records.Unit.{Unit}
 use Rattle.atl_records.specs.Books.{IsWithin}
 use Rattle.atl_campaign.specs.Good.{IsSteady}
 use Rattle.atl_records.specs.Holdings.{HoldingValue, amount_of, with_amount_of}
-use Rattle.atl_campaign.specs.Lending.{with_held}
+use Rattle.atl_campaign.specs.Lending.{with_holding_at}
 use Rattle.atl_records.specs.Limits.{holding_limit}
-use Rattle.atl_campaign.specs.Campaign.{CampaignValue, with_amount, with_item}
+use Rattle.atl_campaign.specs.Campaign.{CampaignValue, with_booking, with_item}
 use Rattle.atl_records.specs.Amounts.{unit_amount}
 use Rattle.atl_campaign.specs.Totals.{total}
 use Rattle.atl_records.proofs.BookLaws.{booked-after_booking, booked_for}
@@ -44,7 +44,7 @@ unmoved x y t k e f = omega (arith, ints, e, f)
 
 -- a campaign in which unit `n`, which is `u`, holds `amount` of item `i`
 abbrev pub item_held : CampaignValue → ℕ → Unit → (item amount : ℕ) → CampaignValue
-item_held c n u i amount = with_held c n (record u.holding { items = with_amount_of u.holding.items i amount }) (Some u)
+item_held c n u i amount = with_holding_at c n (record u.holding { items = with_amount_of u.holding.items i amount }) (Some u)
 
 -- setting how much of item `i` a unit has (`with_item`), where the unit is there, gives the campaign `item_held`
 item_is : (c : CampaignValue) (n : ℕ) (u : Unit) (i amount : ℕ) → get c.units n ≡ Some u → with_item c n i amount ≡ item_held c n u i amount
@@ -74,7 +74,7 @@ module _ (w : WorldValue) (c : CampaignValue) (n : ℕ) (u : Unit) (i amount : �
   module _ (e : Entry) (z : ℤ) where
     -- the campaign in which the unit holds `amount` of the item, and `z` of the item is booked under entry `e`
     abbrev after : CampaignValue
-    after = with_amount with_set e (Item i) z
+    after = with_booking with_set e (Item i) z
 
     module _ (change : pos amount ≡ pos (amount_of u.holding.items i) +ℤ z) where
       -- the new total `x` of item `j` is the old one, `t`, plus `z` if `j` is `i`, the item set for the unit
@@ -128,12 +128,12 @@ put_to a k = omega (arith, ints)
 
 module _ (w : WorldValue) (c : CampaignValue) (n i k : ℕ) where
   -- using `k` of an item (`with_used`), for a unit that is there, takes it from the unit and books it as used
-  pub used_is : (u : Unit) → get c.units n ≡ Some u → with_used c n i k ≡ with_amount (item_held c n u i (amount_of u.holding.items i - k)) entries.Used (Item i) (neg_ℤ (pos k))
-  used_is u is = unit_there c n _ u is ∙ ap (λ d. with_amount d entries.Used (Item i) (neg_ℤ (pos k))) (item_is c n u i (amount_of u.holding.items i - k) is)
+  pub used_is : (u : Unit) → get c.units n ≡ Some u → with_used c n i k ≡ with_booking (item_held c n u i (amount_of u.holding.items i - k)) entries.Used (Item i) (neg_ℤ (pos k))
+  used_is u is = unit_there c n _ u is ∙ ap (λ d. with_booking d entries.Used (Item i) (neg_ℤ (pos k))) (item_is c n u i (amount_of u.holding.items i - k) is)
 
   -- making `k` of an item (`with_made`), for a unit that is there, gives it to the unit and books it as made
-  pub made_is : (u : Unit) → get c.units n ≡ Some u → with_made c n i k ≡ with_amount (item_held c n u i (amount_of u.holding.items i + k)) entries.Made (Item i) (pos k)
-  made_is u is = unit_there c n _ u is ∙ ap (λ d. with_amount d entries.Made (Item i) (pos k)) (item_is c n u i (amount_of u.holding.items i + k) is)
+  pub made_is : (u : Unit) → get c.units n ≡ Some u → with_made c n i k ≡ with_booking (item_held c n u i (amount_of u.holding.items i + k)) entries.Made (Item i) (pos k)
+  made_is u is = unit_there c n _ u is ∙ ap (λ d. with_booking d entries.Made (Item i) (pos k)) (item_is c n u i (amount_of u.holding.items i + k) is)
 
   -- a unit of a steady campaign holds at most a holding's limit of an item
   held_within : (u : Unit) → get c.units n ≡ Some u → IsSteady w c → amount_of u.holding.items i ≤ holding_limit

@@ -17,9 +17,9 @@ use Rattle.atl_records.specs.declared.records.Unit.{Unit}
 use Rattle.atl_records.specs.Every.{Every}
 use Rattle.atl_campaign.specs.Good.{IsEarly}
 use Rattle.atl_records.specs.Holdings.{HoldingValue}
-use Rattle.atl_campaign.specs.Lending.{with_held, with_holding}
+use Rattle.atl_campaign.specs.Lending.{with_holding_at, with_holding}
 use Rattle.atl_records.specs.Limits.{holding_limit, men_limit, most_units}
-use Rattle.atl_campaign.specs.Campaign.{CampaignValue, region_changed, with_amount, with_peasants}
+use Rattle.atl_campaign.specs.Campaign.{CampaignValue, region_changed, with_booking, with_peasants}
 use Rattle.atl_campaign.proofs.ReadBackLaws.{entries_rise}
 use Rattle.atl_records.proofs.EveryLaws.{each-from_every, get-insert_other}
 use Rattle.atl_campaign.proofs.RegionLaws.{IsRegion-peasants, steady-region}
@@ -58,7 +58,7 @@ joined c n u recruits cost = record c { units = insert c.units n (record u { hol
 
 -- a campaign in which recruits left region `q` and joined unit `u`, and their cost is booked
 abbrev pub recruited_to : CampaignValue → ℕ → Unit → Region → (recruits cost : ℕ) → CampaignValue
-recruited_to c n u q recruits cost = with_amount (region_changed (with_fewer_peasants q recruits) (joined c n u recruits cost) u.region) Recruiting Money (neg_ℤ (pos cost))
+recruited_to c n u q recruits cost = with_booking (region_changed (with_fewer_peasants q recruits) (joined c n u recruits cost) u.region) Recruiting Money (neg_ℤ (pos cost))
 
 module _ (w : WorldValue) (c : CampaignValue) (n : ℕ) (u : Unit) (q : Region) (recruits cost : ℕ) (is : get c.units n ≡ Some u) (around : get c.regions u.region ≡ Some q) where
   -- the campaign after `recruits` peasants of the unit's region joined unit `n` for `cost`
@@ -78,8 +78,8 @@ module _ (w : WorldValue) (c : CampaignValue) (n : ℕ) (u : Unit) (q : Region) 
   left = region_changed (with_fewer_peasants q recruits) peopled u.region
 
   -- setting the unit, the peasants and the books, as the code does, makes the campaign after recruiting (`after`)
-  recruits_are : with_amount (with_peasants (with_holding c n more) u.region (q.peasants - recruits)) Recruiting Money (neg_ℤ (pos cost)) ≡ after
-  recruits_are = ap (λ o. with_amount (with_peasants (with_held c n more o) u.region (q.peasants - recruits)) Recruiting Money (neg_ℤ (pos cost))) is
+  recruits_are : with_booking (with_peasants (with_holding c n more) u.region (q.peasants - recruits)) Recruiting Money (neg_ℤ (pos cost)) ≡ after
+  recruits_are = ap (λ o. with_booking (with_peasants (with_holding_at c n more o) u.region (q.peasants - recruits)) Recruiting Money (neg_ℤ (pos cost))) is
 
   module _ (fits : u.holding.men + recruits ≤ men_limit) (payable : cost ≤ u.holding.money) (enough : recruits ≤ q.peasants) (early : IsEarly w c) where
     -- the unit's holding with its recruits keeps all rules of holdings
@@ -144,7 +144,7 @@ module _ (w : WorldValue) (c : CampaignValue) (e : ℕ × ℕ) where
   recruited_others k apart =
       by_unit c e.0 (λ (d : CampaignValue). get d.units k ≡ get c.units k) _ refl (λ u is.
       by_region c u.region (λ (d : CampaignValue). get d.units k ≡ get c.units k) _ refl (λ q around.
-      ap (λ o. get (with_held c e.0 (with_paid_recruits u.holding e.1 price) o).units k) is
+      ap (λ o. get (with_holding_at c e.0 (with_paid_recruits u.holding e.1 price) o).units k) is
       ∙ get-insert_other c.units e.0 k (record u { holding = with_paid_recruits u.holding e.1 price }) apart))
 
 -- RECRUIT leaves each unit for which its own faction wrote no order of RECRUIT no worse off

@@ -27,11 +27,11 @@ use Rattle.atl_campaign.specs.Covers.{MarksChanges}
 use Rattle.atl_records.specs.Every.{Every}
 use Rattle.atl_campaign.specs.Good.{IsEarly}
 use Rattle.atl_records.specs.Holdings.{HoldingValue, IsHolding, amount_of, with_amount_of}
-use Rattle.atl_campaign.specs.Lending.{with_held, with_holding}
+use Rattle.atl_campaign.specs.Lending.{with_holding_at, with_holding}
 use Rattle.atl_records.specs.Limits.{holding_limit, most_units}
 use Rattle.atl_campaign.specs.Marking.{MarksStock}
 use Rattle.atl_campaign.specs.Stocks.{stock_limit, stock_of}
-use Rattle.atl_campaign.specs.Campaign.{MarkedCampaign, CampaignValue, region_changed, with_amount, with_stock}
+use Rattle.atl_campaign.specs.Campaign.{MarkedCampaign, CampaignValue, region_changed, with_booking, with_stock}
 use Rattle.atl_campaign.proofs.ReadBackLaws.{entries_rise}
 use Rattle.atl_campaign.proofs.CoverLaws.{marks-stock, marks-trans}
 use Rattle.atl_records.proofs.EveryLaws.{each-from_every, get-insert_other, none_some, other_number, same_number}
@@ -88,7 +88,7 @@ supplied c n u i d = record c { units = insert c.units n (record u { holding = w
 
 -- a campaign after a trade: the unit, the stock of its region and the books are as the result `d` says
 abbrev pub dealt_to : CampaignValue → ℕ → Unit → ℕ → Entry → TradeResult → CampaignValue
-dealt_to c n u i entry d = with_amount (region_changed (λ r. restocked r i d.stock) (supplied c n u i d) u.region) entry Money d.booked
+dealt_to c n u i entry d = with_booking (region_changed (λ r. restocked r i d.stock) (supplied c n u i d) u.region) entry Money d.booked
 
 module _ (w : WorldValue) (c : CampaignValue) (n : ℕ) (u : Unit) (q : Region) (i : ℕ) (entry : Entry) (d : TradeResult) (is : get c.units n ≡ Some u) (around : get c.regions u.region ≡ Some q) where
   -- the campaign after unit `n` traded with the result `d`
@@ -109,7 +109,7 @@ module _ (w : WorldValue) (c : CampaignValue) (n : ℕ) (u : Unit) (q : Region) 
 
   -- setting unit `n`, which is there, its region's stock and the books to what the trade leaves gives the campaign `after`
   pub deal_is : with_result c n u i entry d ≡ after
-  deal_is = ap (λ o. with_amount (with_stock (with_held c n more o) u.region i d.stock) entry Money d.booked) is
+  deal_is = ap (λ o. with_booking (with_stock (with_holding_at c n more o) u.region i d.stock) entry Money d.booked) is
 
   module _ (fits : ResultFits w u i (amount_of q.stocks i) d) (known : i < length w.items) (market : IsSome (market_of w u.region i)) (early : IsEarly w c) where
     -- what the unit holds after the trade keeps all rules of holdings
@@ -355,7 +355,7 @@ module _ (trade : Trade) (items : FinMap nat_cmp ℕ) (w : WorldValue) (c : Camp
       by_unit c e.0 (λ (d : CampaignValue). get d.units k ≡ get c.units k) _ refl (λ u is.
       by_option (λ (d : CampaignValue). get d.units k ≡ get c.units k) _ (market_for w u (get items e.0)) c refl (λ m at.
       let h = with_trade_result u.holding m.item (trade_result_of trade u.holding (stock_of c u.region m.item) e.1 m) in
-      ap (λ o. get (with_held c e.0 h o).units k) is ∙ get-insert_other c.units e.0 k (record u { holding = h }) apart))
+      ap (λ o. get (with_holding_at c e.0 h o).units k) is ∙ get-insert_other c.units e.0 k (record u { holding = h }) apart))
 
 -- ---- who gets something
 
@@ -597,4 +597,4 @@ module _ (c d e : MarkedCampaign) (n region item stock : ℕ) (f : HoldingValue 
 
   -- after a unit's goods and then a region's stock were set, the campaign is `c` with both set
   pub settled_what : (u : Unit) → get c.value.units n ≡ Some u → e.value ≡ with_stock (with_holding c.value n (f u.holding)) region item stock
-  settled_what u is = put ∙ ap (λ s. with_stock s region item stock) (changed_held f c.value d.value n set.value u is ∙ sym (ap (with_held c.value n (f u.holding)) is))
+  settled_what u is = put ∙ ap (λ s. with_stock s region item stock) (changed_held f c.value d.value n set.value u is ∙ sym (ap (with_holding_at c.value n (f u.holding)) is))

@@ -15,7 +15,7 @@ use Rattle.atl_records.specs.declared.records.Structure.{Structure}
 use Rattle.atl_records.specs.declared.records.Unit.{Unit}
 use Rattle.atl_records.specs.Holdings.{amount_of, with_amount_of}
 use Rattle.atl_campaign.specs.Owners.{with_place}
-use Rattle.atl_campaign.specs.Campaign.{CampaignValue, with_amount, with_item}
+use Rattle.atl_campaign.specs.Campaign.{CampaignValue, with_booking, with_item}
 use Rattle.atl_campaign.proofs.RegionLaws.{changed-known}
 use Rattle.atl_phase.proofs.PhaseSpecLaws.{PhaseLeavesUnmailed}
 use Rattle.atl_phase.proofs.UnmailedLaws.{HaveTheirMen, OthersHaveMen, SparesMen, carried_leaves, items_of_no_worse, men_put, men_same, men_stay, men_twice, men_unless, others_men, own_faction, place_men, unmailed_spared}
@@ -36,7 +36,7 @@ used_men : (c : CampaignValue) (n i amount : ℕ) → HaveTheirMen c (with_used 
 used_men c n i amount =
     by_unit c n (HaveTheirMen c) _ (men_stay c) (λ u is.
     let left = amount_of u.holding.items i - amount in
-    men_put c (with_amount (with_item c n i left) Used (Item i) (neg_ℤ (pos amount))) n u (item_set i left u) is (record { faction = refl; men = refl }) (changed-known (item_set i left) c.units n u is))
+    men_put c (with_booking (with_item c n i left) Used (Item i) (neg_ℤ (pos amount))) n u (item_set i left u) is (record { faction = refl; men = refl }) (changed-known (item_set i left) c.units n u is))
 
 -- ---- BUILD
 
@@ -98,7 +98,7 @@ made_men : (c : CampaignValue) (n i amount : ℕ) → HaveTheirMen c (with_made 
 made_men c n i amount =
     by_unit c n (HaveTheirMen c) _ (men_stay c) (λ u is.
     let more = amount_of u.holding.items i + amount in
-    men_put c (with_amount (with_item c n i more) Made (Item i) (pos amount)) n u (item_set i more u) is (record { faction = refl; men = refl }) (changed-known (item_set i more) c.units n u is))
+    men_put c (with_booking (with_item c n i more) Made (Item i) (pos amount)) n u (item_set i more u) is (record { faction = refl; men = refl }) (changed-known (item_set i more) c.units n u is))
 
 -- the production of one unit leaves all units their men
 produced_men : (asked : FinMap nat_cmp ℕ) (w : WorldValue) (c : CampaignValue) (e : ℕ × ℕ) → HaveTheirMen c (produce.after_production asked w c e)

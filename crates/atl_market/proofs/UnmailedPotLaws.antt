@@ -12,7 +12,7 @@ use Rattle.atl_records.specs.declared.books.Entry.TheVariants.{Wages}
 use Rattle.atl_records.specs.declared.books.Thing.TheVariants.{Money}
 use Rattle.atl_records.specs.declared.event.Event.{Event}
 use Rattle.atl_records.specs.declared.records.Unit.{Unit}
-use Rattle.atl_campaign.specs.Campaign.{CampaignValue, with_amount, with_money, with_region_money}
+use Rattle.atl_campaign.specs.Campaign.{CampaignValue, with_booking, with_money, with_region_money}
 use Rattle.atl_records.proofs.EveryLaws.{other_number}
 use Rattle.atl_phase.specs.Month.{MonthValue}
 use Rattle.atl_phase.specs.Meaning.{Frame, Meaning}
@@ -111,7 +111,7 @@ work_men w c e =
     by_unit c e.0 (HaveTheirMen c) _ (men_stay c) (λ u is.
     let wages = wages_for w u.region e.1 in
     men_changed (λ v. record v { holding = record v.holding { money = u.holding.money + wages } }) (λ v. record { faction = refl; men = refl })
-    c (with_amount (with_money c e.0 (u.holding.money + wages)) Wages Money (pos wages)) e.0 refl)
+    c (with_booking (with_money c e.0 (u.holding.money + wages)) Wages Money (pos wages)) e.0 refl)
 
 -- the phase WORK leaves units of factions without a mailing their men and items (`LeavesUnmailed`)
 pub work_leaves : PhaseLeavesUnmailed work_spec

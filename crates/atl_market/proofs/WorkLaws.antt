@@ -20,7 +20,7 @@ use Rattle.atl_records.specs.Every.{Every}
 use Rattle.atl_campaign.specs.Good.{IsSteady}
 use Rattle.atl_records.specs.Holdings.{HoldingValue, amount_of}
 use Rattle.atl_records.specs.Limits.{holding_limit, most_units}
-use Rattle.atl_campaign.specs.Campaign.{CampaignValue, with_amount, with_money}
+use Rattle.atl_campaign.specs.Campaign.{CampaignValue, with_booking, with_money}
 use Rattle.atl_records.specs.Amounts.{unit_amount}
 use Rattle.atl_campaign.specs.Totals.{total}
 use Rattle.atl_campaign.proofs.ReadBackLaws.{Rise, entries_rise}
@@ -59,11 +59,11 @@ module _ (w : WorldValue) (c : CampaignValue) (n : ℕ) (u : Unit) (money : ℕ)
 
   -- a campaign in which unit `n` got wages, which are booked
   abbrev pub wages_paid : CampaignValue
-  wages_paid = with_amount given Wages Money (pos money)
+  wages_paid = with_booking given Wages Money (pos money)
 
   -- setting the unit's money to what it has with its wages, and booking these, gives the campaign `wages_paid`
-  wages_are : with_amount (with_money c n (u.holding.money + money)) Wages Money (pos money) ≡ wages_paid
-  wages_are = ap (λ d. with_amount d Wages Money (pos money)) (richer_is c n u money is)
+  wages_are : with_booking (with_money c n (u.holding.money + money)) Wages Money (pos money) ≡ wages_paid
+  wages_are = ap (λ d. with_booking d Wages Money (pos money)) (richer_is c n u money is)
 
   -- once the unit got its wages, the total of each thing has grown by what is booked of it
   total_paid : (t : Thing) → pos (total wages_paid t) ≡ pos (total c t) +ℤ booked_for t Money (pos money)

@@ -13,7 +13,7 @@ use Rattle.atl_records.specs.declared.records.Unit.{Unit}
 use Rattle.atl_records.specs.Holdings.{HoldingValue}
 use Rattle.atl_campaign.specs.Lending.{with_holding}
 use Rattle.atl_records.specs.Limits.{men_limit}
-use Rattle.atl_campaign.specs.Campaign.{CampaignValue, with_amount, with_peasants}
+use Rattle.atl_campaign.specs.Campaign.{CampaignValue, with_booking, with_peasants}
 use Rattle.atl_phase.specs.Meaning.{BookBound, Frame, Meaning, moves_only}
 use Rattle.atl_phase.specs.Outcomes.{first_fault}
 use Rattle.atl_phase.specs.There.{at_region, at_unit}
@@ -50,7 +50,7 @@ after_recruiting w c (n, recruits) =
     at_unit c n (λ u.
     at_region c u.region (λ q.
     let joined = with_holding c n (with_paid_recruits u.holding recruits cost) in
-    with_amount (with_peasants joined u.region (q.peasants - recruits)) Recruiting Money (neg_ℤ (pos cost))))
+    with_booking (with_peasants joined u.region (q.peasants - recruits)) Recruiting Money (neg_ℤ (pos cost))))
 
 -- RECRUIT as a phase with pots: each order asks for a number of recruits. The event says how many joined.
 abbrev pub recruit_pots : PotMeaning

@@ -18,7 +18,7 @@ use Rattle.atl_records.specs.Holdings.{HoldingValue, amount_of, with_amount_of}
 use Rattle.atl_campaign.specs.Lending.{with_holding}
 use Rattle.atl_records.specs.Limits.{holding_limit}
 use Rattle.atl_campaign.specs.Stocks.{stock_of}
-use Rattle.atl_campaign.specs.Campaign.{CampaignValue, with_amount, with_stock}
+use Rattle.atl_campaign.specs.Campaign.{CampaignValue, with_booking, with_stock}
 use Rattle.atl_phase.specs.Meaning.{BookBound, Frame, Meaning, moves_only}
 use Rattle.atl_phase.specs.Outcomes.{first_fault}
 use Rattle.atl_phase.specs.There.{at_unit}
@@ -113,7 +113,7 @@ with_trade_result h item d = record h { money = d.money; items = with_amount_of 
 abbrev pub with_result : CampaignValue → ℕ → Unit → (item : ℕ) → Entry → TradeResult → CampaignValue
 with_result c n u item entry d =
     let paid = with_holding c n (with_trade_result u.holding item d) in
-    with_amount (with_stock paid u.region item d.stock) entry Money d.booked
+    with_booking (with_stock paid u.region item d.stock) entry Money d.booked
 
 -- A campaign after a unit, by its number, traded `share` pieces of its order's item; unchanged where its region has no
 -- market for it.

@@ -17,7 +17,7 @@ use Rattle.atl_records.specs.declared.event.EventFault.{EventFault}
 use Rattle.atl_records.specs.declared.event.EventFault.TheVariants.{NoMen}
 use Rattle.atl_records.specs.declared.records.Unit.{Unit}
 use Rattle.atl_records.specs.Limits.{holding_limit}
-use Rattle.atl_campaign.specs.Campaign.{CampaignValue, with_amount, with_money}
+use Rattle.atl_campaign.specs.Campaign.{CampaignValue, with_booking, with_money}
 use Rattle.atl_phase.specs.Month.{MonthValue}
 use Rattle.atl_phase.specs.Meaning.{BookBound, Meaning, moves_only}
 use Rattle.atl_phase.specs.PhaseOrders.{Task, is_month_long, key_of, orders_by_unit}
@@ -88,7 +88,7 @@ unfoldable pub after_work : WorldValue → CampaignValue → ℕ × ℕ → Camp
 after_work w c (n, places) =
     at_unit c n (λ u.
     let wages = wages_for w u.region places in
-    with_amount (with_money c n (u.holding.money + wages)) Wages Money (pos wages))
+    with_booking (with_money c n (u.holding.money + wages)) Wages Money (pos wages))
 
 -- the fault of WORK, if there is one: NoMen
 abbrev pub work_fault : Unit → Option EventFault

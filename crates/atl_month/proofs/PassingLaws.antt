@@ -19,14 +19,14 @@ use Rattle.atl_records.specs.Every.{EachEntry, Every}
 use Rattle.atl_campaign.specs.Founding.{things_of}
 use Rattle.atl_campaign.specs.Good.{IsSteady}
 use Rattle.atl_records.specs.Holdings.{HoldingValue, amount_of, with_amount_of}
-use Rattle.atl_campaign.specs.Lending.{with_held}
+use Rattle.atl_campaign.specs.Lending.{with_holding_at}
 use Rattle.atl_records.specs.Limits.{holding_limit}
 use Rattle.atl_campaign.specs.Campaign.{CampaignValue, with_item, with_money}
 use Rattle.atl_records.specs.Amounts.{unit_amount}
 use Rattle.atl_campaign.specs.Totals.{total}
 use Rattle.atl_records.proofs.BookLaws.{booked-after_booking}
 use Rattle.atl_records.proofs.EveryLaws.{every-insert, get-insert_other, same_number}
-use Rattle.atl_campaign.proofs.HoldingLaws.{MayHold, may_hold_money, steady-unit_amount, total-unit_amount}
+use Rattle.atl_campaign.proofs.HoldingLaws.{MayHaveWithoutNewGuard, may_hold_money, steady-unit_amount, total-unit_amount}
 use Rattle.atl_campaign.proofs.RegionLaws.{changed-known, get-insert_same, steady-amount, total-amount}
 use Rattle.atl_phase.specs.Meaning.{BookBound, IsNear, IsSameMonth, both_move, moves_only}
 use Rattle.atl_phase.proofs.MeaningLaws.{near_same, near_twice, same_month_by, same_month_twice}
@@ -139,12 +139,12 @@ module _ (w : WorldValue) (c : CampaignValue) (n : ℕ) (t : Thing) (inside : th
   }
 
   -- an amount of which a unit takes a part
-  module _ (k : ℕ) (v : Unit) (h : HoldingValue) (is : get c.units k ≡ Some v) (apart : n ≢ k) (may : MayHold w v h)
+  module _ (k : ℕ) (v : Unit) (h : HoldingValue) (is : get c.units k ≡ Some v) (apart : n ≢ k) (may : MayHaveWithoutNewGuard w v h)
       (kept : IsKept v (record v { holding = h })) (taken lost : ℕ)
       (more : (s : Thing) → unit_amount s h ≡ unit_amount s v.holding + part_of s t taken) where
     -- the campaign in which the receiver has the part that it takes, while the rest isn't booked yet
     abbrev given : CampaignValue
-    given = with_held c k h (Some v)
+    given = with_holding_at c k h (Some v)
 
     -- giving the part raises the total of the thing by that part, and no other total
     grown : (s : Thing) → total given s ≡ total c s + part_of s t taken
@@ -241,7 +241,7 @@ module _ (w : WorldValue) (c : CampaignValue) (n k : ℕ) (apart : n ≢ k) (ste
           subst (Passed Money amount)
           (ap (λ m. with_lost (record c { units = m }) Money (amount - taken))
           (sym (changed-known (λ u. record u { holding = record u.holding { money = money } }) c.units k v is)))
-          (subst (λ a. Passed Money a (with_lost (with_held c k h (Some v)) Money (amount - taken))) (whole amount v.holding.money)
+          (subst (λ a. Passed Money a (with_lost (with_holding_at c k h (Some v)) Money (amount - taken))) (whole amount v.holding.money)
           (part_lost w c n Money (omega arith) steady k v h is apart (may_hold_money w c k money v is (fits amount v.holding.money most) steady)
           (kept-with v money v.holding.items (omega arith) (λ i. omega arith))
           taken (amount - taken) (more_money v.holding taken)))
@@ -282,7 +282,7 @@ module _ (w : WorldValue) (c : CampaignValue) (n k : ℕ) (apart : n ≢ k) (ste
           subst (Passed (Item i) amount)
           (ap (λ m. with_lost (record c { units = m }) (Item i) (amount - taken))
           (sym (changed-known (λ u. record u { holding = record u.holding { items = with_amount_of u.holding.items i (have + taken) } }) c.units k v is)))
-          (subst (λ a. Passed (Item i) a (with_lost (with_held c k (record v.holding { items = items }) (Some v)) (Item i) (amount - taken)))
+          (subst (λ a. Passed (Item i) a (with_lost (with_holding_at c k (record v.holding { items = items }) (Some v)) (Item i) (amount - taken)))
           (whole amount have)
           (part_lost w c n (Item i) inside steady k v (record v.holding { items = items }) is apart
           (record {

@@ -20,7 +20,7 @@ use Rattle.atl_records.specs.declared.books.Thing.{Thing}
 use Rattle.atl_records.specs.declared.books.Thing.TheVariants.{Money, People, Item}
 use Rattle.atl_records.specs.declared.records.Region.{Region}
 use Rattle.atl_records.specs.Books.{amount_in, booked, thing_at, thing_index, amount_number}
-use Rattle.atl_campaign.specs.Campaign.{MarkedCampaign, CampaignValue, with_amount, with_stock}
+use Rattle.atl_campaign.specs.Campaign.{MarkedCampaign, CampaignValue, with_booking, with_stock}
 use Rattle.atl_campaign.specs.Covers.{MarksChanges}
 use Rattle.atl_records.specs.Every.{EachEntry, HasValue}
 use Rattle.atl_campaign.specs.Founding.{things_of}
@@ -135,7 +135,7 @@ module _ (w : WorldValue) (c : CampaignValue) (n i : ℕ) (m : Market) (r : Regi
   ]
 
   -- if the books balance before, they balance with the new goods in stock and booked
-  balanced : Balances c → Balances (with_amount filled Stocked (Item i) (pos more))
+  balanced : Balances c → Balances (with_booking filled Stocked (Item i) (pos more))
   balanced old t =
       ap pos (total-amount filled Stocked (Item i) t (pos more)) ∙ ap pos (filled_total t) ∙ added (thing_index t == 2 + i) (total c t) (booked c.books t) (old t)
       ∙ sym (booked-after_booking c.books Stocked (Item i) (pos more) t)
@@ -150,7 +150,7 @@ module _ (w : WorldValue) (c : CampaignValue) (n i : ℕ) (m : Market) (r : Regi
   pub market_leaves_well : LeavesWell IsSteady (moves_only most_amount Stocked (Item i)) w c (after_market_restock n c (i, m))
   unfolding after_market_restock
   market_leaves_well =
-      subst (λ s. LeavesWell IsSteady (moves_only most_amount Stocked (Item i)) w c (with_amount (with_stock c n i (s + restock m s)) Stocked (Item i) (pos (restock m s)))) (sym stock_is)
+      subst (λ s. LeavesWell IsSteady (moves_only most_amount Stocked (Item i)) w c (with_booking (with_stock c n i (s + restock m s)) Stocked (Item i) (pos (restock m s)))) (sym stock_is)
       (record {
         leaves_it = steady-amount w filled Stocked (Item i) (pos more) inside filled_steady;
         same_month = same_month_by refl;
@@ -240,6 +240,6 @@ room_behind_market w n there x xs c of steady room = room_behind (moves_only mos
 
 -- setting a stock and booking the new goods marks all that these two steps change
 pub market_marks : (stock more n i : ℕ) (c d e : MarkedCampaign) → d.value ≡ with_stock c.value n i (stock + more) → MarksStock c n i (stock + more) d.marks
-    → e.value ≡ with_amount d.value Stocked (Item i) (pos more) → e.marks ≡ mark_amount d Stocked (Item i) → MarksChanges c e
+    → e.value ≡ with_booking d.value Stocked (Item i) (pos more) → e.marks ≡ mark_amount d Stocked (Item i) → MarksChanges c e
 market_marks stock more n i c d e d_is d_marks e_is e_marks =
     booked_marks c d e Stocked (Item i) (pos more) (marks_by c d _ d_is refl (marks-stock c n i (stock + more) d.marks d_marks)) e_is e_marks

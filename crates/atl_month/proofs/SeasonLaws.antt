@@ -22,7 +22,7 @@ use Rattle.atl_records.specs.Books.{BooksValue, amount_in, after_booking}
 use Rattle.atl_campaign.specs.Good.{IsSteady}
 use Rattle.atl_campaign.specs.Covers.{MarksChanges}
 use Rattle.atl_campaign.specs.Marking.{mark_amount, mark_region}
-use Rattle.atl_campaign.specs.Campaign.{MarkedCampaign, CampaignValue, with_amount, with_peasants, with_region_money}
+use Rattle.atl_campaign.specs.Campaign.{MarkedCampaign, CampaignValue, with_booking, with_peasants, with_region_money}
 use Rattle.atl_records.specs.Amounts.{region_amount}
 use Rattle.atl_campaign.specs.Totals.{Balances, total}
 use Rattle.atl_records.proofs.BookLaws.{booked-after_booking, booked_for}
@@ -63,7 +63,7 @@ module _ (w : WorldValue) (c : CampaignValue) (n : ℕ) (r : Region) (born earne
 
   -- the campaign with the births and the income, of which the births are booked
   abbrev counted : CampaignValue
-  counted = with_amount paid Births People (pos born)
+  counted = with_booking paid Births People (pos born)
 
   -- a region with the peasants of `r` and those born
   abbrev more_people : Region → Region
@@ -143,8 +143,8 @@ births_first c room = room_less (both_move (moves_only most_amount Births People
 pub growth_marks : (c d e f g : MarkedCampaign) (n peasants money born earned : ℕ)
     → d.value ≡ with_peasants c.value n peasants → d.marks ≡ mark_region c n
     → e.value ≡ with_region_money d.value n money → e.marks ≡ mark_region d n
-    → f.value ≡ with_amount e.value Births People (pos born) → f.marks ≡ mark_amount e Births People
-    → g.value ≡ with_amount f.value Income Money (pos earned) → g.marks ≡ mark_amount f Income Money → MarksChanges c g
+    → f.value ≡ with_booking e.value Births People (pos born) → f.marks ≡ mark_amount e Births People
+    → g.value ≡ with_booking f.value Income Money (pos earned) → g.marks ≡ mark_amount f Income Money → MarksChanges c g
 growth_marks c d e f g n peasants money born earned d_is d_marks e_is e_marks f_is f_marks g_is g_marks =
     let people = marks_by c d _ d_is d_marks (marks-region (λ r. record r { peasants = peasants }) (λ r. refl) c n) in
     let treasure = marks_by d e _ e_is e_marks (marks-region (λ r. record r { money = money }) (λ r. refl) d n) in

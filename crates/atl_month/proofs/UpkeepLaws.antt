@@ -25,15 +25,15 @@ use Rattle.atl_records.specs.Books.{BooksValue, amount_in, after_booking}
 use Rattle.atl_records.specs.Every.{EachEntry, Every}
 use Rattle.atl_campaign.specs.Good.{IsSteady, guards}
 use Rattle.atl_records.specs.Holdings.{AreAmounts, HoldingValue, amount_of, with_amount_of}
-use Rattle.atl_campaign.specs.Lending.{with_held}
+use Rattle.atl_campaign.specs.Lending.{with_holding_at}
 use Rattle.atl_records.specs.Limits.{most_days, most_units}
-use Rattle.atl_campaign.specs.Campaign.{CampaignValue, with_amount}
+use Rattle.atl_campaign.specs.Campaign.{CampaignValue, with_booking}
 use Rattle.atl_records.specs.Amounts.{unit_amount}
 use Rattle.atl_campaign.specs.Totals.{Balances, total}
 use Rattle.atl_campaign.proofs.ReadBackLaws.{Rise, entries_rise}
 use Rattle.atl_records.proofs.BookLaws.{booked-after_booking, booked_for}
 use Rattle.atl_records.proofs.EveryLaws.{each-from_every, every-empty, get-insert_other, every-from_each}
-use Rattle.atl_campaign.proofs.HoldingLaws.{MayHold, steady-unit_amount, total-unit_amount}
+use Rattle.atl_campaign.proofs.HoldingLaws.{MayHaveWithoutNewGuard, steady-unit_amount, total-unit_amount}
 use Rattle.atl_campaign.proofs.RegionLaws.{steady-amount, total-amount, get-insert_same}
 use Rattle.atl_phase.specs.Meaning.{IsNear, LeavesWell, BookBound, moves_only, most_moved}
 use Rattle.atl_phase.specs.Bounds.{HaveRoom, moved_times}
@@ -114,9 +114,9 @@ module _ (w : WorldValue) (h : HoldingValue) (left : ℕ) (fewer : left ≤ h.me
 -- a campaign after the upkeep, with its booking, of the unit that a look-up found; unchanged where it found none
 abbrev pub upkeep_in : CampaignValue → UpkeepResult → Option Unit → CampaignValue
 upkeep_in c s o = option_map_or (λ u.
-    let held = with_held c s.unit (after_upkeep s u.holding) (Some u) in
-    let paid = with_amount held Upkeep Money (neg_ℤ (pos s.paid)) in
-    with_amount paid Starved People (neg_ℤ (pos s.starved))) o c
+    let held = with_holding_at c s.unit (after_upkeep s u.holding) (Some u) in
+    let paid = with_booking held Upkeep Money (neg_ℤ (pos s.paid)) in
+    with_booking paid Starved People (neg_ℤ (pos s.starved))) o c
 
 module _ (w : WorldValue) (c : CampaignValue) (s : UpkeepResult) (u : Unit) (is : get c.units s.unit ≡ Some u) (spare : CanSpare s u.holding.men u.holding.money)
     (steady : IsSteady w c) where
@@ -149,7 +149,7 @@ module _ (w : WorldValue) (c : CampaignValue) (s : UpkeepResult) (u : Unit) (is 
   guard_kept is = let (men, _, _, guard, _) = with_less in grind (arith, nat_tests, men, guard, is)
 
   -- the unit may hold what its upkeep leaves it
-  may_hold : MayHold w u now
+  may_hold : MayHaveWithoutNewGuard w u now
   may_hold =
       let place = steady.known.units s.unit u is in
       let holding = (steady.numbers.units s.unit u is).1 in
@@ -169,11 +169,11 @@ module _ (w : WorldValue) (c : CampaignValue) (s : UpkeepResult) (u : Unit) (is 
 
   -- the campaign in which the unit holds what upkeep leaves it, without booking
   abbrev held_back : CampaignValue
-  held_back = with_held c s.unit now (Some u)
+  held_back = with_holding_at c s.unit now (Some u)
 
   -- the campaign in which the unit holds what upkeep leaves it, and the money is booked
   abbrev paid_off : CampaignValue
-  paid_off = with_amount held_back Upkeep Money (neg_ℤ (pos s.paid))
+  paid_off = with_booking held_back Upkeep Money (neg_ℤ (pos s.paid))
 
   -- the campaign after the unit's upkeep
   abbrev after : CampaignValue
@@ -362,7 +362,7 @@ paid_alone s h fed = ap (λ (k : HoldingValue). record k { money = h.money - s.p
 
 -- giving a unit the holding that upkeep leaves it changes nothing, if the unit pays nothing and nobody starves
 pub pays_nothing : (c : CampaignValue) (s : UpkeepResult) (u : Unit) → get c.units s.unit ≡ Some u → s.starved ≡ 0 → s.paid ≡ 0
-    → c ≡ with_held c s.unit (after_upkeep s u.holding) (Some u)
+    → c ≡ with_holding_at c s.unit (after_upkeep s u.holding) (Some u)
 pays_nothing c s u is fed none =
     let same : after_upkeep s u.holding ≡ u.holding = paid_alone s u.holding fed ∙ ap (λ m. record u.holding { money = m }) (omega (arith, none)) in
     sym (ap (λ units. record c { units = units }) (put_same c.units s.unit u (record u { holding = after_upkeep s u.holding }) is (ap (λ h. record u { holding = h }) same)))

@@ -10,7 +10,7 @@ use Rattle.atl_records.specs.declared.books.Entry.TheVariants.{Stocked}
 use Rattle.atl_records.specs.declared.books.Thing.{Thing}
 use Rattle.atl_records.specs.declared.books.Thing.TheVariants.{Item, Money, People}
 use Rattle.atl_records.specs.Books.{entry_index}
-use Rattle.atl_campaign.specs.Campaign.{CampaignValue, with_amount, with_stock}
+use Rattle.atl_campaign.specs.Campaign.{CampaignValue, with_booking, with_stock}
 use Rattle.atl_campaign.specs.Stocks.{stock_of}
 use Rattle.atl_phase.specs.Meaning.{BookBound}
 
@@ -27,7 +27,7 @@ unfoldable pub after_market_restock : (region : ℕ) → CampaignValue → ℕ �
 after_market_restock region c (item, m) =
     let stock = stock_of c region item in
     let more = restock m stock in
-    with_amount (with_stock c region item (stock + more)) Stocked (Item item) (pos more)
+    with_booking (with_stock c region item (stock + more)) Stocked (Item item) (pos more)
 
 -- a campaign after each of some markets of a region got new goods, in the order of their items
 abbrev pub after_restock : (region : ℕ) → CampaignValue → List (ℕ × Market) → CampaignValue

@@ -8,7 +8,7 @@ use Rattle.atl_world.specs.ByNumber.{terrain_of}
 use Rattle.atl_records.specs.declared.books.Entry.TheVariants.{Births, Income, Stocked}
 use Rattle.atl_records.specs.declared.books.Thing.TheVariants.{Money, People}
 use Rattle.atl_records.specs.declared.records.Region.{Region}
-use Rattle.atl_campaign.specs.Campaign.{CampaignValue, with_amount, with_peasants, with_region_money}
+use Rattle.atl_campaign.specs.Campaign.{CampaignValue, with_booking, with_peasants, with_region_money}
 use Rattle.atl_phase.specs.Month.{MonthValue}
 use Rattle.atl_phase.specs.Meaning.{BookBound, Frame, both_move, most_moved, moves_only}
 use Rattle.atl_month.specs.Limits.{per_hundred}
@@ -29,7 +29,7 @@ income per_peasant limit peasants money = min (peasants * per_peasant) (limit - 
 abbrev pub with_growth : CampaignValue → ℕ → (peasants money born earned : ℕ) → CampaignValue
 with_growth c n peasants money born earned =
     let grown = with_region_money (with_peasants c n (peasants + born)) n (money + earned) in
-    with_amount (with_amount grown Births People (pos born)) Income Money (pos earned)
+    with_booking (with_booking grown Births People (pos born)) Income Money (pos earned)
 
 -- A campaign after the season of region `n`: births, then income, also of those just born, then new goods of its
 -- markets.

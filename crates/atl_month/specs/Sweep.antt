@@ -15,7 +15,7 @@ use Rattle.atl_records.specs.Holdings.{amount_of}
 use Rattle.atl_records.specs.Limits.{holding_limit}
 use Rattle.atl_campaign.specs.Good.{HaveMen, IsSteady, UnitlessAreGone}
 use Rattle.atl_campaign.specs.Owners.{first_or_zero, without_unit}
-use Rattle.atl_campaign.specs.Campaign.{CampaignValue, active, numbers_of, with_amount, with_gone, with_item, with_money}
+use Rattle.atl_campaign.specs.Campaign.{CampaignValue, active, numbers_of, with_booking, with_gone, with_item, with_money}
 use Rattle.atl_phase.specs.Month.{MonthValue}
 use Rattle.atl_phase.specs.Meaning.{BookBound, Frame, most_moved}
 use Rattle.atl_phase.specs.NoWorse.{IsNoWorse}
@@ -36,7 +36,7 @@ receiver c region faction = first_or_zero (numbers_where (receives region factio
 
 -- a campaign in which `amount` of a thing is booked as lost
 abbrev pub with_lost : CampaignValue → Thing → ℕ → CampaignValue
-with_lost c t amount = with_amount c Lost t (neg_ℤ (pos amount))
+with_lost c t amount = with_booking c Lost t (neg_ℤ (pos amount))
 
 -- how much of an amount a unit that holds `have` accepts: as much as leaves it at most 999,999,999
 abbrev pub accepted_of : (amount have : ℕ) → ℕ

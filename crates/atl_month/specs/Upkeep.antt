@@ -11,8 +11,8 @@ use Rattle.atl_records.specs.declared.event.Outcome.TheVariants as outcome
 use Rattle.atl_records.specs.declared.records.Unit.{Unit}
 use Rattle.atl_records.specs.Every.{Every}
 use Rattle.atl_records.specs.Holdings.{HoldingValue}
-use Rattle.atl_campaign.specs.Lending.{with_held}
-use Rattle.atl_campaign.specs.Campaign.{CampaignValue, with_amount}
+use Rattle.atl_campaign.specs.Lending.{with_holding_at}
+use Rattle.atl_campaign.specs.Campaign.{CampaignValue, with_booking}
 use Rattle.atl_phase.specs.Month.{MonthValue}
 use Rattle.atl_phase.specs.Meaning.{BookBound, Frame, both_move, moves_only}
 use Rattle.atl_month.specs.declared.upkeep_sharing.UpkeepInput.{UpkeepInput}
@@ -38,9 +38,9 @@ after_upkeep s h = record (with_men_left (h.men - s.starved) h) { money = h.mone
 -- a campaign after the upkeep of one unit, which is booked
 unfoldable pub upkeep_at : CampaignValue → UpkeepResult → CampaignValue
 upkeep_at c s = at_unit c s.unit (λ u.
-    let held = with_held c s.unit (after_upkeep s u.holding) (Some u) in
-    let paid = with_amount held Upkeep Money (neg_ℤ (pos s.paid)) in
-    with_amount paid Starved People (neg_ℤ (pos s.starved)))
+    let held = with_holding_at c s.unit (after_upkeep s u.holding) (Some u) in
+    let paid = with_booking held Upkeep Money (neg_ℤ (pos s.paid)) in
+    with_booking paid Starved People (neg_ℤ (pos s.starved)))
 
 -- ---- all units
 

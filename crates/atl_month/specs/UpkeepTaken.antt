@@ -6,7 +6,7 @@ use Rattle.atl_world.specs.Limits.{most_amount}
 use Rattle.atl_world.specs.Worlds.{WorldValue}
 use Rattle.atl_records.specs.declared.records.Unit.{Unit}
 use Rattle.atl_campaign.specs.Good.{IsSteady}
-use Rattle.atl_campaign.specs.Lending.{with_held}
+use Rattle.atl_campaign.specs.Lending.{with_holding_at}
 use Rattle.atl_campaign.specs.Campaign.{CampaignValue}
 use Rattle.atl_phase.specs.Bounds.{HaveRoom}
 use Rattle.atl_month.specs.declared.upkeep_sharing.UpkeepResult.{UpkeepResult}
@@ -28,7 +28,7 @@ pub record CanPayUpkeep (w : WorldValue) (c : CampaignValue) (s : UpkeepResult) 
 
 -- after upkeep of a unit, if it is there, its holding is `after_upkeep`; nothing else is changed, and nothing is booked
 abbrev pub IsAfterUpkeep : CampaignValue → UpkeepResult → CampaignValue → Type 0
-IsAfterUpkeep before s after = (u : Unit) → get before.units s.unit ≡ Some u → after ≡ with_held before s.unit (after_upkeep s u.holding) (Some u)
+IsAfterUpkeep before s after = (u : Unit) → get before.units s.unit ≡ Some u → after ≡ with_holding_at before s.unit (after_upkeep s u.holding) (Some u)
 
 -- for each skill, with its number, the days times the men left, divided by the men before, rounded down
 abbrev pub staying_list : (left men : ℕ) → FinMap nat_cmp ℕ → List (ℕ × ℕ)

@@ -7,7 +7,7 @@ use Rattle.atl_world.proofs.Maps.{insert_over}
 use Rattle.atl_world.proofs.SumLaws.{put_same}
 use Rattle.atl_records.specs.declared.records.Unit.{Unit}
 use Rattle.atl_records.specs.Holdings.{HoldingValue, with_amount_of}
-use Rattle.atl_campaign.specs.Lending.{with_held}
+use Rattle.atl_campaign.specs.Lending.{with_holding_at}
 use Rattle.atl_campaign.specs.Marking.{mark_item, mark_skill, mark_unit_row}
 use Rattle.atl_campaign.specs.Marks.{Marks}
 use Rattle.atl_campaign.specs.Campaign.{MarkedCampaign, CampaignValue, unit_changed, with_item, with_men, with_money, with_skill}
@@ -37,8 +37,8 @@ same_held c n = by_unit (get c.units n) refl
     by_unit None is = refl
     by_unit (Some u) is = ap (λ m. record c { units = m }) (put_same c.units n u u is refl)
 
--- to change by f what unit n holds, if the unit is there, is to give it f of its holding (`with_held`)
-pub changed_held : (f : HoldingValue → HoldingValue) (c d : CampaignValue) (n : ℕ) → d ≡ unit_changed (λ u. record u { holding = f u.holding }) c n → (u : Unit) → get c.units n ≡ Some u → d ≡ with_held c n (f u.holding) (Some u)
+-- to change by f what unit n holds, if the unit is there, is to give it f of its holding (`with_holding_at`)
+pub changed_held : (f : HoldingValue → HoldingValue) (c d : CampaignValue) (n : ℕ) → d ≡ unit_changed (λ u. record u { holding = f u.holding }) c n → (u : Unit) → get c.units n ≡ Some u → d ≡ with_holding_at c n (f u.holding) (Some u)
 changed_held f c d n what u is = what ∙ ap (λ o. record c { units = changed_at (λ (v : Unit). record v { holding = f v.holding }) c.units n o }) is
 
 -- a change of unit n leaves every other unit as it is
@@ -64,7 +64,7 @@ nobody_changes c n f none = record {
 pub changes_as : (c d : MarkedCampaign) (n : ℕ) (f g : HoldingValue → HoldingValue) (u : Unit) → get c.value.units n ≡ Some u → f u.holding ≡ g u.holding → ChangesHolding c d n f → ChangesHolding c d n g
 changes_as c d n f g u is same old = record {
   value =
-      changed_held f c.value d.value n old.value u is ∙ ap (λ h. with_held c.value n h (Some u)) same
+      changed_held f c.value d.value n old.value u is ∙ ap (λ h. with_holding_at c.value n h (Some u)) same
       ∙ sym (changed_held g c.value (unit_changed (λ v. record v { holding = g v.holding }) c.value n) n refl u is);
   marks = old.marks;
   goods = old.goods;

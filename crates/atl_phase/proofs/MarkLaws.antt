@@ -8,7 +8,7 @@ use Rattle.atl_records.specs.declared.books.Thing.{Thing}
 use Rattle.atl_records.specs.declared.records.Unit.{Unit}
 use Rattle.atl_campaign.specs.Marking.{handed_marked, mark_amount, place_marked, place_marked_at, put_marked}
 use Rattle.atl_campaign.specs.Owners.{heir, with_place}
-use Rattle.atl_campaign.specs.Campaign.{MarkedCampaign, with_amount}
+use Rattle.atl_campaign.specs.Campaign.{MarkedCampaign, with_booking}
 use Rattle.atl_campaign.proofs.CoverLaws.{marks-amount, marks-refl, marks-trans}
 use Rattle.atl_campaign.proofs.HoldingLaws.{marks-unit_row}
 use Rattle.atl_campaign.proofs.LeavingLaws.{marks-after_handover}
@@ -19,9 +19,9 @@ pub marks_by : (a b m : MarkedCampaign) → b.value ≡ m.value → b.marks ≡ 
 marks_by a b m what marks h = rw (what, marks) (record { stay = h.stay; covers = h.covers })
 
 -- a change that marks all that it changes, and then a booking that marks its amount, mark together all that they change
-pub booked_marks : (a b d : MarkedCampaign) (e : Entry) (t : Thing) (z : ℤ) → MarksChanges a b → d.value ≡ with_amount b.value e t z → d.marks ≡ mark_amount b e t → MarksChanges a d
+pub booked_marks : (a b d : MarkedCampaign) (e : Entry) (t : Thing) (z : ℤ) → MarksChanges a b → d.value ≡ with_booking b.value e t z → d.marks ≡ mark_amount b e t → MarksChanges a d
 booked_marks a b d e t z before what marks =
-    marks-trans a b d before (marks_by b d (record { value = with_amount b.value e t z; marks = mark_amount b e t }) what marks (marks-amount b e t z))
+    marks-trans a b d before (marks_by b d (record { value = with_booking b.value e t z; marks = mark_amount b e t }) what marks (marks-amount b e t z))
 
 -- putting a unit in a region and a structure (`place_marked_at`) marks all that changes, also if the unit isn't there
 marks_place_at : (c : MarkedCampaign) (n r s : ℕ) (o : Option Unit) → MarksChanges c (place_marked_at c n r s o)

@@ -2,7 +2,7 @@
 ghost use Rattle.std.specs.Prelude.{pos, neg_ℤ, ◌≡◌, ◌<◌};
 ghost use Rattle.atl_records.specs.Books.{amount_in, thing_index};
 ghost use Rattle.atl_campaign.specs.Marking.{mark_amount};
-ghost use Rattle.atl_campaign.specs.Campaign.{with_amount};
+ghost use Rattle.atl_campaign.specs.Campaign.{with_booking};
 ghost use Rattle.atl_phase.specs.Bounds.{HasRoom};
 
 use atl_campaign::{Campaign, Entry, Thing};
@@ -13,7 +13,7 @@ pub fn book_taken(campaign: &mut Campaign, entry: Entry, thing: Thing, amount: u
     requires there { thing_index thing < campaign.old.value.books.things }
     requires room { HasRoom amount (amount_in campaign.old.value.books entry thing) }
     ensures what { campaign.new.value
-        ≡ with_amount campaign.old.value entry thing (neg_ℤ (pos amount)) }
+        ≡ with_booking campaign.old.value entry thing (neg_ℤ (pos amount)) }
     ensures marks { campaign.new.marks ≡ mark_amount campaign.old entry thing }
 {
     campaign.book(entry, thing, -i64::from(amount));

@@ -45,7 +45,7 @@ among_all tables t there = has_left all_tables tables t there
 
 -- the trees of a database with a campaign's tables are sound under the schema of these and of all other tables in it
 pub sound_under : (db : Database) (has : HasTables db) → IsSoundDatabase (all_and has.begins.tables has.begins.indexes) db.trees
-sound_under db has = subst (λ s. IsSoundDatabase s db.trees) has.begins.is has.sound
+sound_under db has = subst (λ s. IsSoundDatabase s db.trees) has.begins.made_of has.sound
 
 module _ (t : Table) (old new : Database) (has : HasTables old) (ours : Has all_tables t) where
   -- the schema of `old`: the ten tables with their indexes, and then its other tables and indexes
@@ -59,18 +59,18 @@ module _ (t : Table) (old new : Database) (has : HasTables old) (ours : Has all_
   -- if `new` has the schema of `old`, and its trees are sound under it, it still has a campaign's tables (`HasTables`)
   pub stays_there : new.schema ≡ schema → IsSoundDatabase schema new.trees → HasTables new
   stays_there is sound = record {
-    begins = record { tables = has.begins.tables; indexes = has.begins.indexes; is = is; free = has.begins.free; plain = has.begins.plain };
+    begins = record { tables = has.begins.tables; indexes = has.begins.indexes; made_of = is; free = has.begins.free; plain = has.begins.plain };
     sound = subst (λ s. IsSoundDatabase s new.trees) (sym is) sound;
   }
 
   -- if schema and all tables but `t` are unchanged, no table or index is gone, and tables but the ten stay (`Carries`)
   pub carried : new.schema ≡ schema → OthersStay → Carries old new
   carried is others =
-      let same : new.schema ≡ old.schema = is ∙ sym has.begins.is in
+      let same : new.schema ≡ old.schema = is ∙ sym has.begins.made_of in
       record {
         tables = λ u there. subst (λ (s : Schema). Has s.tables u) (sym same) there;
         indexes = λ i there. subst (λ (s : Schema). Has s.indexes i) (sym same) there;
-        others = λ u there free. others u (subst (λ (s : Schema). Has s.tables u) has.begins.is there) (λ same. free (subst (Has all_trees) (sym same) (has_map (λ (x : Table). x.tree) all_tables t ours)));
+        others = λ u there free. others u (subst (λ (s : Schema). Has s.tables u) has.begins.made_of there) (λ same. free (subst (Has all_trees) (sym same) (has_map (λ (x : Table). x.tree) all_tables t ours)));
       }
 
   -- a write that makes the rows of `t` the set `S` (`Makes`) changes no other table of a campaign (`Alters`)

@@ -165,10 +165,10 @@ module _ (tree : ℕ) (name : List ℕ) (columns : List Column) (places : List �
           let sound = sound_under old.now has in
           let none = unlinked tables indexes tree has.begins.free in
           let db = old.now.trees in
-          let w = runs_as sql values old new schema has.begins.is _ (means tables indexes) (asks tables indexes) count ran.0 in
+          let w = runs_as sql values old new schema has.begins.made_of _ (means tables indexes) (asks tables indexes) count ran.0 in
           let keyed = sound.keyed t key.ours in
           let up = upserting schema tree name columns None places (places ∷ []) [] at (key.place tables) none old.step_limit values places hole project key.plain (statement_of sql (understood schema sql)) terms width (Null ∷ values)
-          db _ keyed (λ r there. writes.aimed (rowid r) _) writes.source (did schema old new _ _ values count has.begins.is w) in
+          db _ keyed (λ r there. writes.aimed (rowid r) _) writes.source (did schema old new _ _ values count has.begins.made_of w) in
           let number = at_least Chosen (next_rowid (db tree)) in
           let new_row : Row = Int number ∷ values in
           let made : with_rowid Chosen (db tree) (cast_row t (Null ∷ values)) ≡ new_row = ap (with_rowid Chosen (db tree)) writes.casted in
@@ -213,10 +213,10 @@ module _ (tree : ℕ) (name : List ℕ) (columns : List Column) (places : List �
           let none = unlinked tables indexes tree has.begins.free in
           let db = old.now.trees in
           let test : Row → Bool = λ r. list_all (holds (k ∷ r ∷ [])) filter in
-          let w = runs_as sql k old new schema has.begins.is _ (means tables indexes) (asks tables indexes) count ran.0 in
+          let w = runs_as sql k old new schema has.begins.made_of _ (means tables indexes) (asks tables indexes) count ran.0 in
           let keyed = sound.keyed t key.ours in
           let out = removes schema tree name columns None places (places ∷ []) [] at (key.place tables) none old.step_limit k (statement_of sql (understood schema sql)) (record { lets = []; body = delete_query tree filter }) test db _ keyed
-          (λ rows answers. found_by tree filter db (overlay db []) k rows (key.plain db) (answers.answer Null)) (did schema old new _ _ k count has.begins.is w) in
+          (λ rows answers. found_by tree filter db (overlay db []) k rows (key.plain db) (answers.answer Null)) (did schema old new _ _ k count has.begins.made_of w) in
           let makes = loses_make schema (among_all tables) t (length front) test k old.now new.now out.0
           (λ x there. (
             λ hit. first x ∙ same_at front x (Null ∷ k) (its_ints x (key_ints tables indexes db sound x there)) ints (sym (finds x) ∙ hit) ∙ whole,

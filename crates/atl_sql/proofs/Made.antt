@@ -5,7 +5,7 @@ use Rattle.sqlite.specs.State.{State}
 use Rattle.sqlite_rules.specs.Lists.{Has}
 use Rattle.sqlite_schema.specs.declared.schema.Schema.{Schema}
 use Rattle.sqlite_schema.specs.declared.schema.Table.{Table}
-use Rattle.atl_sql.specs.Sets.{Set, Is, rows_in}
+use Rattle.atl_sql.specs.Sets.{Set, HasExactly, rows_in}
 use Rattle.atl_sql.specs.Tables.{IsSoundDatabase}
 
 -- a statement wrote one table: its rows are now the set `S`, and every other table is unchanged
@@ -14,7 +14,7 @@ pub record Makes (schema : Schema) (table : Table) (old new : Database) (S : Set
   -- after the write the database has this schema
   pub schema_is : new.schema ≡ schema
   -- after the write the rows of this table are exactly those of the set `S`
-  pub rows : Is (rows_in table new.trees) S
+  pub rows : HasExactly (rows_in table new.trees) S
   -- each table of the schema with another tree than `table` holds after the write what it held before
   pub others : (t : Table) → Has schema.tables t → t.tree ≢ table.tree → new.trees t.tree ≡ old.trees t.tree
   -- the trees list the schema, their rows keep its rules, and rowids of the ten tables are integers, no two alike

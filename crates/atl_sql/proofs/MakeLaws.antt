@@ -18,7 +18,7 @@ use Rattle.sqlite_sql.specs.Program.{overlay}
 use Rattle.sqlite.specs.Effect.{Database, IsDatabase}
 use Rattle.sqlite.specs.State.{State, Writes}
 use Rattle.sqlite.specs.Does.{Does}
-use Rattle.atl_sql.specs.Sets.{visible, rows_in, Is, put, drop_key, AreKeyedByRowid}
+use Rattle.atl_sql.specs.Sets.{visible, rows_in, HasExactly, put, drop_key, AreKeyedByRowid}
 use Rattle.atl_sql.specs.Tables.{all_tables, IsSoundDatabase}
 use Rattle.atl_sql.proofs.Made.{Makes}
 use Rattle.atl_sql.proofs.ListLaws.{has_map, map_has, one_rowid}
@@ -43,7 +43,7 @@ module _ (schema : Schema) (among : (u : Table) → Has all_tables u → Has sch
 
   -- if the rows of a key are exchanged for a new row, the table's set of rows is the old one with the new row put
   pub swaps_set : (p : Row → Bool) (n v : Row) (db next : Trees) → Swaps schema t p n db next → visible t n ≡ v → Tests p (take key v) (db t.tree)
-      → Is (rows_in t next) (put key v (Has (rows_in t db)))
+      → HasExactly (rows_in t next) (put key v (Has (rows_in t db)))
   swaps_set p n v db next swap is tests r = (
     λ there.
         let x = shown_again (next t.tree) r there in
@@ -66,7 +66,7 @@ module _ (schema : Schema) (among : (u : Table) → Has all_tables u → Has sch
   )
 
   -- if the rows of a key are gone, the table's set of rows is the old one without them
-  pub loses_set : (p : Row → Bool) (k : Row) (db next : Trees) → Loses schema t p db next → Tests p k (db t.tree) → Is (rows_in t next) (drop_key key k (Has (rows_in t db)))
+  pub loses_set : (p : Row → Bool) (k : Row) (db next : Trees) → Loses schema t p db next → Tests p k (db t.tree) → HasExactly (rows_in t next) (drop_key key k (Has (rows_in t db)))
   loses_set p k db next lose tests r = (
     λ there.
         let x = shown_again (next t.tree) r there in

@@ -72,7 +72,7 @@ makes_all count enough a b all = (
       record {
         does = λ t listed. ap (map (visible t)) (bare.empty t listed);
         tables = record {
-          begins = record { tables = []; indexes = []; is = bare.schema_is; free = tt; plain = λ i none. absurd none };
+          begins = record { tables = []; indexes = []; made_of = bare.schema_is; free = tt; plain = λ i none. absurd none };
           sound = record {
             keyed = λ t listed. subst AreKeyedByRowid (sym (bare.empty t listed)) no_rows;
             listed = made.1 (omega (arith, some, enough));

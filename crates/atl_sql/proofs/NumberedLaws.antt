@@ -98,10 +98,10 @@ module _ (tree : ℕ) (name key_name : List ℕ) (columns : List Column) (unique
           let none = unlinked has.begins.tables has.begins.indexes tree has.begins.free in
           let k = int n ∷ [] in
           let db = old.now.trees in
-          let w = runs_as drop k old new schema has.begins.is _ (is.drops has.begins.tables has.begins.indexes) (is.drops_plain has.begins.tables has.begins.indexes) count ran.0 in
+          let w = runs_as drop k old new schema has.begins.made_of _ (is.drops has.begins.tables has.begins.indexes) (is.drops_plain has.begins.tables has.begins.indexes) count ran.0 in
           let keyed = sound.keyed t is.ours in
           let out = removes schema tree name (number key_name ∷ columns) (Some 0) (0 ∷ []) uniques [] at (is.place has.begins.tables) none old.step_limit k (statement_of drop (understood schema drop)) (record { lets = []; body = delete_query tree has_number }) (λ r. list_all (holds (k ∷ r ∷ [])) has_number) db _ keyed
-          (λ rows answers. found_by tree has_number db (overlay db []) k rows (is.plain db) (answers.answer Null)) (did schema old new _ _ k count has.begins.is w) in
+          (λ rows answers. found_by tree has_number db (overlay db []) k rows (is.plain db) (answers.answer Null)) (did schema old new _ _ k count has.begins.made_of w) in
           let makes = loses_make schema (among_all has.begins.tables) t 1 (λ r. list_all (holds (k ∷ r ∷ [])) has_number) k old.now new.now out.0 (λ x there. at_number (rowid x) n (all_has _ (db tree) x keyed.ints there)) sound w.sound out.1 in
           done_with t old.now new.now has is.ours _ _ (λ did. did) makes,
     )
@@ -126,10 +126,10 @@ module _ (tree : ℕ) (name key_name : List ℕ) (columns : List Column) (unique
           let v = int n ∷ values in
           let src = int n ∷ Null ∷ values in
           let project = changed_row width in
-          let w = runs_as put v old new schema has.begins.is _ (is.puts has.begins.tables has.begins.indexes) (is.puts_plain has.begins.tables has.begins.indexes) count ran.0 in
+          let w = runs_as put v old new schema has.begins.made_of _ (is.puts has.begins.tables has.begins.indexes) (is.puts_plain has.begins.tables has.begins.indexes) count ran.0 in
           let keyed = sound.keyed t is.ours in
           let up = upserting schema tree name (number key_name ∷ columns) (Some 0) (0 ∷ []) uniques [] at (is.place has.begins.tables) none old.step_limit v (0 ∷ []) (width + 1) project is.plain (statement_of put (understood schema put)) (given_row width) (width + 2) src
-          old.now.trees _ keyed (λ r there. writes.aimed (rowid r) _) writes.source (did schema old new _ _ v count has.begins.is w) in
+          old.now.trees _ keyed (λ r there. writes.aimed (rowid r) _) writes.source (did schema old new _ _ v count has.begins.made_of w) in
           let made : with_rowid Chosen (old.now.trees tree) (cast_row t src) ≡ src = ap (with_rowid Chosen (old.now.trees tree)) writes.casted in
           let shown : visible t (cast_row t src) ≡ v = ap (visible t) writes.casted ∙ writes.shown in
           let others : (x : Row) → list_any (shares (Some (0 ∷ [])) t src x) (all_indexes ++ has.begins.indexes) ≡ false = λ x. (

@@ -22,7 +22,7 @@ use Rattle.sqlite_rules.specs.Cast.{cast_row}
 use Rattle.sqlite_rules.specs.Edit.{with_rowid}
 use Rattle.sqlite_rules.specs.declared.error.Rowids.TheVariants.{Chosen}
 use Rattle.sqlite_rules.proofs.ListLemmas.{all_has}
-use Rattle.atl_sql.specs.Sets.{visible, rows_in, Is}
+use Rattle.atl_sql.specs.Sets.{visible, rows_in, HasExactly}
 use Rattle.atl_sql.specs.Tables.{Own, campaign_table, all_and, all_tables}
 use Rattle.atl_sql.specs.Shown.{CampaignRowValue, int, campaign_row, campaign_row_values}
 use Rattle.atl_sql.specs.Inside.{HasTables, Carries, Puts}
@@ -55,7 +55,7 @@ pub record PutsOwn (project : List Term) (head : CampaignRowValue) (world : List
   -- if there is no campaign row, the row of the values `head` and the world text `world` is put
   pub first : rows_in campaign_table old.trees ≡ [] → Puts campaign_table 1 (campaign_row head world) old new
   -- a campaign row that is there is replaced by the row that the UPDATE makes of it
-  pub again : (before after : Row) → take 1 before ≡ int 1 ∷ [] → take 1 after ≡ int 1 ∷ [] → Is (rows_in campaign_table old.trees) (λ r. r ≡ before) → ((r : Row) → visible campaign_table r ≡ before → changed_to project head world r ≡ after) → Puts campaign_table 1 after old new
+  pub again : (before after : Row) → take 1 before ≡ int 1 ∷ [] → take 1 after ≡ int 1 ∷ [] → HasExactly (rows_in campaign_table old.trees) (λ r. r ≡ before) → ((r : Row) → visible campaign_table r ≡ before → changed_to project head world r ≡ after) → Puts campaign_table 1 after old new
   -- the tables of a campaign are there afterwards
   pub tables : HasTables new
   -- no table or index is gone, and tables that aren't a campaign's hold what they held (`Carries`)
@@ -77,10 +77,10 @@ puts_own sql project means old new head world count has ran =
     let none = unlinked has.begins.tables has.begins.indexes campaign_table.tree has.begins.free in
     let v = campaign_row_values head world in
     let src = src head world in
-    let w = runs_as sql v old new schema has.begins.is _ (means.is has.begins.tables has.begins.indexes) (means.plain has.begins.tables has.begins.indexes) count ran.0 in
+    let w = runs_as sql v old new schema has.begins.made_of _ (means.is has.begins.tables has.begins.indexes) (means.plain has.begins.tables has.begins.indexes) count ran.0 in
     let keyed = sound.keyed campaign_table ours in
     let up = upserting schema campaign_table.tree _ _ _ _ _ _ 0 refl none old.step_limit v (0 ∷ []) 6 project (λ db. refl) (statement_of sql (understood schema sql)) own_terms 9 src
-    old.now.trees _ keyed (λ r there. refl) refl (did schema old new _ _ v count has.begins.is w) in
+    old.now.trees _ keyed (λ r there. refl) refl (did schema old new _ _ v count has.begins.made_of w) in
     let casted : cast_row campaign_table src ≡ src = rw (cast_int (pos 1), cast_int (pos 2), cast_int (pos head.month), cast_int (pos head.next_faction), cast_int (pos head.next_unit), cast_int (pos head.next_structure), cast_null) refl in
     let made : with_rowid Chosen (old.now.trees campaign_table.tree) (cast_row campaign_table src) ≡ src = ap (with_rowid Chosen (old.now.trees campaign_table.tree)) casted in
     let are_ints : (x : Row) → Has (old.now.trees campaign_table.tree) x → is_int (rowid x) ≡ true = λ x there. all_has _ (old.now.trees campaign_table.tree) x keyed.ints there in
@@ -93,7 +93,7 @@ puts_own sql project means old new head world count has ran =
     tests
     (λ x r one two same. one_number _ _ same)
     ours sound w.sound up.1) in
-    let again : (before after : Row) → take 1 before ≡ int 1 ∷ [] → take 1 after ≡ int 1 ∷ [] → Is (rows_in campaign_table old.now.trees) (λ r. r ≡ before) → ((r : Row) → visible campaign_table r ≡ before → changed_to project head world r ≡ after) → Puts campaign_table 1 after old.now new.now = λ before after key key_after is changed.
+    let again : (before after : Row) → take 1 before ≡ int 1 ∷ [] → take 1 after ≡ int 1 ∷ [] → HasExactly (rows_in campaign_table old.now.trees) (λ r. r ≡ before) → ((r : Row) → visible campaign_table r ≡ before → changed_to project head world r ≡ after) → Puts campaign_table 1 after old.now new.now = λ before after key key_after is changed.
     let x = map_has (visible campaign_table) (old.now.trees campaign_table.tree) before ((is before).1 refl) in
     altered campaign_table old.now new.now has ours _ (updates_make schema (among_all has.begins.tables) campaign_table 1 none old.step_limit v (0 ∷ []) 6 project (λ db. refl) src after old.now new.now upserted
     x.0 x.1 (ap (take 1) (sym x.2) ∙ key ∙ sym key_after)

@@ -69,10 +69,10 @@ module _ (count keys : ℕ) (schema : Schema) where
   begins_made tables indexes none = record {
     tables = tables.others;
     indexes = indexes.others;
-    is =
+    made_of =
         ap (λ (v : List _). record { tables = schema.tables; indexes = schema.indexes; views = v }) none
-        ∙ ap (λ (i : List Index). record { tables = schema.tables; indexes = i; views = [] }) indexes.is
-        ∙ ap (λ (t : List Table). record { tables = t; indexes = take keys all_indexes ++ indexes.others; views = [] }) tables.is;
+        ∙ ap (λ (i : List Index). record { tables = schema.tables; indexes = i; views = [] }) indexes.made_of
+        ∙ ap (λ (t : List Table). record { tables = t; indexes = take keys all_indexes ++ indexes.others; views = [] }) tables.made_of;
     free = tables.free;
     plain = λ i there. all_has (IsHarmless count) indexes.others i indexes.plain there;
   }
@@ -80,16 +80,16 @@ module _ (count keys : ℕ) (schema : Schema) where
   -- the tables of a schema that begins with a campaign's are the first `count`, then others without a foreign key
   -- (`AreTables`)
   pub its_tables : Begins count keys schema → AreTables count schema.tables
-  its_tables begins = record { others = begins.tables; is = ap (λ (s : Schema). s.tables) begins.is; free = begins.free }
+  its_tables begins = record { others = begins.tables; made_of = ap (λ (s : Schema). s.tables) begins.made_of; free = begins.free }
 
   -- the indexes of a schema that begins with a campaign's tables are the first `keys` of the four, and then others,
   -- which make nothing unique in the first `count` tables (`AreIndexes`)
   pub its_indexes : Begins count keys schema → AreIndexes count keys schema.indexes
-  its_indexes begins = record { others = begins.indexes; is = ap (λ (s : Schema). s.indexes) begins.is; plain = all_from (IsHarmless count) begins.indexes begins.plain }
+  its_indexes begins = record { others = begins.indexes; made_of = ap (λ (s : Schema). s.indexes) begins.made_of; plain = all_from (IsHarmless count) begins.indexes begins.plain }
 
   -- a schema that begins with the first `count` tables and `keys` indexes of a campaign has no views
   pub no_views : Begins count keys schema → schema.views ≡ []
-  no_views begins = ap (λ (s : Schema). s.views) begins.is
+  no_views begins = ap (λ (s : Schema). s.views) begins.made_of
 
   -- A schema that begins with some tables and indexes begins with fewer of them too.
   -- Premises: the tables left out have no foreign key; the indexes left out make nothing unique in the fewer tables.
@@ -99,8 +99,8 @@ module _ (count keys : ℕ) (schema : Schema) where
   begins_with_fewer fewer fewer_keys tables indexes first first_keys free plain begins = record {
     tables = tables ++ begins.tables;
     indexes = indexes ++ begins.indexes;
-    is =
-        begins.is
+    made_of =
+        begins.made_of
         ∙ ap (λ (t : List Table). record { tables = t; indexes = take keys all_indexes ++ begins.indexes; views = [] }) (ap (λ l. l ++ begins.tables) first ∙ append_assoc (take fewer all_tables) tables begins.tables)
         ∙ ap (λ (i : List Index). record { tables = take fewer all_tables ++ (tables ++ begins.tables); indexes = i; views = [] }) (ap (λ l. l ++ begins.indexes) first_keys ∙ append_assoc (take fewer_keys all_indexes) indexes begins.indexes);
     free = all-append _ tables begins.tables free begins.free;

@@ -23,7 +23,7 @@ use Rattle.sqlite_trees.specs.Tree.{Trees}
 use Rattle.atl_world.specs.declared.format.Format.{Format}
 use Rattle.atl_world.specs.declared.format.Format.TheVariants.{First, Second}
 use Rattle.atl_sql.specs.Tables.{Part, Own, Goods, Books, Markets, has_table, books_table, table_of, market_table, market_unique, all_tables, first_and, table_count_in, index_count_in, IsHarmless, HasTablesOf}
-use Rattle.atl_sql.specs.Reading.{listing_of}
+use Rattle.atl_sql.specs.Reading.{select_of_part}
 use Rattle.atl_sql.specs.Stored.{first_columns}
 use Rattle.atl_sql.proofs.ReadLaws.{all_query, all_shown}
 use Rattle.atl_sql.proofs.RowsLaws.{Reads}
@@ -68,22 +68,22 @@ key_of part = 1
 -- ---- a SELECT of all rows
 
 -- the SELECT of a part means its columns (`columns_of`) of all rows, in the key's order, whatever other tables follow
--- These rows are those that `listing_of` says of the part.
+-- These rows are those that `select_of_part` says of the part.
 record IsMeant (part : Part) : Type 0 where
   -- the text means the query of the part's columns (`columns_of`) of all rows of its table, in the order of the key
   command : (more : List Table) (indexes : List Index)
-      → command_of (understood (first_and (table_count_in (listing_of part).since) (index_count_in (listing_of part).since) more indexes) (listing_of part).select)
-      ≡ Select (record { lets = []; body = all_query (table_of part).tree (columns_of part) (map (λ column. (column, ascending Binary)) (first (table_of part) (key_of part))) }) (listing_of part).names
+      → command_of (understood (first_and (table_count_in (select_of_part part).since) (index_count_in (select_of_part part).since) more indexes) (select_of_part part).select)
+      ≡ Select (record { lets = []; body = all_query (table_of part).tree (columns_of part) (map (λ column. (column, ascending Binary)) (first (table_of part) (key_of part))) }) (select_of_part part).names
   -- the SELECT has no RETURNING and doesn't read the time
-  plain : (more : List Table) (indexes : List Index) → IsPlain (understood (first_and (table_count_in (listing_of part).since) (index_count_in (listing_of part).since) more indexes) (listing_of part).select)
+  plain : (more : List Table) (indexes : List Index) → IsPlain (understood (first_and (table_count_in (select_of_part part).since) (index_count_in (select_of_part part).since) more indexes) (select_of_part part).select)
   -- the SELECT doesn't read `sqlite_schema`, the table in which the database lists its tables
-  unlisted : (more : List Table) (indexes : List Index) → reads_listing (first_and (table_count_in (listing_of part).since) (index_count_in (listing_of part).since) more indexes) (listing_of part).select ≡ false
+  unlisted : (more : List Table) (indexes : List Index) → reads_listing (first_and (table_count_in (select_of_part part).since) (index_count_in (select_of_part part).since) more indexes) (select_of_part part).select ≡ false
   -- the table's tree is one of the file, not that of a temporary table
   same : (db : Trees) → overlay db [] (table_of part).tree ≡ db (table_of part).tree
-  -- the rows that the query shows of the table are those that `listing_of` says of the part
-  rows : (db : Trees) → map (λ r. eval_all (columns_of part) ([] ∷ r ∷ [])) (db (table_of part).tree) ≡ (listing_of part).in_table db
-  -- a row that the query shows has just the columns that `listing_of` names for the part
-  whole : (r : Row) → first_columns (length (listing_of part).names) (eval_all (columns_of part) ([] ∷ r ∷ [])) ≡ eval_all (columns_of part) ([] ∷ r ∷ [])
+  -- the rows that the query shows of the table are those that `select_of_part` says of the part
+  rows : (db : Trees) → map (λ r. eval_all (columns_of part) ([] ∷ r ∷ [])) (db (table_of part).tree) ≡ (select_of_part part).in_table db
+  -- a row that the query shows has just the columns that `select_of_part` names for the part
+  whole : (r : Row) → first_columns (length (select_of_part part).names) (eval_all (columns_of part) ([] ∷ r ∷ [])) ≡ eval_all (columns_of part) ([] ∷ r ∷ [])
 
 -- the SELECT of each part means the columns of all rows, in the order of the key (`IsMeant`)
 meant : (part : Part) → IsMeant part
@@ -92,17 +92,17 @@ meant Own = record { command = λ more indexes. refl; plain = λ more indexes. (
 meant part = record { command = λ more indexes. refl; plain = λ more indexes. (refl, refl); unlisted = λ more indexes. refl; same = λ db. refl; rows = λ db. refl; whole = λ r. refl }
 
 -- the SELECT of each part shows all rows of its table
-pub reads_part : (part : Part) (count : ℕ) → count ≡ length (listing_of part).names → Reads (listing_of part).since (listing_of part).select (listing_of part).in_table count
+pub reads_part : (part : Part) (count : ℕ) → count ≡ length (select_of_part part).names → Reads (select_of_part part).since (select_of_part part).select (select_of_part part).in_table count
 reads_part part count same old new rows h has =
-    let listing = listing_of part in
+    let listing = select_of_part part in
     let is = meant part in
     let shown : Row → Row = λ r. eval_all (columns_of part) ([] ∷ r ∷ []) in
     let cut = first_columns (length listing.names) in
-    let got = reads_as listing.select [] old new (first_and (table_count_in listing.since) (index_count_in listing.since) has.tables has.indexes) has.is _ (is.command has.tables has.indexes) (is.plain has.tables has.indexes) (is.unlisted has.tables has.indexes) rows h in
+    let got = reads_as listing.select [] old new (first_and (table_count_in listing.since) (index_count_in listing.since) has.tables has.indexes) has.made_of _ (is.command has.tables has.indexes) (is.plain has.tables has.indexes) (is.unlisted has.tables has.indexes) rows h in
     let all = all_shown (table_of part).tree (columns_of part) _ old.now.trees (overlay old.now.trees []) [] rows (is.same old.now.trees) (got.answer Null) in
     let told : IsPermutation (listing.in_table old.now.trees) (map cut rows) = subst (λ was. IsPermutation was (map cut rows)) (is.rows old.now.trees) (whole_shown shown cut is.whole (old.now.trees (table_of part).tree) rows all) in
     subst (λ n. IsPermutation (listing.in_table old.now.trees) (map (first_columns n) rows)) (sym same) told
 
 -- under the tables of its format the SELECT of a part has no RETURNING and doesn't read the time (`IsPlain`)
-pub part_plain : (part : Part) (schema : Schema) → HasTablesOf (listing_of part).since schema → IsPlain (understood schema (listing_of part).select)
-part_plain part schema has = subst (λ s. IsPlain (understood s (listing_of part).select)) (sym has.is) ((meant part).plain has.tables has.indexes)
+pub part_plain : (part : Part) (schema : Schema) → HasTablesOf (select_of_part part).since schema → IsPlain (understood schema (select_of_part part).select)
+part_plain part schema has = subst (λ s. IsPlain (understood s (select_of_part part).select)) (sym has.made_of) ((meant part).plain has.tables has.indexes)

@@ -52,8 +52,8 @@ module _ (schema : Schema) (tree : ℕ) (name : List ℕ) (columns : List Column
   t = table tree name columns key primary uniques checks
 
   -- the row that INSERT OR REPLACE stores for the values that are the second argument, where the trees are the first
-  abbrev pub made : Trees → Row → Row
-  made db src = with_rowid Chosen (db tree) (cast_row t (mended Replace t src))
+  abbrev pub row_replaced_by : Trees → Row → Row
+  row_replaced_by db src = with_rowid Chosen (db tree) (cast_row t (mended Replace t src))
 
   -- what a statement on the table `u` is run with: the step limit, the schema, the table and the parameters
   abbrev task : Option ℕ → Row → Table → Task
@@ -87,8 +87,8 @@ module _ (schema : Schema) (tree : ℕ) (name : List ℕ) (columns : List Column
   -- ---- INSERT .. ON CONFLICT DO UPDATE
 
   -- the row that an upsert would insert for the values that are the second argument, where the trees are the first
-  abbrev pub made_up : Trees → Row → Row
-  made_up db src = with_rowid Chosen (db tree) (cast_row t src)
+  abbrev pub row_inserted_by : Trees → Row → Row
+  row_inserted_by db src = with_rowid Chosen (db tree) (cast_row t src)
 
   module _ (limit : Option ℕ) (params : Row) (target : List ℕ) (hole : ℕ) (project : List Term) (plain : (db : Trees) → overlay db [] tree ≡ db tree) where
     -- the program of the UPDATE of this upsert
@@ -101,38 +101,38 @@ module _ (schema : Schema) (tree : ℕ) (name : List ℕ) (columns : List Column
 
     -- trying the one row of an upsert puts it, or changes the row with its key (`Changed`)
     each_upserts : (src : Row) (top : ℤ) (db : Trees) (done : Written × ℤ) → AreKeyedByRowid (db tree)
-        → ((r : Row) → Has (db tree) r → column (params ++ rowid r ∷ shown t (made_up db src)) hole ≡ rowid r)
+        → ((r : Row) → Has (db tree) r → column (params ++ rowid r ∷ shown t (row_inserted_by db src)) hole ≡ rowid r)
         → TriesEach (task limit params t) Abort (clause_on target q ∷ []) (src ∷ []) top (nothing db) (Ok done)
-        → Changed (made_up db src) db done.0.trees
+        → Changed (row_inserted_by db src) db done.0.trees
     each_upserts src top db done keyed aimed h =
         let one = went h in
         let is : done.0.trees ≡ one.0.trees = ap (λ (x : Written × ℤ). x.0.trees) (same_value one.2) in
-        subst (Changed (made_up db src) db) (sym is) (upserts schema t unlinked limit params target hole project plain (made_up db src) db one.0 keyed aimed one.1)
+        subst (Changed (row_inserted_by db src) db) (sym is) (upserts schema t unlinked limit params target hole project plain (row_inserted_by db src) db one.0 keyed aimed one.1)
 
     -- an upsert whose terms make one row puts it, or changes the row with its key (`Changed`)
     rows_upsert : (terms : List Term) (width : ℕ) (src : Row) (db : Trees) (w : Written) → AreKeyedByRowid (db tree)
-        → ((r : Row) → Has (db tree) r → column (params ++ rowid r ∷ shown t (made_up db src)) hole ≡ rowid r)
+        → ((r : Row) → Has (db tree) r → column (params ++ rowid r ∷ shown t (row_inserted_by db src)) hole ≡ rowid r)
         → value_rows (params ++ []) width (length terms / width) terms ≡ src ∷ []
-        → InsertsOr (task limit params t) Abort (clause_on target q ∷ []) (Values terms width) db (Ok w) → Changed (made_up db src) db w.trees
+        → InsertsOr (task limit params t) Abort (clause_on target q ∷ []) (Values terms width) db (Ok w) → Changed (row_inserted_by db src) db w.trees
     rows_upsert terms width src db w keyed aimed source h =
         let rows = went h in
         let counter = went rows.2 in
         let each = went counter.2 in
         let given : rows.0 ≡ src ∷ [] = rows.1.1 ∙ source in
-        subst (Changed (made_up db src) db) (sym (counted limit params db each.0 counter.0 w each.2))
+        subst (Changed (row_inserted_by db src) db) (sym (counted limit params db each.0 counter.0 w each.2))
         (each_upserts src (count_of counter.0) db each.0 keyed aimed (subst (λ l. TriesEach (task limit params t) Abort (clause_on target q ∷ []) l (count_of counter.0) (nothing db) (Ok each.0)) given each.1))
 
     -- an upsert that ran put its row, or changed the row with its key (`Changed`)
     pub upserting : (text : List ℕ) (terms : List Term) (width : ℕ) (src : Row) (db : Trees) (out : Tally × Database) → AreKeyedByRowid (db tree)
-        → ((r : Row) → Has (db tree) r → column (params ++ rowid r ∷ shown t (made_up db src)) hole ≡ rowid r)
+        → ((r : Row) → Has (db tree) r → column (params ++ rowid r ∷ shown t (row_inserted_by db src)) hole ≡ rowid r)
         → value_rows (params ++ []) width (length terms / width) terms ≡ src ∷ []
         → Does limit mode params (record { schema = schema; trees = db }) text None (InsertOr at Abort (Values terms width) (clause_on target q ∷ [])) (Ok out)
-        → Changed (made_up db src) db out.1.trees × (out.1.schema ≡ schema)
+        → Changed (row_inserted_by db src) db out.1.trees × (out.1.schema ≡ schema)
     upserting text terms width src db out keyed aimed source h =
         let on_rows = subst (λ o. AtPlace (λ (u : Table). OnRows (task limit params u) mode None (InsertOr at Abort (Values terms width) (clause_on target q ∷ [])) db) o (Ok out)) place h in
         let wrote = went on_rows in
         let end = concluded limit params wrote.0 out wrote.2 in
-        (subst (Changed (made_up db src) db) (sym end.0) (rows_upsert terms width src db wrote.0 keyed aimed source wrote.1), end.1)
+        (subst (Changed (row_inserted_by db src) db) (sym end.0) (rows_upsert terms width src db wrote.0 keyed aimed source wrote.1), end.1)
 
 -- ---- statements by their text
 

@@ -63,7 +63,7 @@ module _ {S : Type 0} (g : Ghosts S) where
       does = λ _. not_ok result _ failed.0;
       goes_on = λ _. not_ok result _ failed.0;
       reaches = λ clean inside. not_ok result _ failed.0;
-      told = λ clean inside. errs_as _ result e failed.1 (gives g (Only sql params) e old.now new.now inside (inl (sql, params, (refl, refl), ran clean inside)));
+      error_given = λ clean inside. errs_as _ result e failed.1 (gives g (Only sql params) e old.now new.now inside (inl (sql, params, (refl, refl), ran clean inside)));
       kept = keeps (Err e) ended ran;
       survives = survives;
     }
@@ -81,7 +81,7 @@ module _ {S : Type 0} (g : Ghosts S) where
         | inr outside ↦ absurd (let e = (ended outside).0 in cc)
       ];
       reaches = λ clean inside. (1, (new.now, (sql, params, (refl, refl), count, ran clean inside), refl));
-      told = λ clean inside. tt;
+      error_given = λ clean inside. tt;
       kept = keeps (Ok count) ended ran;
       survives = survives;
     }
@@ -90,7 +90,7 @@ module _ {S : Type 0} (g : Ghosts S) where
 
   -- a write that does `First` is a write that does `Does`, if `Does` follows from `First`
   pub weaker : {own : Statements} {First Does : State → State → Type 0} {A : Type 0} {r : Result A Error} {a b : MutBor (Held S)} → ((old new : State) → First old new → Does old new) → Writes g own First r a b → Writes g own Does r a b
-  weaker {r = r} less one = record { same_reference = one.same_reference; does = λ clean. on_ok r (less _ _) (one.does clean); goes_on = one.goes_on; reaches = one.reaches; told = one.told; kept = one.kept; survives = one.survives }
+  weaker {r = r} less one = record { same_reference = one.same_reference; does = λ clean. on_ok r (less _ _) (one.does clean); goes_on = one.goes_on; reaches = one.reaches; error_given = one.error_given; kept = one.kept; survives = one.survives }
 
   -- a write by statements of `own` is a write by statements of `more`, if `more` has all of them
   pub among : {own more : Statements} {Does : State → State → Type 0} {A : Type 0} {r : Result A Error} {a b : MutBor (Held S)} → ((sql : List ℕ) (params : Row) → own sql params → more sql params) → Writes g own Does r a b → Writes g more Does r a b
@@ -99,7 +99,7 @@ module _ {S : Type 0} (g : Ghosts S) where
     does = one.does;
     goes_on = one.goes_on;
     reaches = λ clean inside. on_ok r (reached_among g own more within a.now b.now) (one.reaches clean inside);
-    told = λ clean inside. if_err r (λ e. gives_among g own more within e a.now b.now) (one.told clean inside);
+    error_given = λ clean inside. if_err r (λ e. gives_among g own more within e a.now b.now) (one.error_given clean inside);
     kept = one.kept;
     survives = one.survives;
   }
@@ -124,9 +124,9 @@ module _ {S : Type 0} (g : Ghosts S) where
         reaches = λ clean inside.
             let first = one.reaches (before clean) inside in
             on_ok r (reached_then g own first.0 _ _ _ first.1) (two.reaches clean (subst IsTrue (sym (one.goes_on (before clean))) inside));
-        told = λ clean inside.
+        error_given = λ clean inside.
             let still : IsTrue (state g b.now).in_transaction = subst IsTrue (sym (one.goes_on (before clean))) inside in
-            if_err r (λ e. gives_after g own e a.now b.now c.now inside still (one.reaches (before clean) inside) (before clean) (one.kept (before clean)) one.survives two.survives.counts) (two.told clean still);
+            if_err r (λ e. gives_after g own e a.now b.now c.now inside still (one.reaches (before clean) inside) (before clean) (one.kept (before clean)) one.survives two.survives.counts) (two.error_given clean still);
         kept = keeps_more _ _ _ two.survives one.kept two.kept;
         survives = survives_more _ _ _ one.survives two.survives;
       }
@@ -138,7 +138,7 @@ module _ {S : Type 0} (g : Ghosts S) where
     does = λ _. not_ok r _ failed.0;
     goes_on = λ _. not_ok r _ failed.0;
     reaches = λ clean inside. not_ok r _ failed.0;
-    told = λ clean inside. errs_as _ r e failed.1 (one.told clean inside);
+    error_given = λ clean inside. errs_as _ r e failed.1 (one.error_given clean inside);
     kept = one.kept;
     survives = one.survives;
   }
@@ -160,7 +160,7 @@ module _ {S : Type 0} (g : Ghosts S) where
             on_ok r (all _ _ _ _ (one.does (omega (arith, before, two.survives.clean))) (two.does before)) (three.does clean);
         goes_on = whole.goes_on;
         reaches = whole.reaches;
-        told = whole.told;
+        error_given = whole.error_given;
         kept = whole.kept;
         survives = whole.survives;
       }
@@ -171,4 +171,4 @@ module _ {S : Type 0} (g : Ghosts S) where
 
   -- doing nothing is a write (`Writes`) that does `Does`, if `Does` holds between each state and itself
   pub begins : {own : Statements} {Does : State → State → Type 0} {A : Type 0} {a : A} {b : MutBor (Held S)} → ((s : State) → Does s s) → Writes g own Does (Ok a) b b
-  begins none = record { same_reference = refl; does = λ _. none _; goes_on = λ _. refl; reaches = λ clean inside. (0, refl); told = λ clean inside. tt; kept = λ _. record { was_open = λ up. up; committed = λ _. refl }; survives = survives_start _ }
+  begins none = record { same_reference = refl; does = λ _. none _; goes_on = λ _. refl; reaches = λ clean inside. (0, refl); error_given = λ clean inside. tt; kept = λ _. record { was_open = λ up. up; committed = λ _. refl }; survives = survives_start _ }

@@ -7,7 +7,7 @@ use Rattle.sqlite_rules.specs.Lists.{Has}
 use Rattle.sqlite.specs.Effect.{Database}
 use Rattle.sqlite.specs.State.{State}
 use Rattle.sqlite_trees.specs.Tree.{Trees}
-use Rattle.atl_sql.specs.Sets.{Set, Is, rows_in, put, puts, drop_key}
+use Rattle.atl_sql.specs.Sets.{Set, HasExactly, rows_in, put, puts, drop_key}
 use Rattle.atl_sql.specs.Tables.{Part, table_of, no_tables, all_tables, all_trees, HasAll, IsSoundDatabase}
 
 -- the schema begins with the tables of a campaign, and the trees are sound under it (`IsSoundDatabase`)
@@ -50,7 +50,7 @@ Both First Second old new = (mid : Database) × First old mid × Second mid new
 -- the rows of this table are exactly this set, and each other table of a campaign is as it was
 pub record Alters (table : Table) (S : Set) (old new : Database) : Type 0 where
   -- the rows of the table are exactly those of the set `S`
-  pub rows : Is (rows_in table new.trees) S
+  pub rows : HasExactly (rows_in table new.trees) S
   -- each table of a campaign but `table` holds what it held before
   pub others : (t : Table) → Has all_tables t → t.tree ≢ table.tree → new.trees t.tree ≡ old.trees t.tree
 

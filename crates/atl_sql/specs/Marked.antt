@@ -7,22 +7,22 @@ use Rattle.sqlite.specs.declared.types.Value.TheVariants.{Int}
 use Rattle.sqlite.specs.Order.{Row}
 use Rattle.atl_world.specs.Groups.{group_of}
 use Rattle.atl_records.specs.Limits.{entry_count}
-use Rattle.atl_campaign.specs.Marks.{Marks, Things}
+use Rattle.atl_campaign.specs.Marks.{Marks, MarkedThings}
 use Rattle.atl_sql.specs.declared.rows.has.ThingKind.{ThingKind}
 use Rattle.atl_sql.specs.declared.rows.has.ThingKind.TheVariants.{Item, Skill}
 use Rattle.atl_sql.specs.Tables.{Part, Own, Factions, Regions, Units, Goods, Structures, Mail, Reports, Books, Markets}
 use Rattle.atl_sql.specs.Written.{sort_number}
 
 -- whether the first column of a row is a natural number for which the test `is_so`, the first argument, is true
-abbrev pub begins : (ℕ → Bool) → Row → Bool
-begins is_so (Int (pos n) ∷ row) = is_so n
-begins is_so row = false
+abbrev pub first_column_passes : (ℕ → Bool) → Row → Bool
+first_column_passes is_so (Int (pos n) ∷ row) = is_so n
+first_column_passes is_so row = false
 
 -- whether the test `is_so`, the first argument, is true of the entry and the thing of a row of `books`
 -- The entry is given by its index, the first column less 1; the thing by its number, the second column.
-abbrev pub accounts : (ℕ → ℕ → Bool) → Row → Bool
-accounts is_so (Int (pos (suc entry)) ∷ Int (pos thing) ∷ row) = is_so entry thing
-accounts is_so row = false
+abbrev pub entry_and_thing_pass : (ℕ → ℕ → Bool) → Row → Bool
+entry_and_thing_pass is_so (Int (pos (suc entry)) ∷ Int (pos thing) ∷ row) = is_so entry thing
+entry_and_thing_pass is_so row = false
 
 -- whether a row of `has` is of this kind (item or skill), and the test `is_so` is true of its unit and item or skill
 abbrev pub of_kind : ThingKind → (ℕ → ℕ → Bool) → Row → Bool
@@ -36,10 +36,10 @@ of_stock is_so row = false
 
 -- whether the first column of a row is a marked number
 abbrev pub begins_marked : FinSet nat_cmp → Row → Bool
-begins_marked marks r = begins (contains marks) r
+begins_marked marks r = first_column_passes (contains marks) r
 
 -- whether this item or skill of this unit, or this item of this region, is among the marked `things`
-abbrev pub has_thing : Things → ℕ → ℕ → Bool
+abbrev pub has_thing : MarkedThings → ℕ → ℕ → Bool
 has_thing things unit thing = is_some (get (group_of things unit) thing)
 
 -- whether a row of `has` is marked: with all goods of its unit, or as a single item or skill
@@ -57,7 +57,7 @@ is_marked_amount marks entry thing = nat_le (suc entry) entry_count && contains 
 
 -- whether a row of `books` is of a marked amount
 abbrev pub amount_marked : FinSet nat_cmp → Row → Bool
-amount_marked marks r = accounts (is_marked_amount marks) r
+amount_marked marks r = entry_and_thing_pass (is_marked_amount marks) r
 
 -- whether a row of a part's table is marked, by its key; the campaign row always counts as marked,
 -- since `own_after` of atl_store looks at its mark

@@ -2,7 +2,7 @@
 use Rattle.std.specs.Prelude.{◌≡◌, List, ℕ, []}
 use Rattle.sqlite.specs.Effect.{Database}
 use Rattle.atl_world.specs.declared.format.Format.TheVariants.{First}
-use Rattle.atl_sql.specs.Sets.{rows_in, Is}
+use Rattle.atl_sql.specs.Sets.{rows_in, HasExactly}
 use Rattle.atl_sql.specs.Tables.{campaign_table}
 use Rattle.atl_sql.specs.Shown.{CampaignRowValue, campaign_row, campaign_row_in}
 use Rattle.atl_sql.specs.Inside.{Puts}
@@ -12,8 +12,8 @@ pub record PutsCampaignRow (head : CampaignRowValue) (world : List ℕ) (old new
   -- without a campaign row, the row of the values `head` and the world text `world` is inserted
   pub first : rows_in campaign_table old.trees ≡ [] → Puts campaign_table 1 (campaign_row head world) old new
   -- a campaign row of the second format that is there becomes the row of the values `head`, with its own world text
-  pub again : (before : CampaignRowValue) (text : List ℕ) → Is (rows_in campaign_table old.trees) (λ r. r ≡ campaign_row before text) → Puts campaign_table 1 (campaign_row head text) old new
+  pub again : (before : CampaignRowValue) (text : List ℕ) → HasExactly (rows_in campaign_table old.trees) (λ r. r ≡ campaign_row before text) → Puts campaign_table 1 (campaign_row head text) old new
 
 -- a campaign row of the values `head` in the first format becomes the one in the second, with the world text `text`
 abbrev pub UpgradesCampaignRow : CampaignRowValue → List ℕ → Database → Database → Type 0
-UpgradesCampaignRow head text old new = (before : List ℕ) → Is (rows_in campaign_table old.trees) (λ r. r ≡ campaign_row_in First head before) → Puts campaign_table 1 (campaign_row head text) old new
+UpgradesCampaignRow head text old new = (before : List ℕ) → HasExactly (rows_in campaign_table old.trees) (λ r. r ≡ campaign_row_in First head before) → Puts campaign_table 1 (campaign_row head text) old new

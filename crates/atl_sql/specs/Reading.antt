@@ -126,16 +126,16 @@ pub record PartSelect : Type 0 where
   pub in_table : Trees → List Row
 
 -- how to read all columns of a table whose key is its first `key` columns
-abbrev pub whole : Format → Table → ℕ → PartSelect
-whole since t key = record { since = since; names = column_names t; select = selection t key; in_table = rows_in t }
+abbrev pub select_all_columns : Format → Table → ℕ → PartSelect
+select_all_columns since t key = record { since = since; names = column_names t; select = selection t key; in_table = rows_in t }
 
 -- how to read all columns of a table whose key is its first `key` columns, and each row's rowid as a last column
-abbrev pub whole_with_ids : Format → Table → ℕ → PartSelect
-whole_with_ids since t key = record { since = since; names = column_names t ++ codes "rowid" ∷ []; select = selection_with_ids t key; in_table = rows_with_ids_in t }
+abbrev pub select_all_columns_with_ids : Format → Table → ℕ → PartSelect
+select_all_columns_with_ids since t key = record { since = since; names = column_names t ++ codes "rowid" ∷ []; select = selection_with_ids t key; in_table = rows_with_ids_in t }
 
 -- how each part is read: goods, books and stocks with their rowids, all others without
-abbrev pub listing_of : Part → PartSelect
-listing_of Goods = whole_with_ids First has_table 3
-listing_of Books = whole_with_ids First books_table 2
-listing_of Markets = whole_with_ids Second market_table 2
-listing_of part = whole First (table_of part) 1
+abbrev pub select_of_part : Part → PartSelect
+select_of_part Goods = select_all_columns_with_ids First has_table 3
+select_of_part Books = select_all_columns_with_ids First books_table 2
+select_of_part Markets = select_all_columns_with_ids Second market_table 2
+select_of_part part = select_all_columns First (table_of part) 1

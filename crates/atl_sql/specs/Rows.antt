@@ -16,7 +16,7 @@ use Rattle.atl_records.specs.declared.records.Structure.{Structure}
 use Rattle.atl_records.specs.declared.records.Unit.{Unit}
 use Rattle.atl_sql.specs.declared.rows.has.ThingKind.{ThingKind}
 use Rattle.atl_sql.specs.declared.rows.has.ThingKind.TheVariants.{Item, Skill}
-use Rattle.atl_sql.specs.Sets.{Set, Is, rows_in}
+use Rattle.atl_sql.specs.Sets.{Set, HasExactly, rows_in}
 use Rattle.atl_sql.specs.Tables.{Part, Own, Factions, Regions, Units, Goods, Structures, Mail, Reports, Books, Markets, table_of, parts_in}
 use Rattle.atl_world.specs.declared.format.Format.{Format}
 use Rattle.sqlite_rules.specs.Lists.{Has}
@@ -99,9 +99,9 @@ rows_for own c Markets = MarketRowsOf c.regions
 -- the ten tables have exactly the rows of the world text and the campaign
 pub record Holds (trees : Trees) (text : List ℕ) (c : CampaignValue) : Type 0 where
   -- each part's table has exactly the part's rows
-  pub rows : (part : Part) → Is (rows_in (table_of part) trees) (rows_for (campaign_line text c) c part)
+  pub rows : (part : Part) → HasExactly (rows_in (table_of part) trees) (rows_for (campaign_line text c) c part)
 
 -- the tables of a format have exactly the rows of the world text and the campaign
 pub record HoldsIn (f : Format) (trees : Trees) (text : List ℕ) (c : CampaignValue) : Type 0 where
   -- the table of each part that the format has holds exactly the part's rows
-  pub rows : (part : Part) → Has (parts_in f) part → Is (rows_in (table_of part) trees) (rows_for (campaign_row_in f (campaign_row_of c) text) c part)
+  pub rows : (part : Part) → Has (parts_in f) part → HasExactly (rows_in (table_of part) trees) (rows_for (campaign_row_in f (campaign_row_of c) text) c part)

@@ -201,7 +201,7 @@ pub record AreTables (count : ℕ) (all : List Table) : Type 0 where
   -- the tables after the first `count`
   pub others : List Table
   -- the list is the first `count` of the ten tables, and then the others
-  pub is : all ≡ take count all_tables ++ others
+  pub made_of : all ≡ take count all_tables ++ others
   -- none of the tables after the first `count` has a foreign key
   pub free : AllByRecursion (λ t. t.references ≡ []) others
 
@@ -211,7 +211,7 @@ pub record AreIndexes (count keys : ℕ) (all : List Index) : Type 0 where
   -- the indexes after the first `keys`
   pub others : List Index
   -- the list is the first `keys` of the four indexes, and then the others
-  pub is : all ≡ take keys all_indexes ++ others
+  pub made_of : all ≡ take keys all_indexes ++ others
   -- none of the indexes after the first `keys` makes anything unique in the first `count` tables
   pub plain : AllByRecursion (IsHarmless count) others
 
@@ -223,7 +223,7 @@ pub record Begins (count keys : ℕ) (schema : Schema) : Type 0 where
   -- the schema's indexes after the first `keys`
   pub indexes : List Index
   -- the schema is the first `count` tables and `keys` indexes, and then these tables and indexes
-  pub is : schema ≡ first_and count keys tables indexes
+  pub made_of : schema ≡ first_and count keys tables indexes
   -- none of the tables after the first `count` has a foreign key
   pub free : AllByRecursion (λ t. t.references ≡ []) tables
   -- none of the indexes after the first `keys` makes anything unique in the first `count` tables

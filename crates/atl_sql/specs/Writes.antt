@@ -25,7 +25,7 @@ pub record Writes {S : Type 0} (g : Ghosts S) (own : Statements) (Does : State �
   -- With Ok the step has run statements of `own` alone, if a transaction had begun and the disk is clean.
   pub reaches : HasCleanDisk (state g new.now) → IsTrue (state g old.now).in_transaction → OnOk result (IsReached g own old.now new.now)
   -- An error of the step is one that a call of the transaction gave, if a transaction had begun and the disk is clean.
-  pub told : HasCleanDisk (state g new.now) → IsTrue (state g old.now).in_transaction → IfErr result (λ e. Gives g own e old.now new.now)
+  pub error_given : HasCleanDisk (state g new.now) → IsTrue (state g old.now).in_transaction → IfErr result (λ e. Gives g own e old.now new.now)
   -- The step has committed nothing, if the disk is clean.
   pub kept : HasCleanDisk (state g new.now) → KeepsCommit (state g old.now) (state g new.now)
   -- On a clean disk a crash leaves only what it could have left before, and only a failure closes the connection.
@@ -57,7 +57,7 @@ pub record Transacts {S : Type 0} (g : Ghosts S) (own : Statements) (Before : Da
   -- With an error, on a clean disk, the tables are those of the last commit, if the connection is still open.
   pub err : HasCleanDisk (state g new) → OnErr result (LeavesOff (state g old) (state g new))
   -- An error of the transaction is one that a statement of `own`, or the commit, gave, if the disk is clean.
-  pub told : HasCleanDisk (state g new) → IfErr result (λ e. Gives g own e old new)
+  pub error_given : HasCleanDisk (state g new) → IfErr result (λ e. Gives g own e old new)
   -- On a clean disk a crash leaves what it could have left before, or what the transaction commits (`MayLeave`), and
   -- only a failure closes the connection. A disk in doubt stays so, no failure is forgotten; shield and limit stay.
   pub crash : Survives (state g old) (state g new) (MayLeave Before Does (state g old))

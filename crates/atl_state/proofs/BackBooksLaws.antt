@@ -14,7 +14,7 @@ use Rattle.atl_records.specs.declared.books.Entry.{Entry}
 use Rattle.atl_records.specs.declared.books.Thing.{Thing}
 use Rattle.atl_records.specs.Books.{Account, BooksValue, account_cmp, amount_in, AreBooks, entry_index, entry_numbered, no_amounts, thing_at, thing_index}
 use Rattle.atl_campaign.specs.FromRows.{put_amounts}
-use Rattle.atl_campaign.specs.RowRules.{books_key, HaveKeys}
+use Rattle.atl_campaign.specs.RowRules.{books_key, HaveDistinctKeys}
 use Rattle.atl_campaign.specs.Rows.{amounts_rows, books_row, books_rows}
 use Rattle.atl_campaign.proofs.ReadBackLaws.{each_permuted, each_back, read_whole, apart_keys, keys_permuted, same_size}
 use Rattle.atl_records.proofs.AccountLaws.{account_total, thing_at_index, same_account}
@@ -122,7 +122,7 @@ module _ (things : ℕ) (few : things ≤ 4294967294) (books : BooksValue) (are 
 
   module _ (rows : List StoredBooks) (h : IsPermutation (books_rows books) rows) where
     -- the rows of the books, in any order, have distinct keys
-    pub books_keys : HaveKeys books_key rows
+    pub books_keys : HaveDistinctKeys books_key rows
     books_keys = keys_permuted books_key (books_rows books) rows h (entries_apart (entries books.amounts) (amounts_sorted books.amounts))
 
     -- each row of the books, in any order, is read as an account (an entry and a thing), its amount not 0 (IsBooked)

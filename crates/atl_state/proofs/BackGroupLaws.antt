@@ -11,7 +11,7 @@ use Rattle.atl_campaign.specs.Rows.{rows_by}
 use Rattle.atl_campaign.proofs.ReadBackLaws.{each_permuted, each_back, by_number_is, append_each, each_appended, every_row, rows_every, rows_apart, entries_rise}
 use Rattle.atl_records.proofs.EveryLaws.{every-from_each, each-from_every}
 use Rattle.atl_campaign.proofs.GroupLaws.{filter_apart, kept, unkept}
-use Rattle.atl_campaign.proofs.MapOfRowsLaws.{Apart, rows_found}
+use Rattle.atl_campaign.proofs.MapOfRowsLaws.{HaveDistinctNumbers, rows_found}
 
 -- ---- what holds for each element of joined lists
 
@@ -77,7 +77,7 @@ module _ {R : Type 0} (thing amount : R → ℕ) (mine : R → Bool) (m : FinMap
 
   -- The map `m` is read back from the rows that pass the test `mine`. This supposes that their things are distinct,
   -- that `m` has their amounts, and that each amount of `m` has such a row.
-  pub amounts_back : Apart thing (filter mine rows) → AllByRecursion (λ r. mine r ≡ true → IsIn m r) listed
+  pub amounts_back : HaveDistinctNumbers thing (filter mine rows) → AllByRecursion (λ r. mine r ≡ true → IsIn m r) listed
       → ((P : R → Type 0) → AllByRecursion (λ r. mine r ≡ true → P r) listed → Every (λ i a. (r : R) × (thing r ≡ i) × (amount r ≡ a) × P r) m) → by_number thing amount (filter mine rows) ≡ m
   amounts_back apart of there =
       let said = by_number thing amount (filter mine rows) in

@@ -10,9 +10,9 @@ use Rattle.std.proofs.lemmas.Bool.Decides.{nat_tests}
 use Rattle.atl_records.specs.Limits.{most_u32}
 use Rattle.atl_campaign.specs.declared.parts.StoredHas.{StoredHas}
 use Rattle.atl_records.specs.declared.records.Unit.{Unit}
-use Rattle.atl_campaign.specs.FromRows.{as_u32, is_of, things_had}
+use Rattle.atl_campaign.specs.FromRows.{as_u32, is_of_unit_and_sort, things_had}
 use Rattle.atl_records.specs.Every.{Every}
-use Rattle.atl_campaign.specs.RowRules.{has_key, HaveKeys}
+use Rattle.atl_campaign.specs.RowRules.{has_key, HaveDistinctKeys}
 use Rattle.atl_campaign.specs.Rows.{is_zero, has_row, rows_of_sort, held_rows, has_rows}
 use Rattle.atl_campaign.proofs.ReadBackLaws.{each_permuted, read_whole, written_whole, apart_keys, append_each, each_appended, append_apart, flat_apart, entries_rise, keys_permuted, same_size}
 use Rattle.atl_campaign.proofs.AssemblyLaws.{is_same}
@@ -88,7 +88,7 @@ module _ (units : FinMap nat_cmp Unit) where
 
   module _ (had : AreHad) (rows : List StoredHas) (h : IsPermutation (has_rows (entries units)) rows) where
     -- the rows of `has` of all units, in any order, have distinct keys
-    pub has_keys : HaveKeys has_key rows
+    pub has_keys : HaveDistinctKeys has_key rows
     has_keys = keys_permuted has_key (has_rows (entries units)) rows h has_apart
 
     -- the numbers in the keys of the rows of `has`, in any order, are read as themselves (HasWholeKey)
@@ -109,20 +109,20 @@ module _ (units : FinMap nat_cmp Unit) where
     some_same u v e = cc
 
     -- unit k and sort s are unit n and sort `sort`: k is n, and s is `sort`
-    record Of (n sort k s : ℕ) : Type 0 where
+    record IsSameUnitAndSort (n sort k s : ℕ) : Type 0 where
       -- the numbers of the two units, k and n, are equal
       unit : k ≡ n
       -- the two sorts, s and `sort`, are equal
       kind : s ≡ sort
 
     -- if a row of unit k and sort s is read as of unit n and sort `sort`, k is n and s is `sort`
-    of_row : (n sort k s i a : ℕ) → k ≤ most_u32 → s < 2 → is_of n sort (has_row k s i a) ≡ true → Of n sort k s
+    of_row : (n sort k s i a : ℕ) → k ≤ most_u32 → s < 2 → is_of_unit_and_sort n sort (has_row k s i a) ≡ true → IsSameUnitAndSort n sort k s
     of_row n sort k s i a few l e =
         let both = and_parts (as_u32 (pos k) == n) (as_u32 (pos s) == sort) e in
         record { unit = sym (read_whole k few) ∙ is_same (as_u32 (pos k)) n both.0; kind = sym (read_whole s (omega arith)) ∙ is_same (as_u32 (pos s)) sort both.1 }
 
     -- a row of `has` made for unit n, of 32 bits, and sort s is read as one of unit n and sort s
-    of_itself : (n s i a : ℕ) → n ≤ most_u32 → s < 2 → is_of n s (has_row n s i a) ≡ true
+    of_itself : (n s i a : ℕ) → n ≤ most_u32 → s < 2 → is_of_unit_and_sort n s (has_row n s i a) ≡ true
     of_itself n s i a few l =
         let unit : (as_u32 (pos n) == n) ≡ true = let e = read_whole n few in grind (arith, nat_tests) in
         let kind : (as_u32 (pos s) == s) ≡ true = let e = read_whole s (omega arith) in grind (arith, nat_tests) in
@@ -132,13 +132,13 @@ module _ (units : FinMap nat_cmp Unit) where
       -- the amounts of a sort that the rows of `has` give a unit of the map are those that the unit has
       pub goods_back : things_had n sort rows ≡ goods_of sort u
       goods_back =
-          amounts_back (λ r. as_u32 r.thing) (λ r. as_u32 r.amount) (is_of n sort) (goods_of sort u) (has_rows (entries units)) rows h (things_apart n sort rows all_keyed has_keys)
-          (has_each (λ r. is_of n sort r ≡ true → get (goods_of sort u) (as_u32 r.thing) ≡ Some (as_u32 r.amount)) (λ k v at s l i a is some of.
+          amounts_back (λ r. as_u32 r.thing) (λ r. as_u32 r.amount) (is_of_unit_and_sort n sort) (goods_of sort u) (has_rows (entries units)) rows h (things_apart n sort rows all_keyed has_keys)
+          (has_each (λ r. is_of_unit_and_sort n sort r ≡ true → get (goods_of sort u) (as_u32 r.thing) ≡ Some (as_u32 r.amount)) (λ k v at s l i a is some of.
           let it = of_row n sort k s i a (had.numbers k v at) l of in
           let small = had.goods k v at s l i a is in
           let one = some_same v u (sym at ∙ ap (get units) it.unit ∙ there) in
           ap (get (goods_of sort u)) (read_whole i small.0) ∙ ap (λ x. get (goods_of sort x) i) (sym one) ∙ ap (λ q. get (goods_of q v) i) (sym it.kind) ∙ is ∙ ap (λ x. Some x) (sym (read_whole a small.2))))
           (λ P all i a is.
           let small = had.goods n u there sort few i a is in
-          let shown = each_had (λ r. is_of n sort r ≡ true → P r) all n u there sort few i a is (nonzero a small.1) (of_itself n sort i a (had.numbers n u there) few) in
+          let shown = each_had (λ r. is_of_unit_and_sort n sort r ≡ true → P r) all n u there sort few i a is (nonzero a small.1) (of_itself n sort i a (had.numbers n u there) few) in
           (has_row n sort i a, read_whole i small.0, read_whole a small.2, shown))

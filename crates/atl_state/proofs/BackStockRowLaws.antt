@@ -12,7 +12,7 @@ use Rattle.atl_campaign.specs.declared.parts.StoredMarket.{StoredMarket}
 use Rattle.atl_records.specs.declared.records.Region.{Region}
 use Rattle.atl_campaign.specs.FromRows.{as_u32, stocks_of}
 use Rattle.atl_records.specs.Every.{Every}
-use Rattle.atl_campaign.specs.RowRules.{market_key, HaveKeys}
+use Rattle.atl_campaign.specs.RowRules.{market_key, HaveDistinctKeys}
 use Rattle.atl_campaign.specs.Rows.{is_zero, market_row, stock_rows, market_rows}
 use Rattle.atl_campaign.proofs.AssemblyLaws.{is_same}
 use Rattle.atl_state.proofs.BackGroupLaws.{groups_each, each_group, lines_each, each_line, lines_apart, amounts_back}
@@ -70,7 +70,7 @@ module _ (regions : FinMap nat_cmp Region) where
 
   module _ (few : AreStocked) (rows : List StoredMarket) (h : IsPermutation (market_rows Second (entries regions)) rows) where
     -- the rows of `market` for all regions' stocks, in any order, have distinct keys
-    pub market_keys : HaveKeys market_key rows
+    pub market_keys : HaveDistinctKeys market_key rows
     market_keys = keys_permuted market_key (market_rows Second (entries regions)) rows h stocks_apart
 
     -- the numbers in the keys of the rows of `market`, in any order, are read as themselves (HasWholeKey)

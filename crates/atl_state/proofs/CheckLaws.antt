@@ -21,7 +21,7 @@ use Rattle.atl_campaign.specs.Founding.{things_of}
 use Rattle.atl_campaign.specs.FromRows.{as_u32, stocks_of, region_of, put_amounts, campaign_row_of, campaign_of}
 use Rattle.atl_records.specs.Every.{Every, HasValue}
 use Rattle.atl_campaign.specs.Good.{AreOfMarkets, HasNoStocks, IsGood}
-use Rattle.atl_campaign.specs.RowRules.{is_one_campaign_row, is_entry_in, is_booked, campaign_row_in_range, people_in_range, region_in_range, structure_in_range, books_in_range, books_bound, market_in_range}
+use Rattle.atl_campaign.specs.RowRules.{is_one_campaign_row, is_entry_in, is_booked, campaign_row_in_range, first_tables_in_range, region_in_range, structure_in_range, books_in_range, books_bound, market_in_range}
 use Rattle.atl_campaign.specs.Totals.{IsCountable}
 use Rattle.atl_records.specs.Limits.{first_entry_count}
 use Rattle.atl_campaign.specs.Rows.{books_rows, AreRowsOf}
@@ -187,10 +187,10 @@ module _ (f : Format) (w : WorldValue) (p : Parts) where
   one-said k = only_one f p.campaign (k OneRow (omega arith)).0
 
   -- if rows keep rules 1 to 3, each row of `faction`, `region`, `unit` and `has` is in its ranges
-  pub people-said : KeepsRulesBelow f w p 4 → people_in_range p ≡ true
+  pub people-said : KeepsRulesBelow f w p 4 → first_tables_in_range p ≡ true
   people-said k =
       let head = campaign_row_in_range (campaign_row_of p) in
-      let people = people_in_range p in
+      let people = first_tables_in_range p in
       let structures = list_all (structure_in_range w) p.structures in
       let books = list_all (books_in_range (books_bound p)) p.books in
       let whole = and_parts (((head && people) && structures) && books) (list_all (market_in_range w) p.markets) (k Ranges (omega arith)).numbers in

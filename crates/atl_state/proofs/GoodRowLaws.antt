@@ -28,7 +28,7 @@ use Rattle.atl_records.specs.Every.{Every, HasValue}
 use Rattle.atl_campaign.specs.Good.{IsNumbered, IsGood}
 use Rattle.atl_records.specs.Holdings.{AreAmounts}
 use Rattle.atl_records.specs.Limits.{last_month, last_unit, men_limit, holding_limit, most_structures, most_days, most_u16, most_u32}
-use Rattle.atl_campaign.specs.RowRules.{one_key, market_key, HaveKeys}
+use Rattle.atl_campaign.specs.RowRules.{one_key, market_key, HaveDistinctKeys}
 use Rattle.atl_campaign.specs.Rows.{flag, rows_by, campaign_row, faction_row, region_row, unit_row, structure_row, mail_row, report_row, has_rows, books_rows, market_row, market_rows, rows_of, AreRowsOf}
 use Rattle.atl_campaign.specs.Campaign.{CampaignValue}
 use Rattle.atl_campaign.proofs.AssemblyLaws.{min_small}
@@ -38,7 +38,7 @@ use Rattle.atl_state.proofs.BackHasLaws.{AreHad, goods_of, goods_back}
 use Rattle.atl_state.proofs.BackStockRowLaws.{AreStocked, stocks_each, market_keys, stocks_back}
 use Rattle.atl_records.proofs.EveryLaws.{every-from_each}
 use Rattle.atl_campaign.proofs.HasLaws.{IsWhole, same}
-use Rattle.atl_campaign.proofs.MapOfRowsLaws.{Apart-keys}
+use Rattle.atl_campaign.proofs.MapOfRowsLaws.{HaveDistinctNumbers-keys}
 use Rattle.atl_campaign.proofs.RuleLaws.{each_numbered, every_before}
 use Rattle.atl_campaign.proofs.StateLaws.{same_state}
 use Rattle.atl_state.proofs.SaidLaws.{one_apart, none_or_below, small_size, small_limit}
@@ -138,7 +138,7 @@ module _ {V R : Type 0} (row : ℕ → V → R) (key : R → ℤ) (value : R →
   apart n k v u l = ap (λ z. same (one_key z) (one_key (key (row k u)))) (keyed n v) ∙ ap (λ z. same (one_key (pos n)) (one_key z)) (keyed k u) ∙ apart_numbers n k l
 
   -- the rows that `row` makes of the numbers and values of the map `m`, in any order, have distinct keys
-  pub table_keys : HaveKeys (λ r. one_key (key r)) rows
+  pub table_keys : HaveDistinctKeys (λ r. one_key (key r)) rows
   table_keys = keys_permuted (λ r. one_key (key r)) (rows_by row (entries m)) rows h (rows_apart row (λ a b. same (one_key (key a)) (one_key (key b))) apart (entries m) (entries_rise m))
 
   -- the keys of the rows that `row` makes of the map `m`, in any order, fit 32 bits, so they are read as they are
@@ -149,7 +149,7 @@ module _ {V R : Type 0} (row : ℕ → V → R) (key : R → ℤ) (value : R →
   pub table_back : Every (λ n v. value (row n v) ≡ v) m → by_number (λ r. as_u32 (key r)) value rows ≡ m
   table_back back =
       map_back row (λ r. as_u32 (key r)) value m rows h (λ n v is. (ap as_u32 (keyed n v) ∙ read_whole n (few n v is), back n v is))
-      (Apart-keys (λ r. one_key (key r)) (λ r. as_u32 (key r)) same (λ r. IsWhole (key r)) (λ r s. one_apart (key r) (key s)) rows whole table_keys)
+      (HaveDistinctNumbers-keys (λ r. one_key (key r)) (λ r. as_u32 (key r)) same (λ r. IsWhole (key r)) (λ r s. one_apart (key r) (key s)) rows whole table_keys)
 
 -- ---- the campaign's own row
 
@@ -367,14 +367,14 @@ module _ (w : WorldValue) (world : IsWorld w) (c : CampaignValue) (good : IsGood
     ] markets_listed
 
     -- the empty list of rows has distinct keys
-    no_keys : HaveKeys market_key []
+    no_keys : HaveDistinctKeys market_key []
     unfolding IsDistinct
     no_keys = tt
 
     -- the rows of `market` of a good campaign have distinct keys
-    pub markets_keyed : HaveKeys market_key p.markets
-    markets_keyed = elim f as (λ g. IsPermutation (market_rows g (entries c.regions)) p.markets → HaveKeys market_key p.markets) [
-      | First ↦ λ listed. subst (HaveKeys market_key) (sym (none_listed p.markets listed)) no_keys
+    pub markets_keyed : HaveDistinctKeys market_key p.markets
+    markets_keyed = elim f as (λ g. IsPermutation (market_rows g (entries c.regions)) p.markets → HaveDistinctKeys market_key p.markets) [
+      | First ↦ λ listed. subst (HaveDistinctKeys market_key) (sym (none_listed p.markets listed)) no_keys
       | Second ↦ λ listed. market_keys c.regions stocked p.markets listed
     ] markets_listed
 

@@ -32,7 +32,7 @@ use Rattle.atl_records.specs.declared.records.Region.{Region}
 use Rattle.atl_records.specs.declared.records.Unit.{Unit}
 use Rattle.atl_records.specs.Books.{no_amounts}
 use Rattle.atl_campaign.specs.Founding.{things_of}
-use Rattle.atl_campaign.specs.FromRows.{as_u32, as_u16, is_set, is_of, faction_of, region_of, structure_of, unit_of, things_had, by_number, put_amounts, no_campaign_row, campaign_row_of, campaign_of}
+use Rattle.atl_campaign.specs.FromRows.{as_u32, as_u16, is_set, is_of_unit_and_sort, faction_of, region_of, structure_of, unit_of, things_had, by_number, put_amounts, no_campaign_row, campaign_row_of, campaign_of}
 use Rattle.atl_records.specs.Every.{Every, HasValue}
 use Rattle.atl_campaign.specs.Good.{IsPlaced, IsBuilt, AreKnown, AreDays}
 use Rattle.atl_records.specs.Limits.{last_month, last_unit, men_limit, holding_limit, most_structures, entry_count, entries_in, most_u16, most_u32}
@@ -47,7 +47,7 @@ use Rattle.atl_campaign.proofs.GroupLaws.{unkept}
 use Rattle.atl_campaign.proofs.HasLaws.{IsWhole, HasWholeKey, IsExact, IsOfUnits, same, ties_itself, things_apart, has_order}
 use Rattle.atl_campaign.proofs.MarketLaws.{market_known}
 use Rattle.atl_state.proofs.StockRowLaws as market
-use Rattle.atl_campaign.proofs.MapOfRowsLaws.{Apart, HasNumber, Apart-keys, rows_order, rows_there, rows_found, each_row, row_of, each_passes, each_with, each_so}
+use Rattle.atl_campaign.proofs.MapOfRowsLaws.{HaveDistinctNumbers, HasNumber, HaveDistinctNumbers-keys, rows_order, rows_there, rows_found, each_row, row_of, each_passes, each_with, each_so}
 
 -- ---- numbers that are read as they are
 
@@ -161,8 +161,9 @@ whole_not_zero : (z : ℤ) → IsWhole z → 1 ≤ as_u32 z → is_zero z ≡ fa
 whole_not_zero (pos n) whole h = let apart : n ≢ 0 = λ e. let zero_read : as_u32 (pos n) ≡ 0 = ap (λ m. as_u32 (pos m)) e in omega arith in grind (arith, nat_tests)
 whole_not_zero (negsuc n) whole h = refl
 
--- a row of `has` passes the test (is_of) of being of the unit and of the sort (items or skills) that it names
-is_of_itself : (h : StoredHas) → is_of (as_u32 h.unit) (as_u32 h.sort) h ≡ true
+-- a row of `has` passes the test (is_of_unit_and_sort) of being of the unit and of the sort (items or skills) that it
+-- names
+is_of_itself : (h : StoredHas) → is_of_unit_and_sort (as_u32 h.unit) (as_u32 h.sort) h ≡ true
 is_of_itself h =
     let unit : (as_u32 h.unit == as_u32 h.unit) ≡ true = grind (arith, nat_tests) in
     let sort : (as_u32 h.sort == as_u32 h.sort) ≡ true = grind (arith, nat_tests) in
@@ -220,8 +221,8 @@ module _ (f : Format) (w : WorldValue) (p : Parts) (k : RowsKeep f w p) where
   faction_number r h = let range = from_range 1 last_faction r.number (omega arith) (and_parts (is_from 1 last_faction r.number) (is_from 0 1 r.gone) h).0 in (range.0, range.2)
 
   -- no two rows of `faction` have the same number
-  pub factions_apart : Apart (λ r. as_u32 r.number) p.factions
-  factions_apart = Apart-keys faction_key (λ r. as_u32 r.number) same (λ r. IsWhole r.number) (λ r s. one_apart r.number s.number) p.factions (each_passes faction_in_range (λ r. IsWhole r.number) (λ r h. (faction_number r h).0) p.factions ranges.factions) k.range.keys.factions
+  pub factions_apart : HaveDistinctNumbers (λ r. as_u32 r.number) p.factions
+  factions_apart = HaveDistinctNumbers-keys faction_key (λ r. as_u32 r.number) same (λ r. IsWhole r.number) (λ r s. one_apart r.number s.number) p.factions (each_passes faction_in_range (λ r. IsWhole r.number) (λ r h. (faction_number r h).0) p.factions ranges.factions) k.range.keys.factions
 
   -- the numbers of the factions assembled from the rows are at most last_faction
   few_factions : Every (λ n f. n ≤ last_faction) (by_number (λ r. as_u32 r.number) faction_of p.factions)
@@ -250,8 +251,8 @@ module _ (f : Format) (w : WorldValue) (p : Parts) (k : RowsKeep f w p) where
       (rows_there (λ r. as_u32 r.number) (region_of p.markets) p.regions)
 
   -- no two rows of `region` have the same number
-  regions_apart : Apart (λ r. as_u32 r.number) p.regions
-  regions_apart = Apart-keys region_key (λ r. as_u32 r.number) same (λ r. IsWhole r.number) (λ r s. one_apart r.number s.number) p.regions regions_whole k.range.keys.regions
+  regions_apart : HaveDistinctNumbers (λ r. as_u32 r.number) p.regions
+  regions_apart = HaveDistinctNumbers-keys region_key (λ r. as_u32 r.number) same (λ r. IsWhole r.number) (λ r s. one_apart r.number s.number) p.regions regions_whole k.range.keys.regions
 
   -- the region read from a row in range is written as that row
   same_region : (r : StoredRegion) → IsWhole r.number → region_in_range r ≡ true → region_row (as_u32 r.number) (region_of p.markets r) ≡ r
@@ -273,8 +274,8 @@ module _ (f : Format) (w : WorldValue) (p : Parts) (k : RowsKeep f w p) where
   unit_number r h = let range = from_range 1 last_unit r.number (omega arith) (unit_ranges r h).number in (range.0, range.2)
 
   -- no two rows of `unit` have the same number
-  units_apart : Apart (λ r. as_u32 r.number) p.units
-  units_apart = Apart-keys unit_key (λ r. as_u32 r.number) same (λ r. IsWhole r.number) (λ r s. one_apart r.number s.number) p.units (each_passes unit_in_range (λ r. IsWhole r.number) (λ r h. (unit_number r h).0) p.units ranges.units) k.range.keys.units
+  units_apart : HaveDistinctNumbers (λ r. as_u32 r.number) p.units
+  units_apart = HaveDistinctNumbers-keys unit_key (λ r. as_u32 r.number) same (λ r. IsWhole r.number) (λ r s. one_apart r.number s.number) p.units (each_passes unit_in_range (λ r. IsWhole r.number) (λ r h. (unit_number r h).0) p.units ranges.units) k.range.keys.units
 
   -- the numbers of the units assembled from the rows are at most last_unit
   few_units : Every (λ n u. n ≤ last_unit) (by_number (λ r. as_u32 r.number) (unit_of p.has) p.units)
@@ -285,9 +286,9 @@ module _ (f : Format) (w : WorldValue) (p : Parts) (k : RowsKeep f w p) where
   structure_number r h = let range = from_range 1 most_structures r.number (omega arith) (and_parts (is_from 1 most_structures r.number) (is_from 1 (size_of w (as_u16 r.kind)) r.done) h).0 in (range.0, range.2)
 
   -- no two rows of `structure` have the same number
-  structures_apart : Apart (λ r. as_u32 r.number) p.structures
+  structures_apart : HaveDistinctNumbers (λ r. as_u32 r.number) p.structures
   structures_apart =
-      Apart-keys structure_key (λ r. as_u32 r.number) same (λ r. IsWhole r.number) (λ r s. one_apart r.number s.number) p.structures (each_passes (structure_in_range w) (λ r. IsWhole r.number) (λ r h. (structure_number r h).0) p.structures ranges.structures)
+      HaveDistinctNumbers-keys structure_key (λ r. as_u32 r.number) same (λ r. IsWhole r.number) (λ r s. one_apart r.number s.number) p.structures (each_passes (structure_in_range w) (λ r. IsWhole r.number) (λ r h. (structure_number r h).0) p.structures ranges.structures)
       k.range.keys.structures
 
   -- the numbers of the structures assembled from the rows are at most most_structures
@@ -363,7 +364,7 @@ module _ (f : Format) (w : WorldValue) (p : Parts) (k : RowsKeep f w p) where
   mail_said : IsPermutation (rows_by mail_row (entries (by_number (λ r. as_u32 r.faction) (λ r. r.text) p.mail))) p.mail
   mail_said =
       rows_order (λ r. as_u32 r.faction) (λ r. r.text) mail_row p.mail
-      (Apart-keys mail_key (λ r. as_u32 r.faction) same (λ r. IsWhole r.faction) (λ r s. one_apart r.faction s.faction) p.mail mail_whole k.range.keys.mail)
+      (HaveDistinctNumbers-keys mail_key (λ r. as_u32 r.faction) same (λ r. IsWhole r.faction) (λ r s. one_apart r.faction s.faction) p.mail mail_whole k.range.keys.mail)
       (each_so (λ r. IsWhole r.faction) (λ r. mail_row (as_u32 r.faction) r.text ≡ r) (λ r whole. λ i. record { faction = sym whole i; text = r.text }) p.mail mail_whole)
 
   -- the faction numbers in the rows of `report` fit 32 bits, so they are read as they are (IsWhole)
@@ -378,7 +379,7 @@ module _ (f : Format) (w : WorldValue) (p : Parts) (k : RowsKeep f w p) where
   reports_said : IsPermutation (rows_by report_row (entries (by_number (λ r. as_u32 r.faction) (λ r. r.text) p.reports))) p.reports
   reports_said =
       rows_order (λ r. as_u32 r.faction) (λ r. r.text) report_row p.reports
-      (Apart-keys report_key (λ r. as_u32 r.faction) same (λ r. IsWhole r.faction) (λ r s. one_apart r.faction s.faction) p.reports reports_whole k.range.keys.reports)
+      (HaveDistinctNumbers-keys report_key (λ r. as_u32 r.faction) same (λ r. IsWhole r.faction) (λ r s. one_apart r.faction s.faction) p.reports reports_whole k.range.keys.reports)
       (each_so (λ r. IsWhole r.faction) (λ r. report_row (as_u32 r.faction) r.text ≡ r) (λ r whole. λ i. record { faction = sym whole i; text = r.text }) p.reports reports_whole)
 
   -- ---- what units have
@@ -418,9 +419,9 @@ module _ (f : Format) (w : WorldValue) (p : Parts) (k : RowsKeep f w p) where
   ThingThere n sort h = HasValue (things_had n sort p.has) (as_u32 h.thing)
 
   -- the item or skill of each row of `has` is among what all rows of `has` of its sort (items or skills) give its unit
-  things_there : AllByRecursion (λ h. (n : ℕ) → (sort : ℕ) → is_of n sort h ≡ true → ThingThere n sort h) p.has
-  things_there = all_forall (λ n h. (sort : ℕ) → is_of n sort h ≡ true → ThingThere n sort h) p.has (λ n. all_forall (λ sort h. is_of n sort h ≡ true → ThingThere n sort h) p.has (λ sort.
-      unkept (is_of n sort) (ThingThere n sort) p.has (rows_there (λ h. as_u32 h.thing) (λ h. as_u32 h.amount) (filter (is_of n sort) p.has))))
+  things_there : AllByRecursion (λ h. (n : ℕ) → (sort : ℕ) → is_of_unit_and_sort n sort h ≡ true → ThingThere n sort h) p.has
+  things_there = all_forall (λ n h. (sort : ℕ) → is_of_unit_and_sort n sort h ≡ true → ThingThere n sort h) p.has (λ n. all_forall (λ sort h. is_of_unit_and_sort n sort h ≡ true → ThingThere n sort h) p.has (λ sort.
+      unkept (is_of_unit_and_sort n sort) (ThingThere n sort) p.has (rows_there (λ h. as_u32 h.thing) (λ h. as_u32 h.amount) (filter (is_of_unit_and_sort n sort) p.has))))
 
   -- the unit of each row of `has` exists
   held_units : AllByRecursion (λ h. HasValue units (as_u32 h.unit)) p.has
@@ -450,7 +451,7 @@ module _ (f : Format) (w : WorldValue) (p : Parts) (k : RowsKeep f w p) where
 
   -- The unit, sort and thing of a row of `has` fit 32 bits, if the row is in range, its unit exists, and its thing is
   -- read for its unit (ThingThere).
-  keyed : (h : StoredHas) → (HasValue units (as_u32 h.unit)) × (has_in_range h ≡ true) → ((n : ℕ) → (sort : ℕ) → is_of n sort h ≡ true → ThingThere n sort h) → HasWholeKey h
+  keyed : (h : StoredHas) → (HasValue units (as_u32 h.unit)) × (has_in_range h ≡ true) → ((n : ℕ) → (sort : ℕ) → is_of_unit_and_sort n sort h ≡ true → ThingThere n sort h) → HasWholeKey h
   keyed h (there, range) thing =
       let unit_few = there_below units (as_u32 h.unit) last_unit few_units there in
       let sort = sort_of h range in
@@ -467,20 +468,20 @@ module _ (f : Format) (w : WorldValue) (p : Parts) (k : RowsKeep f w p) where
 
   -- the unit, sort and thing of each row of `has` fit 32 bits (HasWholeKey)
   all_keyed : AllByRecursion HasWholeKey p.has
-  all_keyed = each_with Placed (λ h. (n : ℕ) → (sort : ℕ) → is_of n sort h ≡ true → ThingThere n sort h) HasWholeKey keyed p.has all_placed things_there
+  all_keyed = each_with Placed (λ h. (n : ℕ) → (sort : ℕ) → is_of_unit_and_sort n sort h ≡ true → ThingThere n sort h) HasWholeKey keyed p.has all_placed things_there
 
   -- the amount of a row of `has` is found under its item or skill among what all rows of this sort give unit n
   abbrev IsFound : ℕ → ℕ → StoredHas → Type 0
   IsFound n sort h = get (things_had n sort p.has) (as_u32 h.thing) ≡ Some (as_u32 h.amount)
 
   -- the amount of each row of `has` is found under its item or skill among what all rows of its sort give its unit
-  all_found : AllByRecursion (λ h. (n : ℕ) → (sort : ℕ) → is_of n sort h ≡ true → IsFound n sort h) p.has
-  all_found = all_forall (λ n h. (sort : ℕ) → is_of n sort h ≡ true → IsFound n sort h) p.has (λ n. all_forall (λ sort h. is_of n sort h ≡ true → IsFound n sort h) p.has (λ sort.
-      unkept (is_of n sort) (IsFound n sort) p.has (rows_found (λ h. as_u32 h.thing) (λ h. as_u32 h.amount) (filter (is_of n sort) p.has) (things_apart n sort p.has all_keyed k.range.keys.has))))
+  all_found : AllByRecursion (λ h. (n : ℕ) → (sort : ℕ) → is_of_unit_and_sort n sort h ≡ true → IsFound n sort h) p.has
+  all_found = all_forall (λ n h. (sort : ℕ) → is_of_unit_and_sort n sort h ≡ true → IsFound n sort h) p.has (λ n. all_forall (λ sort h. is_of_unit_and_sort n sort h ≡ true → IsFound n sort h) p.has (λ sort.
+      unkept (is_of_unit_and_sort n sort) (IsFound n sort) p.has (rows_found (λ h. as_u32 h.thing) (λ h. as_u32 h.amount) (filter (is_of_unit_and_sort n sort) p.has) (things_apart n sort p.has all_keyed k.range.keys.has))))
 
   -- The amount of a row of `has` fits 32 bits and isn't 0, if the row's unit exists, the row is in range (SortOf), and
   -- its amount is found (IsFound).
-  exact_of : (h : StoredHas) → HasValue units (as_u32 h.unit) → SortOf h → ((n : ℕ) → (sort : ℕ) → is_of n sort h ≡ true → IsFound n sort h) → IsWhole h.amount × (is_zero h.amount ≡ false)
+  exact_of : (h : StoredHas) → HasValue units (as_u32 h.unit) → SortOf h → ((n : ℕ) → (sort : ℕ) → is_of_unit_and_sort n sort h ≡ true → IsFound n sort h) → IsWhole h.amount × (is_zero h.amount ≡ false)
   unfolding campaign_of
   exact_of h there (inl skill) found =
       let n = as_u32 h.unit in
@@ -498,12 +499,12 @@ module _ (f : Format) (w : WorldValue) (p : Parts) (k : RowsKeep f w p) where
   KeyedPlaced h = HasWholeKey h × Placed h
 
   -- a row of `has` that is KeyedPlaced and IsFound is exact (IsExact): its numbers fit 32 bits, its amount is not 0
-  exact : (h : StoredHas) → KeyedPlaced h → ((n : ℕ) → (sort : ℕ) → is_of n sort h ≡ true → IsFound n sort h) → IsExact h
+  exact : (h : StoredHas) → KeyedPlaced h → ((n : ℕ) → (sort : ℕ) → is_of_unit_and_sort n sort h ≡ true → IsFound n sort h) → IsExact h
   exact h (keys, (there, range)) found = let amount = exact_of h there (sort_of h range).1 found in record { keys = keys; amount = amount.0; some = amount.1 }
 
   -- the unit, sort, thing and amount of each row of `has` fit 32 bits, and the amount is not 0 (IsExact)
   all_exact : AllByRecursion IsExact p.has
-  all_exact = each_with KeyedPlaced (λ h. (n : ℕ) → (sort : ℕ) → is_of n sort h ≡ true → IsFound n sort h) IsExact exact p.has (each_with HasWholeKey Placed KeyedPlaced (λ h a b. (a, b)) p.has all_keyed all_placed) all_found
+  all_exact = each_with KeyedPlaced (λ h. (n : ℕ) → (sort : ℕ) → is_of_unit_and_sort n sort h ≡ true → IsFound n sort h) IsExact exact p.has (each_with HasWholeKey Placed KeyedPlaced (λ h a b. (a, b)) p.has all_keyed all_placed) all_found
 
   -- a row of `has` in range is of a unit that has a row, and of sort 0 (items) or 1 (skills)
   of_units : (h : StoredHas) → Placed h → IsOfUnits p.units h

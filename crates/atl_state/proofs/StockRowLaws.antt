@@ -16,7 +16,7 @@ use Rattle.atl_campaign.proofs.AssemblyLaws.{is_same}
 use Rattle.atl_campaign.proofs.GroupLaws as group
 use Rattle.atl_campaign.proofs.GroupLaws.{gathered, lines_order}
 use Rattle.atl_campaign.proofs.HasLaws.{IsWhole, same, ties_itself}
-use Rattle.atl_campaign.proofs.MapOfRowsLaws.{Apart, HasNumber, each_so, flat_order}
+use Rattle.atl_campaign.proofs.MapOfRowsLaws.{HaveDistinctNumbers, HasNumber, each_so, flat_order}
 
 -- the region and the item of a row of `market` fit 32 bits, so both are read as they are
 pub record HasWholeKey (m : StoredMarket) : Type 0 where
@@ -66,7 +66,7 @@ same_key n m k a b e =
     λ i. (region i, item i, pos 0)
 
 -- no two rows of region n are of one item, if the keys of all rows differ and fit 32 bits
-pub items_apart : (n : ℕ) (markets : List StoredMarket) → AllByRecursion HasWholeKey markets → IsDistinct same (map market_key markets) → Apart item_of (filter (is_in n) markets)
+pub items_apart : (n : ℕ) (markets : List StoredMarket) → AllByRecursion HasWholeKey markets → IsDistinct same (map market_key markets) → HaveDistinctNumbers item_of (filter (is_in n) markets)
 items_apart n = group.things_apart market_key same ties_itself item_of (is_in n) HasWholeKey (same_key n)
 
 -- if all rows are exact (`IsExact`) and their keys differ, the stocks read for region n are written as its rows, in
@@ -82,7 +82,7 @@ region_lines e = stock_rows e.0 (entries e.1.stocks)
 
 -- if rows of `market` are exact (`IsExact`), of listed regions, and differ in keys, the regions read with them are
 -- written as these rows, in some order
-pub market_order : (markets : List StoredMarket) (regions : List StoredRegion) → Apart (λ r. as_u32 r.number) regions → AllByRecursion (λ m. HasNumber (λ r. as_u32 r.number) regions (as_u32 m.region)) markets → AllByRecursion IsExact markets → IsDistinct same (map market_key markets)
+pub market_order : (markets : List StoredMarket) (regions : List StoredRegion) → HaveDistinctNumbers (λ r. as_u32 r.number) regions → AllByRecursion (λ m. HasNumber (λ r. as_u32 r.number) regions (as_u32 m.region)) markets → AllByRecursion IsExact markets → IsDistinct same (map market_key markets)
     → IsPermutation (market_rows Second (entries (by_number (λ r. as_u32 r.number) (region_of markets) regions))) markets
 market_order markets regions apart of all d =
     let lines = λ (r : StoredRegion). region_lines (as_u32 r.number, region_of markets r) in

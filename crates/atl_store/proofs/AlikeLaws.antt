@@ -23,7 +23,7 @@ use Rattle.atl_records.proofs.AccountLaws.{same_account}
 use Rattle.atl_records.proofs.BookLaws.{same_books}
 use Rattle.atl_store.specs.OneCampaign.{HoldsOne}
 use Rattle.atl_sql.specs.Rows.{RowsOf, HasRowsOf, BooksRowsOf, MarketRowsOf, Holds, campaign_line, faction_line, region_line, unit_line, structure_line, things_of}
-use Rattle.atl_sql.specs.Sets.{Is}
+use Rattle.atl_sql.specs.Sets.{HasExactly}
 use Rattle.atl_sql.specs.Tables.{Own, Factions, Regions, Units, Goods, Structures, Mail, Reports, Books, Markets}
 use Rattle.atl_sql.specs.Shown.{flag, mail_row, report_row, has_row, books_row, market_row}
 use Rattle.atl_sql.specs.Written.{sort_number}
@@ -40,18 +40,18 @@ Determines {V} line m k = (n p : ℕ) (v u : V) → get m n ≡ Some v → get k
 
 module _ {V : Type 0} (line : ℕ → V → Row) (rows : List Row) where
   -- if one table has exactly the rows of each of the maps `m` and `k`, the row of each entry of `m` is a row of `k`
-  other_line : (m k : FinMap nat_cmp V) → Is rows (RowsOf line m) → Is rows (RowsOf line k) → (n : ℕ) (v : V) → get m n ≡ Some v → RowsOf line k (line n v)
+  other_line : (m k : FinMap nat_cmp V) → HasExactly rows (RowsOf line m) → HasExactly rows (RowsOf line k) → (n : ℕ) (v : V) → get m n ≡ Some v → RowsOf line k (line n v)
   other_line m k a b n v is = (b (line n v)).0 ((a (line n v)).1 (n, v, is, refl))
 
   -- if one table has exactly the rows of each map, and rows determine number and value, each entry of `m` is in `k`
-  one_way : (m k : FinMap nat_cmp V) → Determines line m k → Is rows (RowsOf line m) → Is rows (RowsOf line k) → Every (λ n v. get k n ≡ Some v) m
+  one_way : (m k : FinMap nat_cmp V) → Determines line m k → HasExactly rows (RowsOf line m) → HasExactly rows (RowsOf line k) → Every (λ n v. get k n ≡ Some v) m
   one_way m k tells a b n v is =
       let (p, u, there, same) = other_line m k a b n v is in
       let at = tells n p v u is there same in
       ap (get k) at.0 ∙ there ∙ sym (ap Some at.1)
 
   -- two maps are equal if one table has exactly the rows of each, and the rows determine number and value
-  same_values : (m k : FinMap nat_cmp V) → Determines line m k → Determines line k m → Is rows (RowsOf line m) → Is rows (RowsOf line k) → m ≡ k
+  same_values : (m k : FinMap nat_cmp V) → Determines line m k → Determines line k m → HasExactly rows (RowsOf line m) → HasExactly rows (RowsOf line k) → m ≡ k
   same_values m k there back a b = agree m k (one_way m k there a b) (one_way k m back b a)
 
 -- for flags in rows, as `gone`: two booleans are equal if a row shows them as equal flags
@@ -101,7 +101,7 @@ have_some : (w : WorldValue) (c : CampaignValue) → IsGood w c → HaveSome c.u
 have_some w c good n u is Item thing amount there = let range = (good.sound.steady.numbers.units n u is).1.items thing amount there in λ none. omega (arith, range.0, none)
 have_some w c good n u is Skill thing amount there = let range = good.sound.steady.days n u is thing amount there in λ none. omega (arith, range.0, none)
 
-module _ (rows : List Row) (m k : FinMap nat_cmp Unit) (a : Is rows (HasRowsOf m)) (b : Is rows (HasRowsOf k)) where
+module _ (rows : List Row) (m k : FinMap nat_cmp Unit) (a : HasExactly rows (HasRowsOf m)) (b : HasExactly rows (HasRowsOf k)) where
   -- each item or skill of unit `n` in `m` has the same amount in `k`, if one table `has` has the rows of each map, and
   -- no amount in `m` is 0
   things_there : HaveSome m → (n : ℕ) (u v : Unit) → get m n ≡ Some u → get k n ≡ Some v → (sort : ThingKind) → Every (λ thing amount. get (things_of sort v.holding) thing ≡ Some amount) (things_of sort u.holding)
@@ -116,7 +116,7 @@ module _ (rows : List Row) (m k : FinMap nat_cmp Unit) (a : Is rows (HasRowsOf m
       let left : get (things_of sort v.holding) thing ≡ get (things_of other x.holding) object = λ i. get (things_of (kind i) (unit i).holding) (what i) in
       left ∙ got ∙ sym (ap Some count)
 
-module _ (rows goods : List Row) (m k : FinMap nat_cmp Unit) (a : Is rows (RowsOf unit_line m)) (b : Is rows (RowsOf unit_line k)) (h : Is goods (HasRowsOf m)) (j : Is goods (HasRowsOf k)) (some : HaveSome m) (more : HaveSome k) where
+module _ (rows goods : List Row) (m k : FinMap nat_cmp Unit) (a : HasExactly rows (RowsOf unit_line m)) (b : HasExactly rows (RowsOf unit_line k)) (h : HasExactly goods (HasRowsOf m)) (j : HasExactly goods (HasRowsOf k)) (some : HaveSome m) (more : HaveSome k) where
   -- each unit of `m` is in `k`, if the tables `unit` and `has` have exactly the rows of each map, and no amount is 0
   units_there : Every (λ n u. get k n ≡ Some u) m
   units_there n u is =
@@ -151,7 +151,7 @@ AreInStock regions = Every (λ n r. Every (λ item stock. stock ≢ 0) r.stocks)
 are_in_stock : (w : WorldValue) (c : CampaignValue) → IsGood w c → AreInStock c.regions
 are_in_stock w c good n r is item stock there = let range = (good.sound.steady.numbers.regions n r is).stocks item stock there in λ none. omega (arith, range.0, none)
 
-module _ (rows : List Row) (m k : FinMap nat_cmp Region) (a : Is rows (MarketRowsOf m)) (b : Is rows (MarketRowsOf k)) where
+module _ (rows : List Row) (m k : FinMap nat_cmp Region) (a : HasExactly rows (MarketRowsOf m)) (b : HasExactly rows (MarketRowsOf k)) where
   -- each stock of region `n` in `m` is the same in `k`, if one table `market` has exactly the rows of each map, and no
   -- stock in `m` is 0
   stocks_there : AreInStock m → (n : ℕ) (r s : Region) → get m n ≡ Some r → get k n ≡ Some s → Every (λ item stock. get s.stocks item ≡ Some stock) r.stocks
@@ -165,7 +165,7 @@ module _ (rows : List Row) (m k : FinMap nat_cmp Region) (a : Is rows (MarketRow
       let left : get s.stocks item ≡ get x.stocks object = λ i. get (region i).stocks (what i) in
       left ∙ got ∙ sym (ap Some count)
 
-module _ (rows stocks : List Row) (m k : FinMap nat_cmp Region) (a : Is rows (RowsOf region_line m)) (b : Is rows (RowsOf region_line k)) (h : Is stocks (MarketRowsOf m)) (j : Is stocks (MarketRowsOf k)) (some : AreInStock m) (more : AreInStock k) where
+module _ (rows stocks : List Row) (m k : FinMap nat_cmp Region) (a : HasExactly rows (RowsOf region_line m)) (b : HasExactly rows (RowsOf region_line k)) (h : HasExactly stocks (MarketRowsOf m)) (j : HasExactly stocks (MarketRowsOf k)) (some : AreInStock m) (more : AreInStock k) where
   -- each region of `m` is in `k`, if the tables `region` and `market` have exactly the rows of each map, and no stock
   -- is 0
   regions_there : Every (λ n r. get k n ≡ Some r) m
@@ -187,7 +187,7 @@ none_or_some (pos zero) = inl refl
 none_or_some (pos (suc n)) = inr (λ is. cc)
 none_or_some (negsuc n) = inr (λ is. cc)
 
-module _ (rows : List Row) (m k : BooksValue) (a : Is rows (BooksRowsOf m)) (b : Is rows (BooksRowsOf k)) where
+module _ (rows : List Row) (m k : BooksValue) (a : HasExactly rows (BooksRowsOf m)) (b : HasExactly rows (BooksRowsOf k)) where
   -- an amount that is not 0 in books `m` is the same in books `k`, if one table `books` has exactly the rows of each
   amount_there : (e : Entry) (t : Thing) → amount_in m e t ≢ pos 0 → amount_in m e t ≡ amount_in k e t
   amount_there e t some =
@@ -199,7 +199,7 @@ module _ (rows : List Row) (m k : BooksValue) (a : Is rows (BooksRowsOf m)) (b :
       let there : amount_in k e t ≡ amount_in k f u = ap (λ (x : Account). amount_in k x.0 x.1) (same_account e f t u entry thing) in
       amount ∙ sym there
 
-module _ (things : ℕ) (rows : List Row) (m k : BooksValue) (g : AreBooks things m) (h : AreBooks things k) (a : Is rows (BooksRowsOf m)) (b : Is rows (BooksRowsOf k)) where
+module _ (things : ℕ) (rows : List Row) (m k : BooksValue) (g : AreBooks things m) (h : AreBooks things k) (a : HasExactly rows (BooksRowsOf m)) (b : HasExactly rows (BooksRowsOf k)) where
   -- each amount is the same in books `m` and in books `k`, if one table `books` has exactly the rows of each
   same_amount : (e : Entry) (t : Thing) → amount_in m e t ≡ amount_in k e t
   same_amount e t =

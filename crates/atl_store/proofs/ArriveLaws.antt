@@ -16,7 +16,7 @@ use Rattle.atl_records.specs.declared.books.Thing.{Thing}
 use Rattle.atl_records.specs.declared.records.Unit.{Unit}
 use Rattle.atl_records.proofs.AccountLaws.{same_account}
 use Rattle.atl_sql.specs.declared.rows.has.ThingKind.{ThingKind}
-use Rattle.atl_sql.specs.Sets.{Set, Is, put}
+use Rattle.atl_sql.specs.Sets.{Set, HasExactly, put}
 use Rattle.atl_sql.specs.Tables.{Books, books_table}
 use Rattle.atl_sql.specs.Shown.{int, books_key, books_row}
 use Rattle.atl_sql.specs.Rows.{RowsOf, HasRowsOf, BooksRowsOf, things_of}
@@ -57,7 +57,7 @@ module _ {V : Type 0} where
   get_beside m n v k apart = get-insert nat_cmp_total m n v k ∙ ap (λ b. cond b (Some v) (get m k)) (other k n apart)
 
 -- putting an entry's row into a table of a map's rows gives the rows of the map with the entry inserted
-pub put_rows : {V : Type 0} (line : ℕ → V → Row) (numbered : (n : ℕ) (v : V) → take 1 (line n v) ≡ int n ∷ []) (rows news : List Row) (m : FinMap nat_cmp V) (n : ℕ) (v : V) → Is rows (RowsOf line m) → Is news (put 1 (line n v) (Has rows)) → Is news (RowsOf line (insert m n v))
+pub put_rows : {V : Type 0} (line : ℕ → V → Row) (numbered : (n : ℕ) (v : V) → take 1 (line n v) ≡ int n ∷ []) (rows news : List Row) (m : FinMap nat_cmp V) (n : ℕ) (v : V) → HasExactly rows (RowsOf line m) → HasExactly news (put 1 (line n v) (Has rows)) → HasExactly news (RowsOf line (insert m n v))
 put_rows line numbered rows news m n v was made r = (
   λ there. elim ((made r).0 there) [
     | inl same ↦ (n, v, get_inserted m n v, same)
@@ -77,7 +77,7 @@ put_rows line numbered rows news m n v was made r = (
 )
 
 -- the rows of `has` for some units are also those for these units and a new one without items and skills
-pub no_goods : (rows : List Row) (units : FinMap nat_cmp Unit) (n : ℕ) (u : Unit) → get units n ≡ None → ((sort : ThingKind) → things_of sort u.holding ≡ empty) → Is rows (HasRowsOf units) → Is rows (HasRowsOf (insert units n u))
+pub no_goods : (rows : List Row) (units : FinMap nat_cmp Unit) (n : ℕ) (u : Unit) → get units n ≡ None → ((sort : ThingKind) → things_of sort u.holding ≡ empty) → HasExactly rows (HasRowsOf units) → HasExactly rows (HasRowsOf (insert units n u))
 no_goods rows units n u fresh bare was r = (
   λ there.
       let old = (was r).0 there in

@@ -24,7 +24,7 @@ use Rattle.atl_sql.specs.Rows.{BooksRowsOf}
 use Rattle.atl_store.specs.GroupedRows.{amount_lines}
 use Rattle.atl_store.specs.Arriving.{WritesAmount}
 use Rattle.atl_sql.specs.Inside.{Inside, HasTables}
-use Rattle.atl_sql.specs.Marked.{accounts, amount_marked, is_marked_amount}
+use Rattle.atl_sql.specs.Marked.{entry_and_thing_pass, amount_marked, is_marked_amount}
 use Rattle.atl_store.specs.Rewriting.{RewritesAmounts, RewritesBooks, is_number, is_among, of_amounts}
 use Rattle.atl_store.proofs.HasTableLaws.{optional_has, has_optional}
 use Rattle.atl_store.proofs.LedgerLaws.{two_same, differs_zero, is_differing}
@@ -34,16 +34,16 @@ use Rattle.atl_store.proofs.WholeLaws.{inside_weaker}
 -- ---- a row that begins with an entry and a thing
 
 -- a row passes the test "`f` or `g`" of its entry and thing exactly if it passes `f` or passes `g`
-accounts_either : (f g : ℕ → ℕ → Bool) (r : Row) → accounts (λ e t. f e t || g e t) r ≡ (accounts f r || accounts g r)
+accounts_either : (f g : ℕ → ℕ → Bool) (r : Row) → entry_and_thing_pass (λ e t. f e t || g e t) r ≡ (entry_and_thing_pass f r || entry_and_thing_pass g r)
 accounts_either f g (Int (pos (suc e)) ∷ Int (pos t) ∷ row) = refl
 accounts_either f g row = refl
 
 -- two tests with equal results for each entry and thing choose the same rows of `books`
-accounts_same : (f g : ℕ → ℕ → Bool) → ((e t : ℕ) → f e t ≡ g e t) → (r : Row) → accounts f r ≡ accounts g r
-accounts_same f g same r = ap (λ (h : ℕ → ℕ → Bool). accounts h r) (λ i e t. same e t i)
+accounts_same : (f g : ℕ → ℕ → Bool) → ((e t : ℕ) → f e t ≡ g e t) → (r : Row) → entry_and_thing_pass f r ≡ entry_and_thing_pass g r
+accounts_same f g same r = ap (λ (h : ℕ → ℕ → Bool). entry_and_thing_pass h r) (λ i e t. same e t i)
 
 -- a test of entry and thing that is always false chooses no row of `books`
-accounts_none : (f : ℕ → ℕ → Bool) → ((e t : ℕ) → f e t ≡ false) → (r : Row) → accounts f r ≡ false
+accounts_none : (f : ℕ → ℕ → Bool) → ((e t : ℕ) → f e t ≡ false) → (r : Row) → entry_and_thing_pass f r ≡ false
 accounts_none f never (Int (pos (suc e)) ∷ Int (pos t) ∷ row) = never e t
 accounts_none f never row = refl
 

@@ -10,7 +10,7 @@ use Rattle.sqlite.specs.Effect.{Database}
 use Rattle.sqlite.specs.Order.{Row}
 use Rattle.sqlite_trees.specs.Tree.{Trees}
 use Rattle.sqlite_rules.specs.Lists.{Has}
-use Rattle.atl_campaign.specs.Covers.{SameBut, SameThings, Covers, bare, own_row, unstocked}
+use Rattle.atl_campaign.specs.Covers.{SameBut, SameThings, Covers, bare, said_by_campaign_row, unstocked}
 use Rattle.atl_records.specs.Books.{BooksValue, amount_in, entry_index, thing_index, amount_number}
 use Rattle.atl_campaign.specs.Marks.{Marks, is_thing_marked}
 use Rattle.atl_campaign.specs.Campaign.{CampaignValue, MarkedCampaign}
@@ -23,7 +23,7 @@ use Rattle.atl_records.specs.declared.records.Region.{Region}
 use Rattle.atl_records.specs.declared.records.Unit.{Unit}
 use Rattle.atl_sql.specs.declared.rows.has.ThingKind.{ThingKind}
 use Rattle.atl_sql.specs.declared.rows.has.ThingKind.TheVariants.{Item, Skill}
-use Rattle.atl_sql.specs.Sets.{Is, rows_in}
+use Rattle.atl_sql.specs.Sets.{HasExactly, rows_in}
 use Rattle.atl_sql.specs.Tables.{Part, Own, Factions, Regions, Units, Goods, Structures, Mail, Reports, Books, Markets, table_of}
 use Rattle.atl_sql.specs.Shown.{CampaignRowValue, campaign_row, has_row, mail_row, report_row, books_row}
 use Rattle.atl_sql.specs.Written.{sort_number}
@@ -37,7 +37,7 @@ use Rattle.atl_store.proofs.MarketLaws.{stock_had, had_stock}
 -- ---- a table whose unmarked rows are the campaign's
 
 -- a table whose unmarked rows are the wanted ones has exactly the wanted rows once the marked rows are written
-all_held : (is_marked : Row → Bool) (After : Row → Type 0) (old new : List Row) → ((r : Row) → is_marked r ≡ false → Has old r ↔ After r) → Is new (rows_after_rewrite is_marked After (Has old)) → Is new After
+all_held : (is_marked : Row → Bool) (After : Row → Type 0) (old new : List Row) → ((r : Row) → is_marked r ≡ false → Has old r ↔ After r) → HasExactly new (rows_after_rewrite is_marked After (Has old)) → HasExactly new After
 all_held is_marked After old new rest now r = (λ there. from (is_marked r) refl ((now r).0 there), λ of. (now r).1 (to (is_marked r) refl of))
   where
     -- for `all_held`: a row that the rewrite puts (it is marked) or keeps (it isn't) is a wanted row (`After`)
@@ -51,7 +51,7 @@ all_held is_marked After old new rest now r = (λ there. from (is_marked r) refl
     to false is of = (rest r is).1 of
 
 -- if `Before` and `After` have the same unmarked rows, a table with the rows `Before` has the unmarked rows of `After`
-rest_of : (is_marked : Row → Bool) (Before After : Row → Type 0) (old : List Row) → ((r : Row) → is_marked r ≡ false → Before r → After r) → ((r : Row) → is_marked r ≡ false → After r → Before r) → Is old Before
+rest_of : (is_marked : Row → Bool) (Before After : Row → Type 0) (old : List Row) → ((r : Row) → is_marked r ≡ false → Before r → After r) → ((r : Row) → is_marked r ≡ false → After r → Before r) → HasExactly old Before
     → (r : Row) → is_marked r ≡ false → Has old r ↔ After r
 rest_of is_marked Before After old ahead back was r is = (λ there. ahead r is ((was r).0 there), λ of. (was r).1 (back r is of))
 
@@ -71,7 +71,7 @@ module _ {V : Type 0} (line : ℕ → V → Row) (marks : FinSet nat_cmp) (heads
   follow one other r not_marked follows of = let found = follows of.0 of.1 (unmarked of.0 of.1 r of.3 not_marked) of.2 in (of.0, found.0, found.1, of.3 ∙ sym found.2)
 
   -- a table with the rows of map `before` has the unmarked rows of `after`, if both have the same ones (`Follows`)
-  rest_numbered : (before after : FinMap nat_cmp V) (old : List Row) → Follows before after → Follows after before → Is old (RowsOf line before) → (r : Row) → begins_marked marks r ≡ false → Has old r ↔ RowsOf line after r
+  rest_numbered : (before after : FinMap nat_cmp V) (old : List Row) → Follows before after → Follows after before → HasExactly old (RowsOf line before) → (r : Row) → begins_marked marks r ≡ false → Has old r ↔ RowsOf line after r
   rest_numbered before after old ahead back = rest_of (begins_marked marks) (RowsOf line before) (RowsOf line after) old (λ r is. follow before after r is ahead) (λ r is. follow after before r is back)
 
   -- if maps differ only under marked numbers, each unmarked number of `before` has in `after` the same row (`Follows`)
@@ -83,7 +83,7 @@ module _ {V : Type 0} (line : ℕ → V → Row) (marks : FinSet nat_cmp) (heads
   same_followed before after same n v not_marked there = (v, sym (same n not_marked) ∙ there, refl)
 
   -- a table with the rows of map `before` has the unmarked rows of `after`, if both differ only under marked numbers
-  rest_same : (before after : FinMap nat_cmp V) (old : List Row) → SameBut marks before after → Is old (RowsOf line before) → (r : Row) → begins_marked marks r ≡ false → Has old r ↔ RowsOf line after r
+  rest_same : (before after : FinMap nat_cmp V) (old : List Row) → SameBut marks before after → HasExactly old (RowsOf line before) → (r : Row) → begins_marked marks r ≡ false → Has old r ↔ RowsOf line after r
   rest_same before after old same = rest_numbered before after old (same_follows before after same) (same_followed before after same)
 
 -- ---- regions, whose stocks are in the table `market`
@@ -157,7 +157,7 @@ abbrev head_in : ℕ × (List ℕ × (ℕ × (ℕ × ℕ))) → CampaignRowValue
 head_in row = record { month = row.0; pass = row.1.0; next_faction = row.1.1.0; next_unit = row.1.1.1.0; next_structure = row.1.1.1.1 }
 
 -- the campaign row after a write says what the campaign after it says, if it is marked (`b`) or nothing of it changed
-head_held : (b : Bool) (before after : CampaignValue) → (b ≡ false → own_row after ≡ own_row before) → campaign_row_after b after (campaign_row_of before) ≡ campaign_row_of after
+head_held : (b : Bool) (before after : CampaignValue) → (b ≡ false → said_by_campaign_row after ≡ said_by_campaign_row before) → campaign_row_after b after (campaign_row_of before) ≡ campaign_row_of after
 head_held true before after same = refl
 head_held false before after same = ap head_in (sym (same refl))
 
@@ -169,7 +169,7 @@ unmarked_held c old new changes text rest =
     let did = changes rest.before text rest.campaign in
     record {
       rows = λ part. all_held (is_marked c.marks part) (rows_for (campaign_line text c.value) c.value part) _ _ (rest.rest part)
-          (subst (λ (h : CampaignRowValue). Is (rows_in (table_of part) new.trees) (rows_after_rewrite (is_marked c.marks part) (rows_for (campaign_row h text) c.value part) (Has (rows_in (table_of part) old.trees)))) rest.head (did.rows part));
+          (subst (λ (h : CampaignRowValue). HasExactly (rows_in (table_of part) new.trees) (rows_after_rewrite (is_marked c.marks part) (rows_for (campaign_row h text) c.value part) (Has (rows_in (table_of part) old.trees)))) rest.head (did.rows part));
     }
 
 -- tables of the campaign before hold the unmarked rows of the one after, if the marks cover all changes

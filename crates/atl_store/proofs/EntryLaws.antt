@@ -11,7 +11,7 @@ use Rattle.atl_world.proofs.TrackLaws.{is_true}
 use Rattle.sqlite.specs.Order.{Row}
 use Rattle.sqlite_rules.specs.Lists.{Has}
 use Rattle.sqlite_rules.proofs.ListLemmas.{has_either, has_left, has_right}
-use Rattle.atl_sql.specs.Sets.{Set, Is, put, puts}
+use Rattle.atl_sql.specs.Sets.{Set, HasExactly, put, puts}
 use Rattle.atl_sql.specs.Shown.{int}
 use Rattle.atl_sql.specs.Rows.{RowsOf, lines_of}
 use Rattle.atl_store.specs.GroupedRows.{DifferInKey}
@@ -113,7 +113,7 @@ puts_has key (x ∷ xs) S apart free r =
     )
 
 -- an empty table has exactly the put rows, once rows with different keys are put
-pub filled : (key : ℕ) (rows news old : List Row) → old ≡ [] → DifferInKey key news → Is rows (puts key news (Has old)) → Is rows (Has news)
+pub filled : (key : ℕ) (rows news old : List Row) → old ≡ [] → DifferInKey key news → HasExactly rows (puts key news (Has old)) → HasExactly rows (Has news)
 filled key rows news old none apart made r =
     let empty : (s : Row) → Has old s → ⊥ = λ s there. subst (λ l. Has l s) none there in
     let all = puts_has key news (Has old) apart (λ s there x _ _. empty s there) r in (
@@ -154,7 +154,7 @@ module _ {V : Type 0} (line : ℕ → V → Row) (numbered : (n : ℕ) (v : V) �
   )
 
   -- an empty table filled with the rows of the map's entries has exactly the map's rows (`RowsOf`)
-  pub rows_filled : (rows old : List Row) (m : FinMap nat_cmp V) → old ≡ [] → Is rows (puts 1 (lines_of line (entries m)) (Has old)) → Is rows (RowsOf line m)
+  pub rows_filled : (rows old : List Row) (m : FinMap nat_cmp V) → old ≡ [] → HasExactly rows (puts 1 (lines_of line (entries m)) (Has old)) → HasExactly rows (RowsOf line m)
   rows_filled rows old m none made r =
       let is = filled 1 rows (lines_of line (entries m)) old none (lines_apart (entries m) (in_order m)) made r in (
         λ there. lines_rows line m (entries m) refl r (is.0 there),

@@ -8,7 +8,7 @@ use Rattle.sqlite.specs.Effect.{Database}
 use Rattle.sqlite.specs.State.{State}
 use Rattle.sqlite_rules.specs.Lists.{Has}
 use Rattle.atl_campaign.specs.Campaign.{CampaignValue}
-use Rattle.atl_sql.specs.Sets.{Is, put, puts, rows_in}
+use Rattle.atl_sql.specs.Sets.{HasExactly, put, puts, rows_in}
 use Rattle.atl_sql.specs.Tables.{Part, Own, Books, table_of, all_parts, campaign_table, books_table}
 use Rattle.atl_sql.specs.Shown.{int}
 use Rattle.atl_sql.specs.Rows.{campaign_row_of, campaign_line, RowsOf, rows_for, lines_of}
@@ -26,7 +26,7 @@ use Rattle.atl_store.proofs.LedgerLaws.{books_filled}
 use Rattle.atl_store.proofs.WholeLaws.{inside_then, inside_weaker}
 
 -- an empty table into which one row is put has exactly this row
-one_row : (rows old : List Row) (row : Row) → old ≡ [] → Is rows (put 1 row (Has old)) → Is rows (λ r. r ≡ row)
+one_row : (rows old : List Row) (row : Row) → old ≡ [] → HasExactly rows (put 1 row (Has old)) → HasExactly rows (λ r. r ≡ row)
 one_row rows old row none made r = (
   λ there. elim ((made r).0 there) [ inl same ↦ same | inr was ↦ absurd (subst (λ l. Has l r) none was.0) ],
   λ same. (made r).1 (inl same),
@@ -40,12 +40,12 @@ module _ (c : CampaignValue) where
   own_filled text old new did none = one_changed (Fills c (campaign_line text c)) Own _ old new (did.first none) (λ rows empty. one_row _ _ (campaign_line text c) empty rows)
 
   -- putting the rows of all entries of a map fills a table that has one row for each number, if it was empty
-  pub numbered_filled : {V : Type 0} (part : Part) (line : ℕ → V → Row) → ((n : ℕ) (v : V) → take 1 (line n v) ≡ int n ∷ []) → (m : FinMap nat_cmp V) → ((own : Row) (rows : List Row) → Is rows (RowsOf line m) → Is rows (rows_for own c part)) → (es : List (ℕ × V))
+  pub numbered_filled : {V : Type 0} (part : Part) (line : ℕ → V → Row) → ((n : ℕ) (v : V) → take 1 (line n v) ≡ int n ∷ []) → (m : FinMap nat_cmp V) → ((own : Row) (rows : List Row) → HasExactly rows (RowsOf line m) → HasExactly rows (rows_for own c part)) → (es : List (ℕ × V))
       → es ≡ entries m → (old new : Database) → PutsRows (table_of part) 1 (lines_of line es) old new → FillsParts c (part ∷ []) old new
   numbered_filled {V} part line numbered m are es same old new did own = one_changed (Fills c own) part _ old new did (λ made none.
       let was = rows_in (table_of part) old.trees in
       let now = rows_in (table_of part) new.trees in
-      are own now (rows_filled line numbered now was m none (subst (λ (l : List (ℕ × V)). Is now (puts 1 (lines_of line l) (Has was))) same made)))
+      are own now (rows_filled line numbered now was m none (subst (λ (l : List (ℕ × V)). HasExactly now (puts 1 (lines_of line l) (Has was))) same made)))
 
   -- putting the groups of rows of all units, or of all regions, fills the part's table, if it was empty
   pub groups_fill : {V : Type 0} (part : Part) (lines : ℕ → V → List Row) (more : ℕ) (m : FinMap nat_cmp V) → ((own : Row) → AreGroups lines (suc more) m (rows_for own c part)) → (es : List (ℕ × V)) → es ≡ entries m → (old new : Database)
@@ -53,7 +53,7 @@ module _ (c : CampaignValue) where
   groups_fill {V} part lines more m are es same old new did own = one_changed (Fills c own) part _ old new did (λ made none.
       let was = rows_in (table_of part) old.trees in
       let now = rows_in (table_of part) new.trees in
-      groups_filled lines more m (rows_for own c part) (are own) now was none (subst (λ (l : List (ℕ × V)). Is now (puts (suc more) (groups_of lines l) (Has was))) same made))
+      groups_filled lines more m (rows_for own c part) (are own) now was none (subst (λ (l : List (ℕ × V)). HasExactly now (puts (suc more) (groups_of lines l) (Has was))) same made))
 
   -- putting the rows of all amounts of the books fills the table `books`, if it was empty
   pub books_fill : AreBooks c.books.things c.books → (old new : Database) → PutsRows books_table 2 (things_lines c (range_with_len 0 c.books.things)) old new → FillsParts c (Books ∷ []) old new

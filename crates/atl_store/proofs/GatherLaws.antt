@@ -14,7 +14,7 @@ use Rattle.atl_world.specs.declared.format.Format.{Format}
 use Rattle.atl_world.specs.declared.format.Format.TheVariants.{First, Second}
 use Rattle.atl_store.specs.Gathering.{IsSettled, rows_or_none, ReadRows, AreRows, AreAllRows, AreOfFormat, AreNone, second_format_parts, selects_by, Found, AnswersOne, FailsToRead, ReadsSome}
 use Rattle.atl_store.specs.Loading.{Stays, AfterReads, SelectShows, AllSelectsShow, AllSelectsShowTyped, HasOtherType, RefusesOne, other_parts, other_selects}
-use Rattle.atl_sql.specs.Reading.{ReadsRows, GivesTable, Rests, Selects, RefusesToSelect, listing_of}
+use Rattle.atl_sql.specs.Reading.{ReadsRows, GivesTable, Rests, Selects, RefusesToSelect, select_of_part}
 use Rattle.atl_sql.specs.Stored.{Form, AreTyped}
 use Rattle.atl_sql.specs.Tables.{Part, parts_in}
 use Rattle.atl_sql.specs.declared.fault.ReadFault.{ReadFault}
@@ -123,7 +123,7 @@ module _ {S : Type 0} (g : Ghosts S) where
 
     -- on a clean disk, a read of one table without a fault found all rows, or a value of another type than its column
     -- (`Found`)
-    found_one : {Z : Type 0} (r : Result (Vec A Z) ReadFault) → ReadsRows g sql old forms shown r new → GivesTable g (listing_of part).since (listing_of part).in_table shown r old new → HasCleanDisk (state g new) → IfOk (rows_or_none r) (Found g old this_select (λ all. AreAllRows (state g old).now ((part, map shown all.items) ∷ [])))
+    found_one : {Z : Type 0} (r : Result (Vec A Z) ReadFault) → ReadsRows g sql old forms shown r new → GivesTable g (select_of_part part).since (select_of_part part).in_table shown r old new → HasCleanDisk (state g new) → IfOk (rows_or_none r) (Found g old this_select (λ all. AreAllRows (state g old).now ((part, map shown all.items) ∷ [])))
     found_one (Ok all) reads gives clean =
         let told = reads.rows clean in
         (each_of_one (λ s. (rows : List Row) × SelectShows g old s.0 rows × AreTyped s.1 rows) (sql, forms) (told.0, tells told.0 told.1, told.3), each_of_one (λ read. AreRows (state g old).now read.0 read.1) (part, map shown all.items) (gives clean))
@@ -167,7 +167,7 @@ module _ {S : Type 0} (g : Ghosts S) where
     fails_one (Err read.Refused) reads clean = inr (refuses read.Refused (reads.refused clean not_refused refused_no_memory))
 
     -- reading one table is reading the list with its SELECT alone (`ReadsSome`)
-    pub reads_one : {Z : Type 0} (r : Result (Vec A Z) ReadFault) → ReadsRows g sql old forms shown r new → GivesTable g (listing_of part).since (listing_of part).in_table shown r old new → (kept : Result (Option (Vec A Z)) LoadFault) → kept ≡ rows_or_none r
+    pub reads_one : {Z : Type 0} (r : Result (Vec A Z) ReadFault) → ReadsRows g sql old forms shown r new → GivesTable g (select_of_part part).since (select_of_part part).in_table shown r old new → (kept : Result (Option (Vec A Z)) LoadFault) → kept ≡ rows_or_none r
         → ReadsSome g old this_select (λ all. AreAllRows (state g old).now ((part, map shown all.items) ∷ [])) kept new
     reads_one r reads gives kept is = record {
       was_open = λ clean. subst (λ k. IfOk k (λ _. IsTrue (state g old).is_open)) (sym is) (open_one r reads clean);

@@ -10,7 +10,7 @@ use Rattle.sqlite.specs.State.{State}
 use Rattle.sqlite.specs.Table.{Table}
 use Rattle.sqlite_rules.specs.Lists.{Has}
 use Rattle.atl_campaign.specs.Campaign.{CampaignValue}
-use Rattle.atl_sql.specs.Sets.{Set, Is, puts, rows_in}
+use Rattle.atl_sql.specs.Sets.{Set, HasExactly, puts, rows_in}
 use Rattle.atl_sql.specs.Tables.{Part, key_of, table_of}
 use Rattle.atl_sql.specs.Shown.{int}
 use Rattle.atl_store.specs.GroupedRows.{DifferInKey, AreGroups, groups_of}
@@ -18,7 +18,7 @@ use Rattle.atl_sql.specs.Rows.{rows_for}
 use Rattle.atl_sql.specs.Statements.{upsert}
 use Rattle.atl_store.specs.OwnStatements.{OfRow, puts_row}
 use Rattle.atl_sql.specs.Inside.{Inside, HasTables, Both, Drops, PutsRows}
-use Rattle.atl_sql.specs.Marked.{begins}
+use Rattle.atl_sql.specs.Marked.{first_column_passes}
 use Rattle.atl_store.specs.Rewriting.{RewritesGroup, is_number}
 use Rattle.atl_store.proofs.EntryLaws.{apart_append, filled, puts_has, below_has, less_apart, got_entry, entry_got, in_order, same_number, flat_has, has_flat}
 use Rattle.atl_store.proofs.RewriteLaws.{begins_key, key_begins, kept_only, rewrites_key}
@@ -53,7 +53,7 @@ module _ {V : Type 0} (lines : ℕ → V → List Row) (more : ℕ) (values : Fi
       are.wanted found.0.0 found.0.1 (entry_got values found.0.0 found.0.1 (subst (λ (l : List (ℕ × V)). Has l found.0) same found.1)) r found.2
 
   -- an empty table filled with the rows that `lines` gives for all entries has exactly the wanted rows
-  pub groups_filled : (rows old : List Row) → old ≡ [] → Is rows (puts (suc more) (groups_of lines (entries values)) (Has old)) → Is rows Wanted
+  pub groups_filled : (rows old : List Row) → old ≡ [] → HasExactly rows (puts (suc more) (groups_of lines (entries values)) (Has old)) → HasExactly rows Wanted
   groups_filled rows old none made r =
       let is = filled (suc more) rows (groups_of lines (entries values)) old none (all_apart (entries values) (in_order values)) made r in (
         λ there. groups_rows (entries values) refl r (is.0 there),
@@ -64,7 +64,7 @@ module _ {V : Type 0} (lines : ℕ → V → List Row) (more : ℕ) (values : Fi
 
   module _ (table : Table) (n : ℕ) where
     -- a wanted row that begins with the number `n` is one of the rows of the map's value under `n`
-    lined_at : (r : Row) → begins (is_number n) r ≡ true → Wanted r → (v : V) × (get values n ≡ Some v) × Has (lines n v) r
+    lined_at : (r : Row) → first_column_passes (is_number n) r ≡ true → Wanted r → (v : V) × (get values n ≡ Some v) × Has (lines n v) r
     lined_at r is of =
         let line = are.lined r of in
         let number : line.0 ≡ n = same_number line.0 n (sym (are.numbered line.0 line.1 r line.3) ∙ begins_key n r is) in
@@ -73,7 +73,7 @@ module _ {V : Type 0} (lines : ℕ → V → List Row) (more : ℕ) (values : Fi
     -- for `lines_done`, of the databases alone: deleting a number's rows and putting those of its value rewrites them
     lines_rewrite : (old mid new : Database) → Drops table 1 (int n ∷ []) old mid → (v : V) → get values n ≡ Some v
         → PutsRows table (suc more) (lines n v) mid new → RewritesGroup table Wanted n old new
-    lines_rewrite old mid new dropped v there did = rewrites_key (begins (is_number n)) (λ r. take 1 r ≡ int n ∷ []) (Has (lines n v)) Wanted (begins_key n) (key_begins n)
+    lines_rewrite old mid new dropped v there did = rewrites_key (first_column_passes (is_number n)) (λ r. take 1 r ≡ int n ∷ []) (Has (lines n v)) Wanted (begins_key n) (key_begins n)
         (λ r here. (are.numbered n v r here, are.wanted n v there r here))
         (λ r is of. let line = lined_at r is of in subst (λ u. Has (lines n u) r) (same_Some line.0 v (sym line.1 ∙ there)) line.2)
         table old new rows (λ t listed other. did.others t listed other ∙ dropped.others t listed other)
@@ -88,7 +88,7 @@ module _ {V : Type 0} (lines : ℕ → V → List Row) (more : ℕ) (values : Fi
 
     -- for `bare_done`, of the databases alone: deleting the rows of a number that the map lacks rewrites them
     bare_rewrite : (old new : Database) → Drops table 1 (int n ∷ []) old new → get values n ≡ None → RewritesGroup table Wanted n old new
-    bare_rewrite old new dropped none = rewrites_key (begins (is_number n)) (λ r. take 1 r ≡ int n ∷ []) (λ r. ⊥) Wanted (begins_key n) (key_begins n) (λ r never. absurd never)
+    bare_rewrite old new dropped none = rewrites_key (first_column_passes (is_number n)) (λ r. take 1 r ≡ int n ∷ []) (λ r. ⊥) Wanted (begins_key n) (key_begins n) (λ r never. absurd never)
         (λ r is of. let line = lined_at r is of in none-some line.0 (sym none ∙ line.1))
         table old new (λ r. let so = dropped.rows r in (λ h. inr (so.0 h), λ h. so.1 (kept_only h))) dropped.others
 

@@ -22,7 +22,7 @@ use Rattle.atl_records.specs.declared.records.Faction.{Faction}
 use Rattle.atl_records.specs.declared.records.Unit.{Unit}
 use Rattle.atl_sql.specs.declared.rows.has.ThingKind.{ThingKind}
 use Rattle.atl_sql.specs.declared.rows.has.ThingKind.TheVariants.{Item, Skill}
-use Rattle.atl_sql.specs.Sets.{Is, Set, put, visible, rows_in}
+use Rattle.atl_sql.specs.Sets.{HasExactly, Set, put, visible, rows_in}
 use Rattle.atl_sql.specs.Tables.{Part, Own, Factions, Units, Goods, Mail, Reports, Books, table_of, campaign_table, faction_table, unit_table, has_table, mail_table, report_table, books_table, all_tables}
 use Rattle.atl_sql.specs.Shown.{CampaignRowValue, campaign_row, mail_row, report_row}
 use Rattle.atl_sql.specs.Rows.{campaign_row_of, campaign_line, faction_line, unit_line, RowsOf, HasRowsOf, rows_for, things_of, Holds}
@@ -109,7 +109,7 @@ arrives n f m u report before after found joining =
 -- ---- the statements of a joining
 
 -- a table `campaign` with one row has only the new campaign row once the new one is put
-put_campaign_row : (rows news : List Row) (text : List ℕ) (before after : CampaignRowValue) → Is rows (λ r. r ≡ campaign_row before text) → Is news (put 1 (campaign_row after text) (Has rows)) → Is news (λ r. r ≡ campaign_row after text)
+put_campaign_row : (rows news : List Row) (text : List ℕ) (before after : CampaignRowValue) → HasExactly rows (λ r. r ≡ campaign_row before text) → HasExactly news (put 1 (campaign_row after text) (Has rows)) → HasExactly news (λ r. r ≡ campaign_row after text)
 put_campaign_row rows news text before after was made r = (
   λ there. elim ((made r).0 there) [ inl same ↦ same | inr kept ↦ absurd (kept.1 (ap (take 1) ((was r).0 kept.0))) ],
   λ same. (made r).1 (inl same),
@@ -124,11 +124,11 @@ abbrev PutsReportAndAmounts : ℕ → List ℕ → CampaignValue → Database �
 PutsReportAndAmounts n report after = Both (Puts report_table 1 (report_row n report)) (Both (WritesAmount after Joining Money) (WritesAmount after Joining People))
 
 -- a table that the steps from `a` to `b` and `c` to `d` leave alone changes (by `F`) as the step from `b` to `c` does
-rows_moved : (t : Table) (F : List Row → Set) (a b c d : Database) → b.trees t.tree ≡ a.trees t.tree → d.trees t.tree ≡ c.trees t.tree → Is (rows_in t c.trees) (F (rows_in t b.trees)) → Is (rows_in t d.trees) (F (rows_in t a.trees))
-rows_moved t F a b c d first last is = subst (λ rows. Is rows (F (rows_in t a.trees))) (sym (ap (map (visible t)) last)) (subst (λ rows. Is (rows_in t c.trees) (F rows)) (ap (map (visible t)) first) is)
+rows_moved : (t : Table) (F : List Row → Set) (a b c d : Database) → b.trees t.tree ≡ a.trees t.tree → d.trees t.tree ≡ c.trees t.tree → HasExactly (rows_in t c.trees) (F (rows_in t b.trees)) → HasExactly (rows_in t d.trees) (F (rows_in t a.trees))
+rows_moved t F a b c d first last is = subst (λ rows. HasExactly rows (F (rows_in t a.trees))) (sym (ap (map (visible t)) last)) (subst (λ rows. HasExactly (rows_in t c.trees) (F rows)) (ap (map (visible t)) first) is)
 
 -- if a table has the rows `S`, writing an amount into it makes them the rows `S` with this amount (`settled`)
-settled_on : (c : CampaignValue) (e : Entry) (t : Thing) (rows news : List Row) (S : Set) → Is rows S → Is news (settled c e t (Has rows)) → Is news (settled c e t S)
+settled_on : (c : CampaignValue) (e : Entry) (t : Thing) (rows news : List Row) (S : Set) → HasExactly rows S → HasExactly news (settled c e t (Has rows)) → HasExactly news (settled c e t S)
 settled_on c e t rows news S was is r = (
   λ there. elim ((is r).0 there) [ inl new ↦ inl new | inr kept ↦ inr ((was r).0 kept.0, kept.1) ],
   λ h. (is r).1 (elim h [ inl new ↦ inl new | inr kept ↦ inr ((was r).1 kept.0, kept.1) ]),
@@ -191,21 +191,21 @@ module _ (n : ℕ) (f : Faction) (m : ℕ) (u : Unit) (report : List ℕ) (after
       enters = did (campaign_row_of before) text (holds.rows Own)
 
       -- for `join_held`: a part that no statement of a join writes has the rows that it had
-      stays : (part : Part) → is_among (Own ∷ Factions ∷ Units ∷ Reports ∷ Books ∷ []) part ≡ false → Is (rows_in (table_of part) d.trees) (rows_for (campaign_line text before) before part)
+      stays : (part : Part) → is_among (Own ∷ Factions ∷ Units ∷ Reports ∷ Books ∷ []) part ≡ false → HasExactly (rows_in (table_of part) d.trees) (rows_for (campaign_line text before) before part)
       stays part free = stays_is (table_of part) (rows_for (campaign_line text before) before part) a d (enters.others part (not_among (Own ∷ Factions ∷ Units ∷ Reports ∷ Books ∷ []) part free)) (holds.rows part)
 
       -- for `join_held`: each part's table has the rows of the campaign after the join
-      rows : (part : Part) → Is (rows_in (table_of part) d.trees) (rows_for (campaign_line text after) after part)
+      rows : (part : Part) → HasExactly (rows_in (table_of part) d.trees) (rows_for (campaign_line text after) after part)
       rows Own = enters.campaign
-      rows Factions = subst (λ (x : FinMap nat_cmp Faction). Is (rows_in faction_table d.trees) (RowsOf faction_line x)) (sym arrival.factions) (put_rows faction_line (λ k v. refl) (rows_in faction_table a.trees) (rows_in faction_table d.trees) before.factions n f (holds.rows Factions) (enters.member f found.faction_is))
-      rows Units = subst (λ (x : FinMap nat_cmp Unit). Is (rows_in unit_table d.trees) (RowsOf unit_line x)) (sym arrival.units) (put_rows unit_line (λ k v. refl) (rows_in unit_table a.trees) (rows_in unit_table d.trees) before.units m u (holds.rows Units) (enters.unit m u found.place_is found.unit_is))
-      rows Goods = subst (λ x. Is (rows_in has_table d.trees) (HasRowsOf x)) (sym arrival.units) (no_goods (rows_in has_table d.trees) before.units m u arrival.fresh arrival.bare (stays Goods refl))
-      rows Reports = subst (λ (x : FinMap nat_cmp (List ℕ)). Is (rows_in report_table d.trees) (RowsOf report_row x)) (sym arrival.reports) (put_rows report_row (λ k v. refl) (rows_in report_table a.trees) (rows_in report_table d.trees) before.reports n report (holds.rows Reports) (enters.report report found.report_is))
+      rows Factions = subst (λ (x : FinMap nat_cmp Faction). HasExactly (rows_in faction_table d.trees) (RowsOf faction_line x)) (sym arrival.factions) (put_rows faction_line (λ k v. refl) (rows_in faction_table a.trees) (rows_in faction_table d.trees) before.factions n f (holds.rows Factions) (enters.member f found.faction_is))
+      rows Units = subst (λ (x : FinMap nat_cmp Unit). HasExactly (rows_in unit_table d.trees) (RowsOf unit_line x)) (sym arrival.units) (put_rows unit_line (λ k v. refl) (rows_in unit_table a.trees) (rows_in unit_table d.trees) before.units m u (holds.rows Units) (enters.unit m u found.place_is found.unit_is))
+      rows Goods = subst (λ x. HasExactly (rows_in has_table d.trees) (HasRowsOf x)) (sym arrival.units) (no_goods (rows_in has_table d.trees) before.units m u arrival.fresh arrival.bare (stays Goods refl))
+      rows Reports = subst (λ (x : FinMap nat_cmp (List ℕ)). HasExactly (rows_in report_table d.trees) (RowsOf report_row x)) (sym arrival.reports) (put_rows report_row (λ k v. refl) (rows_in report_table a.trees) (rows_in report_table d.trees) before.reports n report (holds.rows Reports) (enters.report report found.report_is))
       rows Books = λ r.
           let money = settled_rows after Joining Money before.books arrival.half (Has (rows_in books_table a.trees)) arrival.money arrival.first (holds.rows Books) in
           let people = settled_rows after Joining People arrival.half after.books (settled after Joining Money (Has (rows_in books_table a.trees))) refl arrival.second money r in
           (λ there. people.0 ((enters.books r).0 there), λ of. (enters.books r).1 (people.1 of))
-      rows part = subst (λ (c : CampaignValue). Is (rows_in (table_of part) d.trees) (rows_for (campaign_line text c) c part)) (sym joining.7) (stays part refl)
+      rows part = subst (λ (c : CampaignValue). HasExactly (rows_in (table_of part) d.trees) (rows_for (campaign_line text c) c part)) (sym joining.7) (stays part refl)
 
 -- inside a transaction, the rows of campaign, faction and unit, put one after another, are all put (`PutsNewcomer`)
 pub enrolling_done : (n : ℕ) (f : Faction) (m : ℕ) (u : Unit) (after : CampaignValue) (world : List ℕ) (start one two three : State) → Inside HasTables (PutsCampaignRow (campaign_row_of after) world) start one → Inside HasTables (Puts faction_table 1 (faction_line n f)) one two
@@ -238,6 +238,6 @@ pub mail_held : (faction : ℕ) (mail : List ℕ) (a b : Database) → WritesMai
 mail_held faction mail a b did text before holds = record { rows = rows }
   where
     -- for `mail_held`: each part's table has the rows of the campaign with the mailing
-    rows : (part : Part) → Is (rows_in (table_of part) b.trees) (rows_for (campaign_line text before) (with_mail before faction mail) part)
+    rows : (part : Part) → HasExactly (rows_in (table_of part) b.trees) (rows_for (campaign_line text before) (with_mail before faction mail) part)
     rows Mail = put_rows mail_row (λ k v. refl) (rows_in mail_table a.trees) (rows_in mail_table b.trees) before.mail faction mail (holds.rows Mail) did.rows
     rows part = stays_is (table_of part) (rows_for (campaign_line text before) before part) a b (did.others (table_of part) (listed part) (λ e. absurd (omega (arith, e)))) (holds.rows part)

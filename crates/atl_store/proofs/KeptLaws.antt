@@ -9,7 +9,7 @@ use Rattle.sqlite.specs.Order.{Row}
 use Rattle.sqlite_rules.specs.Lists.{Has}
 use Rattle.atl_campaign.specs.Campaign.{CampaignValue, MarkedCampaign}
 use Rattle.atl_campaign.specs.Marks.{Marks}
-use Rattle.atl_sql.specs.Sets.{Set, Is, rows_in}
+use Rattle.atl_sql.specs.Sets.{Set, HasExactly, rows_in}
 use Rattle.atl_sql.specs.Tables.{Part, Own, Goods, Books, Markets, IsNumberedPart, key_of, table_of}
 use Rattle.atl_sql.specs.Shown.{int}
 use Rattle.atl_sql.specs.Rows.{RowsOf, lines_of, rows_for}
@@ -40,7 +40,7 @@ chosen_as true P Q W same = same
 chosen_as false P Q W same = (λ h. h, λ h. h)
 
 -- rows rewritten by test `one` and wanted set `P` are those rewritten by an equal test `other` and equivalent set `Q`
-rewritten_as : (one other : Row → Bool) (P Q : Set) → ((r : Row) → one r ≡ other r) → ((r : Row) → P r ↔ Q r) → (after before : List Row) → Is after (rows_after_rewrite one P (Has before)) → Is after (rows_after_rewrite other Q (Has before))
+rewritten_as : (one other : Row → Bool) (P Q : Set) → ((r : Row) → one r ≡ other r) → ((r : Row) → P r ↔ Q r) → (after before : List Row) → HasExactly after (rows_after_rewrite one P (Has before)) → HasExactly after (rows_after_rewrite other Q (Has before))
 rewritten_as one other P Q same are after before is r =
     let turned = subst (λ b. Chosen (one r) (P r) (Has before r) ↔ Chosen b (Q r) (Has before r)) (same r) (chosen_as (one r) (P r) (Q r) (Has before r) (are r)) in
     (λ there. turned.0 ((is r).0 there), λ h. (is r).1 (turned.1 h))

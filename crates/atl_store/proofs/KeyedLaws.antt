@@ -20,7 +20,7 @@ use Rattle.atl_campaign.specs.declared.parts.Parts.{Parts}
 use Rattle.atl_campaign.specs.declared.parts.StoredCampaignRow.{StoredCampaignRow}
 use Rattle.atl_store.specs.Gathering.{AreApart, AreAllApart, HaveKeys, IsMadeOf, FailsWithout, ReadRows, without_ids, width}
 use Rattle.atl_store.specs.Loading.{shows_rowids, has_values, books_values, market_values, other_parts, rows_read}
-use Rattle.atl_sql.specs.Reading.{listing_of}
+use Rattle.atl_sql.specs.Reading.{select_of_part}
 use Rattle.atl_sql.specs.Rows.{lines_of}
 use Rattle.atl_sql.specs.Sets.{AreKeyedByRowid, visible, rows_in}
 use Rattle.atl_sql.specs.Shown.{has_stored, books_stored, market_stored}
@@ -118,15 +118,15 @@ row_place Own r = refl
 row_place part r = refl
 
 -- A part's listing shows all rows with their rowids or, where the first column is the rowid, without them.
-shown_by : (part : Part) → ((shows_rowids part ≡ true) × ((db : Trees) → (listing_of part).in_table db ≡ map (placed_row part) (db (table_of part).tree)))
-    ⊎ ((shows_rowids part ≡ false) × ((db : Trees) → (listing_of part).in_table db ≡ rows_in (table_of part) db) × ((r : Row) → column (visible (table_of part) r) 0 ≡ rowid r))
+shown_by : (part : Part) → ((shows_rowids part ≡ true) × ((db : Trees) → (select_of_part part).in_table db ≡ map (placed_row part) (db (table_of part).tree)))
+    ⊎ ((shows_rowids part ≡ false) × ((db : Trees) → (select_of_part part).in_table db ≡ rows_in (table_of part) db) × ((r : Row) → column (visible (table_of part) r) 0 ≡ rowid r))
 shown_by Goods = inl (refl, λ db. refl)
 shown_by Books = inl (refl, λ db. refl)
 shown_by Markets = inl (refl, λ db. refl)
 shown_by part = inr (refl, λ db. refl, λ r. refl)
 
 -- if a part is shown with rowids, its listing shows each row with its rowid
-in_places : (part : Part) → shows_rowids part ≡ true → (db : Trees) → (listing_of part).in_table db ≡ map (placed_row part) (db (table_of part).tree)
+in_places : (part : Part) → shows_rowids part ≡ true → (db : Trees) → (select_of_part part).in_table db ≡ map (placed_row part) (db (table_of part).tree)
 in_places part is = elim (shown_by part) [ inl places ↦ places.1 | inr whole ↦ absurd (true≢false (sym is ∙ whole.0)) ]
 
 -- if a part is shown without rowids, the first column of each row is the rowid
@@ -148,7 +148,7 @@ module _ (part : Part) (db : Trees) (rows : List Row) where
       subst (λ l. IsPermutation l (map (take (width part)) rows)) (mapped_twice (placed_row part) (take (width part)) (visible (table_of part)) (cut_row part) (db (table_of part).tree))
       (IsPermutation-map (take (width part)) (map (placed_row part) (db (table_of part).tree)) rows same)
 
-  module _ (is : shows_rowids part ≡ true) (same : IsPermutation ((listing_of part).in_table db) rows) where
+  module _ (is : shows_rowids part ≡ true) (same : IsPermutation ((select_of_part part).in_table db) rows) where
     -- the rows that the listing shows are a permutation of all rows with their rowids
     same_placed : IsPermutation (map (placed_row part) (db (table_of part).tree)) rows
     same_placed = subst (λ l. IsPermutation l rows) (in_places part is db) same
@@ -167,7 +167,7 @@ module _ (part : Part) (db : Trees) (rows : List Row) where
   numbers_keyed is same keys = keyed_by (visible (table_of part)) 0 (db (table_of part).tree) rows (row_number part is) same keys
 
   -- all rows that the listing shows, without their rowids, are all rows of the table
-  pub unplaced_all : IsPermutation ((listing_of part).in_table db) rows → IsPermutation (rows_in (table_of part) db) (without_ids part rows)
+  pub unplaced_all : IsPermutation ((select_of_part part).in_table db) rows → IsPermutation (rows_in (table_of part) db) (without_ids part rows)
   unplaced_all same = elim (shown_by part) [
     | inl places ↦ subst (IsPermutation (rows_in (table_of part) db)) (sym (cut_places part rows places.0)) (without_places (same_placed places.0 same))
     | inr whole ↦ subst (IsPermutation (rows_in (table_of part) db)) (sym (cut_nothing part rows whole.0)) (subst (λ l. IsPermutation l rows) (whole.1 db) same)

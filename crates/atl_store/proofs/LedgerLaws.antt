@@ -16,7 +16,7 @@ use Rattle.atl_records.specs.declared.books.Thing.{Thing}
 use Rattle.atl_records.proofs.AccountLaws.{index_of_thing_at, thing_at_index}
 use Rattle.atl_records.proofs.BookLaws.{none_past}
 use Rattle.atl_records.proofs.EveryEntryLaws.{entry_there}
-use Rattle.atl_sql.specs.Sets.{Is, puts}
+use Rattle.atl_sql.specs.Sets.{HasExactly, puts}
 use Rattle.atl_sql.specs.Shown.{books_key, books_row}
 use Rattle.atl_sql.specs.Rows.{BooksRowsOf}
 use Rattle.atl_store.specs.GroupedRows.{DifferInKey, amount_lines, entries_lines, things_lines}
@@ -138,7 +138,7 @@ module _ (c : CampaignValue) where
       (row.0, thing_at found.0, row.2, row.3)
 
   -- an empty table filled with the rows of all things has exactly the books' rows
-  pub books_filled : AreBooks c.books.things c.books → (rows old : List Row) → old ≡ [] → Is rows (puts 2 (things_lines c (range_with_len 0 c.books.things)) (Has old)) → Is rows (BooksRowsOf c.books)
+  pub books_filled : AreBooks c.books.things c.books → (rows old : List Row) → old ≡ [] → HasExactly rows (puts 2 (things_lines c (range_with_len 0 c.books.things)) (Has old)) → HasExactly rows (BooksRowsOf c.books)
   books_filled are rows old none made r =
       let places = range_with_len 0 c.books.things in
       let is = filled 2 rows (things_lines c places) old none (things_apart 0 c.books.things) made r in (

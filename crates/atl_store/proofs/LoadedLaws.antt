@@ -31,7 +31,7 @@ use Rattle.atl_store.specs.Keeps.{Keeps, Stores}
 use Rattle.atl_store.specs.Loading.{HaveRows, rows_read, own_stored, KeepsOneRow, BreaksRule, MayReturnDamaged, RefusesToLoadIn, StandsIn, LoadsIn, Loads, LeavesAlone, AfterReads, AreMade, AllSelectsShowTyped, MayReturnMemory, FailedMeanwhile, RefusesAgain, shows_rowids, tables_with_rowids, other_parts, other_selects}
 use Rattle.atl_sql.specs.Rows.{HoldsIn}
 use Rattle.atl_sql.specs.Statements.{selection}
-use Rattle.atl_sql.specs.Reading.{listing_of}
+use Rattle.atl_sql.specs.Reading.{select_of_part}
 use Rattle.atl_sql.specs.Sets.{AreKeyedByRowid, rows_in}
 use Rattle.atl_sql.specs.Tables.{Part, Own, IsSoundDatabase, HasTablesOf, campaign_table, table_of, parts_in}
 use Rattle.atl_store.specs.WorldText.{world_text}
@@ -82,14 +82,14 @@ nothing_unplaced part = elim (cases_Bool (shows_rowids part)) [
 -- ---- the rows, as they were read
 
 -- the earliest format that has a part of the first format (`since`) is the first format
-since_first : (part : Part) → Has (parts_in First) part → (listing_of part).since ≡ First
-since_first part there = all_has (λ p. (listing_of p).since ≡ First) (parts_in First) part (refl, (refl, (refl, (refl, (refl, (refl, (refl, (refl, (refl, tt))))))))) there
+since_first : (part : Part) → Has (parts_in First) part → (select_of_part part).since ≡ First
+since_first part there = all_has (λ p. (select_of_part p).since ≡ First) (parts_in First) part (refl, (refl, (refl, (refl, (refl, (refl, (refl, (refl, (refl, tt))))))))) there
 
 -- a schema with a format's tables has, for each part of it, the tables of the earliest format that has the part
 -- (`since`)
-has_since : (f : Format) (schema : Schema) → HasTablesOf f schema → (part : Part) → Has (parts_in f) part → HasTablesOf (listing_of part).since schema
+has_since : (f : Format) (schema : Schema) → HasTablesOf f schema → (part : Part) → Has (parts_in f) part → HasTablesOf (select_of_part part).since schema
 has_since First schema has part there = subst (λ since. HasTablesOf since schema) (sym (since_first part there)) has
-has_since Second schema has part there = under (listing_of part).since
+has_since Second schema has part there = under (select_of_part part).since
   where
     -- for `has_since`: a schema with the tables of the second format has those of each format
     under : (since : Format) → HasTablesOf since schema
@@ -102,7 +102,7 @@ module _ (f : Format) {S : Type 0} (g : Ghosts S) (old : Held S) (reads : ReadRo
   db = (state g old).now.trees
 
   -- all rows of a part's table were read, if the format has the part and the schema has the format's tables
-  all_of : (read : Part × List Row) → Has reads read → Has (parts_in f) read.0 → HasTablesOf f old.schema → IsPermutation ((listing_of read.0).in_table db) read.1
+  all_of : (read : Part × List Row) → Has reads read → Has (parts_in f) read.0 → HasTablesOf f old.schema → IsPermutation ((select_of_part read.0).in_table db) read.1
   all_of read there has begins = elim (are.each read there) [ inl all ↦ all.1 (has_since f old.schema begins read.0 has) | inr none ↦ absurd (none.0 has) ]
 
   -- if the rowids that were read are different integers, so are those of the tables, if the schema is the format's

@@ -39,7 +39,7 @@ use Rattle.atl_sql.specs.declared.rows.has.ThingKind.TheVariants.{Item, Skill}
 use Rattle.atl_store.specs.Gathering.{HaveKeys}
 use Rattle.atl_store.specs.Loading.{HaveRows, rows_read, own_stored, has_values, books_values, market_values, shows_rowids, tables_with_rowids}
 use Rattle.atl_sql.specs.Rows.{RowsOf, lines_of, HasRowsOf, BooksRowsOf, MarketRowsOf, rows_for, Holds, HoldsIn, campaign_row_of, faction_line, region_line, unit_line, structure_line, things_of}
-use Rattle.atl_sql.specs.Sets.{Is, AreKeyedByRowid, rows_in}
+use Rattle.atl_sql.specs.Sets.{HasExactly, AreKeyedByRowid, rows_in}
 use Rattle.atl_sql.specs.Shown.{flag, campaign_row_in, mail_row, report_row, faction_stored, region_stored, unit_stored, structure_stored, mail_stored, report_stored}
 use Rattle.atl_sql.specs.Tables.{Part, Own, Factions, Regions, Units, Goods, Structures, Mail, Reports, Books, Markets, table_of, all_parts, parts_in}
 use Rattle.atl_sql.specs.Written.{sort_number}
@@ -58,7 +58,7 @@ module _ {A : Type 0} (shown : A → Row) (rows : List Row) (read made : List A)
   rows_made = IsPermutation-trans rows (map shown read) (map shown made) in_table (IsPermutation-sym (map shown made) (map shown read) (IsPermutation-map shown made read of_them))
 
   -- a row is in the table exactly if it shows a row that is made of the campaign
-  are_made : Is rows (λ r. (a : A) × Has made a × (r ≡ shown a))
+  are_made : HasExactly rows (λ r. (a : A) × Has made a × (r ≡ shown a))
   are_made r = (
     λ there. map_has shown made r (has_permuted rows (map shown made) r rows_made there),
     λ of. has_permuted (map shown made) rows r (IsPermutation-sym rows (map shown made) rows_made) (subst (Has (map shown made)) (sym of.2) (has_map shown made of.0 of.1)),
@@ -72,7 +72,7 @@ HasKeys rows = (shown : List Row) × IsPermutation rows shown × HaveKeys 0 show
 
 -- if the rows read of a table are made of a map's entries, it has exactly the map's rows, with different numbers
 by_number : {A V : Type 0} {Q : Type 0} (shown : A → Row) (row : ℕ → V → A) (line : ℕ → V → Row) → ((n : ℕ) (v : V) → shown (row n v) ≡ line n v) → ((n : ℕ) (v : V) → column (line n v) 0 ≡ Int (pos n))
-    → (rows : List Row) (read : List A) (m : FinMap nat_cmp V) → IsPermutation rows (map shown read) → IsPermutation (rows_by row (entries m)) read → Is rows (RowsOf line m) × (Q → HasKeys rows)
+    → (rows : List Row) (read : List A) (m : FinMap nat_cmp V) → IsPermutation rows (map shown read) → IsPermutation (rows_by row (entries m)) read → HasExactly rows (RowsOf line m) × (Q → HasKeys rows)
 by_number {A} {V} shown row line same numbered rows read m in_table of_them = (held, λ _. (lines, is, lines_keys line numbered m))
   where
     -- for `by_number`: the campaign's rows for the entries of the map
@@ -84,7 +84,7 @@ by_number {A} {V} shown row line same numbered rows read m in_table of_them = (h
     is = subst (IsPermutation rows) (mapped_twice (λ (e : ℕ × V). row e.0 e.1) shown (λ (e : ℕ × V). line e.0 e.1) (λ e. same e.0 e.1) (entries m)) (rows_made shown rows read (rows_by row (entries m)) in_table of_them)
 
     -- for `by_number`: the table has exactly the map's rows
-    held : Is rows (RowsOf line m)
+    held : HasExactly rows (RowsOf line m)
     held r = (
       λ there. let e = map_has (λ (e : ℕ × V). line e.0 e.1) (entries m) r (has_permuted rows lines r is there) in (e.0.0, e.0.1, entry_got m e.0.0 e.0.1 e.1, e.2),
       λ of. has_permuted lines rows r (IsPermutation-sym rows lines is) (subst (Has lines) (sym of.3) (has_map (λ (e : ℕ × V). line e.0 e.1) (entries m) (of.0, of.1) (got_entry m of.0 of.1 of.2))),
@@ -107,7 +107,7 @@ unit_row_is_line n u =
 -- ---- the campaign's own row
 
 -- if the row read of the table `campaign` is made of the campaign, the table has exactly the campaign's row
-own_held : {Q : Type 0} (f : Format) (text : List ℕ) (c : CampaignValue) (rows : List Row) (read : List StoredCampaignRow) → IsPermutation rows (map (own_stored text) read) → IsPermutation (made.campaign_row f c ∷ []) read → Is rows (λ r. r ≡ campaign_row_in f (campaign_row_of c) text) × (Q → HasKeys rows)
+own_held : {Q : Type 0} (f : Format) (text : List ℕ) (c : CampaignValue) (rows : List Row) (read : List StoredCampaignRow) → IsPermutation rows (map (own_stored text) read) → IsPermutation (made.campaign_row f c ∷ []) read → HasExactly rows (λ r. r ≡ campaign_row_in f (campaign_row_of c) text) × (Q → HasKeys rows)
 own_held f text c rows read in_table of_them = (
   λ r.
       let is = are_made (own_stored text) rows read (made.campaign_row f c ∷ []) in_table of_them r in (
@@ -159,7 +159,7 @@ row_of_goods : (units : FinMap nat_cmp Unit) (r : Row) (n : ℕ) (unit : Unit) �
 row_of_goods units r n unit there a is sort e has some made_is = (n, unit, entry_got units n unit there, sort, e.0, e.1, entry_got (things_of sort unit.holding) e.0 e.1 has, some, is ∙ ap has_values made_is)
 
 -- the table `has` has exactly the rows of what the units have, if the rows that were read of it are made of the units
-goods_held : (rows : List Row) (read : List StoredHas) (units : FinMap nat_cmp Unit) → IsPermutation rows (map has_values read) → IsPermutation (made.has_rows (entries units)) read → Is rows (HasRowsOf units)
+goods_held : (rows : List Row) (read : List StoredHas) (units : FinMap nat_cmp Unit) → IsPermutation rows (map has_values read) → IsPermutation (made.has_rows (entries units)) read → HasExactly rows (HasRowsOf units)
 goods_held rows read units in_table of_them r =
     let is = are_made has_values rows read (made.has_rows (entries units)) in_table of_them r in (
       λ there.
@@ -177,7 +177,7 @@ goods_held rows read units in_table of_them r =
 -- ---- the stocks
 
 -- the table `market` has exactly the rows of the regions' stocks, if the rows that were read are made of the regions
-stocks_held : (rows : List Row) (read : List StoredMarket) (regions : FinMap nat_cmp Region) → IsPermutation rows (map market_values read) → IsPermutation (made.market_rows Second (entries regions)) read → Is rows (MarketRowsOf regions)
+stocks_held : (rows : List Row) (read : List StoredMarket) (regions : FinMap nat_cmp Region) → IsPermutation rows (map market_values read) → IsPermutation (made.market_rows Second (entries regions)) read → HasExactly rows (MarketRowsOf regions)
 stocks_held rows read regions in_table of_them r =
     let is = are_made market_values rows read (made.market_rows Second (entries regions)) in_table of_them r in (
       λ there.
@@ -219,7 +219,7 @@ abbrev made_line : Account × ℤ → StoredBooks
 made_line x = made.books_row x.0.0 x.0.1 x.1
 
 -- the table `books` has exactly the rows of the amounts, if the rows read are made of the books, of `things` things
-books_held : (things : ℕ) (books : BooksValue) → AreBooks things books → (rows : List Row) (read : List StoredBooks) → IsPermutation rows (map books_values read) → IsPermutation (made.books_rows books) read → Is rows (BooksRowsOf books)
+books_held : (things : ℕ) (books : BooksValue) → AreBooks things books → (rows : List Row) (read : List StoredBooks) → IsPermutation rows (map books_values read) → IsPermutation (made.books_rows books) read → HasExactly rows (BooksRowsOf books)
 books_held things books are rows read in_table of_them r =
     let m = books.amounts in
     let is = are_made books_values rows read (made.books_rows books) in_table of_them r in (
@@ -251,7 +251,7 @@ only_second Second part late there = refl
 -- tables that have the rows of a campaign
 module _ (f : Format) (db : Trees) (text : List ℕ) (p : Parts) (c : CampaignValue) (have : HaveRows f db text p) (are : AreRowsOf f c p) (things : ℕ) (books : AreBooks things c.books) where
   -- Each part's table has exactly the campaign's rows; these differ in the first column if it is the rowid.
-  by_part : (part : Part) → Has (parts_in f) part → Is (rows_in (table_of part) db) (rows_for (campaign_row_in f (campaign_row_of c) text) c part) × (shows_rowids part ≡ false → HasKeys (rows_in (table_of part) db))
+  by_part : (part : Part) → Has (parts_in f) part → HasExactly (rows_in (table_of part) db) (rows_for (campaign_row_in f (campaign_row_of c) text) c part) × (shows_rowids part ≡ false → HasKeys (rows_in (table_of part) db))
   unfolding rows_of
   by_part Own there = own_held f text c _ p.campaign (have.rows Own there) are.campaign
   by_part Factions there = by_number faction_stored made.faction_row faction_line faction_row_is_line (λ n v. refl) _ p.factions c.factions (have.rows Factions there) are.factions

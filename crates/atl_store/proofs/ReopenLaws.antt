@@ -16,7 +16,7 @@ module _ {S : Type 0} (g : Ghosts S) where
   pub keeps_stored : (new : Held S) → Opens (state g new) → IsLive (state g new) → ((db : Trees) → (state g new).may_leave db → db ≡ (state g new).committed.trees) → (text : List ℕ) (c : CampaignValue) → Stores (state g new).now.trees text c → Keeps (state g new) text c
   keeps_stored new opens live settled text c stores =
       let listed = (live opens.is_open).0 in
-      let schema : (state g new).now.schema ≡ stores.schema = one_schema (state g new).now.trees stores.schema (state g new).now.schema stores.sound.listed listed (ap (λ s. s.views) stores.begins.is) in
+      let schema : (state g new).now.schema ≡ stores.schema = one_schema (state g new).now.trees stores.schema (state g new).now.schema stores.sound.listed listed (ap (λ s. s.views) stores.begins.made_of) in
       record {
         idle = opens.autocommit;
         is_open = opens.is_open;

@@ -18,7 +18,7 @@ use Rattle.atl_sql.specs.Tables.{all_tables}
 use Rattle.atl_sql.specs.Shown.{int}
 use Rattle.atl_sql.specs.Rows.{RowsOf}
 use Rattle.atl_sql.specs.Inside.{Inside, HasTables, Puts, Drops}
-use Rattle.atl_sql.specs.Marked.{begins, begins_marked}
+use Rattle.atl_sql.specs.Marked.{first_column_passes, begins_marked}
 use Rattle.atl_store.specs.Changing.{Chosen}
 use Rattle.atl_store.specs.Rewriting.{Rewrites, RewritesNumber, is_number, is_among}
 use Rattle.atl_sql.proofs.CarryLaws.{carries_then, carries_none}
@@ -133,55 +133,55 @@ is_itself n = ap is_eq (tied_itself nat_cmp_total n)
 -- ---- a row that begins with a number
 
 -- a row passes the test "`f` or `g`" of its number exactly if it passes `f` or passes `g`
-begins_either : (f g : ℕ → Bool) (r : Row) → begins (λ n. f n || g n) r ≡ (begins f r || begins g r)
+begins_either : (f g : ℕ → Bool) (r : Row) → first_column_passes (λ n. f n || g n) r ≡ (first_column_passes f r || first_column_passes g r)
 begins_either f g (Int (pos n) ∷ row) = refl
 begins_either f g row = refl
 
 -- no row passes a test of its number that is always false
-begins_none : (r : Row) → begins (λ n. false) r ≡ false
+begins_none : (r : Row) → first_column_passes (λ n. false) r ≡ false
 begins_none (Int (pos n) ∷ row) = refl
 begins_none row = refl
 
 -- a row that passes the test for a number has the number as its first column
-pub begins_key : (n : ℕ) (r : Row) → begins (is_number n) r ≡ true → take 1 r ≡ int n ∷ []
+pub begins_key : (n : ℕ) (r : Row) → first_column_passes (is_number n) r ≡ true → take 1 r ≡ int n ∷ []
 begins_key n (Int (pos k) ∷ row) is = ap (λ k. int k ∷ []) (tied k n is)
 begins_key n row is = absurd (true≢false (sym is))
 
 -- a row with a number as its first column passes the test for the number
-pub key_begins : (n : ℕ) (r : Row) → take 1 r ≡ int n ∷ [] → begins (is_number n) r ≡ true
+pub key_begins : (n : ℕ) (r : Row) → take 1 r ≡ int n ∷ [] → first_column_passes (is_number n) r ≡ true
 key_begins n [] key = absurd cc
 key_begins n (v ∷ row) key =
     let value : v ≡ int n = cc in
-    ap (λ x. begins (is_number n) (x ∷ row)) value ∙ is_itself n
+    ap (λ x. first_column_passes (is_number n) (x ∷ row)) value ∙ is_itself n
 
 -- a row begins with one of the numbers `n ∷ ns` exactly if it begins with `n` or with one of `ns`
-next_number : (n : ℕ) (ns : List ℕ) (r : Row) → begins (is_among (n ∷ ns)) r ≡ (begins (is_number n) r || begins (is_among ns) r)
+next_number : (n : ℕ) (ns : List ℕ) (r : Row) → first_column_passes (is_among (n ∷ ns)) r ≡ (first_column_passes (is_number n) r || first_column_passes (is_among ns) r)
 next_number n ns r = begins_either (is_number n) (is_among ns) r
 
 -- if the list `ns` is empty, no row begins with one of its numbers
-no_number : (ns : List ℕ) → ns ≡ [] → (r : Row) → begins (is_among ns) r ≡ false
-no_number ns none r = ap (λ l. begins (is_among l) r) none ∙ begins_none r
+no_number : (ns : List ℕ) → ns ≡ [] → (r : Row) → first_column_passes (is_among ns) r ≡ false
+no_number ns none r = ap (λ l. first_column_passes (is_among l) r) none ∙ begins_none r
 
 -- a row begins with one of the listed numbers of a set exactly if it begins with a number of the set
-of_set : (marks : FinSet nat_cmp) (ns : List ℕ) → from_list ns ≡ marks → (r : Row) → begins (is_among ns) r ≡ begins_marked marks r
-of_set marks ns all r = ap (λ (f : ℕ → Bool). begins f r) (λ i n. (sym (contains-from_list nat_cmp_total ns n) ∙ ap (λ s. contains s n) all) i)
+of_set : (marks : FinSet nat_cmp) (ns : List ℕ) → from_list ns ≡ marks → (r : Row) → first_column_passes (is_among ns) r ≡ begins_marked marks r
+of_set marks ns all r = ap (λ (f : ℕ → Bool). first_column_passes f r) (λ i n. (sym (contains-from_list nat_cmp_total ns n) ∙ ap (λ s. contains s n) all) i)
 
 -- ---- the rows of all numbers of a set, one after another
 
 module _ (table : Table) (Wanted : Set) where
   -- Of the numbers `all`, `rest` are left to rewrite: once their rows are rewritten, the rows of all are (`Remaining`).
   abbrev pub NearingNumbers : List ℕ → List ℕ → Database → Database → Type 0
-  NearingNumbers rest all = Remaining table Wanted (λ r. begins (is_among rest) r) (λ r. begins (is_among all) r)
+  NearingNumbers rest all = Remaining table Wanted (λ r. first_column_passes (is_among rest) r) (λ r. first_column_passes (is_among all) r)
 
   -- once the rows of the first number left to rewrite are rewritten, only the numbers `rest` after it are left
   pub number_nearer : (n : ℕ) (now rest all : List ℕ) → now ≡ n ∷ rest → (old mid new : State) → Inside HasTables (NearingNumbers now all) old mid
-      → Inside HasTables (Rewrites table (begins (is_number n)) Wanted) mid new → Inside HasTables (NearingNumbers rest all) old new
-  number_nearer n now rest all is = one_less_remaining table Wanted (λ r. begins (is_number n) r) (λ r. begins (is_among now) r) (λ r. begins (is_among rest) r) (λ r. begins (is_among all) r) (λ r. ap (λ ns. begins (is_among ns) r) is ∙ next_number n rest r)
+      → Inside HasTables (Rewrites table (first_column_passes (is_number n)) Wanted) mid new → Inside HasTables (NearingNumbers rest all) old new
+  number_nearer n now rest all is = one_less_remaining table Wanted (λ r. first_column_passes (is_number n) r) (λ r. first_column_passes (is_among now) r) (λ r. first_column_passes (is_among rest) r) (λ r. first_column_passes (is_among all) r) (λ r. ap (λ ns. first_column_passes (is_among ns) r) is ∙ next_number n rest r)
 
   -- when no number is left to rewrite, the rows of all numbers of the set are rewritten (`Rewrites`)
   pub numbers_rewritten : (marks : FinSet nat_cmp) (rest all : List ℕ) → rest ≡ [] → from_list all ≡ marks → (old new : State)
       → Inside HasTables (NearingNumbers rest all) old new → Inside HasTables (Rewrites table (begins_marked marks) Wanted) old new
-  numbers_rewritten marks rest all none is = all_rewritten table Wanted (λ r. begins (is_among rest) r) (λ r. begins (is_among all) r) (λ r. begins_marked marks r) (no_number rest none) (of_set marks all is)
+  numbers_rewritten marks rest all none is = all_rewritten table Wanted (λ r. first_column_passes (is_among rest) r) (λ r. first_column_passes (is_among all) r) (λ r. begins_marked marks r) (no_number rest none) (of_set marks all is)
 
 -- ---- new rows that replace those with a key
 
@@ -217,14 +217,14 @@ kept_only (inr kept) = kept
 
 module _ {V : Type 0} (table : Table) (line : ℕ → V → Row) (numbered : (n : ℕ) (v : V) → take 1 (line n v) ≡ int n ∷ []) (values : FinMap nat_cmp V) (n : ℕ) where
   -- a wanted row with the number `n` is the row of the map's value under `n`
-  wanted_at : (r : Row) → begins (is_number n) r ≡ true → RowsOf line values r → (v : V) × (get values n ≡ Some v) × (r ≡ line n v)
+  wanted_at : (r : Row) → first_column_passes (is_number n) r ≡ true → RowsOf line values r → (v : V) × (get values n ≡ Some v) × (r ≡ line n v)
   wanted_at r is of =
       let number : of.0 ≡ n = same_number of.0 n (sym (numbered of.0 of.1) ∙ ap (take 1) (sym of.3) ∙ begins_key n r is) in
       (of.1, ap (get values) (sym number) ∙ of.2, of.3 ∙ ap (λ k. line k of.1) number)
 
   -- for `put_done`, of the databases alone: putting the row of a number that the map has rewrites its row
   put_rewrites : (old new : Database) (v : V) → get values n ≡ Some v → Puts table 1 (line n v) old new → RewritesNumber table line values n old new
-  put_rewrites old new v there did = rewrites_key (begins (is_number n)) (λ r. take 1 r ≡ take 1 (line n v)) (λ r. r ≡ line n v) (RowsOf line values)
+  put_rewrites old new v there did = rewrites_key (first_column_passes (is_number n)) (λ r. take 1 r ≡ take 1 (line n v)) (λ r. r ≡ line n v) (RowsOf line values)
       (λ r is. begins_key n r is ∙ sym (numbered n v))
       (λ r key. key_begins n r (key ∙ numbered n v))
       (λ r same. (ap (take 1) same, (n, v, there, same)))
@@ -233,7 +233,7 @@ module _ {V : Type 0} (table : Table) (line : ℕ → V → Row) (numbered : (n 
 
   -- for `drop_done`, of the databases alone: deleting the row of a number that the map lacks rewrites its row
   drop_rewrites : (old new : Database) → get values n ≡ None → Drops table 1 (int n ∷ []) old new → RewritesNumber table line values n old new
-  drop_rewrites old new none did = rewrites_key (begins (is_number n)) (λ r. take 1 r ≡ int n ∷ []) (λ r. ⊥) (RowsOf line values) (begins_key n) (key_begins n) (λ r never. absurd never)
+  drop_rewrites old new none did = rewrites_key (first_column_passes (is_number n)) (λ r. take 1 r ≡ int n ∷ []) (λ r. ⊥) (RowsOf line values) (begins_key n) (key_begins n) (λ r never. absurd never)
       (λ r is of. let w = wanted_at r is of in none-some w.0 (sym none ∙ w.1))
       table old new (λ r. let so = did.rows r in (λ h. inr (so.0 h), λ h. so.1 (kept_only h))) did.others
 

@@ -10,7 +10,7 @@ use Rattle.sqlite.specs.Effect.{Database}
 use Rattle.sqlite.specs.Order.{Row}
 use Rattle.sqlite.specs.State.{State}
 use Rattle.sqlite.specs.Table.{Table}
-use Rattle.atl_campaign.specs.Marks.{Things}
+use Rattle.atl_campaign.specs.Marks.{MarkedThings}
 use Rattle.atl_sql.specs.Sets.{Set}
 use Rattle.atl_sql.specs.Inside.{Inside, HasTables}
 use Rattle.atl_sql.specs.Marked.{has_thing}
@@ -112,7 +112,7 @@ module _ (table : Table) (Wanted : Set) (finds : (ℕ → ℕ → Bool) → Row 
       owner_nearer x now rest all is = nearer (is_of x.0 x.1) (is_listed now) (is_listed rest) (is_listed all) (λ n t. ap (λ es. is_listed es n t) is)
 
     -- when no owner is left to rewrite, all single marked amounts are rewritten
-    pub owners_rewritten : (things : Things) (rest all : List (ℕ × FinMap nat_cmp (Unit {0}))) → rest ≡ [] → all ≡ entries things → (old new : State)
+    pub owners_rewritten : (things : MarkedThings) (rest all : List (ℕ × FinMap nat_cmp (Unit {0}))) → rest ≡ [] → all ≡ entries things → (old new : State)
         → Inside HasTables (NearingSingles (is_listed rest) (is_listed all)) old new → Inside HasTables (RewritesFound (has_thing things)) old new
     owners_rewritten things rest all none is = none_remaining (is_listed rest) (is_listed all) (has_thing things)
         (λ n t. ap (λ es. is_listed es n t) none)

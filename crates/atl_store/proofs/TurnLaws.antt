@@ -5,7 +5,7 @@ use Rattle.sqlite.specs.Effect.{Database}
 use Rattle.sqlite.specs.Order.{Row}
 use Rattle.sqlite.specs.Table.{Table}
 use Rattle.sqlite_rules.proofs.ListLemmas.{has_either, has_left, has_right}
-use Rattle.atl_sql.specs.Sets.{Set, Is, rows_in, visible}
+use Rattle.atl_sql.specs.Sets.{Set, HasExactly, rows_in, visible}
 use Rattle.atl_sql.specs.Tables.{Part, table_of}
 use Rattle.atl_sql.specs.Inside.{Alters, Changes, InTurn}
 use Rattle.atl_sql.proofs.PartLaws.{tree_of, same_part, listed, are_apart, not_both}
@@ -17,15 +17,15 @@ pub same_rows : (t : Table) (a b : Database) → b.trees t.tree ≡ a.trees t.tr
 same_rows t a b same = ap (map (visible t)) same
 
 -- a table whose tree is unchanged has exactly the rows of `S`, if it had them before
-pub stays_is : (t : Table) (S : Set) (a b : Database) → b.trees t.tree ≡ a.trees t.tree → Is (rows_in t a.trees) S → Is (rows_in t b.trees) S
-stays_is t S a b same is = subst (λ rows. Is rows S) (sym (same_rows t a b same)) is
+pub stays_is : (t : Table) (S : Set) (a b : Database) → b.trees t.tree ≡ a.trees t.tree → HasExactly (rows_in t a.trees) S → HasExactly (rows_in t b.trees) S
+stays_is t S a b same is = subst (λ rows. HasExactly rows S) (sym (same_rows t a b same)) is
 
 -- ---- one table, and one after another
 
 module _ (Becomes : Part → List Row → List Row → Type 0) where
   -- writing rows into one part's table (`Alters`) changes this part alone (`Changes`), if they are what `Becomes` says
   -- of it
-  pub one_changed : (part : Part) (S : Set) (old new : Database) → Alters (table_of part) S old new → (Is (rows_in (table_of part) new.trees) S → Becomes part (rows_in (table_of part) old.trees) (rows_in (table_of part) new.trees))
+  pub one_changed : (part : Part) (S : Set) (old new : Database) → Alters (table_of part) S old new → (HasExactly (rows_in (table_of part) new.trees) S → Becomes part (rows_in (table_of part) old.trees) (rows_in (table_of part) new.trees))
       → Changes Becomes (part ∷ []) old new
   one_changed part S old new did becomes = record {
     done = λ p there. elim there [ inl same ↦ subst (λ q. Becomes q (rows_in (table_of q) old.trees) (rows_in (table_of q) new.trees)) (sym same) (becomes did.rows) | inr none ↦ absurd none ];

@@ -14,7 +14,7 @@ use Rattle.atl_campaign.specs.Campaign.{CampaignValue}
 use Rattle.atl_campaign.specs.Good.{HasNoStocks}
 use Rattle.atl_sql.specs.Inside.{Inside, HasTables, Carries, Both, Puts}
 use Rattle.atl_sql.specs.Rows.{campaign_row_of, rows_for, campaign_line, Holds, HoldsIn, MarketRowsOf}
-use Rattle.atl_sql.specs.Sets.{Is, AreKeyedByRowid, rows_in, put, visible}
+use Rattle.atl_sql.specs.Sets.{HasExactly, AreKeyedByRowid, rows_in, put, visible}
 use Rattle.atl_sql.specs.Shown.{campaign_row, campaign_row_in}
 use Rattle.atl_sql.specs.Tables.{Part, Own, Markets, campaign_table, market_table, all_tables, all_indexes, creation_of, first_tables, parts_in, table_of}
 use Rattle.atl_store.specs.UpgradeSteps.{AddsMarkets, IsFirstFormat, WritesUpgrade}
@@ -45,7 +45,7 @@ module _ (old new : Database) (is : IsFirstFormat old) (made : Creates old_schem
   -- after the table `market` is made, the database has the tables of a campaign (`HasTables`)
   has_all : HasTables new
   has_all = record {
-    begins = record { tables = []; indexes = []; is = made.schema_is; free = tt; plain = λ i none. absurd none };
+    begins = record { tables = []; indexes = []; made_of = made.schema_is; free = tt; plain = λ i none. absurd none };
     sound = record {
       keyed = λ t there. elim (has_either old_schema.tables (market_table ∷ []) t there) [
         | inl was ↦ subst AreKeyedByRowid (sym (made.others t was)) (is.keyed t was)
@@ -92,7 +92,7 @@ no_stocks c bare r of =
     absurd cc
 
 -- putting a row with the key of a table's only row leaves just the new row in the table
-own_row : (rows old : List Row) (was row : Row) → take 1 was ≡ take 1 row → Is old (λ r. r ≡ was) → Is rows (put 1 row (Has old)) → Is rows (λ r. r ≡ row)
+own_row : (rows old : List Row) (was row : Row) → take 1 was ≡ take 1 row → HasExactly old (λ r. r ≡ was) → HasExactly rows (put 1 row (Has old)) → HasExactly rows (λ r. r ≡ row)
 own_row rows old was row key one made r = (
   λ there. elim ((made r).0 there) [ inl same ↦ same | inr (there, other) ↦ absurd (other (ap (take 1) ((one r).0 there) ∙ key)) ],
   λ same. (made r).1 (inl same),
@@ -100,8 +100,8 @@ own_row rows old was row key one made r = (
 
 module _ (text : List ℕ) (c : CampaignValue) (old mid new : Database) (first : AddsMarkets old mid) (second : UpgradesCampaignRow (campaign_row_of c) text mid new) (before : List ℕ) (held : HoldsIn First old.trees before c) (bare : HasNoStocks c) where
   -- after the table `market` is added, the other tables have the campaign's rows of the first format
-  was : (part : Part) → Has (parts_in First) part → Is (rows_in (table_of part) mid.trees) (rows_for (campaign_row_in First (campaign_row_of c) before) c part)
-  was part there = subst (λ rows. Is rows (rows_for (campaign_row_in First (campaign_row_of c) before) c part)) (sym (ap (map (visible (table_of part))) (first.others (table_of part) (has_map table_of (parts_in First) part there)))) (held.rows part there)
+  was : (part : Part) → Has (parts_in First) part → HasExactly (rows_in (table_of part) mid.trees) (rows_for (campaign_row_in First (campaign_row_of c) before) c part)
+  was part there = subst (λ rows. HasExactly rows (rows_for (campaign_row_in First (campaign_row_of c) before) c part)) (sym (ap (map (visible (table_of part))) (first.others (table_of part) (has_map table_of (parts_in First) part there)))) (held.rows part there)
 
   -- the campaign row of the second format, with the new text, was put
   did : Puts campaign_table 1 (campaign_row (campaign_row_of c) text) mid new
@@ -112,15 +112,15 @@ module _ (text : List ℕ) (c : CampaignValue) (old mid new : Database) (first :
   rest part other = ap (map (visible (table_of part))) (did.others (table_of part) (listed part) (λ same. other (same_part part Own same)))
 
   -- each table of the first format but `campaign` still has the campaign's rows after the campaign row is changed
-  kept : (part : Part) → part ≢ Own → Has (parts_in First) part → Is (rows_in (table_of part) new.trees) (rows_for (campaign_row_in First (campaign_row_of c) before) c part)
-  kept part other there = subst (λ rows. Is rows (rows_for (campaign_row_in First (campaign_row_of c) before) c part)) (sym (rest part other)) (was part there)
+  kept : (part : Part) → part ≢ Own → Has (parts_in First) part → HasExactly (rows_in (table_of part) new.trees) (rows_for (campaign_row_in First (campaign_row_of c) before) c part)
+  kept part other there = subst (λ rows. HasExactly rows (rows_for (campaign_row_in First (campaign_row_of c) before) c part)) (sym (rest part other)) (was part there)
 
   -- after the campaign row is changed, the tables of the second format hold the campaign
   pub upgrade_held : Holds new.trees text c
   upgrade_held = record { rows = rows }
     where
       -- for `upgrade_held`: each part's table has the campaign's rows of the second format
-      rows : (part : Part) → Is (rows_in (table_of part) new.trees) (rows_for (campaign_line text c) c part)
+      rows : (part : Part) → HasExactly (rows_in (table_of part) new.trees) (rows_for (campaign_line text c) c part)
       rows Own = own_row _ _ (campaign_row_in First (campaign_row_of c) before) (campaign_line text c) refl (was Own (inl refl)) did.rows
       rows Markets = λ r. (λ there. absurd (subst (λ l. Has l r) (rest Markets (λ e. absurd cc) ∙ ap (map (visible market_table)) first.empty) there), λ of. absurd (no_stocks c bare r of))
       rows part = kept part (λ e. absurd cc) (in_first part (λ e. absurd cc))

@@ -100,7 +100,7 @@ module _ {S : Type 0} (g : Ghosts S) (old : Held S) (begun mid : MutBor (Held S)
   left_off {own = own} r {e = e} failed did back survives = record {
     ok = λ _. not_ok r _ failed.0;
     err = λ clean. given_err r (rolled_back (did.kept (omega (arith, survives.clean))) (back clean));
-    told = λ clean. errs_as _ r e failed.1 (gives_begun g own e old begun.now end begins (gives_until g own e begun.now mid.now end survives.counts (did.told (omega (arith, survives.clean)) inside_begun)));
+    error_given = λ clean. errs_as _ r e failed.1 (gives_begun g own e old begun.now end begins (gives_until g own e begun.now mid.now end survives.counts (did.error_given (omega (arith, survives.clean)) inside_begun)));
     crash = survives_then (state g old) (state g mid.now) (state g end) _ _ (MayLeave Before Does (state g old)) (λ _ db none. absurd none) (λ _ db none. absurd none) (survives_begin g old (state g mid.now) _ (rw begins at did.survives)) survives;
     idle = over;
   }
@@ -115,7 +115,7 @@ module _ {S : Type 0} (g : Ghosts S) (old : Held S) (begun mid : MutBor (Held S)
         let before : HasCleanDisk (state g mid.now) = omega (arith, survives.clean) in
         let inside : (state g mid.now).in_transaction ≡ true = (did.does before).0 ∙ ap (λ (h : Held S). h.in_transaction) begins in
         if_err r (λ e failed. elim failed [ inl fails ↦ rolled_back (did.kept before) fails.3 | inr late ↦ absurd (true≢false (sym inside ∙ late.1)) ]) (fails clean);
-    told = λ clean.
+    error_given = λ clean.
         let before : HasCleanDisk (state g mid.now) = omega (arith, survives.clean) in
         let inside : IsTrue (state g mid.now).in_transaction = (did.does before).0 ∙ ap (λ (h : Held S). h.in_transaction) begins in
         let reached = did.reaches before inside_begun in

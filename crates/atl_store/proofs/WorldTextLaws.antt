@@ -3,7 +3,7 @@ use Rattle.std.proofs.Common.{◌≡◌, ℕ, List, [], ◌∷◌, refl, ap, inl
 use Rattle.sqlite.specs.Order.{Row}
 use Rattle.sqlite.specs.State.{State}
 use Rattle.atl_campaign.specs.Campaign.{CampaignValue}
-use Rattle.atl_sql.specs.Sets.{Is, rows_in}
+use Rattle.atl_sql.specs.Sets.{HasExactly, rows_in}
 use Rattle.atl_world.specs.declared.format.Format.{Format}
 use Rattle.atl_world.specs.declared.format.Format.TheVariants.{First, Second}
 use Rattle.sqlite_rules.specs.Lists.{Has}
@@ -20,11 +20,11 @@ has_own First = inl refl
 has_own Second = inl refl
 
 -- if the table `campaign` has just the campaign row with this text, the world text of the tables is this one
-text_held : (f : Format) (s : State) (text : List ℕ) (c : CampaignValue) → Is (rows_in campaign_table s.now.trees) (λ r. r ≡ campaign_row_in f (campaign_row_of c) text) → world_text s ≡ text
+text_held : (f : Format) (s : State) (text : List ℕ) (c : CampaignValue) → HasExactly (rows_in campaign_table s.now.trees) (λ r. r ≡ campaign_row_in f (campaign_row_of c) text) → world_text s ≡ text
 text_held f s text c holds = of (rows_in campaign_table s.now.trees) holds
   where
     -- for `text_held`: if a list of rows has only the campaign row with this text, its world text is this one
-    of : (rows : List Row) → Is rows (λ r. r ≡ campaign_row_in f (campaign_row_of c) text) → world_in rows ≡ text
+    of : (rows : List Row) → HasExactly rows (λ r. r ≡ campaign_row_in f (campaign_row_of c) text) → world_in rows ≡ text
     of [] is = absurd ((is (campaign_row_in f (campaign_row_of c) text)).1 refl)
     of (r ∷ rows) is = ap (λ (x : Row). world_in (x ∷ [])) ((is r).0 (inl refl))
 

@@ -13,7 +13,7 @@ use Rattle.atl_records.specs.declared.books.Thing.{Thing}
 use Rattle.atl_records.specs.declared.books.Thing.TheVariants.{Money, People}
 use Rattle.atl_records.specs.declared.records.Faction.{Faction}
 use Rattle.atl_records.specs.declared.records.Unit.{Unit}
-use Rattle.atl_sql.specs.Sets.{Set, Is, put, rows_in}
+use Rattle.atl_sql.specs.Sets.{Set, HasExactly, put, rows_in}
 use Rattle.atl_sql.specs.Inside.{Alters, Puts}
 use Rattle.atl_sql.specs.Tables.{Part, Own, Factions, Units, Reports, Books, table_of, campaign_table, faction_table, unit_table, mail_table, report_table, books_table}
 use Rattle.atl_sql.specs.Shown.{CampaignRowValue, campaign_row, mail_row, report_row, books_key}
@@ -58,13 +58,13 @@ WritesAmount c entry thing old new = Alters books_table (settled c entry thing (
 
 -- the row is put into the table: it replaces the row with its number, or is added; every other row is as it was
 abbrev pub HasPut : Table → Row → Database → Database → Type 0
-HasPut table row old new = Is (rows_in table new.trees) (put 1 row (Has (rows_in table old.trees)))
+HasPut table row old new = HasExactly (rows_in table new.trees) (put 1 row (Has (rows_in table old.trees)))
 
 -- What a join writes: the campaign row, the faction, its unit, which came last, its report, and what joining booked.
 -- The campaign row keeps this world text, and every other row and table is as it was.
 pub record AddsJoin (faction : ℕ) (after : CampaignValue) (text : List ℕ) (old new : Database) : Type 0 where
   -- the campaign row is that of the campaign after the join, with this world text
-  pub campaign : Is (rows_in campaign_table new.trees) (λ r. r ≡ campaign_line text after)
+  pub campaign : HasExactly (rows_in campaign_table new.trees) (λ r. r ≡ campaign_line text after)
   -- the faction's row is put
   pub member : (f : Faction) → get after.factions faction ≡ Some f → HasPut faction_table (faction_line faction f) old new
   -- the row of the faction's unit, which came last, is put
@@ -72,13 +72,13 @@ pub record AddsJoin (faction : ℕ) (after : CampaignValue) (text : List ℕ) (o
   -- the row of the faction's report is put
   pub report : (report : List ℕ) → get after.reports faction ≡ Some report → HasPut report_table (report_row faction report) old new
   -- the two amounts under joining, of money and of people, are written
-  pub books : Is (rows_in books_table new.trees) (settled after Joining People (settled after Joining Money (Has (rows_in books_table old.trees))))
+  pub books : HasExactly (rows_in books_table new.trees) (settled after Joining People (settled after Joining Money (Has (rows_in books_table old.trees))))
   -- the tables of all parts but these five are as they were
   pub others : (part : Part) → ¬ Has (Own ∷ Factions ∷ Units ∷ Reports ∷ Books ∷ []) part → new.trees (table_of part).tree ≡ old.trees (table_of part).tree
 
 -- if the table `campaign` held one row, a join is written (`AddsJoin`), whatever that row said
 abbrev pub WritesJoin : ℕ → CampaignValue → Database → Database → Type 0
-WritesJoin faction after old new = (before : CampaignRowValue) (text : List ℕ) → Is (rows_in campaign_table old.trees) (λ r. r ≡ campaign_row before text) → AddsJoin faction after text old new
+WritesJoin faction after old new = (before : CampaignRowValue) (text : List ℕ) → HasExactly (rows_in campaign_table old.trees) (λ r. r ≡ campaign_row before text) → AddsJoin faction after text old new
 
 -- a mailing is written: it replaces an older one of its faction, or is added; all other rows and tables stay
 abbrev pub WritesMail : ℕ → List ℕ → Database → Database → Type 0

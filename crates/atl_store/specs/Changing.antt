@@ -6,7 +6,7 @@ use Rattle.sqlite_trees.specs.Tree.{Trees}
 use Rattle.sqlite.specs.Table.{Table}
 use Rattle.sqlite_rules.specs.Lists.{Has}
 use Rattle.atl_campaign.specs.Campaign.{CampaignValue, MarkedCampaign}
-use Rattle.atl_sql.specs.Sets.{Set, Is, rows_in}
+use Rattle.atl_sql.specs.Sets.{Set, HasExactly, rows_in}
 use Rattle.atl_sql.specs.Tables.{Part, campaign_table, table_of}
 use Rattle.atl_sql.specs.Shown.{CampaignRowValue, campaign_row}
 use Rattle.atl_sql.specs.Marked.{is_marked}
@@ -23,7 +23,7 @@ rows_after_rewrite is_marked Wanted Were r = Chosen (is_marked r) (Wanted r) (We
 
 -- a table is rewritten: its rows with a marked key are now the wanted ones, and its other rows are as they were
 abbrev pub AreRewritten : Table → (Row → Bool) → Set → Database → Database → Type 0
-AreRewritten table is_marked Wanted old new = Is (rows_in table new.trees) (rows_after_rewrite is_marked Wanted (Has (rows_in table old.trees)))
+AreRewritten table is_marked Wanted old new = HasExactly (rows_in table new.trees) (rows_after_rewrite is_marked Wanted (Has (rows_in table old.trees)))
 
 -- what the campaign row says after a write: if it is marked (true) what the campaign says, else what it said before
 abbrev pub campaign_row_after : Bool → CampaignValue → CampaignRowValue → CampaignRowValue
@@ -42,7 +42,7 @@ pub record WritesMarked (c : MarkedCampaign) (before : CampaignRowValue) (text :
 
 -- If the table `campaign` held one row, all that is marked is written (`WritesMarked`), whatever that row said.
 abbrev pub WritesChanges : MarkedCampaign → Database → Database → Type 0
-WritesChanges c old new = (before : CampaignRowValue) (text : List ℕ) → Is (rows_in campaign_table old.trees) (λ r. r ≡ campaign_row before text) → WritesMarked c before text old new
+WritesChanges c old new = (before : CampaignRowValue) (text : List ℕ) → HasExactly (rows_in campaign_table old.trees) (λ r. r ≡ campaign_row before text) → WritesMarked c before text old new
 
 -- ---- tables that hold what is not marked of a campaign
 
@@ -56,7 +56,7 @@ pub record HoldsUnmarked (trees : Trees) (text : List ℕ) (c : MarkedCampaign) 
   -- what the row of the table `campaign` says
   pub before : CampaignRowValue
   -- the table `campaign` has one row, which says `before` and has this world text
-  pub campaign : Is (rows_in campaign_table trees) (λ r. r ≡ campaign_row before text)
+  pub campaign : HasExactly (rows_in campaign_table trees) (λ r. r ≡ campaign_row before text)
   -- unless the campaign row is marked, `before` is what the campaign says
   pub head : campaign_row_after c.marks.row c.value before ≡ campaign_row_of c.value
   -- in each part's table the rows that aren't marked are the campaign's

@@ -3,14 +3,14 @@ use Rattle.std.specs.Prelude.{◌≡◌, [], ◌∷◌, List, ℕ}
 use Rattle.sqlite.specs.Effect.{Database}
 use Rattle.sqlite.specs.Order.{Row}
 use Rattle.atl_campaign.specs.Campaign.{CampaignValue}
-use Rattle.atl_sql.specs.Sets.{Is, rows_in}
+use Rattle.atl_sql.specs.Sets.{HasExactly, rows_in}
 use Rattle.atl_sql.specs.Tables.{Part, campaign_table}
 use Rattle.atl_sql.specs.Inside.{Changes}
 use Rattle.atl_sql.specs.Rows.{campaign_line, rows_for, Holds}
 
 -- one part is filled: if its table had no row, it has exactly the campaign's rows afterwards; `own` is the campaign row
 abbrev pub Fills : CampaignValue → Row → Part → List Row → List Row → Type 0
-Fills c own part before after = before ≡ [] → Is after (rows_for own c part)
+Fills c own part before after = before ≡ [] → HasExactly after (rows_for own c part)
 
 -- The table of each listed part, if it was empty, gets exactly the campaign's rows.
 -- The campaign row isn't among the parts; the tables of all other parts stay.

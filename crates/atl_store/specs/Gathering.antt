@@ -25,7 +25,7 @@ use Rattle.atl_campaign.specs.declared.parts.Parts.{Parts}
 use Rattle.atl_campaign.specs.declared.parts.StoredCampaignRow.{StoredCampaignRow}
 use Rattle.atl_sql.specs.Errors.{is_memory}
 use Rattle.atl_store.specs.Loading.{HaveRows, AreOwnRow, IsOther, HasOtherType, KeepsOneRow, other_parts, other_selects, shows_rowids, tables_with_rowids, rows_read, AfterReads, AllSelectsShowTyped, RefusesOne}
-use Rattle.atl_sql.specs.Reading.{Selects, listing_of}
+use Rattle.atl_sql.specs.Reading.{Selects, select_of_part}
 use Rattle.atl_sql.specs.Statements.{selection}
 use Rattle.atl_sql.specs.Sets.{AreKeyedByRowid, rows_in}
 use Rattle.atl_sql.specs.Shown.{campaign_stored}
@@ -124,7 +124,7 @@ ReadRows = List (Part × List Row)
 -- the rows read are all rows of the part's table, if the schema begins with the tables of the earliest format that has
 -- the part
 abbrev pub AreRows : Database → Part → List Row → Type 0
-AreRows db part rows = HasTablesOf (listing_of part).since db.schema → IsPermutation ((listing_of part).in_table db.trees) rows
+AreRows db part rows = HasTablesOf (select_of_part part).since db.schema → IsPermutation ((select_of_part part).in_table db.trees) rows
 
 -- for each part that was read, the rows are all rows of the part's table (`AreRows`)
 abbrev pub AreAllRows : Database → ReadRows → Type 0

@@ -29,7 +29,7 @@ use Rattle.atl_campaign.specs.declared.parts.StoredCampaignRow.{StoredCampaignRo
 use Rattle.atl_campaign.specs.declared.parts.StoredMarket.{StoredMarket}
 use Rattle.atl_sql.specs.Errors.{is_memory}
 use Rattle.atl_store.specs.Keeps.{ChangesNothing, HoldsCampaign}
-use Rattle.atl_sql.specs.Reading.{Selects, RefusesToSelect, listing_of}
+use Rattle.atl_sql.specs.Reading.{Selects, RefusesToSelect, select_of_part}
 use Rattle.atl_sql.specs.Rows.{HoldsIn}
 use Rattle.atl_sql.specs.Shown.{int, campaign_row_stored, faction_stored, region_stored, unit_stored, structure_stored, mail_stored, report_stored, campaign_forms, faction_forms, region_forms, unit_forms, has_forms, structure_forms, mail_forms, report_forms, books_forms, market_forms}
 use Rattle.atl_sql.specs.Statements.{selection}
@@ -129,7 +129,7 @@ other_parts f = drop 1 (parts_in f)
 
 -- the SELECTs of all parts of a format but the campaign row, each with the forms of its columns
 abbrev pub other_selects : Format → List (List ℕ × List Form)
-other_selects f = map (λ part. ((listing_of part).select, forms_of part)) (other_parts f)
+other_selects f = map (λ part. ((select_of_part part).select, forms_of part)) (other_parts f)
 
 -- whether a part's table has no INTEGER PRIMARY KEY, so that its rows are shown with their rowids
 abbrev pub shows_rowids : Part → Bool

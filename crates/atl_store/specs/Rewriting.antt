@@ -10,15 +10,15 @@ use Rattle.sqlite.specs.Table.{Table}
 use Rattle.sqlite_rules.specs.Lists.{Has}
 use Rattle.atl_records.specs.Limits.{entry_count}
 use Rattle.atl_campaign.specs.Campaign.{CampaignValue, MarkedCampaign}
-use Rattle.atl_campaign.specs.Marks.{Marks, Things}
+use Rattle.atl_campaign.specs.Marks.{Marks, MarkedThings}
 use Rattle.atl_sql.specs.declared.rows.has.ThingKind.{ThingKind}
 use Rattle.atl_sql.specs.declared.rows.has.ThingKind.TheVariants.{Item, Skill}
-use Rattle.atl_sql.specs.Sets.{Set, Is, rows_in}
+use Rattle.atl_sql.specs.Sets.{Set, HasExactly, rows_in}
 use Rattle.atl_sql.specs.Inside.{Alters, Changes}
 use Rattle.atl_sql.specs.Tables.{Part, campaign_table, has_table, books_table, market_table}
 use Rattle.atl_sql.specs.Shown.{CampaignRowValue, campaign_row}
 use Rattle.atl_sql.specs.Rows.{RowsOf, HasRowsOf, BooksRowsOf, MarketRowsOf, rows_for}
-use Rattle.atl_sql.specs.Marked.{begins, accounts, of_kind, of_stock, begins_marked, goods_marked, stocks_marked, amount_marked, is_marked}
+use Rattle.atl_sql.specs.Marked.{first_column_passes, entry_and_thing_pass, of_kind, of_stock, begins_marked, goods_marked, stocks_marked, amount_marked, is_marked}
 use Rattle.atl_store.specs.Changing.{rows_after_rewrite, own_after}
 
 -- in one table the rows that the test chooses become the set's rows that it chooses; all other rows and tables stay
@@ -37,7 +37,7 @@ is_among ns k = list_any (eq_by_cmp nat_cmp k) ns
 
 -- whether a row of `books` is of a marked amount whose entry, by its index, passes `entries`, and its thing `things`
 abbrev pub of_amounts : FinSet nat_cmp → (ℕ → Bool) → (ℕ → Bool) → Row → Bool
-of_amounts marks entries things r = accounts (λ entry thing. entries entry && (things thing && contains marks (entry_count * thing + entry))) r
+of_amounts marks entries things r = entry_and_thing_pass (λ entry thing. entries entry && (things thing && contains marks (entry_count * thing + entry))) r
 
 -- whether a pair of numbers, a unit or region and a thing, is the owner `owner` and the thing `thing`
 abbrev pub is_thing : (owner thing : ℕ) → ℕ → ℕ → Bool
@@ -57,7 +57,7 @@ pub record FindsByNumbers (finds : (ℕ → ℕ → Bool) → Row → Bool) : Ty
 
 -- the row of one number becomes that of the campaign, or is deleted if the campaign has no row of the number
 abbrev pub RewritesNumber : {V : Type 0} → Table → (ℕ → V → Row) → FinMap nat_cmp V → ℕ → Database → Database → Type 0
-RewritesNumber table line values n old new = Rewrites table (begins (is_number n)) (RowsOf line values) old new
+RewritesNumber table line values n old new = Rewrites table (first_column_passes (is_number n)) (RowsOf line values) old new
 
 -- the row of each marked number becomes that of the campaign, or is deleted if the campaign has no row of the number
 abbrev pub RewritesMarked : {V : Type 0} → Table → (ℕ → V → Row) → FinMap nat_cmp V → FinSet nat_cmp → Database → Database → Type 0
@@ -65,7 +65,7 @@ RewritesMarked table line values marks old new = Rewrites table (begins_marked m
 
 -- in one table the rows of one unit or region, whose key begins with its number, become the set's; all others stay
 abbrev pub RewritesGroup : Table → Set → ℕ → Database → Database → Type 0
-RewritesGroup table Wanted n old new = Rewrites table (begins (is_number n)) Wanted old new
+RewritesGroup table Wanted n old new = Rewrites table (first_column_passes (is_number n)) Wanted old new
 
 -- in one table the rows whose key begins with the number of a marked unit or region become the set's; all others stay
 abbrev pub RewritesGroups : Table → Set → FinSet nat_cmp → Database → Database → Type 0
@@ -84,7 +84,7 @@ abbrev pub RewritesThings : CampaignValue → ThingKind → (ℕ → ℕ → Boo
 RewritesThings c sort things old new = Rewrites has_table (of_kind sort things) (HasRowsOf c.units) old new
 
 -- the items, or the skills, that are marked one by one: their numbers, by the unit's number
-abbrev pub marked_things : Marks → ThingKind → Things
+abbrev pub marked_things : Marks → ThingKind → MarkedThings
 marked_things marks Item = marks.items
 marked_things marks Skill = marks.skills
 
@@ -103,13 +103,13 @@ RewritesBooks c old new = Rewrites books_table (amount_marked c.marks.books) (Bo
 -- If `campaign` held one row, this row then says what the campaign says if it is marked, else what it said before.
 -- Its world text stays, and every other table is as it was.
 abbrev pub RewritesCampaignRow : MarkedCampaign → Database → Database → Type 0
-RewritesCampaignRow c old new = (before : CampaignRowValue) (text : List ℕ) → Is (rows_in campaign_table old.trees) (λ r. r ≡ campaign_row before text) → Alters campaign_table (λ r. r ≡ own_after c before text) old new
+RewritesCampaignRow c old new = (before : CampaignRowValue) (text : List ℕ) → HasExactly (rows_in campaign_table old.trees) (λ r. r ≡ campaign_row before text) → Alters campaign_table (λ r. r ≡ own_after c before text) old new
 
 -- ---- one table after another
 
 -- the part's marked rows become those of the campaign, with `own` as its campaign row; the part's other rows stay
 abbrev pub Becomes : MarkedCampaign → Row → Part → List Row → List Row → Type 0
-Becomes c own part before after = Is after (rows_after_rewrite (is_marked c.marks part) (rows_for own c.value part) (Has before))
+Becomes c own part before after = HasExactly after (rows_after_rewrite (is_marked c.marks part) (rows_for own c.value part) (Has before))
 
 -- The marked rows of the listed parts become those of the campaign; all other rows stay.
 -- The campaign row isn't among the parts.
@@ -123,4 +123,4 @@ RewritesPart c part = RewritesParts c (part ∷ [])
 -- If `campaign` held one row, the marked rows of the listed parts become those of the campaign; all other rows stay.
 -- The campaign row is among the parts.
 abbrev pub RewritesWithOwn : MarkedCampaign → List Part → Database → Database → Type 0
-RewritesWithOwn c parts old new = (before : CampaignRowValue) (text : List ℕ) → Is (rows_in campaign_table old.trees) (λ r. r ≡ campaign_row before text) → Changes (Becomes c (own_after c before text)) parts old new
+RewritesWithOwn c parts old new = (before : CampaignRowValue) (text : List ℕ) → HasExactly (rows_in campaign_table old.trees) (λ r. r ≡ campaign_row before text) → Changes (Becomes c (own_after c before text)) parts old new

@@ -4,7 +4,7 @@ ghost use Rattle.std.specs.FinMap.{entries};
 ghost use Rattle.sqlite.specs.Order.{Row as SqlRow};
 ghost use Rattle.sqlite.specs.Table.{Table};
 ghost use Rattle.atl_campaign.specs.Campaign.{CampaignValue};
-ghost use Rattle.atl_campaign.specs.Marks.{Marks, Things};
+ghost use Rattle.atl_campaign.specs.Marks.{Marks, MarkedThings};
 ghost use Rattle.atl_store.specs.OwnStatements.{OfChange};
 ghost use Rattle.atl_sql.specs.Writes.{Writes};
 ghost use Rattle.atl_sql.specs.Inside.{Inside, HasTables};
@@ -28,7 +28,7 @@ pub(crate) trait SingleAmounts: Copy {
     ghost finds: { Self → (ℕ → ℕ → Bool) → SqlRow → Bool };
 
     // The single amounts that are marked, by the numbers of owner and thing.
-    ghost marks: { Self → Marks → Things };
+    ghost marks: { Self → Marks → MarkedThings };
 
     /// The single amounts that are marked, by the numbers of owner and thing, in rising order.
     fn marked_singles(self, campaign: &Campaign) -> Entries<'_, Numbered<()>>

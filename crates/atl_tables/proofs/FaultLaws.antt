@@ -4,7 +4,7 @@ use Rattle.std.specs.Result.{IsErrAnd}
 use Rattle.std.proofs.lemmas.Result.{err_from_is_err_and}
 use Rattle.atl_tables.specs.declared.fault.WorldFault.{WorldFault}
 use Rattle.atl_tables.specs.declared.fault.WorldFault.TheVariants.{Memory}
-use Rattle.atl_tables.specs.Faults.{Conditions, fault_of, first_fault, unless, Reads}
+use Rattle.atl_tables.specs.Faults.{Conditions, fault_of, first_fault, fault_or_value, Reads}
 use Rattle.atl_tables.specs.Results.{Stops, Gives}
 
 -- if a call returned the error e where the definition gives r (`Reads`), e is Memory, or the first fault of any
@@ -46,8 +46,9 @@ pub gives_after : {X Y : Type 0} (view : X → Y) (r : Result X WorldFault) (fs 
 gives_after view (Ok x) fs gs v h g = (passes fs gs h ∙ g.0, g.1)
 gives_after view (Err e) fs gs v h g = stops_after e fs gs h g
 
--- if a call gives the value v or the fault (`Gives`), it returns what the definition `unless fault v` gives (`Reads`)
-pub reads : {X Y : Type 0} (view : X → Y) (r : Result X WorldFault) (fault : Option WorldFault) (v : Y) → Gives view r fault v → Reads view r (unless fault v)
+-- if a call gives the value v or the fault (`Gives`), it returns what the definition `fault_or_value fault v` gives
+-- (`Reads`)
+pub reads : {X Y : Type 0} (view : X → Y) (r : Result X WorldFault) (fault : Option WorldFault) (v : Y) → Gives view r fault v → Reads view r (fault_or_value fault v)
 reads view (Ok x) fault v h = rw (h.0, h.1) refl
 reads view (Err Memory) fault v h = tt
 reads view (Err e) fault v h = rw h refl

@@ -5,7 +5,7 @@ use Rattle.std.specs.FinMap.{FinMap, get, same_map, nat_cmp-IsAntisymmetric}
 use Rattle.std.specs.Ordering.{nat_cmp}
 use Rattle.toml.specs.Data.{Members}
 use Rattle.toml.specs.Parse.{parse_document}
-use Rattle.atl_tables.specs.Faults.{first_fault, unless}
+use Rattle.atl_tables.specs.Faults.{first_fault, fault_or_value}
 use Rattle.atl_tables.specs.EachIndex.{EachIndex}
 use Rattle.atl_tables.specs.OldWorlds.{OldWorldsAreBare}
 use Rattle.atl_world.specs.Worlds.{WorldValue, without_market, without_markets}
@@ -44,8 +44,8 @@ module _ (all : WorldDraft) where
       let plans = subst (λ ds. EachIndex (λ i p. without_market p ≡ p) (map (region_of all) ds)) (sym read) (bare_plans rs) in
       ap (λ m. record (world_of_tables all) { regions = m }) (mapped_same without_market (regions_of all) (at_number (λ (p : RegionPlan). p.number) (λ n p. without_market p ≡ p) (map (region_of all) all.regions) plans))
 
--- if the result `unless fault x`, the fault or else x, is Ok w, then the world x is w: for `in_document`
-given : (fault : Option WorldFault) (x w : WorldValue) → unless fault x ≡ Ok w → x ≡ w
+-- if the result `fault_or_value fault x`, the fault or else x, is Ok w, then the world x is w: for `in_document`
+given : (fault : Option WorldFault) (x w : WorldValue) → fault_or_value fault x ≡ Ok w → x ≡ w
 given None x w h = cc
 given (Some f) x w h = absurd (cc)
 

@@ -2,16 +2,16 @@
 use Rattle.std.specs.Prelude.{ℕ, ◌+◌, List, [], ◌∷◌, ◌++◌, Result}
 use Rattle.toml.specs.Data.{Data, Items, no_items, item, Members, no_members, as_table}
 use Rattle.atl_tables.specs.Faults.{Conditions, fault_of, value_or}
-use Rattle.atl_tables.specs.Keys.{typed, element_path}
+use Rattle.atl_tables.specs.Keys.{value_or_wrong_type, element_path}
 use Rattle.atl_tables.specs.declared.fault.WorldFault.{WorldFault}
 
 -- the table that an element of an array is, or the empty table if it is no table
 abbrev pub element_table : List ℕ → Data → Members
-element_table at d = value_or no_members (typed at (as_table d))
+element_table at d = value_or no_members (value_or_wrong_type at (as_table d))
 
 -- the conditions on one element of an array: it is a table, else the fault WrongType; and its keys have no fault
 abbrev pub element_conditions : (List ℕ → Members → Conditions) → List ℕ → Data → Conditions
-element_conditions conditions at d = fault_of (typed at (as_table d)) ∷ conditions at (element_table at d)
+element_conditions conditions at d = fault_of (value_or_wrong_type at (as_table d)) ∷ conditions at (element_table at d)
 
 -- the conditions on the elements of an array from the index i on, in their order; `key` is the path of the array
 abbrev pub elements_conditions : (List ℕ → Members → Conditions) → List ℕ → ℕ → Items → Conditions

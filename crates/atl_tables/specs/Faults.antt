@@ -24,9 +24,9 @@ first_fault (None ∷ fs) = first_fault fs
 first_fault (Some f ∷ fs) = Some f
 
 -- the result of a call: the fault if there is one (Some), else the value x
-abbrev pub unless : {A : Type 0} → Option WorldFault → A → Result A WorldFault
-unless None x = Ok x
-unless (Some f) x = Err f
+abbrev pub fault_or_value : {A : Type 0} → Option WorldFault → A → Result A WorldFault
+fault_or_value None x = Ok x
+fault_or_value (Some f) x = Err f
 
 -- A call returned what the definition gives, which is `read`: its fault, or its value, compared by `view`; or it
 -- returned Memory, whatever `read` is.

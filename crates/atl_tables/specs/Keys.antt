@@ -41,9 +41,9 @@ optional read None = Ok None
 optional read (Some d) = some_of (read d)
 
 -- the value x if it has the right type (Some x), else (None) the fault WrongType at the path p
-abbrev pub typed : {A : Type 0} → List ℕ → Option A → Result A WorldFault
-typed p None = Err (WrongType p)
-typed p (Some x) = Ok x
+abbrev pub value_or_wrong_type : {A : Type 0} → List ℕ → Option A → Result A WorldFault
+value_or_wrong_type p None = Err (WrongType p)
+value_or_wrong_type p (Some x) = Ok x
 
 -- `within least most n` is the integer n as a natural number if it is from least to most, else None
 abbrev pub within : ℕ → ℕ → ℤ → Option ℕ
@@ -61,11 +61,11 @@ abbrev pub integer_in_range : List ℕ → ℕ → ℕ → Option ℤ → Result
 integer_in_range p least most None = Err (WrongType p)
 integer_in_range p least most (Some z) = in_range p (within least most z)
 
--- `named p text` is the text (Some) if it keeps the rule of names, else the fault WrongType (None: it is no text) or
--- OutOfRange at the path p
-abbrev pub named : List ℕ → Option (List ℕ) → Result (List ℕ) WorldFault
-named p None = Err (WrongType p)
-named p (Some s) = if name_ok s then Ok s else Err (OutOfRange p)
+-- `name_or_fault p text` is the text (Some) if it keeps the rule of names, else the fault WrongType (None: it is no
+-- text) or OutOfRange at the path p
+abbrev pub name_or_fault : List ℕ → Option (List ℕ) → Result (List ℕ) WorldFault
+name_or_fault p None = Err (WrongType p)
+name_or_fault p (Some s) = if name_ok s then Ok s else Err (OutOfRange p)
 
 -- ---- keys of a table
 
@@ -77,15 +77,15 @@ number_at least most key at t = present (path at key) (λ d. integer_in_range (p
 -- `name_at key at t` is the name under a key of the table t at a path, else the fault Missing, WrongType, or OutOfRange
 -- if it breaks the rule of names
 unfoldable pub name_at : List ℕ → List ℕ → Members → Result (List ℕ) WorldFault
-name_at key at t = present (path at key) (λ d. named (path at key) (as_str d)) (get_member key t)
+name_at key at t = present (path at key) (λ d. name_or_fault (path at key) (as_str d)) (get_member key t)
 
 -- `text_at key at t` is the text under a key of the table t at a path, else the fault Missing or WrongType
 unfoldable pub text_at : List ℕ → List ℕ → Members → Result (List ℕ) WorldFault
-text_at key at t = present (path at key) (λ d. typed (path at key) (as_str d)) (get_member key t)
+text_at key at t = present (path at key) (λ d. value_or_wrong_type (path at key) (as_str d)) (get_member key t)
 
 -- `flag_at key at t` is the truth value under a key of the table t at a path, else the fault Missing or WrongType
 unfoldable pub flag_at : List ℕ → List ℕ → Members → Result Bool WorldFault
-flag_at key at t = present (path at key) (λ d. typed (path at key) (as_bool d)) (get_member key t)
+flag_at key at t = present (path at key) (λ d. value_or_wrong_type (path at key) (as_bool d)) (get_member key t)
 
 -- `number_or_at default least most key at t` is the number under a key of the table t at a path, from least to most, or
 -- the default if the key is missing; else the fault WrongType or OutOfRange
@@ -100,18 +100,18 @@ optional_number_at least most key at t = optional (λ d. integer_in_range (path 
 -- `optional_text_at key at t` is the text under a key of the table t at a path, None if the key is missing; else the
 -- fault WrongType
 unfoldable pub optional_text_at : List ℕ → List ℕ → Members → Result (Option (List ℕ)) WorldFault
-optional_text_at key at t = optional (λ d. typed (path at key) (as_str d)) (get_member key t)
+optional_text_at key at t = optional (λ d. value_or_wrong_type (path at key) (as_str d)) (get_member key t)
 
 -- `optional_table_at key at t` is the table under a key of the table t at a path, empty if the key is missing; else the
 -- fault WrongType
 unfoldable pub optional_table_at : List ℕ → List ℕ → Members → Result Members WorldFault
-optional_table_at key at t = or_else no_members (λ d. typed (path at key) (as_table d)) (get_member key t)
+optional_table_at key at t = or_else no_members (λ d. value_or_wrong_type (path at key) (as_table d)) (get_member key t)
 
 -- ---- tables and arrays
 
 -- the table under a key of the document, else the fault Missing or WrongType
 unfoldable pub table_at : List ℕ → Members → Result Members WorldFault
-table_at key doc = present key (λ d. typed key (as_table d)) (get_member key doc)
+table_at key doc = present key (λ d. value_or_wrong_type key (as_table d)) (get_member key doc)
 
 -- the number of elements of an array
 abbrev pub count_of : Items → ℕ

@@ -7,7 +7,7 @@ use Rattle.toml.specs.Data.{Members}
 use Rattle.toml.specs.Parse.{parse_document}
 use Rattle.atl_tables.specs.Arrays.{list_conditions, list_of}
 use Rattle.atl_tables.specs.Each.{each}
-use Rattle.atl_tables.specs.Faults.{Conditions, first_fault, unless}
+use Rattle.atl_tables.specs.Faults.{Conditions, first_fault, fault_or_value}
 use Rattle.atl_tables.specs.ItemTable.{item_keys, item_from, item_known, item_of}
 use Rattle.atl_tables.specs.Keys.{array_at, optional_array_at}
 use Rattle.atl_tables.specs.KindTable.{kind_keys, kind_from, kind_known, kind_of}
@@ -143,7 +143,7 @@ conditions format doc = keys_conditions format doc ++ table_conditions (tables_o
 -- the world of a document in a format, or its first fault; NotToml without a document
 abbrev pub world_in : Format → Option Members → Result WorldValue WorldFault
 world_in format None = Err NotToml
-world_in format (Some doc) = unless (first_fault (conditions format doc)) (world_of_tables (tables_of format doc))
+world_in format (Some doc) = fault_or_value (first_fault (conditions format doc)) (world_of_tables (tables_of format doc))
 
 -- the world of a text in a format, or its first fault
 unfoldable pub world_by : Format → List ℕ → Result WorldValue WorldFault

@@ -17,7 +17,7 @@ use toml::value::Array;
 use toml::{Table, Value};
 
 /// A value that is read from a table: an element of an array of tables, or a part of one table.
-pub(crate) trait Element: Drop {
+pub(crate) trait FromTable: Drop {
     // The conditions on the keys of a table at a path.
     ghost conditions: { List ℕ → Members → Conditions };
 
@@ -37,7 +37,7 @@ pub(crate) trait Element: Drop {
 
 /// The element `value`, the i-th of the array at the path `key`, as read, else the fault WrongType
 /// if it is no table, or the first fault of its keys.
-fn one_element<E: Element>(
+fn one_element<E: FromTable>(
     alloc: Global,
     key: &str,
     i: usize,
@@ -59,7 +59,7 @@ fn one_element<E: Element>(
 
 /// All elements of the array at the path `key`, as read, in order, else the first fault of an
 /// element.
-fn elements<E: Element>(alloc: Global, key: &str, values: &Array) -> Result<Vec<E>, WorldFault>
+fn elements<E: FromTable>(alloc: Global, key: &str, values: &Array) -> Result<Vec<E>, WorldFault>
     ensures value { Gives (λ v. v.items) result
         (first_fault (elements_conditions E.conditions key.now 0 (array_view values.now)))
         (elements_of E.record_of key.now 0 (array_view values.now)) }
@@ -77,7 +77,7 @@ fn elements<E: Element>(alloc: Global, key: &str, values: &Array) -> Result<Vec<
 /// The 1 to `most` elements of the array under a key of the document, else the fault Missing,
 /// WrongType or OutOfRange of the array, or the first fault of an element.
 #[tactic(auto, unfolding(crate::specs::Arrays::list_conditions, crate::specs::Arrays::list_of, crate::specs::Keys::array_at))]
-pub(crate) fn list<E: Element>(
+pub(crate) fn list<E: FromTable>(
     alloc: Global,
     most: usize,
     key: &str,
@@ -103,7 +103,7 @@ pub(crate) fn list<E: Element>(
 /// else the fault WrongType or OutOfRange of the array, whose path is `array`, or the first fault
 /// of an element.
 #[tactic(auto, unfolding(crate::specs::Arrays::list_conditions, crate::specs::Arrays::list_of, crate::specs::Keys::optional_array_at))]
-pub(crate) fn optional_list<E: Element>(
+pub(crate) fn optional_list<E: FromTable>(
     alloc: Global,
     most: usize,
     array: &str,

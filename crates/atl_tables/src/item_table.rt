@@ -10,7 +10,7 @@ ghost use Rattle.atl_world.specs.Limits.{most_numbered};
 ghost use Rattle.atl_world.specs.Worlds.{IsItem};
 ghost use Rattle.atl_tables.specs.Titles.{number_of, known_number_or_none};
 
-use crate::elements::Element;
+use crate::elements::FromTable;
 use crate::fault::WorldFault;
 use crate::keys::{self, element_path, path};
 use crate::titles::{known_number_or_none, number_of};
@@ -61,7 +61,7 @@ impl Drop for ItemDraft {
 
 /// Reads the keys `skill`, `level`, `raw` and `raw_count` of a table `[[item]]`: what making one
 /// takes.
-impl Element for Recipe {
+impl FromTable for Recipe {
     ghost conditions = { conditions_of making_at };
 
     ghost record_of = { value_of making_at };
@@ -87,7 +87,7 @@ impl Element for Recipe {
 
 /// Reads all keys of a table `[[item]]`: its name, what it weighs and carries, what making one
 /// takes.
-impl Element for ItemDraft {
+impl FromTable for ItemDraft {
     ghost conditions = { item_keys };
 
     ghost record_of = { item_from };

@@ -5,7 +5,7 @@ ghost use Rattle.toml.specs.Data.{get_member, as_integer, as_str, as_array};
 ghost use Rattle.toml.specs.View.{view, table_view, array_view};
 ghost use Rattle.atl_tables.specs.Faults.{Reads};
 ghost use Rattle.atl_world.specs.Names.{name_ok};
-ghost use Rattle.atl_tables.specs.Keys.{path, element_path, within, integer_in_range, typed, number_at, name_at, text_at, flag_at, number_or_at, optional_number_at, optional_text_at, table_at, count_of, array_of_size};
+ghost use Rattle.atl_tables.specs.Keys.{path, element_path, within, integer_in_range, value_or_wrong_type, number_at, name_at, text_at, flag_at, number_or_at, optional_number_at, optional_text_at, table_at, count_of, array_of_size};
 
 use crate::fault::WorldFault;
 use atl_world::{Text, name_ok};
@@ -168,7 +168,8 @@ pub(crate) fn name(alloc: Global, key: &str, at: &str, table: &Table) -> Result<
 
 /// A copy of the text that a value is, else the fault WrongType at the path of its key.
 fn text_value(alloc: Global, key: &str, at: &str, value: &Value) -> Result<Text, WorldFault>
-    ensures { Reads (λ t. t) result (typed (path at.now key.now) (as_str (view value.now))) }
+    ensures { Reads (λ t. t) result
+        (value_or_wrong_type (path at.now key.now) (as_str (view value.now))) }
 {
     match value.as_str() {
         None => Err(WorldFault::WrongType(path(alloc, at, key)?)),

@@ -6,7 +6,7 @@ ghost use Rattle.atl_tables.specs.KeyByKey.{conditions_of, value_of};
 ghost use Rattle.atl_tables.specs.KindTable.{building_at, purpose_at, kind_keys, kind_from, kind_known, kind_of};
 ghost use Rattle.atl_world.specs.Worlds.{IsKind};
 
-use crate::elements::Element;
+use crate::elements::FromTable;
 use crate::fault::WorldFault;
 use crate::keys::{self, element_path};
 use crate::titles::{known, known_number_or_none};
@@ -68,7 +68,7 @@ impl Drop for KindDraft {
 
 /// Reads the keys `material`, `size`, `skill` and `level` of a table `[[kind]]`: what building a
 /// structure takes.
-impl Element for Building {
+impl FromTable for Building {
     ghost conditions = { conditions_of building_at };
 
     ghost record_of = { value_of building_at };
@@ -94,7 +94,7 @@ impl Element for Building {
 
 /// Reads the keys `capacity`, `crew` and `helps` of a table `[[kind]]`, all of which may be
 /// missing.
-impl Element for Purpose {
+impl FromTable for Purpose {
     ghost conditions = { conditions_of purpose_at };
 
     ghost record_of = { value_of purpose_at };
@@ -118,7 +118,7 @@ impl Element for Purpose {
 
 /// Reads all keys of a table `[[kind]]`: its name, whether it is a ship, what building one takes,
 /// and what it is good for.
-impl Element for KindDraft {
+impl FromTable for KindDraft {
     ghost conditions = { kind_keys };
 
     ghost record_of = { kind_from };

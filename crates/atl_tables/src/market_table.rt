@@ -9,7 +9,7 @@ ghost use Rattle.atl_tables.specs.Results.{Gives};
 ghost use Rattle.atl_tables.specs.MarketTable.{market_keys, market_from, markets_keys, markets_from, market_known, market_of};
 ghost use Rattle.atl_world.specs.Worlds.{IsMarket};
 
-use crate::elements::{Element, optional_list};
+use crate::elements::{FromTable, optional_list};
 use crate::fault::WorldFault;
 use crate::has_number::HasNumber;
 use crate::keys::{self, path};
@@ -44,7 +44,7 @@ impl Drop for MarketDraft {
 }
 
 /// Reads all keys of a table `[[region.market]]`, and keeps the table's path.
-impl Element for MarketDraft {
+impl FromTable for MarketDraft {
     ghost conditions = { market_keys };
 
     ghost record_of = { market_from };

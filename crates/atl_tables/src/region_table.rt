@@ -8,7 +8,7 @@ ghost use Rattle.atl_tables.specs.Results.{Gives};
 ghost use Rattle.atl_tables.specs.RegionTable.{basics_keys, basics_from, side_keys, sides_from, old_region_keys, old_region_from, as_draft, region_keys, region_from, duplicate_market_items, region_known, region_of};
 ghost use Rattle.atl_world.specs.Worlds.{IsRegionPlan};
 
-use crate::elements::Element;
+use crate::elements::FromTable;
 use crate::fault::WorldFault;
 use crate::has_number::{HasNumber, by_number};
 use crate::keys::{self, element_path, path};
@@ -79,7 +79,7 @@ impl Drop for RegionDraft {
 }
 
 /// Reads the keys of a table `[[region]]` for number, name, terrain, peasants and money.
-impl Element for RegionBasics {
+impl FromTable for RegionBasics {
     ghost conditions = { basics_keys };
 
     ghost record_of = { basics_from };
@@ -125,7 +125,7 @@ fn read_sides(alloc: Global, at: &str, table: &Table) -> Result<Sides, WorldFaul
 }
 
 /// Reads a table `[[region]]` by the first format: all its keys but `market`.
-impl Element for OldRegion {
+impl FromTable for OldRegion {
     ghost conditions = { old_region_keys };
 
     ghost record_of = { old_region_from };
@@ -143,7 +143,7 @@ impl Element for OldRegion {
 }
 
 /// Reads a table `[[region]]` by the second format: all its keys, and the tables of its markets.
-impl Element for RegionDraft {
+impl FromTable for RegionDraft {
     ghost conditions = { region_keys };
 
     ghost record_of = { region_from };

@@ -8,7 +8,7 @@ ghost use Rattle.atl_tables.specs.KeyByKey.{conditions_of, value_of};
 ghost use Rattle.atl_world.specs.Worlds.{AreRules};
 ghost use Rattle.atl_tables.specs.RulesTable.{prices_at, peasants_at, men_at, skill_names_at, rules_at, rules_conditions, rules_in, rules_known, rules_of};
 
-use crate::elements::Element;
+use crate::elements::FromTable;
 use crate::fault::WorldFault;
 use crate::keys;
 use crate::titles::known_number_or_none;
@@ -84,7 +84,7 @@ pub struct RulesDraft {
 }
 
 /// Reads the keys `maintenance`, `tax_per_man` and `recruit_price` of the table `[rules]`.
-impl Element for Prices {
+impl FromTable for Prices {
     ghost conditions = { conditions_of prices_at };
 
     ghost record_of = { value_of prices_at };
@@ -107,7 +107,7 @@ impl Element for Prices {
 }
 
 /// Reads the keys `recruit_fraction`, `growth` and `income` of the table `[rules]`.
-impl Element for PeasantRules {
+impl FromTable for PeasantRules {
     ghost conditions = { conditions_of peasants_at };
 
     ghost record_of = { value_of peasants_at };
@@ -137,7 +137,7 @@ impl Element for PeasantRules {
 }
 
 /// Reads the keys `start_money`, `man_weight` and `man_carry` of the table `[rules]`.
-impl Element for MenRules {
+impl FromTable for MenRules {
     ghost conditions = { conditions_of men_at };
 
     ghost record_of = { value_of men_at };
@@ -178,7 +178,7 @@ fn skill_names(alloc: Global, at: &str, table: &Table) -> Result<SkillNames, Wor
 }
 
 /// Reads all keys of the table `[rules]`.
-impl Element for RulesDraft {
+impl FromTable for RulesDraft {
     ghost conditions = { conditions_of rules_at };
 
     ghost record_of = { value_of rules_at };

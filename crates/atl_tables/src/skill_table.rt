@@ -2,7 +2,7 @@
 ghost use Rattle.atl_world.specs.Worlds.{IsSkill};
 ghost use Rattle.atl_tables.specs.SkillTable.{skill_keys, skill_from};
 
-use crate::elements::Element;
+use crate::elements::FromTable;
 use crate::fault::WorldFault;
 use crate::keys;
 use atl_world::limits::MOST_PRICE;
@@ -12,7 +12,7 @@ use toml::Table;
 
 /// Reads all keys of a table `[[skill]]`: its name and its fee. It has no names to look up, so its
 /// record is read at once.
-impl Element for Skill {
+impl FromTable for Skill {
     ghost conditions = { skill_keys };
 
     ghost record_of = { skill_from };

@@ -6,7 +6,7 @@ ghost use Rattle.atl_tables.specs.KeyByKey.{conditions_of, value_of};
 ghost use Rattle.atl_world.specs.Worlds.{IsTerrain};
 ghost use Rattle.atl_tables.specs.TerrainTable.{economy_at, terrain_keys, terrain_from, duplicate_output_keys, terrain_known, terrain_of};
 
-use crate::elements::Element;
+use crate::elements::FromTable;
 use crate::fault::WorldFault;
 use crate::keys::{self, element_path, path};
 use crate::output_table::{Output, amounts_of, known_keys, no_duplicate_keys, outputs};
@@ -51,7 +51,7 @@ impl Drop for TerrainDraft {
 }
 
 /// Reads the keys `wage`, `places`, `money_limit` and `peasant_limit` of a table `[[terrain]]`.
-impl Element for Economy {
+impl FromTable for Economy {
     ghost conditions = { conditions_of economy_at };
 
     ghost record_of = { value_of economy_at };
@@ -77,7 +77,7 @@ impl Element for Economy {
 
 /// Reads all keys of a table `[[terrain]]`: its name, whether it is land, its economy and its
 /// output.
-impl Element for TerrainDraft {
+impl FromTable for TerrainDraft {
     ghost conditions = { terrain_keys };
 
     ghost record_of = { terrain_from };

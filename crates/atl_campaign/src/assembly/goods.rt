@@ -2,7 +2,7 @@
 ghost use Rattle.std.specs.Prelude.{◌≡◌, OnOk, true};
 ghost use Rattle.std.specs.List.{list_all};
 ghost use Rattle.atl_world.specs.Sums.{changed};
-ghost use Rattle.atl_campaign.specs.Assembling.{with_has_row, with_market_row, give};
+ghost use Rattle.atl_campaign.specs.Assembling.{with_has_row, with_market_row, with_rows_added};
 ghost use Rattle.atl_campaign.specs.FromRows.{as_u32};
 ghost use Rattle.atl_campaign.specs.RowRules.{has_in_range};
 
@@ -35,7 +35,8 @@ fn put_thing(units: &mut Arena<Unit>, row: &StoredHas) -> Result<(), AllocError>
 /// Puts the amounts of rows of `has`, which are in their ranges, into their units, row by row.
 pub(super) fn put_things(units: &mut Arena<Unit>, rows: &[StoredHas]) -> Result<(), AllocError>
     requires { list_all has_in_range rows.now ≡ true }
-    ensures { OnOk result (units.new ≡ give (λ r. as_u32 r.unit) with_has_row rows.now units.old) }
+    ensures { OnOk result (units.new
+        ≡ with_rows_added (λ r. as_u32 r.unit) with_has_row rows.now units.old) }
 {
     for row in rows {
         put_thing(units, row)?;
@@ -60,7 +61,7 @@ pub(super) fn put_stocks(
     rows: &[StoredMarket],
 ) -> Result<(), AllocError>
     ensures { OnOk result (regions.new
-        ≡ give (λ r. as_u32 r.region) with_market_row rows.now regions.old) }
+        ≡ with_rows_added (λ r. as_u32 r.region) with_market_row rows.now regions.old) }
 {
     for row in rows {
         put_stock(regions, row)?;

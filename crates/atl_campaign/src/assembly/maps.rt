@@ -141,7 +141,7 @@ fn unmarked_regions(
         ≡ unmarked_regions (by_number (λ r. as_u32 r.number) (region_of markets.now) rows.now)) }
 {
     let regions = regions_of(alloc, rows, markets)?;
-    Regions::of(alloc, regions)
+    Regions::unmarked_from(alloc, regions)
 }
 
 /// The structures that rows of `structure` say, by number, with nothing marked. Their names have to

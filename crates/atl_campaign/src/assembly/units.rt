@@ -83,7 +83,7 @@ pub(crate) fn roster_of(alloc: Global, parts: &Parts) -> Result<Units, AllocErro
         parts.now.units)) }
 {
     let units = units_of(alloc, parts.units.as_slice(), parts.has.as_slice())?;
-    Units::of(alloc, units)
+    Units::unmarked_from(alloc, units)
 }
 
 /// For each region, faction and structure the list of its units, made of the given units.

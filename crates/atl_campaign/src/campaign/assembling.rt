@@ -3,7 +3,7 @@ ghost use Rattle.std.specs.Prelude.{◌≡◌, IfOk, length, true};
 ghost use Rattle.atl_world.specs.Worlds.{IsWorld};
 ghost use Rattle.atl_campaign.specs.FromRows.{campaign_of};
 ghost use Rattle.atl_campaign.specs.Marks.{no_marks};
-ghost use Rattle.atl_campaign.specs.RowRules.{are_named, people_in_range};
+ghost use Rattle.atl_campaign.specs.RowRules.{are_named, first_tables_in_range};
 
 use super::Campaign;
 use crate::assembly::{CampaignMaps, books_of, campaign_maps_of, lists_of, pass_of, roster_of};
@@ -20,7 +20,7 @@ use std::alloc::{AllocError, Global};
 pub fn assemble(alloc: Global, world: &World, parts: &Parts) -> Result<Campaign, AllocError>
     requires one { length parts.now.campaign ≡ 1 }
     requires named { are_named parts.now ≡ true }
-    requires people { people_in_range parts.now ≡ true }
+    requires people { first_tables_in_range parts.now ≡ true }
     ensures what { IfOk result (λ c. c.value ≡ campaign_of world.now parts.now) }
     ensures marks { IfOk result (λ c. c.marks ≡ no_marks) }
     ensures world { IsWorld world.now }

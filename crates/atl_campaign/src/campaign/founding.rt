@@ -36,7 +36,7 @@ fn make_regions(alloc: Global, plans: &Numbered<RegionPlan>) -> Result<Regions, 
         };
         regions.insert(number, region)?;
     }
-    Regions::of(alloc, regions)
+    Regions::unmarked_from(alloc, regions)
 }
 
 /// The books of `things` things right after founding: the money and the people that the regions

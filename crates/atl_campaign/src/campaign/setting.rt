@@ -6,7 +6,7 @@ ghost use Rattle.std.specs.Int.RustNames.{FitsSigned};
 ghost use Rattle.atl_records.specs.Books.{amount_in, thing_index};
 ghost use Rattle.atl_records.specs.Limits.{holding_limit, men_limit};
 ghost use Rattle.atl_campaign.specs.Marking.{MarksStock, mark_campaign_row, mark_faction, mark_region, mark_structure, mark_unit_row, mark_item, mark_skill, item_marked, skill_marked, mark_amount, mark_all_mail};
-ghost use Rattle.atl_campaign.specs.Campaign.{with_month, with_faction_name, with_gone, with_peasants, with_region_money, with_stock, with_unit_name, with_men, with_money, with_item, with_skill, with_guard, with_done, with_structure_name, with_structure_region, with_owner, with_amount, without_mail};
+ghost use Rattle.atl_campaign.specs.Campaign.{with_month, with_faction_name, with_gone, with_peasants, with_region_money, with_stock, with_unit_name, with_men, with_money, with_item, with_skill, with_guard, with_done, with_structure_name, with_structure_region, with_owner, with_booking, without_mail};
 
 use super::Campaign;
 use atl_records::{Entry, Thing, amount_number};
@@ -185,7 +185,7 @@ impl Campaign {
     pub fn book(&mut self, entry: Entry, thing: Thing, amount: i64)
         requires there { thing_index thing < self.old.value.books.things }
         requires fits { FitsSigned w64 (amount_in self.old.value.books entry thing +ℤ amount) }
-        ensures what { self.new.value ≡ with_amount self.old.value entry thing amount }
+        ensures what { self.new.value ≡ with_booking self.old.value entry thing amount }
         ensures marks { self.new.marks ≡ mark_amount self.old entry thing }
     {
         self.books.book(entry, thing, amount);

@@ -4,7 +4,7 @@ ghost use Rattle.sqlite.specs.Given.{IsPlain};
 ghost use Rattle.sqlite.specs.Listing.{understood};
 ghost use Rattle.sqlite.specs.Order.{Row as SqlRow};
 ghost use Rattle.atl_sql.specs.Errors.{is_memory};
-ghost use Rattle.atl_sql.specs.Reading.{AddsRow, Asks, GivesTable, ReadsRows, Streams, listing_of};
+ghost use Rattle.atl_sql.specs.Reading.{AddsRow, Asks, GivesTable, ReadsRows, Streams, select_of_part};
 ghost use Rattle.atl_sql.specs.Stored.{Form, first_columns, IsTyped, AreTyped};
 ghost use Rattle.atl_sql.specs.Tables.{Part, HasTablesOf};
 ghost use Rattle.atl_sql.specs.declared.fault.ReadFault.TheVariants.{Memory, OtherType};
@@ -36,25 +36,25 @@ pub trait HasSelect: Stored {
 
     /// The first format that has the table, and the text of the SELECT that shows all its rows.
     fn select_of() -> (Format, &'static str)
-        ensures since { result.0 ≡ (listing_of part).since }
-        ensures select { result.1.now ≡ (listing_of part).select };
+        ensures since { result.0 ≡ (select_of_part part).since }
+        ensures select { result.1.now ≡ (select_of_part part).select };
 
     /// Reads all rows of the table, in the order of its key. Nothing is changed. Rows of `has`,
     /// `books` and `market` come with their rowids. Each fault is returned as `ReadFault` says,
     /// OtherType also for a report or a world text that isn't UTF-8.
     final fn read<S: Alter>(alloc: Global, conn: &mut Connection<S>) -> Result<Vec<Self>, ReadFault>
         requires { conn.old.in_transaction ≡ false }
-        ensures select { ReadsRows S.Store (listing_of part).select conn.old Self.forms Self.shown
-            result conn.new }
-        ensures table { GivesTable S.Store (listing_of part).since (listing_of part).in_table
-            Self.shown result conn.old conn.new }
+        ensures select { ReadsRows S.Store (select_of_part part).select conn.old Self.forms
+            Self.shown result conn.new }
+        ensures table { GivesTable S.Store (select_of_part part).since
+            (select_of_part part).in_table Self.shown result conn.old conn.new }
     {
         let (since, select) = Self::select_of();
         read_all(alloc, conn, since, select)
     }
 
     // There are as many forms as columns that are shown.
-    ghost columns: { length Self.forms ≡ length (listing_of part).names };
+    ghost columns: { length Self.forms ≡ length (select_of_part part).names };
 }
 
 /// A row of a table without an INTEGER PRIMARY KEY, with the rowid that the database gave it.

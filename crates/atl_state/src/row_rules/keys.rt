@@ -3,7 +3,7 @@ ghost use Rattle.std.specs.Prelude.{◌≡◌, IfOk, map, true, ◌↔◌, IsTru
 ghost use Rattle.std.specs.List.{IsDistinct};
 ghost use Rattle.std.specs.List.Sorted.{IsStrictlySortedBy};
 ghost use Rattle.std.specs.Ordering.{eq_by_cmp};
-ghost use Rattle.atl_campaign.specs.RowRules.{Key, faction_key, region_key, unit_key, has_key, structure_key, mail_key, report_key, books_key, market_key, HaveKeys, AreKeyed};
+ghost use Rattle.atl_campaign.specs.RowRules.{Key, faction_key, region_key, unit_key, has_key, structure_key, mail_key, report_key, books_key, market_key, HaveDistinctKeys, HaveDistinctKeysByTable};
 
 use atl_campaign::parts::{
     Parts, StoredBooks, StoredFaction, StoredHas, StoredMail, StoredMarket, StoredRegion,
@@ -155,7 +155,7 @@ pub fn are_distinct<K: Ord + Copy + Drop>(alloc: Global, keys: &[K]) -> Result<b
 
 /// Whether no two rows of a table have the same key.
 fn have_distinct_keys<R: Keyed>(alloc: Global, rows: &[R]) -> Result<bool, AllocError>
-    ensures { IfOk result (λ yes. IsTrue yes ↔ (HaveKeys R.key_of rows.now)) }
+    ensures { IfOk result (λ yes. IsTrue yes ↔ (HaveDistinctKeys R.key_of rows.now)) }
 {
     let keys = keys_of(alloc, rows)?;
     are_distinct(alloc, &keys)
@@ -163,7 +163,7 @@ fn have_distinct_keys<R: Keyed>(alloc: Global, rows: &[R]) -> Result<bool, Alloc
 
 /// Whether in each table but `campaign` no two rows have the same key.
 pub(super) fn tables_have_distinct_keys(alloc: Global, parts: &Parts) -> Result<bool, AllocError>
-    ensures { IfOk result (λ yes. IsTrue yes ↔ (AreKeyed parts.now)) }
+    ensures { IfOk result (λ yes. IsTrue yes ↔ (HaveDistinctKeysByTable parts.now)) }
 {
     let factions = have_distinct_keys(alloc, parts.factions.as_slice())?;
     let regions = have_distinct_keys(alloc, parts.regions.as_slice())?;

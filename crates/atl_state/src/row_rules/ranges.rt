@@ -1,7 +1,7 @@
 //! Rule 2: keys that differ, numbers in their ranges, and not too many rows.
 ghost use Rattle.std.specs.Prelude.{◌≡◌, IfOk, length, ◌↔◌, IsTrue};
 ghost use Rattle.std.specs.List.{list_all};
-ghost use Rattle.atl_campaign.specs.RowRules.{campaign_row_in_range, faction_in_range, region_in_range, unit_in_range, has_in_range, structure_in_range, books_bound, books_in_range, market_in_range, are_few, people_in_range, numbers_in_range, AreRowsInRange};
+ghost use Rattle.atl_campaign.specs.RowRules.{campaign_row_in_range, faction_in_range, region_in_range, unit_in_range, has_in_range, structure_in_range, books_bound, books_in_range, market_in_range, are_few, first_tables_in_range, numbers_in_range, AreRowsInRange};
 
 use super::keys::tables_have_distinct_keys;
 use super::markets::market_of;
@@ -151,8 +151,8 @@ fn are_few(parts: &Parts) -> bool
 }
 
 /// Whether each row of `faction`, `region`, `unit` and `has` is in its ranges.
-fn people_in_range(parts: &Parts) -> bool
-    ensures { result ≡ people_in_range parts.now }
+fn first_tables_in_range(parts: &Parts) -> bool
+    ensures { result ≡ first_tables_in_range parts.now }
 {
     factions_in_range(parts.factions.as_slice())
         && regions_in_range(parts.regions.as_slice())
@@ -177,7 +177,7 @@ fn numbers_in_range(world: &World, parts: &Parts) -> bool
     ensures { result ≡ numbers_in_range world.now parts.now }
 {
     campaign_row_in_range(campaign_row_of(parts))
-        && people_in_range(parts)
+        && first_tables_in_range(parts)
         && structures_in_range(world, parts.structures.as_slice())
         && all_books_in_range(books_bound(parts), parts.books.as_slice())
         && markets_in_range(world, parts.markets.as_slice())

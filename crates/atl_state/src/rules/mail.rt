@@ -19,7 +19,7 @@ fn is_active(campaign: &Campaign, number: u32) -> bool
 }
 
 /// Whether a text is a mailing of this faction, and the faction exists and is not gone.
-fn is_kept(campaign: &Campaign, number: u32, text: &Sequence<u8>) -> bool
+fn is_mailing_of_active(campaign: &Campaign, number: u32, text: &Sequence<u8>) -> bool
     ensures { IsTrue result ↔ (IsMailingOf number text.now × IsActive campaign.now.value number) }
 {
     is_mailing_of(number, text.as_slice()) && is_active(campaign, number)
@@ -32,5 +32,5 @@ pub(crate) fn are_mailings(campaign: &Campaign) -> bool
 {
     campaign
         .mail()
-        .all(|(number, text)| is_kept(campaign, number, text))
+        .all(|(number, text)| is_mailing_of_active(campaign, number, text))
 }

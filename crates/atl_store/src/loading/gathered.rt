@@ -8,7 +8,7 @@ ghost use Rattle.atl_store.specs.declared.fault.LoadFault.TheVariants.{Store};
 ghost use Rattle.atl_world.specs.declared.format.Format.TheVariants.{First};
 ghost use Rattle.atl_store.specs.Gathering.{IsSettled, ReadRows, AreAllRows, AreNone, AreOfFormat, ReadsSome, FailsWithout, AreApart, rows_or_none, second_format_parts, selects_by};
 ghost use Rattle.atl_store.specs.Loading.{other_parts};
-ghost use Rattle.atl_sql.specs.Reading.{listing_of};
+ghost use Rattle.atl_sql.specs.Reading.{select_of_part};
 ghost use Rattle.atl_sql.specs.Stored.{Form};
 ghost use Rattle.atl_sql.specs.Tables.{Part};
 
@@ -66,7 +66,7 @@ fn kept<T: Drop>(rows: Result<Vec<T>, ReadFault>) -> Result<Option<Vec<T>>, Load
 impl<A: HasSelect> AllRows for Vec<A> {
     ghost parts = { A.HasSelect.part ∷ [] };
 
-    ghost selects = { ((listing_of A.HasSelect.part).select, A.Stored.forms) ∷ [] };
+    ghost selects = { ((select_of_part A.HasSelect.part).select, A.Stored.forms) ∷ [] };
 
     ghost rows = { λ all. (A.HasSelect.part, map A.Stored.shown all.items) ∷ [] };
 

@@ -2,7 +2,7 @@ use Rattle.std.proofs.Common.{ap, ◌∙◌, arith}
 use Rattle.std.specs.Prelude.{neg_ℤ, pos}
 use Rattle.atl_records.specs.declared.books.Entry.TheVariants.{Study}
 use Rattle.atl_records.specs.declared.books.Thing.TheVariants.{Money}
-use Rattle.atl_campaign.specs.Campaign.{CampaignValue, with_amount}
+use Rattle.atl_campaign.specs.Campaign.{CampaignValue, with_booking}
 use Rattle.atl_phase.proofs.ChangeLaws.{changed_held}
 use Rattle.atl_phase.proofs.MarkLaws.{booked_marks}
 use Rattle.atl_action.specs.Study.{with_study}
@@ -25,7 +25,7 @@ book_taken-requires-clause-room c =
 pub returns-clause-what : goal.returns-clause-what
 returns-clause-what c = λ u is.
     c.book_taken.ensures.what
-    ∙ ap (λ (d : CampaignValue). with_amount d Study Money (neg_ℤ (pos c.args.cost)))
+    ∙ ap (λ (d : CampaignValue). with_booking d Study Money (neg_ℤ (pos c.args.cost)))
     (changed_held (λ h. with_study h c.args.skill c.args.cost c.args.days) c.args.campaign.now.value c.learn.new.campaign.value c.args.unit c.in_ok-learn.ensures.value u is)
 
 -- what changes as a unit pays, gains days, and the cost is booked is marked (`MarksChanges`)

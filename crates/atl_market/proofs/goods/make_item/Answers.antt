@@ -1,7 +1,7 @@
 use Rattle.std.proofs.Common.{◌≡◌, sym, ap, ◌∙◌, ◌+◌, arith, rules, pos, to_z, of_z, w64}
 use Rattle.std.proofs.lemmas.Int.{to_z-of_z}
 use Rattle.atl_records.specs.Books.{amount_in}
-use Rattle.atl_campaign.specs.Campaign.{CampaignValue, with_amount, with_item}
+use Rattle.atl_campaign.specs.Campaign.{CampaignValue, with_booking, with_item}
 use Rattle.atl_records.specs.declared.books.Entry.TheVariants.{Made}
 use Rattle.atl_records.specs.declared.books.Thing.TheVariants.{Item}
 use Rattle.atl_phase.proofs.BookingLaws.{booking_fits, within-pos}
@@ -31,7 +31,7 @@ returns-clause-what c =
     let n = c.args.number in
     let same : to_z w64 (of_z w64 c.from-2.result) ≡ pos c.args.amount = search (rules, c.from-2.ensures) in
     (rw same at c.book.ensures.what)
-    ∙ ap (λ (d : CampaignValue). with_amount d Made (Item c.args.item) (pos c.args.amount))
+    ∙ ap (λ (d : CampaignValue). with_booking d Made (Item c.args.item) (pos c.args.amount))
     (c.in_ok-set_item.ensures.ok ∙ ap (λ i. with_item old n i (c.held_of.result + c.args.amount)) c.from.ensures ∙ ap (λ a. with_item old n c.args.item (a + c.args.amount)) (c.held_of.ensures can.unit can.there))
     ∙ sym (unit_there old n _ can.unit can.there)
 

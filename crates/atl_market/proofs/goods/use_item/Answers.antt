@@ -1,6 +1,6 @@
 use Rattle.std.proofs.Common.{sym, ap, ◌∙◌, ◌-◌, arith}
 use Rattle.std.specs.Prelude.{neg_ℤ, pos}
-use Rattle.atl_campaign.specs.Campaign.{CampaignValue, with_amount, with_item}
+use Rattle.atl_campaign.specs.Campaign.{CampaignValue, with_booking, with_item}
 use Rattle.atl_records.specs.declared.books.Entry.TheVariants.{Used}
 use Rattle.atl_records.specs.declared.books.Thing.TheVariants.{Item}
 use Rattle.atl_phase.proofs.ChangeLaws.{item_changes}
@@ -25,7 +25,7 @@ returns-clause-what c =
     let old = c.args.campaign.now.value in
     let n = c.args.number in
     c.book_taken.ensures.what
-    ∙ ap (λ (d : CampaignValue). with_amount d Used (Item c.args.item) (neg_ℤ (pos c.args.amount)))
+    ∙ ap (λ (d : CampaignValue). with_booking d Used (Item c.args.item) (neg_ℤ (pos c.args.amount)))
     (c.in_ok-set_item.ensures.ok ∙ ap (λ i. with_item old n i (c.held_of.result - c.args.amount)) c.from.ensures ∙ ap (λ a. with_item old n c.args.item (a - c.args.amount)) (c.held_of.ensures can.unit can.there))
     ∙ sym (unit_there old n _ can.unit can.there)
 

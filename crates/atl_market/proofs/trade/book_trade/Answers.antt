@@ -4,7 +4,7 @@ use Rattle.atl_records.specs.Books.{amount_in}
 use Rattle.atl_records.specs.Holdings.{with_amount_of}
 use Rattle.atl_campaign.specs.Lending.{with_holding}
 use Rattle.atl_records.specs.Limits.{holding_limit}
-use Rattle.atl_campaign.specs.Campaign.{MarkedCampaign, with_amount, with_item, with_money, with_stock}
+use Rattle.atl_campaign.specs.Campaign.{MarkedCampaign, with_booking, with_item, with_money, with_stock}
 use Rattle.atl_campaign.specs.Marking.{mark_item, mark_unit_row}
 use Rattle.atl_records.specs.declared.books.Thing.TheVariants.{Money}
 use Rattle.atl_phase.proofs.BookingLaws.{booking_fits}
@@ -47,7 +47,7 @@ returns-clause-what c = λ u is at.
     let set = goods_set c.args.campaign.now c.set_money.new.self c.set_item.new.self c.args.number c.args.item c.args.deal c.set_money.ensures.what c.set_money.ensures.marks c.in_ok-set_item.ensures.ok c.in_ok-set_item.ensures.marks in
     let same : to_z w64 (of_z w64 deal.booked) ≡ deal.booked = search (rules, to_z-of_z) in
     (rw same at c.book.ensures.what)
-    ∙ ap (λ d. with_amount d c.args.entry Money deal.booked)
+    ∙ ap (λ d. with_booking d c.args.entry Money deal.booked)
     (settled_what c.args.campaign.now c.set_item.new.self c.set_stock.new.self c.args.number c.args.region c.args.item deal.stock (λ h. with_trade_result h c.args.item deal) set c.in_ok-set_stock.ensures.ok u is
     ∙ sym (ap (λ r. with_stock (with_holding c.args.campaign.now.value c.args.number (with_trade_result u.holding c.args.item deal)) r c.args.item deal.stock) at))
 

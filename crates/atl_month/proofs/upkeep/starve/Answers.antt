@@ -4,7 +4,7 @@ use Rattle.std.proofs.lemmas.Option.{same_Some}
 use Rattle.std.proofs.lemmas.Result.{on_ok_weaker}
 use Rattle.atl_records.specs.Every.{Every}
 use Rattle.atl_records.specs.Holdings.{HoldingValue}
-use Rattle.atl_campaign.specs.Lending.{with_held}
+use Rattle.atl_campaign.specs.Lending.{with_holding_at}
 use Rattle.atl_campaign.specs.Marks.{Marks}
 use Rattle.atl_records.specs.declared.records.Unit.{Unit}
 use Rattle.atl_phase.specs.Holdings.{ChangesHolding, with_days}
@@ -39,9 +39,9 @@ returns c =
       what =
           on_ok_weaker c.set_people.result
           (λ people u is.
-          subst (λ (x : Unit). after.value ≡ with_held old.value s.unit (after_upkeep s x.holding) (Some x)) (same_Some _ _ (sym there ∙ is))
+          subst (λ (x : Unit). after.value ≡ with_holding_at old.value s.unit (after_upkeep s x.holding) (Some x)) (same_Some _ _ (sym there ∙ is))
           (changed_held (λ x. record x { men = left; money = money; days = with_days x.days days }) old.value after.value s.unit (all people).value v there
-          ∙ ap (λ x. with_held old.value s.unit x (Some v)) h_is))
+          ∙ ap (λ x. with_holding_at old.value s.unit x (Some v)) h_is))
           c.set_people.ensures.what;
       marks = on_ok_weaker c.set_people.result (λ people. (all people).marks) c.set_people.ensures.what;
       items =

@@ -4,12 +4,12 @@ use Rattle.std.proofs.lemmas.Bool.{false≢true}
 use Rattle.atl_world.specs.Worlds.{WorldValue}
 use Rattle.atl_campaign.specs.Good.{IsEarly, IsSteady}
 use Rattle.atl_records.specs.Holdings.{HoldingValue}
-use Rattle.atl_campaign.specs.Lending.{with_held, with_holding}
+use Rattle.atl_campaign.specs.Lending.{with_holding_at, with_holding}
 use Rattle.atl_records.specs.Limits.{most_days}
 use Rattle.atl_campaign.specs.Campaign.{CampaignValue}
 use Rattle.atl_records.specs.declared.records.Unit.{Unit}
 use Rattle.atl_records.proofs.EveryLaws.{every-empty}
-use Rattle.atl_campaign.proofs.HoldingLaws.{MayHold, of_one_faction_kept, steady-unit_amount}
+use Rattle.atl_campaign.proofs.HoldingLaws.{MayHaveWithoutNewGuard, of_one_faction_kept, steady-unit_amount}
 use Rattle.atl_phase_tests.proofs.settings.loses_men.Goals as goal
 
 -- a unit's holding with neither men nor days of study, and otherwise as it is
@@ -21,8 +21,9 @@ never : (b : Bool) {P : Type 0} → (b && false) ≡ true → P
 never true h = absurd (false≢true h)
 never false h = absurd (false≢true h)
 
--- in a steady campaign each unit may get its own holding without the men and the days of study (`MayHold`)
-may_lose_men : (w : WorldValue) (c : CampaignValue) (n : ℕ) (u : Unit) → get c.units n ≡ Some u → IsSteady w c → MayHold w u (without_men u.holding)
+-- in a steady campaign each unit may get its own holding without the men and the days of study
+-- (`MayHaveWithoutNewGuard`)
+may_lose_men : (w : WorldValue) (c : CampaignValue) (n : ℕ) (u : Unit) → get c.units n ≡ Some u → IsSteady w c → MayHaveWithoutNewGuard w u (without_men u.holding)
 may_lose_men w c n u is steady =
     let place = steady.known.units n u is in
     let holding = (steady.numbers.units n u is).1 in
@@ -40,13 +41,13 @@ men_lost : (w : WorldValue) (c : CampaignValue) (n : ℕ) (before after : Holdin
 men_lost w c n before after was is early = by_unit (get c.units n) refl was
   where
     -- where unit n gets the holding `after`, the campaign stays early; `o` is that unit, or None if it isn't there
-    by_unit : (o : Option Unit) → get c.units n ≡ o → Some before ≡ option_map (λ (u : Unit). u.holding) o → IsEarly w (with_held c n after o)
+    by_unit : (o : Option Unit) → get c.units n ≡ o → Some before ≡ option_map (λ (u : Unit). u.holding) o → IsEarly w (with_holding_at c n after o)
     by_unit None there e = early
     by_unit (Some u) there e =
         let same : before ≡ u.holding = cc in
         let held : without_men u.holding ≡ after = sym (is ∙ ap without_men same) in
         record {
-          steady = steady-unit_amount w c n u after there (subst (MayHold w u) held (may_lose_men w c n u there early.steady)) early.steady;
+          steady = steady-unit_amount w c n u after there (subst (MayHaveWithoutNewGuard w u) held (may_lose_men w c n u there early.steady)) early.steady;
           flags = of_one_faction_kept w c n u after there (λ x. x.holding.guard) (λ g. ap (λ (h : HoldingValue). h.guard) held ∙ g) early.flags;
         }
 

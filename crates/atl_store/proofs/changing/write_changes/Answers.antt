@@ -56,7 +56,7 @@ returns-clause-unmarked g c clean text tables rest =
 
 -- the fault is that of an error that a statement of the change, or the commit, gave
 pub returns-in_err-write_marked-clause-told : goal.returns-in_err-write_marked-clause-told
-returns-in_err-write_marked-clause-told g c clean = told_by g.S.Store (OfChange c.args.campaign.now.value) write_fault c.args.conn.now c.write_marked.new.conn _ c.from_residual.result c.from_residual.ensures.1 (c.in_err-write_marked.ensures.told clean)
+returns-in_err-write_marked-clause-told g c clean = told_by g.S.Store (OfChange c.args.campaign.now.value) write_fault c.args.conn.now c.write_marked.new.conn _ c.from_residual.result c.from_residual.ensures.1 (c.in_err-write_marked.ensures.error_given clean)
 
 -- after a fault the tables are again those of the last commit, whatever they held (`LeavesOff`)
 pub returns-in_err-write_marked-clause-left : goal.returns-in_err-write_marked-clause-left

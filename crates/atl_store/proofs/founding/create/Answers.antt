@@ -29,7 +29,7 @@ returns-in_err-write_founding-clause-err g c =
       tables = λ clean. leaves_spares old new _ clean (c.in_err-write_founding.ensures.err clean) c.write_founding.ensures.crash ready.1 (c.is_ready.ensures.settled c.if-not-is_ready.false);
       crash = λ clean. may_found old new c.args.world_text.now c.args.campaign.now.value IsBlank (WritesFounding c.args.world_text.now c.args.campaign.now.value) ready.0 (λ db did. did) clean c.write_founding.ensures.crash;
     } in
-    refused_with g.S.Store c.args.world_text.now c.args.campaign.now.value c.args.conn.now c.write_founding.new.conn ready fails _ c.from_residual.result c.from_residual.ensures.1 c.in_err-write_founding.ensures.told
+    refused_with g.S.Store c.args.world_text.now c.args.campaign.now.value c.args.conn.now c.write_founding.new.conn ready fails _ c.from_residual.result c.from_residual.ensures.1 c.in_err-write_founding.ensures.error_given
 
 -- if the database isn't ready, the fault is Store and nothing at all is changed (`RefusesToCreate`)
 pub returns-then-not-is_ready-clause-err : goal.returns-then-not-is_ready-clause-err

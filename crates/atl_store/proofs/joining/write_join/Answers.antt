@@ -60,7 +60,7 @@ returns-in_err-write_joining-clause-told g c clean =
     let new = c.write_joining.new.conn in
     let after = c.args.campaign.now.value in
     subst (λ n. IfErr c.from_residual.result (IsFaultOfError g.S.Store (OfJoining n after) write_fault old new)) c.arrival_of-arrival.ensures.number
-    (told_by g.S.Store (OfJoining c.arrival_of-arrival.result.number after) write_fault old new _ c.from_residual.result c.from_residual.ensures.1 (c.in_err-write_joining.ensures.told clean))
+    (told_by g.S.Store (OfJoining c.arrival_of-arrival.result.number after) write_fault old new _ c.from_residual.result c.from_residual.ensures.1 (c.in_err-write_joining.ensures.error_given clean))
 
 -- after a fault the tables are again those of the last commit, whatever they held (`LeavesOff`)
 pub returns-in_err-write_joining-clause-left : goal.returns-in_err-write_joining-clause-left

@@ -46,7 +46,7 @@ returns-clause-own g c clean tables = ((c.in_ok-write_mailing.ensures.ok clean).
 
 -- the fault is that of an error that the statement of the mailing, or the commit, gave
 pub returns-in_err-write_mailing-clause-told : goal.returns-in_err-write_mailing-clause-told
-returns-in_err-write_mailing-clause-told g c clean = told_by g.S.Store (OfMail c.args.faction c.args.text.now) write_fault c.args.conn.now c.write_mailing.new.conn _ c.from_residual.result c.from_residual.ensures.1 (c.in_err-write_mailing.ensures.told clean)
+returns-in_err-write_mailing-clause-told g c clean = told_by g.S.Store (OfMail c.args.faction c.args.text.now) write_fault c.args.conn.now c.write_mailing.new.conn _ c.from_residual.result c.from_residual.ensures.1 (c.in_err-write_mailing.ensures.error_given clean)
 
 -- after a fault the tables are again those of the last commit, whatever they held (`LeavesOff`)
 pub returns-in_err-write_mailing-clause-left : goal.returns-in_err-write_mailing-clause-left

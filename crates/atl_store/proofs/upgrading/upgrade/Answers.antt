@@ -34,7 +34,7 @@ returns-in_err-write_upgrade-clause-err g c =
     let error = c.in_err-write_upgrade.field-0.0 in
     told_as (RefusesToUpgrade g.S.Store text old new) c.from_residual-in_err-write_upgrade.result (upgrade_fault error) c.from_residual-in_err-write_upgrade.ensures.1
     (refused_after g.S.Store text old mid new c.in_ok-world.world c.in_ok-world.campaign c.world_and_campaign.ensures.alone c.in_ok-world.ensures.ok
-    (sym c.schema.ensures.value ∙ c.is_first_format_only.ensures.0 c.if-not-is_first_format_only.false) c.in_ok-world.ensures.idle c.in_err-write_upgrade.ensures.err c.write_upgrade.ensures.crash error c.in_err-write_upgrade.ensures.told)
+    (sym c.schema.ensures.value ∙ c.is_first_format_only.ensures.0 c.if-not-is_first_format_only.false) c.in_ok-world.ensures.idle c.in_err-write_upgrade.ensures.err c.write_upgrade.ensures.crash error c.in_err-write_upgrade.ensures.error_given)
 
 -- Ok: the connection keeps the campaign of the first format, with the new text (`Upgrades`)
 pub returns-clause-ok : goal.returns-clause-ok

@@ -29,4 +29,4 @@ pub returns : goal.returns
 returns c =
     let none : c.loop-number.number-iterator ≡ [] = search rules in
     let made = same_entries_map c.loop-number.regions (mapped founded_region c.args.plans.now) (sym (append-nil (entries c.loop-number.regions)) ∙ (rw none at c.loop-number.invariant)) in
-    IfOk-weaker c.of.result (λ r. r ≡ unmarked_regions c.loop-number.regions) (λ r. r ≡ unmarked_regions (mapped founded_region c.args.plans.now)) (λ r is. is ∙ ap unmarked_regions made) c.of.ensures
+    IfOk-weaker c.unmarked_from.result (λ r. r ≡ unmarked_regions c.loop-number.regions) (λ r. r ≡ unmarked_regions (mapped founded_region c.args.plans.now)) (λ r is. is ∙ ap unmarked_regions made) c.unmarked_from.ensures

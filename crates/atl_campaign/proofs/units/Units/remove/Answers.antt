@@ -3,7 +3,7 @@ use Rattle.std.specs.FinMap.{FinMap, get}
 use Rattle.std.specs.Ordering.{nat_cmp}
 use Rattle.atl_world.proofs.TrackLaws.{fits-marked, remove_none}
 use Rattle.atl_records.specs.declared.records.Unit.{Unit}
-use Rattle.atl_campaign.specs.Roster.{Roster, gone_at}
+use Rattle.atl_campaign.specs.Roster.{Roster, without_unit_found}
 use Rattle.atl_campaign.proofs.IndexLaws.{nothing}
 use Rattle.atl_campaign.proofs.UnitLaws.{AreUnits-gone}
 use Rattle.atl_campaign.proofs.units.Units.remove.Goals as goal
@@ -42,4 +42,4 @@ returns-else-remove c =
     let none = nothing (get units n) (sym c.if-remove.ensures.there) in
     let absent : get c.args.self.now.values n ≡ None = ap (λ (r : Roster). get r.values n) (sym c.self.view_is) ∙ none in
     ap (λ (left : FinMap nat_cmp Unit). record { values = left; marks = c.self.inside.marks.numbers; rows = c.self.inside.rows.numbers; goods = c.self.inside.goods.numbers; items = c.self.inside.items; skills = c.self.inside.skills }) (c.if-remove.ensures.taken ∙ remove_none units n none)
-    ∙ c.self.view_is ∙ sym (ap (gone_at c.args.self.now n) absent)
+    ∙ c.self.view_is ∙ sym (ap (without_unit_found c.args.self.now n) absent)

@@ -5,8 +5,8 @@ use Rattle.atl_records.specs.declared.books.Entry.TheVariants.{Recruiting}
 use Rattle.atl_records.specs.declared.books.Thing.TheVariants.{Money}
 use Rattle.atl_records.specs.Books.{amount_in}
 use Rattle.atl_records.specs.Limits.{holding_limit}
-use Rattle.atl_campaign.specs.Campaign.{CampaignValue, with_amount, with_peasants}
-use Rattle.atl_campaign.specs.Lending.{with_held}
+use Rattle.atl_campaign.specs.Campaign.{CampaignValue, with_booking, with_peasants}
+use Rattle.atl_campaign.specs.Lending.{with_holding_at}
 use Rattle.atl_campaign.proofs.CoverLaws.{marks-region, marks-trans}
 use Rattle.atl_phase.proofs.ChangeLaws.{changed_held, men_changes, money_changes, then_changes}
 use Rattle.atl_phase.proofs.MarkLaws.{booked_marks, marks_by}
@@ -43,10 +43,10 @@ returns-clause-what c =
     let cost = c.args.share * c.rules.result.now.recruit_price in
     let price : c.rules.result.now.recruit_price ≡ c.args.world.now.rules.recruit_price = search rules in
     let set = then_changes old c.set_men.new.self c.set_money.new.self n _ _ (men_changes old c.set_men.new.self n _ c.set_men.ensures.what c.set_men.ensures.marks) (money_changes c.set_men.new.self c.set_money.new.self n _ c.set_money.ensures.what c.set_money.ensures.marks) in
-    let held : c.set_money.new.self.value ≡ with_held old.value n (with_paid_recruits u.holding c.args.share cost) (Some u) =
+    let held : c.set_money.new.self.value ≡ with_holding_at old.value n (with_paid_recruits u.holding c.args.share cost) (Some u) =
     rw (← c.men.ensures.value, ← c.money.ensures.value) (changed_held _ old.value c.set_money.new.self.value n set.value u there) in
     c.book_taken.ensures.what
-    ∙ ap (λ (d : CampaignValue). with_amount d Recruiting Money (neg_ℤ (pos cost))) (c.set_peasants.ensures.what ∙ ap (λ (d : CampaignValue). with_peasants d u.region (q.peasants - c.args.share)) held)
+    ∙ ap (λ (d : CampaignValue). with_booking d Recruiting Money (neg_ℤ (pos cost))) (c.set_peasants.ensures.what ∙ ap (λ (d : CampaignValue). with_peasants d u.region (q.peasants - c.args.share)) held)
     ∙ ap (λ (p : ℕ). recruited_to old.value n u q c.args.share (c.args.share * p)) price ∙ sym (recruited_is c.args.world.now old.value (n, c.args.share) u q there around)
 
 -- all that pay changes is marked: the unit's men and money, the region's peasants, and what is booked

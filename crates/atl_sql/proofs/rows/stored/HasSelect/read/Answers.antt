@@ -2,7 +2,7 @@ use Rattle.std.proofs.Common.{sym, subst}
 use Rattle.atl_world.specs.declared.format.Format.{Format}
 use Rattle.sqlite.specs.Given.{IsPlain}
 use Rattle.sqlite.specs.Listing.{understood}
-use Rattle.atl_sql.specs.Reading.{listing_of}
+use Rattle.atl_sql.specs.Reading.{select_of_part}
 use Rattle.atl_sql.specs.Tables.{HasTablesOf}
 use Rattle.atl_sql.proofs.RowsLaws.{gives_table}
 use Rattle.atl_sql.proofs.SelectLaws.{reads_part, part_plain}
@@ -17,7 +17,7 @@ pub returns-clause-table : goal.returns-clause-table
 returns-clause-table g c =
     let part = g.Self.HasSelect.part in
     let reads = rw c.select_of-since.ensures.select at c.read_all.ensures in
-    gives_table g.S.Store (listing_of part).select c.args.conn.now c.read_all.new.conn g.Self.Stored.forms g.Self.Stored.shown c.read_all.result (listing_of part).since (listing_of part).in_table (reads_part part _ g.met.Self.HasSelect.columns) reads
+    gives_table g.S.Store (select_of_part part).select c.args.conn.now c.read_all.new.conn g.Self.Stored.forms g.Self.Stored.shown c.read_all.result (select_of_part part).since (select_of_part part).in_table (reads_part part _ g.met.Self.HasSelect.columns) reads
 
 -- what `read_all` requires: under the tables of a campaign, the SELECT is plain (`IsPlain`)
 pub read_all-requires-clause-plain : goal.read_all-requires-clause-plain

@@ -1,7 +1,7 @@
 use Rattle.std.proofs.Common.{refl}
 use Rattle.atl_tables.specs.RegionTable.{basics_keys, basics_from}
 use Rattle.atl_tables.proofs.FaultLaws.{exits, stops_first}
-use Rattle.atl_tables.proofs.region_table.RegionBasicsElement.read.Goals as goal
+use Rattle.atl_tables.proofs.region_table.RegionBasicsFromTable.read.Goals as goal
 
 -- an error in reading the key `number` is the first fault of the basics (`basics_keys`), or Memory
 pub returns-in_err-number-clause-value : goal.returns-in_err-number-clause-value

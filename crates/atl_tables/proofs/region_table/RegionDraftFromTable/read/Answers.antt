@@ -2,7 +2,7 @@ use Rattle.std.proofs.Common.{refl, ap}
 use Rattle.atl_tables.specs.RegionTable.{old_region_from, region_keys, region_from}
 use Rattle.atl_tables.specs.declared.region_table.OldRegion.{OldRegion}
 use Rattle.atl_tables.proofs.FaultLaws.{exits, stops_here}
-use Rattle.atl_tables.proofs.region_table.RegionDraftElement.read.Goals as goal
+use Rattle.atl_tables.proofs.region_table.RegionDraftFromTable.read.Goals as goal
 
 -- an error in reading the basics or the sides is the first fault of the region's keys (`region_keys`), or Memory
 pub returns-in_err-basics-clause-value : goal.returns-in_err-basics-clause-value

@@ -1,7 +1,7 @@
 use Rattle.std.proofs.Common.{refl}
 use Rattle.atl_tables.specs.RegionTable.{old_region_keys, old_region_from}
 use Rattle.atl_tables.proofs.FaultLaws.{exits, stops_here}
-use Rattle.atl_tables.proofs.region_table.OldRegionElement.read.Goals as goal
+use Rattle.atl_tables.proofs.region_table.OldRegionFromTable.read.Goals as goal
 
 -- an error in reading the basics is the first fault of the region's keys (`old_region_keys`), or Memory
 pub returns-in_err-basics-clause-value : goal.returns-in_err-basics-clause-value

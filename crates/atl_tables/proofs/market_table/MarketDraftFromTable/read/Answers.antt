@@ -1,7 +1,7 @@
 use Rattle.std.proofs.Common.{refl}
 use Rattle.atl_tables.specs.MarketTable.{market_keys, market_from}
 use Rattle.atl_tables.proofs.FaultLaws.{exits, stops_first}
-use Rattle.atl_tables.proofs.market_table.MarketDraftElement.read.Goals as goal
+use Rattle.atl_tables.proofs.market_table.MarketDraftFromTable.read.Goals as goal
 
 -- an error in reading the key `item` is the first fault of the market's keys (`market_keys`), or Memory
 pub returns-in_err-item-clause-value : goal.returns-in_err-item-clause-value
