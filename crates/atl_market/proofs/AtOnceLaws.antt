@@ -139,7 +139,8 @@ drawn_is draws (e ∷ es) = by_test (draws e.0) (drawn_is draws es)
     by_test true rest = ap (λ k. e.1 + k) rest ∙ sym (sum_by-cons (λ x. x) e.1 (map (λ f. f.1) (filter (λ f. draws f.0) es)))
     by_test false rest = no_more (drawn draws es) ∙ rest
 
--- each unit that gets something in the phase is in the campaign, and so is its region where that is needed (`HasRegion`)
+-- each unit that gets something in the phase is in the campaign, and so is its region where that is needed
+-- (`HasRegion`)
 abbrev pub GivesWhoIsThere : Bool → PotMeaning → WorldValue → CampaignValue → List Task → Type 0
 GivesWhoIsThere needs p w c os = (n share : ℕ) → get (given_by p w c os) n ≡ Some share → (u : Unit) × (get c.units n ≡ Some u) × HasRegion needs c u
 
