@@ -151,12 +151,12 @@ carried_same v = record { faction = refl; structure = refl; region = λ none. re
 
 module _ (w : WorldValue) (c : CampaignValue) (ship to : ℕ) (steady : IsSteady w c) (x : Structure) (is : get c.structures ship ≡ Some x) where
   -- the numbers of the units inside the ship
-  abbrev ns : List ℕ
-  ns = numbers_inside ship c.units
+  abbrev aboard_numbers : List ℕ
+  aboard_numbers = numbers_inside ship c.units
 
   -- the units after those inside the ship went along
   abbrev units : FinMap nat_cmp Unit
-  units = fold (elsewhere ship to) c.units ns
+  units = fold (elsewhere ship to) c.units aboard_numbers
 
   -- the structure, put into region `to`
   abbrev shifted : Structure → Structure
@@ -182,31 +182,31 @@ module _ (w : WorldValue) (c : CampaignValue) (ship to : ℕ) (steady : IsSteady
   -- `to`
   sailed_is : after_sailing c ship to ≡ behind
   unfolding after_sailing
-  sailed_is = ap (λ d. with_structure_region d ship to) (all_is ship to c ns (all_listed (IsInside ship to c.units) ns (listed_is_inside ship c.units)))
+  sailed_is = ap (λ d. with_structure_region d ship to) (all_is ship to c aboard_numbers (all_listed (IsInside ship to c.units) aboard_numbers (listed_is_inside ship c.units)))
 
   -- the ship's number isn't 0
   some_ship : ship ≢ 0
   some_ship = is_no_zero c.structures c.next_structure steady.next.structures ship x is
 
   -- unit k, which is there, is in the list of the units inside the ship exactly if it is inside the ship
-  member : (k : ℕ) (v : Unit) → get c.units k ≡ Some v → list_any (λ n. k == n) ns ≡ (v.structure == ship)
+  member : (k : ℕ) (v : Unit) → get c.units k ≡ Some v → list_any (λ n. k == n) aboard_numbers ≡ (v.structure == ship)
   member k v there = elim (cases_eq v.structure ship) [
-    | inl here ↦ any_listed k ns (inside_is_listed ship c.units some_ship k v there here) ∙ sym (equal_passes v.structure ship here)
+    | inl here ↦ any_listed k aboard_numbers (inside_is_listed ship c.units some_ship k v there here) ∙ sym (equal_passes v.structure ship here)
     | inr apart ↦
-        let unlisted = false_from_ne_true (list_any (λ n. k == n) ns) (λ t.
-        let (u, at, inside) = listed_is_inside ship c.units k (listed_any k ns t) in
+        let unlisted = false_from_ne_true (list_any (λ n. k == n) aboard_numbers) (λ t.
+        let (u, at, inside) = listed_is_inside ship c.units k (listed_any k aboard_numbers t) in
         apart (ap (λ (y : Unit). y.structure) (same_Some v u (sym there ∙ at)) ∙ inside)) in
         unlisted ∙ sym (other_number v.structure ship apart)
   ]
 
   -- unit k goes along by the list of the units inside the ship exactly if it is inside the ship
-  units_by : (k : ℕ) (o : Option Unit) → get c.units k ≡ o → option_map (gone_if ship to (list_any (λ n. k == n) ns)) o ≡ option_map (f k) o
+  units_by : (k : ℕ) (o : Option Unit) → get c.units k ≡ o → option_map (gone_if ship to (list_any (λ n. k == n) aboard_numbers)) o ≡ option_map (f k) o
   units_by k None there = refl
   units_by k (Some v) there = ap (λ b. Some (gone_if ship to b v)) (member k v there)
 
   -- after the ship went, a look-up finds a unit gone along with it, if it was inside, and otherwise as it was
   units_at : (k : ℕ) → get units k ≡ option_map (f k) (get c.units k)
-  units_at k = all_at ship to c.units ns k ∙ units_by k (get c.units k) refl
+  units_at k = all_at ship to c.units aboard_numbers k ∙ units_by k (get c.units k) refl
 
   -- a unit inside the ship goes along, and any other stays; so each at most goes with its structure (`IsAtMostMoved`)
   carried : (k : ℕ) (v : Unit) → IsAtMostMoved v (f k v)
@@ -274,13 +274,13 @@ module _ (w : WorldValue) (c : CampaignValue) (ship to : ℕ) (steady : IsSteady
         (λ _. steady.water.structures q y there)
 
     -- the units and structures after the ship sailed are such that the campaign is steady (`AreTravelled`)
-    are : AreTravelled w c units structures f g
-    are = record {
+    sailed_travelled : AreTravelled w c units structures f g
+    sailed_travelled = record {
       units_at = units_at;
       structures_at = get-changed shifted c.structures ship;
-      unit_count = (all_people ship to c.units ns).count;
+      unit_count = (all_people ship to c.units aboard_numbers).count;
       structure_count = len-changed shifted c.structures ship;
-      of_factions = (all_people ship to c.units ns).of_factions;
+      of_factions = (all_people ship to c.units aboard_numbers).of_factions;
       same_units = λ k v there. gone_same ship to (v.structure == ship) v;
       same_structures = λ q y there. cond_both (q == ship) (shifted y) y (IsSameStructure y) (λ _. record { kind = refl; done = refl; name = refl }) (λ _. record { kind = refl; done = refl; name = refl });
       put = put;
@@ -296,8 +296,8 @@ module _ (w : WorldValue) (c : CampaignValue) (ship to : ℕ) (steady : IsSteady
     pub sailed_well : StepsWell IsSteady nothing_remaining w c (after_sailing c ship to)
     sailed_well =
         subst (StepsWell IsSteady nothing_remaining w c) (sym sailed_is)
-        (stays_well IsSteady w c behind (steady-travelled w c units structures f g are steady)
-        (same_month_by refl) refl (total_people c behind (all_people ship to c.units ns) refl))
+        (stays_well IsSteady w c behind (steady-travelled w c units structures f g sailed_travelled steady)
+        (same_month_by refl) refl (total_people c behind (all_people ship to c.units aboard_numbers) refl))
 
   -- ---- what stays of each unit
 
@@ -331,7 +331,7 @@ module _ (w : WorldValue) (c : CampaignValue) (ship to : ℕ) (steady : IsSteady
 
   -- each structure has the same units inside when the ship sails
   sailed_list : (q : ℕ) → numbers_inside q (after_sailing c ship to).units ≡ numbers_inside q c.units
-  sailed_list q = ap (λ d. numbers_inside q d.units) sailed_is ∙ all_inside ship to q c.units ns (all_listed (IsInside ship to c.units) ns (listed_is_inside ship c.units))
+  sailed_list q = ap (λ d. numbers_inside q d.units) sailed_is ∙ all_inside ship to q c.units aboard_numbers (all_listed (IsInside ship to c.units) aboard_numbers (listed_is_inside ship c.units))
 
 -- ---- an order
 

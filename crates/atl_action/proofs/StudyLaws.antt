@@ -65,8 +65,8 @@ module _ (w : WorldValue) (c : CampaignValue) (n : ℕ) (u : Unit) (s cost days 
 
   -- the unit may hold (`MayHaveWithoutNewGuard`) what it holds after it studied, if the skill is of the world, and the
   -- days are at most 450 for each man
-  may : s < length w.skills → days ≤ most_days * u.holding.men → MayHaveWithoutNewGuard w u learned
-  may known most =
+  may_hold : s < length w.skills → days ≤ most_days * u.holding.men → MayHaveWithoutNewGuard w u learned
+  may_hold known most =
       let old = may_have w c n u is steady in
       record {
         limits = record { men = old.limits.men; money = omega (arith, old.limits.money); items = old.limits.items };
@@ -79,7 +79,7 @@ module _ (w : WorldValue) (c : CampaignValue) (n : ℕ) (u : Unit) (s cost days 
 
   -- a steady campaign is steady after a unit paid and reached at most 450 days for each man in a skill of the world
   steady_behind : s < length w.skills → days ≤ most_days * u.holding.men → IsSteady w behind
-  steady_behind known most = steady-amount w paid Study Money (neg_ℤ (pos cost)) (omega arith) (steady-unit_amount w c n u learned is (may known most) steady)
+  steady_behind known most = steady-amount w paid Study Money (neg_ℤ (pos cost)) (omega arith) (steady-unit_amount w c n u learned is (may_hold known most) steady)
 
   -- the total of each thing changes from b to a by what is booked, as the unit pays: money falls by the cost, and every
   -- other thing stays

@@ -138,8 +138,8 @@ module _ (w : WorldValue) (c : CampaignValue) (n : ℕ) (u : Unit) (to : ℕ) (i
           (g x.structure s, forth x.structure s was, rw (same x.structure s was).0.kind ship)
 
       -- the units and structures after the walk are such that the campaign is steady (`AreTravelled`)
-      are : AreTravelled w c units structures f g
-      are = record {
+      walked_travelled : AreTravelled w c units structures f g
+      walked_travelled = record {
         units_at = units_at;
         structures_at = at;
         unit_count = same_people.count;
@@ -159,7 +159,7 @@ module _ (w : WorldValue) (c : CampaignValue) (n : ℕ) (u : Unit) (to : ℕ) (i
       -- the set of factions stay. This supposes that each structure keeps all but its owner, and has its right owner.
       behind_well : StepsWell IsSteady nothing_remaining w c behind
       behind_well =
-          stays_well IsSteady w c behind (steady-travelled w c units structures f g are steady)
+          stays_well IsSteady w c behind (steady-travelled w c units structures f g walked_travelled steady)
           (same_month_by refl) refl (total_people c behind same_people refl)
 
   -- ---- a unit that was inside no structure

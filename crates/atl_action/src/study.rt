@@ -75,7 +75,7 @@ fn study_fault(holding: &Holding, cost: u64) -> Option<EventFault>
 }
 
 /// Takes the cost from a unit's money and sets its days of a skill, if the unit is there.
-fn learn(
+fn pay_and_set_days(
     campaign: &mut Campaign,
     unit: u32,
     skill: u16,
@@ -113,7 +113,7 @@ fn put_study(
         → campaign.new.value ≡ after_study campaign.old.value unit u skill cost days) }
     ensures marks { OnOk result (MarksChanges campaign.old campaign.new) }
 {
-    learn(campaign, unit, skill, cost, days)?;
+    pay_and_set_days(campaign, unit, skill, cost, days)?;
     book_taken(campaign, Entry::Study, Thing::Money, cost);
     Ok(())
 }

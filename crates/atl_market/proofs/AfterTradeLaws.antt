@@ -187,7 +187,7 @@ module _ (trade : Trade) (items : FinMap nat_cmp ℕ) (w : WorldValue) (units : 
       by_market : (o : Option Market) → market_for w u (get items e.0) ≡ o → IsTraded r q
       by_market None at = without_market at (none at) r q around
       by_market (Some m) at =
-          let told : get items e.0 ≡ Some m.item = (market_is w world u (get items e.0) m at).told in
+          let told : get items e.0 ≡ Some m.item = (market_is w world u (get items e.0) m at).named_item in
           elim (cases_eq r u.region) [ inl same ↦ here m at told r q same around | inr apart ↦ elsewhere m at told r q apart around ]
 
 -- ---- one unit trades after the other
@@ -198,9 +198,9 @@ module _ (trade : Trade) (items : FinMap nat_cmp ℕ) (w : WorldValue) where
   step d e = after_trade trade items w d e
 
   -- a unit with a lower number than all units that are still to trade stays as it is
-  traded_once : (d : CampaignValue) (es : List (ℕ × ℕ)) (n : ℕ) → AllByRecursion (λ e. n < e.0) es → get (fold (after_trade trade items w) d es).units n ≡ get d.units n
-  traded_once d [] n above = refl
-  traded_once d (e ∷ es) n above = traded_once (step d e) es n above.1 ∙ traded_others trade items w d e n (λ same. absurd (omega (arith, same, above.0)))
+  untraded_stays : (d : CampaignValue) (es : List (ℕ × ℕ)) (n : ℕ) → AllByRecursion (λ e. n < e.0) es → get (fold (after_trade trade items w) d es).units n ≡ get d.units n
+  untraded_stays d [] n above = refl
+  untraded_stays d (e ∷ es) n above = untraded_stays (step d e) es n above.1 ∙ traded_others trade items w d e n (λ same. absurd (omega (arith, same, above.0)))
 
   -- after trades in the order of unit numbers each unit that has a share has changed by it, and any other is as it was
   units_traded : (d : CampaignValue) (es : List (ℕ × ℕ)) → Rise es → (n : ℕ) (u : Unit) → get d.units n ≡ Some u
@@ -209,7 +209,7 @@ module _ (trade : Trade) (items : FinMap nat_cmp ℕ) (w : WorldValue) where
   units_traded d (e ∷ es) rise n u is = elim (cases_eq n e.0) [
     | inl same ↦
         subst (λ k. get (fold (after_trade trade items w) (step d e) es).units k ≡ Some (paid_unit (trader trade items w k) u (find nat_cmp k (e ∷ es)))) (sym same)
-        (traded_once (step d e) es e.0 rise.0 ∙ unit_traded trade items w d e u (ap (get d.units) (sym same) ∙ is)
+        (untraded_stays (step d e) es e.0 rise.0 ∙ unit_traded trade items w d e u (ap (get d.units) (sym same) ∙ is)
         ∙ ap (λ o. Some (paid_unit (trader trade items w e.0) u o)) (sym (first e es)))
     | inr apart ↦
         units_traded (step d e) es rise.1 n u (traded_others trade items w d e n apart ∙ is)

@@ -24,21 +24,21 @@ no_more : (a : ℕ) → 0 + a ≡ a
 no_more a = omega arith
 
 -- a unit's region is there, if the payment needs it (`needs`)
-abbrev pub Around : Bool → CampaignValue → Unit → Type 0
-Around true d u = HasValue d.regions u.region
-Around false d u = ⊤
+abbrev pub HasRegion : Bool → CampaignValue → Unit → Type 0
+HasRegion true d u = HasValue d.regions u.region
+HasRegion false d u = ⊤
 
 -- One payment changes its unit by `gets` and its unit's region by `gives`, and no other unit or region; giving 0 is
 -- no change, and giving two amounts in turn is giving their sum.
 pub record Pays (needs : Bool) (step : CampaignValue → ℕ × ℕ → CampaignValue) (gets : ℕ → UnitChange) (gives : RegionChange) : Type 0 where
   -- a payment makes of its unit what `gets` makes of the unit and its share
-  pub mine : (d : CampaignValue) (e : ℕ × ℕ) (u : Unit) → get d.units e.0 ≡ Some u → Around needs d u → get (step d e).units e.0 ≡ Some (gets e.0 u e.1)
+  pub mine : (d : CampaignValue) (e : ℕ × ℕ) (u : Unit) → get d.units e.0 ≡ Some u → HasRegion needs d u → get (step d e).units e.0 ≡ Some (gets e.0 u e.1)
   -- a payment changes no unit but its own
-  pub others : (d : CampaignValue) (e : ℕ × ℕ) (u : Unit) → get d.units e.0 ≡ Some u → Around needs d u → (k : ℕ) → k ≢ e.0 → get (step d e).units k ≡ get d.units k
+  pub others : (d : CampaignValue) (e : ℕ × ℕ) (u : Unit) → get d.units e.0 ≡ Some u → HasRegion needs d u → (k : ℕ) → k ≢ e.0 → get (step d e).units k ≡ get d.units k
   -- a payment makes of the region of its unit what `gives` makes of the region and the share
   pub region : (d : CampaignValue) (e : ℕ × ℕ) (u : Unit) (q : Region) → get d.units e.0 ≡ Some u → get d.regions u.region ≡ Some q → get (step d e).regions u.region ≡ Some (gives q e.1)
   -- a payment changes no region but the one that its unit is in
-  pub regions : (d : CampaignValue) (e : ℕ × ℕ) (u : Unit) → get d.units e.0 ≡ Some u → Around needs d u → (k : ℕ) → k ≢ u.region → get (step d e).regions k ≡ get d.regions k
+  pub regions : (d : CampaignValue) (e : ℕ × ℕ) (u : Unit) → get d.units e.0 ≡ Some u → HasRegion needs d u → (k : ℕ) → k ≢ u.region → get (step d e).regions k ≡ get d.regions k
   -- a region that gives 0 stays as it is
   pub nothing : (q : Region) → gives q 0 ≡ q
   -- a region that gives two amounts in turn becomes what it becomes where it gives their sum
@@ -46,11 +46,11 @@ pub record Pays (needs : Bool) (step : CampaignValue → ℕ × ℕ → Campaign
 
 module _ {needs : Bool} {step : CampaignValue → ℕ × ℕ → CampaignValue} {gets : ℕ → UnitChange} {gives : RegionChange} (pays : Pays needs step gets gives) where
   -- a payment removes no region that the payment of any unit needs
-  still_around : (d : CampaignValue) (e : ℕ × ℕ) (u v : Unit) → get d.units e.0 ≡ Some u → Around needs d u → Around needs d v → Around needs (step d e) v
+  still_around : (d : CampaignValue) (e : ℕ × ℕ) (u v : Unit) → get d.units e.0 ≡ Some u → HasRegion needs d u → HasRegion needs d v → HasRegion needs (step d e) v
   still_around d e u v is here there = by_need needs (λ k apart. pays.regions d e u is here k apart) (λ q at. pays.region d e u q is at) there
     where
       -- the region of unit `v` is still there after the payment, if it is needed (`b`)
-      by_need : (b : Bool) → ((k : ℕ) → k ≢ u.region → get (step d e).regions k ≡ get d.regions k) → ((q : Region) → get d.regions u.region ≡ Some q → get (step d e).regions u.region ≡ Some (gives q e.1)) → Around b d v → Around b (step d e) v
+      by_need : (b : Bool) → ((k : ℕ) → k ≢ u.region → get (step d e).regions k ≡ get d.regions k) → ((q : Region) → get d.regions u.region ≡ Some q → get (step d e).regions u.region ≡ Some (gives q e.1)) → HasRegion b d v → HasRegion b (step d e) v
       by_need false others mine there = tt
       by_need true others mine (q, at) = elim (cases_eq v.region u.region) [
         | inl same ↦ (gives q e.1, ap (get (step d e).regions) same ∙ mine q (ap (get d.regions) (sym same) ∙ at))
@@ -58,9 +58,9 @@ module _ {needs : Bool} {step : CampaignValue → ℕ × ℕ → CampaignValue} 
       ]
 
   module _ (c : CampaignValue) where
-    -- payment `e` can be made: its unit is there in `c`, and the unit's region in `d`, if that is needed (`Around`)
+    -- payment `e` can be made: its unit is there in `c`, and the unit's region in `d`, if that is needed (`HasRegion`)
     abbrev CanBePaid : CampaignValue → ℕ × ℕ → Type 0
-    CanBePaid d e = (u : Unit) × (get c.units e.0 ≡ Some u) × Around needs d u
+    CanBePaid d e = (u : Unit) × (get c.units e.0 ≡ Some u) × HasRegion needs d u
 
     -- in campaign `d` the shares `es` can be paid, in the order of unit numbers: their units are as in `c`, and there
     record AreReady (d : CampaignValue) (es : List (ℕ × ℕ)) : Type 0 where
@@ -72,12 +72,12 @@ module _ {needs : Bool} {step : CampaignValue → ℕ × ℕ → CampaignValue} 
       payable : AllByRecursion (CanBePaid d) es
 
     -- after a payment each unit that could be paid can still be paid
-    payable_still : (d : CampaignValue) (e : ℕ × ℕ) (u : Unit) (es : List (ℕ × ℕ)) → get d.units e.0 ≡ Some u → Around needs d u → AllByRecursion (CanBePaid d) es → AllByRecursion (CanBePaid (step d e)) es
+    payable_still : (d : CampaignValue) (e : ℕ × ℕ) (u : Unit) (es : List (ℕ × ℕ)) → get d.units e.0 ≡ Some u → HasRegion needs d u → AllByRecursion (CanBePaid d) es → AllByRecursion (CanBePaid (step d e)) es
     payable_still d e u [] is here all = tt
     payable_still d e u (f ∷ es) is here ((v, there, around), all) = ((v, there, still_around d e u v is here around), payable_still d e u es is here all)
 
     -- after the first payment of a list the later payments can be made (`AreReady`)
-    ready_still : (d : CampaignValue) (e : ℕ × ℕ) (es : List (ℕ × ℕ)) (u : Unit) → get d.units e.0 ≡ Some u → Around needs d u → AreReady d (e ∷ es) → AreReady (step d e) es
+    ready_still : (d : CampaignValue) (e : ℕ × ℕ) (es : List (ℕ × ℕ)) (u : Unit) → get d.units e.0 ≡ Some u → HasRegion needs d u → AreReady d (e ∷ es) → AreReady (step d e) es
     ready_still d e es u is here ready = record {
       rise = ready.rise.1;
       same = still c d (step d e) e.0 es (pays.others d e u is here) ready.rise.0 ready.same.1;
@@ -85,12 +85,12 @@ module _ {needs : Bool} {step : CampaignValue → ℕ × ℕ → CampaignValue} 
     }
 
     -- a unit with a lower number than all those still to be paid stays as it is
-    paid_once : (d : CampaignValue) (es : List (ℕ × ℕ)) (n : ℕ) → AreReady d es → AllByRecursion (λ e. n < e.0) es → get (fold step d es).units n ≡ get d.units n
-    paid_once d [] n ready above = refl
-    paid_once d (e ∷ es) n ready above =
+    unpaid_stays : (d : CampaignValue) (es : List (ℕ × ℕ)) (n : ℕ) → AreReady d es → AllByRecursion (λ e. n < e.0) es → get (fold step d es).units n ≡ get d.units n
+    unpaid_stays d [] n ready above = refl
+    unpaid_stays d (e ∷ es) n ready above =
         let (u, there, here) = ready.payable.0 in
         let now : get d.units e.0 ≡ Some u = ready.same.0 ∙ there in
-        paid_once (step d e) es n (ready_still d e es u now here ready) above.1 ∙ pays.others d e u now here n (λ same. absurd (omega (arith, same, above.0)))
+        unpaid_stays (step d e) es n (ready_still d e es u now here ready) above.1 ∙ pays.others d e u now here n (λ same. absurd (omega (arith, same, above.0)))
 
     -- after payments in the order of unit numbers each unit has changed by its share, if it has one
     units_paid : (d : CampaignValue) (es : List (ℕ × ℕ)) → AreReady d es → (n : ℕ) (u : Unit) → get d.units n ≡ Some u → get (fold step d es).units n ≡ Some (paid_unit (gets n) u (find nat_cmp n es))
@@ -104,7 +104,7 @@ module _ {needs : Bool} {step : CampaignValue → ℕ × ℕ → CampaignValue} 
               let one : Some v ≡ Some u = sym now ∙ ap (get d.units) (sym same) ∙ is in
               let unit : v ≡ u = cc in
               subst (λ k. get (fold step (step d e) es).units k ≡ Some (paid_unit (gets k) u (find nat_cmp k (e ∷ es)))) (sym same)
-              (paid_once (step d e) es e.0 rest ready.rise.0 ∙ pays.mine d e v now here ∙ ap (λ x. Some (gets e.0 x e.1)) unit ∙ ap (λ o. Some (paid_unit (gets e.0) u o)) (sym (first e es)))
+              (unpaid_stays (step d e) es e.0 rest ready.rise.0 ∙ pays.mine d e v now here ∙ ap (λ x. Some (gets e.0 x e.1)) unit ∙ ap (λ o. Some (paid_unit (gets e.0) u o)) (sym (first e es)))
           | inr apart ↦
               units_paid (step d e) es rest n u (pays.others d e v now here n apart ∙ is) ∙ ap (λ o. Some (paid_unit (gets n) u o)) (sym (found_other e es n apart))
         ]
@@ -139,9 +139,10 @@ drawn_is draws (e ∷ es) = by_test (draws e.0) (drawn_is draws es)
     by_test true rest = ap (λ k. e.1 + k) rest ∙ sym (sum_by-cons (λ x. x) e.1 (map (λ f. f.1) (filter (λ f. draws f.0) es)))
     by_test false rest = no_more (drawn draws es) ∙ rest
 
--- each unit that gets something in the phase is in the campaign, and so is its region where that is needed (`Around`)
+-- each unit that gets something in the phase is in the campaign, and so is its region where that is needed
+-- (`HasRegion`)
 abbrev pub GivesWhoIsThere : Bool → PotMeaning → WorldValue → CampaignValue → List Task → Type 0
-GivesWhoIsThere needs p w c os = (n share : ℕ) → get (given_by p w c os) n ≡ Some share → (u : Unit) × (get c.units n ≡ Some u) × Around needs c u
+GivesWhoIsThere needs p w c os = (n share : ℕ) → get (given_by p w c os) n ≡ Some share → (u : Unit) × (get c.units n ≡ Some u) × HasRegion needs c u
 
 -- A phase pays all units at once if each payment changes its own unit and region alone (`Pays`), and all units that get
 -- something are there (`GivesWhoIsThere`).

@@ -184,21 +184,21 @@ module _ (w : WorldValue) (c : CampaignValue) (n kind : ℕ) (u : Unit) (k : Kin
   size = size_added k u.holding 0
 
   -- the campaign after unit `n` used the material for the new structure
-  abbrev one : CampaignValue
-  one = used w c n k.material size u is
+  abbrev after_use : CampaignValue
+  after_use = used w c n k.material size u is
 
   -- campaign `d` with the new structure begun in it, and unit `n` moved into that structure
   abbrev from_used : CampaignValue → CampaignValue
   from_used d = with_place (with_new_structure d kind k u.region size) n u.region c.next_structure
 
   -- beginning a structure is using the material, and then adding the structure and moving the unit into it
-  begun_is : after_start c n kind k u.region size ≡ from_used one
+  begun_is : after_start c n kind k u.region size ≡ from_used after_use
   begun_is = ap from_used (used_is w c n k.material size u is)
 
   -- beginning a structure leaves the other units as they are
   begun_stays : (j : ℕ) → j ≢ n → get (after_start c n kind k u.region size).units j ≡ get c.units j
   begun_stays j apart =
-      ap (λ (d : CampaignValue). get d.units j) begun_is ∙ place_stays (with_new_structure one kind k u.region size) n u.region c.next_structure j apart
+      ap (λ (d : CampaignValue). get d.units j) begun_is ∙ place_stays (with_new_structure after_use kind k u.region size) n u.region c.next_structure j apart
       ∙ others_stay w c n k.material size u is j apart
 
   module _ (kind_is : slice_get w.kinds kind ≡ Some k) (can : CanBuild w c) (fit : CanBegin w c u k) where
@@ -211,7 +211,7 @@ module _ (w : WorldValue) (c : CampaignValue) (n kind : ℕ) (u : Unit) (k : Kin
     room = next_within c can.steady.next.structures fit.room
 
     -- using the material keeps what BUILD needs of the campaign (`CanBuild`)
-    one_well : StepsWell CanBuild build_reserve w c one
+    one_well : StepsWell CanBuild build_reserve w c after_use
     one_well = used_for_well w c n k.material size u is (size_held k u.holding 0) good.material can
 
     -- the structure that the unit begins, with its first name
@@ -219,7 +219,7 @@ module _ (w : WorldValue) (c : CampaignValue) (n kind : ℕ) (u : Unit) (k : Kin
     new = new_structure c.next_structure kind k u.region size
 
     -- the new structure may be added to the campaign in which the material is used (`IsFresh`)
-    fresh : IsFresh w one new
+    fresh : IsFresh w after_use new
     fresh = record {
       kind = slice_get_within w.kinds kind k kind_is;
       name = first_name_ok k c.next_structure (omega (arith, room));
@@ -231,20 +231,20 @@ module _ (w : WorldValue) (c : CampaignValue) (n kind : ℕ) (u : Unit) (k : Kin
     }
 
     -- the campaign in which the new structure is added, and the unit hasn't entered it yet
-    two : CampaignValue
-    two = raised w one new fresh room one_well.holds_still.steady
+    after_raising : CampaignValue
+    after_raising = raised w after_use new fresh room one_well.holds_still.steady
 
     -- beginning a structure keeps what BUILD needs of the campaign (`CanBuild`)
     begun_well : StepsWell CanBuild build_reserve w c (after_start c n kind k u.region size)
-    unfolding two
+    unfolding after_raising
     begun_well =
         let between = one_well.holds_still in
-        let two_well = raised_well w one new fresh room between in
+        let two_well = raised_well w after_use new fresh room between in
         let there = user_there w c n k.material size u is in
-        let apart = nobody_inside w one new fresh room between.steady n (user w c n k.material size u is) there in
+        let apart = nobody_inside w after_use new fresh room between.steady n (user w c n k.material size u is) there in
         let three_well =
-        place_well w two n (user w c n k.material size u is) c.next_structure there two_well.holds_still apart (λ some. (new, raised_there w one new fresh room between.steady, refl)) (λ wet. absurd (true≢false (sym fit.land ∙ wet))) in
-        subst (StepsWell CanBuild build_reserve w c) (sym begun_is) (well_twice w c one (from_used one) one_well (well_twice w one two (from_used one) two_well three_well))
+        place_well w after_raising n (user w c n k.material size u is) c.next_structure there two_well.holds_still apart (λ some. (new, raised_there w after_use new fresh room between.steady, refl)) (λ wet. absurd (true≢false (sym fit.land ∙ wet))) in
+        subst (StepsWell CanBuild build_reserve w c) (sym begun_is) (well_twice w c after_use (from_used after_use) one_well (well_twice w after_use after_raising (from_used after_use) two_well three_well))
 
 -- ---- more of a structure is done
 

@@ -23,19 +23,19 @@ cancelled a b h g e f = omega (arith, e, f)
 
 module _ (w : WorldValue) (c : CampaignValue) (n : ℕ) (u : Unit) (s : ℕ) (is : get c.units n ≡ Some u) (can : CanBuild w c) (apart : u.structure ≢ s) where
   -- the campaign after unit `n` went into structure `s`
-  abbrev then : CampaignValue
-  then = behind w c n u s is can.steady apart
+  abbrev placed : CampaignValue
+  placed = behind w c n u s is can.steady apart
 
   -- moving unit `n` into structure `s` keeps what BUILD may still book
-  reserve_stays : (e : Entry) (t : Thing) → build_reserve then e t ≡ build_reserve c e t
+  reserve_stays : (e : Entry) (t : Thing) → build_reserve placed e t ≡ build_reserve c e t
   reserve_stays e t =
       let f = λ (x : Unit). still_bookable e t x.holding in
       let moved : Unit = record u { structure = s } in
-      cancelled (build_reserve then e t) (build_reserve c e t) (f u) (f moved) (sum_over-insert_known f c.units n u moved is) refl
+      cancelled (build_reserve placed e t) (build_reserve c e t) (f u) (f moved) (sum_over-insert_known f c.units n u moved is) refl
 
   -- moving a unit into a structure of its region, on water into a ship, keeps what BUILD needs (`CanBuild`)
   pub place_well : (s ≢ 0 → (x : Structure) × (get c.structures s ≡ Some x) × (x.region ≡ u.region)) → (is_land_at w u.region ≡ false → (x : Structure) × (get c.structures s ≡ Some x) × (is_ship w x ≡ true)) → StepsWell CanBuild build_reserve w c (with_place c n u.region s)
   place_well inside afloat =
       subst (StepsWell CanBuild build_reserve w c) (sym (place_is w c n u s is can.steady apart))
-      (still_well w c then (record { steady = placed_steady w c n u s is can.steady apart inside afloat; kinds = can.kinds })
+      (still_well w c placed (record { steady = placed_steady w c n u s is can.steady apart inside afloat; kinds = can.kinds })
       (same_month_by refl) refl (placed_total w c n u s is can.steady apart inside afloat) reserve_stays)

@@ -70,16 +70,16 @@ no_group i = ap (λ o. unwrap_or o empty) (get-empty nat_cmp i)
 
 module _ (item_of : ℕ → Option ℕ) (wants : FinMap nat_cmp ℕ) where
   -- the wants of those units that ask for item `i`
-  abbrev mine : ℕ → FinMap nat_cmp ℕ
-  mine i = wants_for item_of wants i
+  abbrev item_wants : ℕ → FinMap nat_cmp ℕ
+  item_wants i = wants_for item_of wants i
 
-  -- among the wants for item `i` (`mine`) a unit that asks for item `i` has its want, and any other unit has none
-  mine_at : (i n : ℕ) → get (mine i) n ≡ cond (is_for i (item_of n)) (get wants n) None
-  mine_at i n = get-retain_keys wants (λ k. is_for i (item_of k)) n (λ k tie. ap (λ j. is_for i (item_of j)) (sym (nat_cmp-IsAntisymmetric n k tie)))
+  -- among the wants for item `i` (`item_wants`) a unit that asks for item `i` has its want, and any other unit has none
+  item_want_at : (i n : ℕ) → get (item_wants i) n ≡ cond (is_for i (item_of n)) (get wants n) None
+  item_want_at i n = get-retain_keys wants (λ k. is_for i (item_of k)) n (λ k tie. ap (λ j. is_for i (item_of j)) (sym (nat_cmp-IsAntisymmetric n k tie)))
 
   -- a unit that has a want for an item asks for it
-  asks : (i n want : ℕ) → get (mine i) n ≡ Some want → item_of n ≡ Some i
-  asks i n want is = by_item (item_of n) refl (sym (mine_at i n) ∙ is)
+  asks : (i n want : ℕ) → get (item_wants i) n ≡ Some want → item_of n ≡ Some i
+  asks i n want is = by_item (item_of n) refl (sym (item_want_at i n) ∙ is)
     where
       -- a unit that has a want for item `i` asks for `i`, whichever item `o` it asks for
       by_item : (o : Option ℕ) → item_of n ≡ o → cond (is_for i o) (get wants n) None ≡ Some want → item_of n ≡ Some i
@@ -92,8 +92,8 @@ module _ (item_of : ℕ → Option ℕ) (wants : FinMap nat_cmp ℕ) where
           by_test false same h = none_some want h
 
   -- what a unit wants among the wants for item `i` is what it wants among all wants
-  is_wanted : (i n want : ℕ) → get (mine i) n ≡ Some want → get wants n ≡ Some want
-  is_wanted i n want is = by_test (is_for i (item_of n)) (sym (mine_at i n) ∙ is)
+  is_wanted : (i n want : ℕ) → get (item_wants i) n ≡ Some want → get wants n ≡ Some want
+  is_wanted i n want is = by_test (is_for i (item_of n)) (sym (item_want_at i n) ∙ is)
     where
       -- a want for item `i` is the unit's want, since the test of its item only keeps or drops the want
       by_test : (b : Bool) → cond b (get wants n) None ≡ Some want → get wants n ≡ Some want
@@ -101,21 +101,21 @@ module _ (item_of : ℕ → Option ℕ) (wants : FinMap nat_cmp ℕ) where
       by_test false h = none_some want h
 
   -- a unit with a want for item `i` has the same want among all wants as among the wants for that item
-  wants_the_same : (i n : ℕ) → is_some (get (mine i) n) ≡ true → want_of wants n ≡ want_of (mine i) n
+  wants_the_same : (i n : ℕ) → is_some (get (item_wants i) n) ≡ true → want_of wants n ≡ want_of (item_wants i) n
   wants_the_same i n some = by_test (is_for i (item_of n)) refl
     where
       -- for `wants_the_same`: the unit has the same want in both maps, since it asks for item `i` (the test `b`)
-      by_test : (b : Bool) → is_for i (item_of n) ≡ b → want_of wants n ≡ want_of (mine i) n
-      by_test true is = sym (ap (λ o. unwrap_or o 0) (mine_at i n ∙ ap (λ b. cond b (get wants n) None) is))
-      by_test false is = absurd (false≢true (sym (ap is_some (mine_at i n ∙ ap (λ b. cond b (get wants n) None) is)) ∙ some))
+      by_test : (b : Bool) → is_for i (item_of n) ≡ b → want_of wants n ≡ want_of (item_wants i) n
+      by_test true is = sym (ap (λ o. unwrap_or o 0) (item_want_at i n ∙ ap (λ b. cond b (get wants n) None) is))
+      by_test false is = absurd (false≢true (sym (ap is_some (item_want_at i n ∙ ap (λ b. cond b (get wants n) None) is)) ∙ some))
 
   -- the entries (unit, want) of those of some units that have a want for item `i`
   abbrev pairs : ℕ → List ℕ → Entries
-  pairs i ns = flat_map (λ n. want_entry n (get (mine i) n)) ns
+  pairs i ns = flat_map (λ n. want_entry n (get (item_wants i) n)) ns
 
   -- putting in one unit's want, ahead of other entries, changes the group of its item alone, by that want
-  one_put : (groups : Groups) (n : ℕ) (rest : Entries) (i : ℕ) → with_each (group_of (with_want item_of wants groups n) i) rest ≡ with_each (group_of groups i) (want_entry n (get (mine i) n) ++ rest)
-  one_put groups n rest i = by_item (item_of n) (get wants n) ∙ sym (ap (λ o. with_each (group_of groups i) (want_entry n o ++ rest)) (mine_at i n))
+  one_put : (groups : Groups) (n : ℕ) (rest : Entries) (i : ℕ) → with_each (group_of (with_want item_of wants groups n) i) rest ≡ with_each (group_of groups i) (want_entry n (get (item_wants i) n) ++ rest)
+  one_put groups n rest i = by_item (item_of n) (get wants n) ∙ sym (ap (λ o. with_each (group_of groups i) (want_entry n o ++ rest)) (item_want_at i n))
     where
       -- the group of item `i` gets the want `v` of unit `n` exactly if `i` is the item `o` that the unit asks for
       by_item : (o v : Option ℕ) → with_each (group_of (with_item_want groups n o v) i) rest ≡ with_each (group_of groups i) (want_entry n (cond (is_for i o) v None) ++ rest)
@@ -139,9 +139,9 @@ module _ (item_of : ℕ → Option ℕ) (wants : FinMap nat_cmp ℕ) where
   group_is groups (n ∷ ns) i = group_is (with_want item_of wants groups n) ns i ∙ one_put groups n (pairs i ns) i
 
   -- the units in the entries `pairs` for item `i` are those of the list `ns` that have a want for it
-  pair_keys : (i : ℕ) (ns : List ℕ) → map (λ e. e.0) (pairs i ns) ≡ filter (λ n. is_some (get (mine i) n)) ns
+  pair_keys : (i : ℕ) (ns : List ℕ) → map (λ e. e.0) (pairs i ns) ≡ filter (λ n. is_some (get (item_wants i) n)) ns
   pair_keys i [] = refl
-  pair_keys i (n ∷ ns) = elim (get (mine i) n) as (λ o. map (λ e. e.0) (want_entry n o ++ pairs i ns) ≡ cond (is_some o) (n ∷ filter (λ k. is_some (get (mine i) k)) ns) (filter (λ k. is_some (get (mine i) k)) ns)) [
+  pair_keys i (n ∷ ns) = elim (get (item_wants i) n) as (λ o. map (λ e. e.0) (want_entry n o ++ pairs i ns) ≡ cond (is_some o) (n ∷ filter (λ k. is_some (get (item_wants i) k)) ns) (filter (λ k. is_some (get (item_wants i) k)) ns)) [
     | None ↦ pair_keys i ns
     | Some want ↦ ap (λ ks. n ∷ ks) (pair_keys i ns)
   ]
@@ -180,22 +180,22 @@ module _ (item_of : ℕ → Option ℕ) (pot_of : (item region : ℕ) → ℕ) (
 
     -- the units of region `r` that want item `i`, each with its share of the region's pot of the item
     abbrev of_item : ℕ → Entries
-    of_item i = shares_in (pot_of i) (mine item_of wants i) c.units r
+    of_item i = shares_in (pot_of i) (item_wants item_of wants i) c.units r
 
     -- the units of an item's group are the region's units that have a want for it
-    takers_are : (i : ℕ) → keys (group_of groups i) ≡ takers_in (mine item_of wants i) c.units r
+    takers_are : (i : ℕ) → keys (group_of groups i) ≡ takers_in (item_wants item_of wants i) c.units r
     takers_are i =
         let ns = numbers_in r c.units in
         let of_pairs = pair_keys item_of wants i ns in
         ap keys (group_is item_of wants empty ns i ∙ ap (λ m. with_each m (pairs item_of wants i ns)) (no_group i))
-        ∙ ap (map (λ e. e.0)) (entries_put (pairs item_of wants i ns) (subst IsRisen (sym of_pairs) (takers_risen (mine item_of wants i) c.units r))) ∙ of_pairs
+        ∙ ap (map (λ e. e.0)) (entries_put (pairs item_of wants i ns) (subst IsRisen (sym of_pairs) (takers_risen (item_wants item_of wants i) c.units r))) ∙ of_pairs
 
     -- the shares that the code finds for item `i` in the region are `of_item i`
     item_is : (i : ℕ) → item_shares_in pot_of wants r (i, group_of groups i) ≡ of_item i
     item_is i =
-        let takers = takers_in (mine item_of wants i) c.units r in
+        let takers = takers_in (item_wants item_of wants i) c.units r in
         ap (λ ks. zip ks (shares (pot_of i r) (map (want_of wants) ks))) (takers_are i)
-        ∙ ap (λ ws. zip takers (shares (pot_of i r) ws)) (filtered_map (λ n. is_some (get (mine item_of wants i) n)) (want_of wants) (want_of (mine item_of wants i)) (wants_the_same item_of wants i) (numbers_in r c.units))
+        ∙ ap (λ ws. zip takers (shares (pot_of i r) ws)) (filtered_map (λ n. is_some (get (item_wants item_of wants i) n)) (want_of wants) (want_of (item_wants item_of wants i)) (wants_the_same item_of wants i) (numbers_in r c.units))
 
     -- the shares that the code finds for the region's groups are those of their items, one after the other
     items_are : (es : List (ℕ × FinMap nat_cmp ℕ)) → EachEntry (λ i group. get groups i ≡ Some group) es → flat_map (item_shares_in pot_of wants r) es ≡ flat_map of_item (map (λ e. e.0) es)
@@ -215,9 +215,9 @@ module _ (item_of : ℕ → Option ℕ) (pot_of : (item region : ℕ) → ℕ) (
       where
         -- each share of item `i` in the region is its unit's share by the definition
         one : (i : ℕ) → AgreeWith gets (of_item i)
-        one i = each_found (λ e. gets e.0 ≡ Some e.1) (of_item i) (given_apart (pot_of i) (mine item_of wants i) c.units r) (λ n s is.
-            let (at, (want, wanted)) = given_takes (pot_of i) (mine item_of wants i) c.units r n s is in
-            ap (share_for n) (asks item_of wants i n want wanted) ∙ given_is (pot_of i) (mine item_of wants i) c r n s there is)
+        one i = each_found (λ e. gets e.0 ≡ Some e.1) (of_item i) (given_apart (pot_of i) (item_wants item_of wants i) c.units r) (λ n s is.
+            let (at, (want, wanted)) = given_takes (pot_of i) (item_wants item_of wants i) c.units r n s is in
+            ap (share_for n) (asks item_of wants i n want wanted) ∙ given_is (pot_of i) (item_wants item_of wants i) c r n s there is)
 
     -- a unit that has a share of an item in the region is among the region's shares
     region_whole : (i n s : ℕ) → find nat_cmp n (of_item i) ≡ Some s → is_some (find nat_cmp n (region_shares item_of pot_of wants c r)) ≡ true
@@ -229,8 +229,8 @@ module _ (item_of : ℕ → Option ℕ) (pot_of : (item region : ℕ) → ℕ) (
         by_group : (o : Option (FinMap nat_cmp ℕ)) → get groups i ≡ o → is_some o ≡ true
         by_group (Some group) at = refl
         by_group None at =
-            let nobody : takers_in (mine item_of wants i) c.units r ≡ [] = sym (takers_are i) ∙ ap (λ o. keys (unwrap_or o empty)) at ∙ ap (map (λ (e : ℕ × ℕ). e.0)) (no_entries nat_cmp) in
-            none_some s (sym (ap (λ ks. find nat_cmp n (zip ks (shares (pot_of i r) (map (want_of (mine item_of wants i)) ks)))) nobody) ∙ is)
+            let nobody : takers_in (item_wants item_of wants i) c.units r ≡ [] = sym (takers_are i) ∙ ap (λ o. keys (unwrap_or o empty)) at ∙ ap (map (λ (e : ℕ × ℕ). e.0)) (no_entries nat_cmp) in
+            none_some s (sym (ap (λ ks. find nat_cmp n (zip ks (shares (pot_of i r) (map (want_of (item_wants item_of wants i)) ks)))) nobody) ∙ is)
 
   -- each unit that has a share wants at least that much
   pub items_give : (n s : ℕ) → gets n ≡ Some s → (want : ℕ) × (get wants n ≡ Some want) × (s ≤ want)
@@ -240,7 +240,7 @@ module _ (item_of : ℕ → Option ℕ) (pot_of : (item region : ℕ) → ℕ) (
       by_item : (o : Option ℕ) → share_for n o ≡ Some s → (want : ℕ) × (get wants n ≡ Some want) × (s ≤ want)
       by_item None is = none_some s is
       by_item (Some i) is =
-          let (want, wanted, low) = pots_give (pot_of i) c (mine item_of wants i) n s is in
+          let (want, wanted, low) = pots_give (pot_of i) c (item_wants item_of wants i) n s is in
           (want, is_wanted item_of wants i n want wanted, low)
 
   -- a unit's number with its share, if it has one
@@ -302,12 +302,12 @@ module _ (item_of : ℕ → Option ℕ) (pot_of : (item region : ℕ) → ℕ) (
       by_item : (o : Option ℕ) → share_for n o ≡ Some s → is_some (find nat_cmp n all_shares) ≡ true
       by_item None is = none_some s is
       by_item (Some i) is =
-          let (r, among, found) = somewhere (of_item_in i) n s (keys c.regions) (sym (found_is (pot_of i) (mine item_of wants i) c n) ∙ is) in
+          let (r, among, found) = somewhere (of_item_in i) n s (keys c.regions) (sym (found_is (pot_of i) (item_wants item_of wants i) c n) ∙ is) in
           found_among (region_shares item_of pot_of wants c) n (keys c.regions) r among (region_whole r i n s found)
         where
           -- the units of region `r` that want item `i`, each with its share of the region's pot of the item
           of_item_in : ℕ → ℕ → Entries
-          of_item_in i r = shares_in (pot_of i) (mine item_of wants i) c.units r
+          of_item_in i r = shares_in (pot_of i) (item_wants item_of wants i) c.units r
 
   -- once no region is left to come, the map into which all shares were put has under each unit its share
   pub all_items_put : (given : FinMap nat_cmp ℕ) (coming : List (ℕ × Region)) → coming ≡ []

@@ -151,7 +151,7 @@ module _ (w : WorldValue) (c : CampaignValue) (n : ℕ) (u : Unit) (q : Region) 
 -- a market of unit `u`'s region that trades the item which an order names
 pub record IsMarketFor (w : WorldValue) (u : Unit) (item : Option ℕ) (m : Market) : Type 0 where
   -- the order names the item of the market
-  pub told : item ≡ Some m.item
+  pub named_item : item ≡ Some m.item
   -- the market is the one of the unit's region for its item
   pub there : market_of w u.region m.item ≡ Some m
   -- the market keeps the rules of markets, and its item is one of the world's items
@@ -168,7 +168,7 @@ market_is w world u (Some i) m is = by_plan (get w.regions u.region) refl is
     by_plan (Some p) at found =
         let of = (world.regions u.region p at).markets i m found in
         let same : i ≡ m.item = sym of.number_is in
-        record { told = ap Some same; there = ap (market_of w u.region) (sym same) ∙ is; bounds = subst (λ k. IsMarket (length w.items) k m) same of }
+        record { named_item = ap Some same; there = ap (market_of w u.region) (sym same) ∙ is; bounds = subst (λ k. IsMarket (length w.items) k m) same of }
 
 -- ---- the result of a trade is within all limits
 
@@ -305,10 +305,10 @@ module _ (trade : Trade) (items : FinMap nat_cmp ℕ) (w : WorldValue) (c : Camp
         no_less a = omega arith
 
         -- the unit draws from a pot of its own region exactly if the pot is of the market's item
-        told_is : (k : ℕ × ℕ) → k.0 ≡ can.at.unit.region → draws_item units items k e.0 ≡ (m.item == k.1)
-        told_is k same =
+        draws_market_item : (k : ℕ × ℕ) → k.0 ≡ can.at.unit.region → draws_item units items k e.0 ≡ (m.item == k.1)
+        draws_market_item k same =
             ap (λ b. b && is_for k.1 (get items e.0)) (ap (is_in_region k.0) there ∙ ap (λ r. can.at.unit.region == r) same ∙ same_number can.at.unit.region)
-            ∙ ap (is_for k.1) market.told
+            ∙ ap (is_for k.1) market.named_item
 
         -- a pot of the unit's region has the share less if it is of the market's item, and else stays as it was
         here : (k : ℕ × ℕ) → k.0 ≡ can.at.unit.region → (b : Bool) → eq_by_cmp nat_cmp k.1 m.item ≡ b
@@ -316,14 +316,14 @@ module _ (trade : Trade) (items : FinMap nat_cmp ℕ) (w : WorldValue) (c : Camp
         here k same true is =
             let item : k.1 ≡ m.item = alike m.item k.1 is in
             let limit : limit_of w k.1 k.0 ≡ m.limit = ap (λ j. limit_of w j k.0) item ∙ ap (λ r. limit_of w m.item r) same ∙ ap (λ o. option_map_or (λ (x : Market). x.limit) o 0) market.there in
-            let drawing : draws_item units items k e.0 ≡ true = told_is k same ∙ ap (λ j. m.item == j) item ∙ same_number m.item in
+            let drawing : draws_item units items k e.0 ≡ true = draws_market_item k same ∙ ap (λ j. m.item == j) item ∙ same_number m.item in
             ap (λ b. pot_by trade (limit_of w k.1 k.0) (amount_of (with_amount_of can.at.region.stocks m.item deal.stock) k.1) + cond b e.1 0) drawing
             ∙ ap (λ a. pot_by trade (limit_of w k.1 k.0) a + e.1) (set_amount can.at.region.stocks m.item deal.stock k.1 ∙ ap (λ b. cond b deal.stock (amount_of can.at.region.stocks k.1)) is)
             ∙ pot_less trade can.at.unit.holding (limit_of w k.1 k.0) (amount_of can.at.region.stocks m.item) e.1 m limit (can.pot m at)
             ∙ ap (λ j. pot_by trade (limit_of w k.1 k.0) (amount_of can.at.region.stocks j)) (sym item)
         here k same false is =
             let apart : m.item ≢ k.1 = λ one. is_unequal k.1 m.item (unsigned_ties k.1 m.item ∙ is) (sym one) in
-            ap (λ b. pot_by trade (limit_of w k.1 k.0) (amount_of (with_amount_of can.at.region.stocks m.item deal.stock) k.1) + cond b e.1 0) (told_is k same ∙ other_number m.item k.1 apart)
+            ap (λ b. pot_by trade (limit_of w k.1 k.0) (amount_of (with_amount_of can.at.region.stocks m.item deal.stock) k.1) + cond b e.1 0) (draws_market_item k same ∙ other_number m.item k.1 apart)
             ∙ no_less (pot_by trade (limit_of w k.1 k.0) (amount_of (with_amount_of can.at.region.stocks m.item deal.stock) k.1))
             ∙ ap (pot_by trade (limit_of w k.1 k.0)) (set_amount can.at.region.stocks m.item deal.stock k.1 ∙ ap (λ b. cond b deal.stock (amount_of can.at.region.stocks k.1)) is)
 
@@ -435,7 +435,7 @@ module _ (trade : Trade) (items : FinMap nat_cmp ℕ) (w : WorldValue) (world : 
             let market = market_is w world u (get items e.0) m at in
             let k : ℕ × ℕ = (u.region, m.item) in
             let drawing : draws_item c.units items k e.0 ≡ true =
-            ap (λ b. b && is_for m.item (get items e.0)) (ap (is_in_region u.region) there ∙ same_number u.region) ∙ ap (is_for m.item) market.told ∙ same_number m.item in
+            ap (λ b. b && is_for m.item (get items e.0)) (ap (is_in_region u.region) there ∙ same_number u.region) ∙ ap (is_for m.item) market.named_item ∙ same_number m.item in
             let few = first_draws pots d e es ready.enough k q around drawing in
             let limit : stock_limit w u.region m.item ≡ m.limit = ap (λ o. option_map_or (λ (x : Market). x.limit) o most_amount) market.there in
             has_pot (limit_of w m.item u.region) (amount_of q.stocks m.item) e.1 m (ap (λ o. option_map_or (λ (x : Market). x.limit) o 0) market.there)

@@ -85,7 +85,7 @@ module _ (p : PotMeaning) (w : WorldValue) (c : CampaignValue) where
     -- the unit's own faction wrote the order
     pub own : (u.faction == t.faction) ≡ true
     -- the phase finds no fault in the order
-    pub fine : p.fault w u t ≡ None
+    pub no_fault : p.fault w u t ≡ None
 
   -- the unit that carries an order out, or else its fault: the one that the phase finds, or NotYours without a unit
   abbrev unless_fault : Task → Option Unit → Result Unit EventFault
@@ -99,7 +99,7 @@ module _ (p : PotMeaning) (w : WorldValue) (c : CampaignValue) where
       -- for `carries_out`: a unit `v` of the order's faction carries the order out if the phase finds no fault (`f`)
       by_fault : (v : Unit) → get c.units t.unit ≡ Some v → (v.faction == t.faction) ≡ true → (f : Option EventFault) → p.fault w v t ≡ f → option_map_or Err f (Ok v) ≡ Ok u → CarriesOut t u
       by_fault v at own (Some f) fault h = none_some u (ap result_ok h)
-      by_fault v at own None fault h = subst (CarriesOut t) (same_Some _ _ (ap result_ok h)) (record { there = at; own = own; fine = fault })
+      by_fault v at own None fault h = subst (CarriesOut t) (same_Some _ _ (ap result_ok h)) (record { there = at; own = own; no_fault = fault })
 
       -- for `carries_out`: a unit `v` that is there carries the order out, if it is of its faction (`b`) without a
       -- fault
@@ -144,7 +144,7 @@ module _ (p : PotMeaning) (w : WorldValue) (c : CampaignValue) where
             ap (get c.units) same ∙ of.there,
             sym same,
             sym (same_Some _ _ mine),
-            of.fine,
+            of.no_fault,
             λ i is_i. ap (get (with_any items (named (item_in t.order_value.operands)))) same ∙ item_put (item_in t.order_value.operands) i is_i,
           )
       | inr apart ↦

@@ -46,8 +46,8 @@ abbrev MovesAlone : BookBound → MovedEntries → Type 0
 MovesAlone moving moved = (e : Entry) (t : Thing) → moving e t ≤ (if may_move moved e t then most_moved else 0)
 
 -- a phase that moves nothing moves only the entries that it lists (`MovesAlone`), whichever these are
-nothing : (moved : MovedEntries) → MovesAlone moves_nothing moved
-nothing moved e t = omega arith
+moves_nothing_alone : (moved : MovedEntries) → MovesAlone moves_nothing moved
+moves_nothing_alone moved e t = omega arith
 
 -- A phase that moves money under entry `k` alone moves only the entries that it lists (`MovesAlone`), if these are `k`
 -- for money.
@@ -131,14 +131,14 @@ one ▹ others = (one, others)
 -- their men less the starved
 pub early_are : EachPhase IsPhase early_phases
 early_are =
-    is_phase form_spec (nothing no_moved_entries) form_leaves
-    ▹ is_phase name_spec (nothing no_moved_entries) name_leaves
-    ▹ is_phase place_spec (nothing no_moved_entries) place_leaves
-    ▹ is_phase give_spec (nothing no_moved_entries) give_leaves
-    ▹ is_phase transfer_spec (nothing no_moved_entries) transfer_leaves
+    is_phase form_spec (moves_nothing_alone no_moved_entries) form_leaves
+    ▹ is_phase name_spec (moves_nothing_alone no_moved_entries) name_leaves
+    ▹ is_phase place_spec (moves_nothing_alone no_moved_entries) place_leaves
+    ▹ is_phase give_spec (moves_nothing_alone no_moved_entries) give_leaves
+    ▹ is_phase transfer_spec (moves_nothing_alone no_moved_entries) transfer_leaves
     ▹ is_phase sell_spec (money_alone entries.Sold) sell_leaves
     ▹ is_phase buy_spec (money_alone entries.Bought) buy_leaves
-    ▹ is_phase tax_spec (nothing no_moved_entries) tax_leaves
+    ▹ is_phase tax_spec (moves_nothing_alone no_moved_entries) tax_leaves
     ▹ is_phase recruit_spec (money_alone entries.Recruiting) recruit_leaves
     ▹ tt
 
@@ -146,10 +146,10 @@ early_are =
 -- their men less the starved
 pub later_are : EachPhase IsPhase later_phases
 later_are =
-    is_phase guard_spec (nothing no_moved_entries) guard_leaves
+    is_phase guard_spec (moves_nothing_alone no_moved_entries) guard_leaves
     ▹ is_phase quit_spec quit_alone quit_leaves
-    ▹ is_phase walk_spec (nothing no_moved_entries) walk_leaves
-    ▹ is_phase sail_spec (nothing no_moved_entries) sail_leaves
+    ▹ is_phase walk_spec (moves_nothing_alone no_moved_entries) walk_leaves
+    ▹ is_phase sail_spec (moves_nothing_alone no_moved_entries) sail_leaves
     ▹ is_phase build_spec build_alone build_leaves
     ▹ is_phase learn_spec (money_alone entries.Study) learn_leaves
     ▹ is_phase produce_spec produce_alone produce_leaves

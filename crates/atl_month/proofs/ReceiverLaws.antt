@@ -21,7 +21,7 @@ use Rattle.atl_campaign.proofs.NumberListLaws.{IsListed, listed_passing, passing
 use Rattle.atl_month.specs.Receivers.{AreReceivers, ReceiverMap, or_if_zero, receiver_in, with_receiver, with_receiver_of}
 use Rattle.atl_month.specs.Sweep.{IsKept, after_sweeping_unit, receiver, receives}
 use Rattle.atl_month.proofs.SweepLaws.{first_listed}
-use Rattle.atl_month.proofs.SweepAllLaws.{swept_at_keeps, swept_at_leaves_well, swept_at_were}
+use Rattle.atl_month.proofs.SweepAllLaws.{swept_at_keeps, swept_at_leaves_well, units_left_were_there}
 use Rattle.atl_month.proofs.GroupedLaws.{get-grouped}
 use Rattle.atl_world.proofs.GeneralLaws.{is_equal}
 
@@ -107,7 +107,7 @@ module _ (w : WorldValue) (c : CampaignValue) (n : ℕ) (steady : IsSteady w c) 
       (λ k v is. ((swept_at_leaves_well w c n steady).leaves_it.numbers.units k v is).0)
       (λ k v is. (steady.numbers.units k v is).0)
       (λ k h. let (u, is, t) = h in let (v, there, kept) = swept_at_keeps w c n steady k u is (has_men region faction u t) in (v, there, sym (passes_still region faction u v kept) ∙ t))
-      (λ k h. let (v, is, t) = h in let (apart, (u, was, kept)) = swept_at_were w c n steady k v is in (u, was, passes_still region faction u v kept ∙ t))
+      (λ k h. let (v, is, t) = h in let (apart, (u, was, kept)) = units_left_were_there w c n steady k v is in (u, was, passes_still region faction u v kept ∙ t))
 
 -- ---- receivers put into the map, unit by unit
 

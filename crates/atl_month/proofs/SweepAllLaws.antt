@@ -67,26 +67,26 @@ module _ (w : WorldValue) (c : CampaignValue) (n : ℕ) (steady : IsSteady w c) 
       (λ u is none. swept_leaves_well w c n u is none steady)
 
   -- each unit that had men before is in campaign `d`, and nothing is taken from it
-  abbrev Kept : CampaignValue → Type 0
-  Kept d = Every (λ m x. 1 ≤ x.holding.men → (v : Unit) × (get d.units m ≡ Some v) × IsKept x v) c.units
+  abbrev UnitsWithMenAreKept : CampaignValue → Type 0
+  UnitsWithMenAreKept d = Every (λ m x. 1 ≤ x.holding.men → (v : Unit) × (get d.units m ≡ Some v) × IsKept x v) c.units
 
   -- sweeping a unit takes nothing from any unit with men
-  pub swept_at_keeps : Kept (after_sweeping_unit c n)
+  pub swept_at_keeps : UnitsWithMenAreKept (after_sweeping_unit c n)
   swept_at_keeps =
-      by_sweeping c n Kept (λ stays m x there some. (x, there, kept-refl x))
+      by_sweeping c n UnitsWithMenAreKept (λ stays m x there some. (x, there, kept-refl x))
       (λ u is none m x there some.
       others_keep w c n u is none steady m x there (λ own.
       let men = ap (λ (y : Unit). y.holding.men) (same_Some x u (sym there ∙ ap (get c.units) own ∙ is)) in
       absurd (omega (arith, men, none, some))))
 
   -- each unit of campaign `d` was there before, and nothing was taken from it; if it has no men, it isn't unit `n`
-  abbrev Were : CampaignValue → Type 0
-  Were d = Every (λ m v. (v.holding.men ≡ 0 → m ≢ n) × ((x : Unit) × (get c.units m ≡ Some x) × IsKept x v)) d.units
+  abbrev WereThere : CampaignValue → Type 0
+  WereThere d = Every (λ m v. (v.holding.men ≡ 0 → m ≢ n) × ((x : Unit) × (get c.units m ≡ Some x) × IsKept x v)) d.units
 
   -- after sweeping unit `n` each unit that is left was there before; one without men isn't unit `n`
-  pub swept_at_were : Were (after_sweeping_unit c n)
-  swept_at_were =
-      by_sweeping c n Were (λ some m v there. (λ none own. some v (ap (get c.units) (sym own) ∙ there) none, (v, there, kept-refl v)))
+  pub units_left_were_there : WereThere (after_sweeping_unit c n)
+  units_left_were_there =
+      by_sweeping c n WereThere (λ some m v there. (λ none own. some v (ap (get c.units) (sym own) ∙ there) none, (v, there, kept-refl v)))
       (λ u is none m v there. let (apart, was) = others_were w c n u is none steady m v there in (λ bare. apart, was))
 
 -- ---- all units
@@ -106,7 +106,7 @@ module _ (w : WorldValue) where
   all_have_men [] c steady listed = λ m v there. let some : v.holding.men ≢ 0 = listed m v there in omega arith
   all_have_men (n ∷ ns) c steady listed =
       all_have_men ns (after_sweeping_unit c n) (swept_at_leaves_well w c n steady).leaves_it (λ m v there none.
-      let (apart, (x, was, kept)) = swept_at_were w c n steady m v there in
+      let (apart, (x, was, kept)) = units_left_were_there w c n steady m v there in
       behind_it m n ns (apart none) (listed m x was (sym kept.men ∙ none)))
 
   -- sweeping several units takes nothing from units with men
@@ -150,13 +150,13 @@ module _ (c : CampaignValue) (n : ℕ) where
   })
 
   -- each faction of campaign `d` that has no unit, and isn't gone, was there before as it is now, and isn't faction `n`
-  abbrev Remains : CampaignValue → Type 0
-  Remains d = Every (λ m f. numbers_of m c.units ≡ [] → f.gone ≡ false → (m ≢ n) × (get c.factions m ≡ Some f)) d.factions
+  abbrev OthersRemain : CampaignValue → Type 0
+  OthersRemain d = Every (λ m f. numbers_of m c.units ≡ [] → f.gone ≡ false → (m ≢ n) × (get c.factions m ≡ Some f)) d.factions
 
   -- after sweeping faction `n`, each faction that has no unit and isn't gone is as before, and isn't faction `n`
-  pub gone_at_remains : Remains (after_sweeping_faction c n)
+  pub gone_at_remains : OthersRemain (after_sweeping_faction c n)
   gone_at_remains =
-      by_gone Remains
+      by_gone OthersRemain
       (λ some m f there none stays. (λ own. some f (ap (get c.factions) (sym own) ∙ there) (ap (λ k. numbers_of k c.units) (sym own) ∙ none), there))
       (λ x is bare m f there none stays. elim (cases_eq m n) [
         | inl own ↦

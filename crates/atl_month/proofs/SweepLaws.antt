@@ -91,8 +91,8 @@ module _ (w : WorldValue) (c : CampaignValue) (n : ℕ) (u : Unit) (is : get c.u
       not_received region faction v (ap (get c.units) same ∙ there) t
 
   -- the number of the unit that receives what unit `n` leaves; 0 where there is none
-  abbrev to : ℕ
-  to = receiver c u.region u.faction
+  abbrev receiver_of_n : ℕ
+  receiver_of_n = receiver c u.region u.faction
 
   -- each item that the unit holds is one of the world
   known : EachEntry (λ i a. i < length w.items) (entries u.holding.items)
@@ -100,15 +100,15 @@ module _ (w : WorldValue) (c : CampaignValue) (n : ℕ) (u : Unit) (is : get c.u
 
   -- the campaign after unit `n` passed on what it has
   abbrev passed : CampaignValue
-  passed = after_passing_all c to u
+  passed = after_passing_all c receiver_of_n u
 
   -- what unit `n` has is passed on as `PassesOn` says: to the receiver, or booked as lost
   passing : PassesOn w n (owing_all u.holding) (moving_all u.holding) c passed
   passing =
       let apart = receiver_apart u.region u.faction in
-      let money = pass_money w c n to apart steady u.holding.money in
-      passes-trans w n c (after_passing_money c to u.holding.money) passed money
-      (pass_items w (after_passing_money c to u.holding.money) n to apart (entries u.holding.items) known money.steady)
+      let money = pass_money w c n receiver_of_n apart steady u.holding.money in
+      passes-trans w n c (after_passing_money c receiver_of_n u.holding.money) passed money
+      (pass_items w (after_passing_money c receiver_of_n u.holding.money) n receiver_of_n apart (entries u.holding.items) known money.steady)
 
   -- unit `n` is still there, as it was, after it passed on what it has
   there_still : get passed.units n ≡ Some u

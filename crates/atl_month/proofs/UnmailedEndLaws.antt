@@ -95,19 +95,19 @@ starved_are_reported (s ∷ ss) n = by_test (starved_are_reported ss n) (s.starv
 pub upkeep_leaves : LeavesUnmailed upkeep_meaning upkeep_keeps
 upkeep_leaves = record {
   readings = λ w c m. refl;
-  starved_reported = λ w c m n. omega (arith, sums w c m n);
+  starved_reported = λ w c m n. omega (arith, starved_add_up w c m n);
   left = λ w c m keeps n u there none.
       let one = all_supplied c (upkeep_results w c) n u there in
-      record { unit = one.unit; there = one.there; spared = subst (λ k. IsLessBy k u one.unit) (less (starved_in m.events n) (all w c n) _ (sums w c m n)) one.spared };
+      record { unit = one.unit; there = one.there; spared = subst (λ k. IsLessBy k u one.unit) (less (starved_in m.events n) (men_starved w c n) _ (starved_add_up w c m n)) one.spared };
 }
   where
     -- how many men of unit `n` starve by the upkeep of the campaign
-    all : (w : WorldValue) (c : CampaignValue) (n : ℕ) → ℕ
-    all w c n = sum_by (among n) (upkeep_results w c)
+    men_starved : (w : WorldValue) (c : CampaignValue) (n : ℕ) → ℕ
+    men_starved w c n = sum_by (among n) (upkeep_results w c)
 
     -- after upkeep the events report for unit `n` the men starved before and those who starve by upkeep
-    sums : (w : WorldValue) (c : CampaignValue) (m : MonthValue) (n : ℕ) → starved_in (upkeep_meaning w c m).1.events n ≡ starved_in m.events n + all w c n
-    sums w c m n = sum_by-append (by_event n) m.events (map starved_event (filter starves (upkeep_results w c))) ∙ ap (λ x. starved_in m.events n + x) (starved_are_reported (upkeep_results w c) n)
+    starved_add_up : (w : WorldValue) (c : CampaignValue) (m : MonthValue) (n : ℕ) → starved_in (upkeep_meaning w c m).1.events n ≡ starved_in m.events n + men_starved w c n
+    starved_add_up w c m n = sum_by-append (by_event n) m.events (map starved_event (filter starves (upkeep_results w c))) ∙ ap (λ x. starved_in m.events n + x) (starved_are_reported (upkeep_results w c) n)
 
     -- for `upkeep_leaves`: the men who starve by upkeep (`y`) are all who starved (`z`) less those before (`x`)
     less : (x y z : ℕ) → z ≡ x + y → y ≡ z - x

@@ -30,13 +30,13 @@ module _ (amount : UpkeepInput → ℕ) (xs : List UpkeepInput) (p : UpkeepInput
   more_among : (s g : ℕ) → sum_by amount (peers_of s g (xs ++ p ∷ [])) ≡ sum_by amount (peers_of s g xs) + cond (is_input_of s g p) (amount p) 0
   more_among s g =
       ap (sum_by amount) (filter-append (is_input_of s g) xs (p ∷ [])) ∙ sum_by-append amount (peers_of s g xs) (peers_of s g (p ∷ []))
-      ∙ ap (λ n. sum_by amount (peers_of s g xs) + n) (one (is_input_of s g p))
+      ∙ ap (λ n. sum_by amount (peers_of s g xs) + n) (sum_of_one (is_input_of s g p))
     where
       -- For `more_among`: the sum over one more unit alone is its amount if it is of the faction in the region (`b`),
       -- else 0.
-      one : (b : Bool) → sum_by amount (cond b (p ∷ []) []) ≡ cond b (amount p) 0
-      one true = omega arith
-      one false = refl
+      sum_of_one : (b : Bool) → sum_by amount (cond b (p ∷ []) []) ≡ cond b (amount p) 0
+      sum_of_one true = omega arith
+      sum_of_one false = refl
 
   -- a sum over the units of a further unit's faction in its region grows by that unit's amount
   more_own : sum_by amount (peers_of p.region p.faction (xs ++ p ∷ [])) ≡ sum_by amount (peers_of p.region p.faction xs) + amount p
@@ -64,17 +64,17 @@ each_account P m p a here others s g = by_test (is_input_of s g p) refl
   where
     -- For `each_account`: a look-up of faction `g` in region `s` finds account `a` if unit `p` is of both (`test`),
     -- else the account that was there.
-    at : (test : Bool) → is_input_of s g p ≡ test
+    account_found : (test : Bool) → is_input_of s g p ≡ test
         → account_at (with_account m p.region p.faction a) s g ≡ unwrap_or (cond test (Some a) (get (group_of m s) g)) no_account
-    at test is = ap (λ o. unwrap_or o no_account) (get-grouped m p.region p.faction a s g ∙ ap (λ b. cond b (Some a) (get (group_of m s) g)) is)
+    account_found test is = ap (λ o. unwrap_or o no_account) (get-grouped m p.region p.faction a s g ∙ ap (λ b. cond b (Some a) (get (group_of m s) g)) is)
 
     -- for `each_account`: P holds of the account of faction `g` in region `s`, be the unit of both (`test`) or not
     by_test : (test : Bool) → is_input_of s g p ≡ test → P s g (account_at (with_account m p.region p.faction a) s g)
     by_test true is =
         let region : p.region ≡ s = grind (arith, nat_tests) in
         let faction : p.faction ≡ g = grind (arith, nat_tests) in
-        rw (at true is, ← region, ← faction) here
-    by_test false is = rw (at false is) (others s g is)
+        rw (account_found true is, ← region, ← faction) here
+    by_test false is = rw (account_found false is) (others s g is)
 
 -- ---- the units are counted
 

@@ -20,7 +20,7 @@ pub(crate) fn receiver_in(receivers: &Receivers, region: u32, faction: u32) -> u
 }
 
 /// Makes a unit its faction's receiver in its region, if it has men and there is none yet.
-fn note(
+fn note_receiver(
     alloc: Global,
     receivers: &mut Receivers,
     number: u32,
@@ -41,7 +41,7 @@ pub(crate) fn receivers_of(alloc: Global, campaign: &Campaign) -> Result<Receive
 {
     let mut receivers = Numbered::new(alloc);
     for (number, unit) in campaign.units() {
-        note(alloc, &mut receivers, number, unit)?;
+        note_receiver(alloc, &mut receivers, number, unit)?;
     }
     Ok(receivers)
 }

@@ -42,7 +42,14 @@ fn income(per_peasant: u32, limit: u32, peasants: u32, money: u32) -> u32
 }
 
 /// Adds births and income to a region that has these peasants and this money, and books both.
-fn grow(campaign: &mut Campaign, number: u32, peasants: u32, money: u32, born: u32, earned: u32)
+fn add_births_and_income(
+    campaign: &mut Campaign,
+    number: u32,
+    peasants: u32,
+    money: u32,
+    born: u32,
+    earned: u32,
+)
     requires things { 2 ≤ campaign.old.value.books.things }
     requires room { HaveRoom (grows_by most_amount) campaign.old.value }
     requires peasants { peasants + born ≤ most_amount }
@@ -60,7 +67,7 @@ fn grow(campaign: &mut Campaign, number: u32, peasants: u32, money: u32, born: u
 /// Gives one region its births, its income and the new goods of its markets; nothing where the
 /// region isn't there. AllocError without memory; the campaign may then be changed in part.
 #[tactic(auto, unfolding(crate::specs::Season::season_at))]
-fn turn_region(
+fn carry_out_season(
     world: &World,
     campaign: &mut Campaign,
     number: u32,
@@ -82,7 +89,7 @@ fn turn_region(
     let rules = world.rules();
     let born = births(rules.growth, terrain.peasant_limit, word, peasants);
     let earned = income(rules.income, terrain.money_limit, peasants + born, money);
-    grow(campaign, number, peasants, money, born, earned);
+    add_births_and_income(campaign, number, peasants, money, born, earned);
     restock_region(world, campaign, number)
 }
 
@@ -99,7 +106,7 @@ fn turn_regions(world: &World, campaign: &mut Campaign, words: &[u32]) -> Result
     let mut place = 0;
     for (number, _) in world.regions().iter() {
         match words.get(place) {
-            Some(word) => turn_region(world, campaign, number, *word)?,
+            Some(word) => carry_out_season(world, campaign, number, *word)?,
             None => return Ok(()),
         }
         place += 1;

@@ -39,7 +39,7 @@ pub struct UpkeepResult {
 }
 
 /// The money that a unit has left after it paid for its own men, and the money that it is short of.
-fn balance(maintenance: u32, input: &UpkeepInput) -> (u64, u64)
+fn left_and_short(maintenance: u32, input: &UpkeepInput) -> (u64, u64)
     requires most { maintenance ≤ most_per_head }
     requires input { IsUpkeepInput input.now }
     ensures { result ≡ (left_of maintenance input.now, short_of maintenance input.now) }
@@ -63,7 +63,7 @@ fn open_accounts(
 {
     let mut accounts = Numbered::new(alloc);
     for input in inputs {
-        let (left, short) = balance(maintenance, input);
+        let (left, short) = left_and_short(maintenance, input);
         let mut account = account_of(&accounts, input);
         account.left += u128::from(left);
         account.short += u128::from(short);
@@ -83,7 +83,7 @@ fn payment_of(maintenance: u32, account: &mut Account, input: &UpkeepInput) -> U
     ensures settled { result ≡ upkeep_result_by maintenance account.old input.now }
     ensures account { account.new ≡ account_after maintenance account.old input.now }
 {
-    let (left, short) = balance(maintenance, input);
+    let (left, short) = left_and_short(maintenance, input);
     let amount = account.left.min(account.short);
     let given = u128::from(left).min(amount - account.given);
     let covered = u128::from(short).min(amount - account.covered);

@@ -31,7 +31,7 @@ const REGIONS: u32 = 12;
 const IN_A_ROW: u32 = FACTIONS;
 
 /// The text of the crowd's world, without its regions.
-const RULES: &str = r#"[rules]
+const WORLD_HEAD: &str = r#"[rules]
 maintenance = 60
 tax_per_man = 3
 recruit_price = 11
@@ -249,7 +249,7 @@ const PEOPLE_BOOKED: i64 = 1;
 const FIRST_ITEM_BOOKED: i64 = 2;
 
 /// The value that `number` picks from a table: the one at the index `number`, modulo its length.
-fn dealt<T: Copy + Drop>(table: &[T], number: u32) -> T
+fn picked<T: Copy + Drop>(table: &[T], number: u32) -> T
     requires { 1 ≤ length table.now }
 {
     table[number as usize % table.len()]
@@ -260,8 +260,8 @@ fn dealt<T: Copy + Drop>(table: &[T], number: u32) -> T
 /// The two markets of a region, picked by its number.
 fn stalls_of(region: u32) -> [Stall; 2] {
     [
-        dealt(&STALLS, region),
-        dealt(&STALLS, region.wrapping_add(1)),
+        picked(&STALLS, region),
+        picked(&STALLS, region.wrapping_add(1)),
     ]
 }
 
@@ -290,7 +290,7 @@ fn add_stalls(alloc: Global, number: u32, text: &mut String) -> Result<(), Alloc
 
 /// Appends a region with its markets to the world text.
 fn add_region(alloc: Global, number: u32, text: &mut String) -> Result<(), AllocError> {
-    let (terrain, peasants, money) = dealt(&LANDS, number);
+    let (terrain, peasants, money) = picked(&LANDS, number);
     let table = format!(in alloc;
         "[[region]]\nnumber = {number}\nname = \"Vale\"\nterrain = \"{terrain}\"\npeasants = {peasants}\nmoney = {money}\n"
     )?;
@@ -300,7 +300,7 @@ fn add_region(alloc: Global, number: u32, text: &mut String) -> Result<(), Alloc
 
 /// The world of the campaign of 300 units, with the markets of its twelve regions.
 pub(crate) fn crowd_world(alloc: Global) -> Result<World, Fail> {
-    let mut text = String::from_str(alloc, RULES)?;
+    let mut text = String::from_str(alloc, WORLD_HEAD)?;
     for number in 1..=REGIONS {
         add_region(alloc, number, &mut text)?;
     }
@@ -329,7 +329,7 @@ fn money_of(number: u32) -> i64 {
     if number % RICH == 0 {
         FULL_PURSE
     } else {
-        dealt(&MONEY, number)
+        picked(&MONEY, number)
     }
 }
 
@@ -341,7 +341,7 @@ fn unit(alloc: Global, number: u32) -> Result<StoredUnit, AllocError> {
         name: Sequence::from_slice(alloc, b"A unit")?,
         region: i64::from(region_of(number)),
         structure: 0,
-        men: dealt(&MEN, number),
+        men: picked(&MEN, number),
         money: money_of(number),
         guard: i64::from(guards(number)),
     })
@@ -378,7 +378,7 @@ fn add_good(
 
 /// How much of an item the unit with this number has.
 fn pieces(number: u32, item: u32) -> i64 {
-    dealt(&PIECES, number.wrapping_add(item))
+    picked(&PIECES, number.wrapping_add(item))
 }
 
 /// Adds a unit's items to the rows of the table `has`.
@@ -392,8 +392,8 @@ fn add_items(number: u32, has: &mut Sequence<StoredHas>) -> Result<(), AllocErro
 /// Adds a unit's days of study to the rows of the table `has`.
 fn add_days(number: u32, has: &mut Sequence<StoredHas>) -> Result<(), AllocError> {
     for skill in 0..SKILLS {
-        let each = dealt(&DAYS, number.wrapping_add(skill));
-        let days = each.wrapping_mul(dealt(&MEN, number));
+        let each = picked(&DAYS, number.wrapping_add(skill));
+        let days = each.wrapping_mul(picked(&MEN, number));
         add_good(number, 1, skill, days, has)?;
     }
     Ok(())
@@ -413,7 +413,7 @@ fn has(alloc: Global) -> Result<Sequence<StoredHas>, AllocError> {
 
 /// How much a region's market `stall` has in stock.
 fn stock_of(region: u32, stall: Stall) -> i64 {
-    let thirds = dealt(&FILLED, region.wrapping_add(stall.item));
+    let thirds = picked(&FILLED, region.wrapping_add(stall.item));
     i64::from(stall.limit.wrapping_mul(thirds) / 3)
 }
 
@@ -521,7 +521,7 @@ fn money_and_men() -> (i64, i64) {
     let mut men: i64 = 0;
     for number in 1..=UNITS {
         money = money.wrapping_add(money_of(number));
-        men = men.wrapping_add(dealt(&MEN, number));
+        men = men.wrapping_add(picked(&MEN, number));
     }
     (money, men)
 }
@@ -591,7 +591,7 @@ pub(crate) fn crowd(alloc: Global, world: &World) -> Result<Campaign, Fail>
 
 /// The unit for which the orders that `number` picks are written: the unit with this number, or the
 /// next one if the number is a multiple of `ASTRAY`.
-fn told_unit(number: u32) -> u32 {
+fn ordered_unit(number: u32) -> u32 {
     if number % ASTRAY == 0 {
         number.wrapping_add(1)
     } else {
@@ -601,10 +601,10 @@ fn told_unit(number: u32) -> u32 {
 
 /// Appends the orders that a unit's number picks to its faction's mailing.
 fn add_orders(alloc: Global, number: u32, mailing: &mut String) -> Result<(), AllocError> {
-    let unit = told_unit(number);
-    let men = dealt(&RECRUITED, number);
-    let all_month = dealt(&MONTH_LONG, number);
-    let (sold, bought) = (dealt(&SOLD, number), dealt(&BOUGHT, number));
+    let unit = ordered_unit(number);
+    let men = picked(&RECRUITED, number);
+    let all_month = picked(&MONTH_LONG, number);
+    let (sold, bought) = (picked(&SOLD, number), picked(&BOUGHT, number));
     let orders = format!(in alloc;
         "UNIT {unit}\n{sold}\n{bought}\nTAX\nRECRUIT {men}\n{all_month}\n"
     )?;

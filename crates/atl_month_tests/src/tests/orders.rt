@@ -49,7 +49,7 @@ fn told_of(alloc: Global, month: &Month) -> Result<String, Fail> {
 }
 
 /// Mailings, and the orders that each of five phases gets of them, as `told_of` prints them.
-static ROWS: [(&[&str], &str); 9] = [
+static ORDERS_OF_PHASES: [(&[&str], &str); 9] = [
     (&[], "|||||"),
     // Of a unit's month-long orders the last counts, whatever its verb.
     (
@@ -103,7 +103,8 @@ static ROWS: [(&[&str], &str); 9] = [
     ),
 ];
 
-/// Asserts which orders the five phases of `told_of` get of the mailings of one row of `ROWS`.
+/// Asserts which orders the five phases of `told_of` get of the mailings of one row of
+/// `ORDERS_OF_PHASES`.
 fn row_tells(
     rt: &impl Abort,
     alloc: Global,
@@ -118,9 +119,10 @@ fn row_tells(
     Ok(())
 }
 
-/// Asserts, for each row of `ROWS`, which orders the five phases of `told_of` get of its mailings.
+/// Asserts, for each row of `ORDERS_OF_PHASES`, which orders the five phases of `told_of` get of
+/// its mailings.
 fn rows_tell(rt: &impl Abort, alloc: Global, world: &World) -> Result<(), Fail> {
-    for (row, (texts, wanted)) in ROWS.iter().enumerate() {
+    for (row, (texts, wanted)) in ORDERS_OF_PHASES.iter().enumerate() {
         row_tells(rt, alloc, world, row, texts, wanted)?;
     }
     Ok(())

@@ -32,7 +32,7 @@ loop-number-preserved c =
     let u = c.in-Some.unit.now in
     let listed : c.loop-number.number-iterator ≡ (n, u) ∷ c.next.new.self = search rules in
     let least : EachEntry (λ n u. 1 ≤ n) ((n, u) ∷ c.next.new.self) = subst (λ (l : List (ℕ × Unit)). EachEntry (λ n u. 1 ≤ n) l) listed low in
-    let is : c.note.new.receivers ≡ with_receiver_of before n u = search rules in (
+    let is : c.note_receiver.new.receivers ≡ with_receiver_of before n u = search rules in (
       tt,
       tt,
       (λ r f. rw is (noted_goes_on before n u c.next.new.self least.0 r f ∙ ap (λ (l : List (ℕ × Unit)). or_if_zero (receiver_in before r f) (first_or_zero (numbers_among (receives r f) l))) (sym listed) ∙ rest r f)),

@@ -32,7 +32,7 @@ loop-number-preserved c =
     let w = c.args.world.now in
     let world = c.regions.ensures.world in
     let before = c.loop-number.campaign.value in
-    let after = c.turn_region.new.campaign.value in
+    let after = c.carry_out_season.new.campaign.value in
     let regions = c.loop-number.number-iterator in
     let n = c.in-Some.number in
     let word = c.in-Some-get.word.now in
@@ -42,18 +42,18 @@ loop-number-preserved c =
     let place = c.loop-number.place in
     let (there, at) = c.in-Some-get.ensures.lookup.3 in
     let given : drop place words ≡ word ∷ drop (place + 1) words = drop_more words place 0 there ∙ ap (λ x. x ∷ drop (place + 1) words) (sym (at 0)) in
-    let is : after ≡ season_at w before (n, word) = c.in_ok-turn_region-in-Some-get.ensures.what in (
+    let is : after ≡ season_at w before (n, word) = c.in_ok-carry_out_season-in-Some-get.ensures.what in (
       tt,
       tt,
       season_goes_on w before after _ regions c.next.new.self (drop place words) (drop (place + 1) words) n word c.in-Some.field-0-1.now listed given is whole,
       rw is (season_at_leaves_well w world before (n, word) steady).leaves_it,
       room_goes_on w world before after regions c.next.new.self n word c.in-Some.field-0-1.now listed is steady room,
-      marks-trans c.args.campaign.now c.loop-number.campaign c.turn_region.new.campaign marks c.in_ok-turn_region-in-Some-get.ensures.marks,
+      marks-trans c.args.campaign.now c.loop-number.campaign c.carry_out_season.new.campaign marks c.in_ok-carry_out_season-in-Some-get.ensures.marks,
     )
 
--- turn_regions may call turn_region: the books have room for the season of the next region
-pub turn_region-requires-clause-room : goal.turn_region-requires-clause-room
-turn_region-requires-clause-room c =
+-- turn_regions may call carry_out_season: the books have room for the season of the next region
+pub carry_out_season-requires-clause-room : goal.carry_out_season-requires-clause-room
+carry_out_season-requires-clause-room c =
     let (_, _, whole, steady, room, marks) = c.loop-number.invariant in
     let listed : c.loop-number.number-iterator ≡ (c.in-Some.number, c.in-Some.field-0-1.now) ∷ c.next.new.self = search rules in
     room_now c.args.world.now c.regions.ensures.world c.loop-number.campaign.value c.loop-number.number-iterator c.next.new.self c.in-Some.number c.in-Some.field-0-1.now listed room

@@ -26,7 +26,7 @@ loop-input-preserved c =
     let p : UpkeepInput = get_or inputs i (record { unit = 0; region = 0; faction = 0; men = 0; money = 0 }) in
     let old = c.loop-input.accounts in
     let old_account = c.account_of-account.result in
-    let account : Account = record old_account { left = old_account.left + c.balance-left.result.0; short = old_account.short + c.balance-left.result.1 } in
+    let account : Account = record old_account { left = old_account.left + c.left_and_short-left.result.0; short = old_account.short + c.left_and_short-left.result.1 } in
     let more : take (i + 1) inputs ≡ take i inputs ++ p ∷ [] = take_more inputs i _ c.loop-input-test.true in
     let put : c.put_account.new.accounts ≡ with_account old p.region p.faction account = search rules in
     let is : account ≡ with_counted m p (account_at old p.region p.faction) = search rules in

@@ -6,7 +6,7 @@ use std::alloc::{AllocError, Global};
 
 /// A unit without its goods: its number, faction, region, guard flag, men and money.
 #[derive(Clone, Copy, Drop, PartialEq, Eq)]
-pub(crate) struct Person {
+pub(crate) struct PlainUnit {
     pub number: u32,
     pub faction: u32,
     pub region: u32,
@@ -50,7 +50,7 @@ pub(crate) struct Booked {
 
 /// A campaign as lists, and the events of the phase played on it.
 pub(crate) struct Plain {
-    pub people: Vec<Person>,
+    pub people: Vec<PlainUnit>,
     pub goods: Vec<Good>,
     pub lands: Vec<Land>,
     pub stocks: Vec<Stock>,
@@ -65,9 +65,9 @@ impl Drop for Plain {
     }
 }
 
-/// A unit of the program as a `Person`, without its goods.
-fn person_of(number: u32, unit: &Unit) -> Person {
-    Person {
+/// A unit of the program as a `PlainUnit`, without its goods.
+fn person_of(number: u32, unit: &Unit) -> PlainUnit {
+    PlainUnit {
         number,
         faction: unit.faction,
         region: unit.region,
@@ -77,8 +77,8 @@ fn person_of(number: u32, unit: &Unit) -> Person {
     }
 }
 
-/// All units of a campaign, each as a `Person`, without their goods.
-fn people_of(alloc: Global, campaign: &Campaign) -> Result<Vec<Person>, AllocError> {
+/// All units of a campaign, each as a `PlainUnit`, without their goods.
+fn people_of(alloc: Global, campaign: &Campaign) -> Result<Vec<PlainUnit>, AllocError> {
     let mut people = Vec::new(alloc);
     for (number, unit) in campaign.units() {
         people.push(person_of(number, unit))?;
@@ -197,7 +197,7 @@ impl Plain {
     }
 
     /// The unit with a number, or None if there is none.
-    pub fn person(&self, number: u32) -> Option<Person> {
+    pub fn person(&self, number: u32) -> Option<PlainUnit> {
         for person in self.people.iter() {
             if person.number == number {
                 return Some(*person);

@@ -1,5 +1,5 @@
 //! Shares pots in the reference calculation; for each pot it looks at all units.
-use super::plain::{Person, Plain};
+use super::plain::{Plain, PlainUnit};
 use super::shares::share;
 use atl_campaign::{EventFault, Outcome};
 use atl_phase::PhaseOrder;
@@ -38,7 +38,7 @@ pub(crate) struct Given {
 }
 
 /// The unit of an order, if it is of the order's faction; None if not, or if there is no such unit.
-pub(crate) fn own(plain: &Plain, order: PhaseOrder<'_>) -> Option<Person> {
+pub(crate) fn own(plain: &Plain, order: PhaseOrder<'_>) -> Option<PlainUnit> {
     let person = plain.person(order.unit)?;
     if person.faction == order.faction {
         Some(person)
@@ -66,7 +66,7 @@ fn want_of(claims: &[Claimed<'_>], unit: u32, thing: u32) -> Option<u64> {
 fn note_taker(
     claims: &[Claimed<'_>],
     pot: Pot,
-    person: Person,
+    person: PlainUnit,
     takers: &mut Vec<u32>,
     wants: &mut Vec<u64>,
 ) -> Result<(), AllocError> {

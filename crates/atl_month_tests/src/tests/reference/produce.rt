@@ -1,6 +1,6 @@
 //! PRODUCE in the reference calculation: units make items out of raw items or of the terrain's
 //! output.
-use super::plain::{Good, Person, Plain};
+use super::plain::{Good, Plain, PlainUnit};
 use super::pots::{Claim, Given, Pot, own};
 use super::tax::MOST_MONEY;
 use atl_campaign::{Entry, EventFault, Thing};
@@ -31,7 +31,7 @@ fn level(days: u64, men: u64) -> u64 {
 }
 
 /// The level of a unit in the skill that an item needs; 0 if no skill makes it.
-fn level_of(plain: &Plain, person: Person, item: &Item) -> u64 {
+fn level_of(plain: &Plain, person: PlainUnit, item: &Item) -> u64 {
     match item.skill {
         Some(skill) => level(
             plain.amount(person.number, true, u32::from(skill)),
@@ -42,7 +42,7 @@ fn level_of(plain: &Plain, person: Person, item: &Item) -> u64 {
 }
 
 /// For how many of an item the unit's raw items suffice; None if the item needs no raw items.
-fn raw_for(plain: &Plain, person: Person, item: &Item) -> Option<u64> {
+fn raw_for(plain: &Plain, person: PlainUnit, item: &Item) -> Option<u64> {
     let raw = item.raw?;
     let held = plain.amount(person.number, false, u32::from(raw));
     held.checked_div(u64::from(item.raw_count))
@@ -57,7 +57,7 @@ fn item_of(order: PhaseOrder<'_>) -> u32 {
 }
 
 /// How many of an item a unit wants: its men times its level, as far as raw items and room allow.
-fn want(plain: &Plain, person: Person, number: u32, item: &Item) -> u64 {
+fn want(plain: &Plain, person: PlainUnit, number: u32, item: &Item) -> u64 {
     let skilled = person.men.wrapping_mul(level_of(plain, person, item));
     let room = MOST_PIECES.saturating_sub(plain.amount(person.number, false, number));
     let most = skilled.min(room);
@@ -68,7 +68,7 @@ fn want(plain: &Plain, person: Person, number: u32, item: &Item) -> u64 {
 }
 
 /// Why a unit can't produce an item; None if it can.
-fn fault(plain: &Plain, person: Person, item: &Item) -> Option<EventFault> {
+fn fault(plain: &Plain, person: PlainUnit, item: &Item) -> Option<EventFault> {
     if person.men == 0 {
         Some(EventFault::NoMen)
     } else if item.skill.is_none() || level_of(plain, person, item) < u64::from(item.level) {

@@ -1,6 +1,6 @@
 //! RECRUIT in the reference calculation: peasants of a region join units, which pay a price for
 //! each.
-use super::plain::{Land, Person, Plain};
+use super::plain::{Land, Plain, PlainUnit};
 use super::pots::{Claim, Given, Pot, own};
 use atl_campaign::{Entry, EventFault, Thing};
 use atl_orders::Operands;
@@ -29,7 +29,7 @@ fn asked(order: PhaseOrder<'_>) -> u64 {
 
 /// How many men a unit wants: what its order asks for, as far as its money and its room for men
 /// allow.
-fn want(world: &World, person: Person, order: PhaseOrder<'_>) -> u64 {
+fn want(world: &World, person: PlainUnit, order: PhaseOrder<'_>) -> u64 {
     let payable = person.money.checked_div(price(world)).unwrap_or(0);
     let room = MOST_MEN.saturating_sub(person.men);
     asked(order).min(payable).min(room)

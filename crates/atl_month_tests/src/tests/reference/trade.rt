@@ -1,6 +1,6 @@
 //! SELL and BUY in the reference calculation: units sell items to the markets of their regions, and
 //! buy from them.
-use super::plain::{Good, Person, Plain, Stock};
+use super::plain::{Good, Plain, PlainUnit, Stock};
 use super::pots::{Claim, Given, Pot, own};
 use super::tax::MOST_MONEY;
 use atl_campaign::{Entry, EventFault, Thing};
@@ -29,14 +29,14 @@ fn asked(order: PhaseOrder<'_>) -> (u64, u16) {
 
 /// How many of a market's item a unit can sell: all that it has, or fewer if it has no room for the
 /// money of all.
-fn most_sold(plain: &Plain, person: Person, market: &Market) -> u64 {
+fn most_sold(plain: &Plain, person: PlainUnit, market: &Market) -> u64 {
     let held = plain.amount(person.number, false, u32::from(market.item));
     let room = MOST_MONEY.saturating_sub(person.money);
     held.min(room.checked_div(u64::from(market.pays)).unwrap_or(0))
 }
 
 /// How many of a market's item a unit can buy, as far as its money and its room for items allow.
-fn most_bought(plain: &Plain, person: Person, market: &Market) -> u64 {
+fn most_bought(plain: &Plain, person: PlainUnit, market: &Market) -> u64 {
     let held = plain.amount(person.number, false, u32::from(market.item));
     let payable = person
         .money
@@ -46,7 +46,7 @@ fn most_bought(plain: &Plain, person: Person, market: &Market) -> u64 {
 }
 
 /// Whether a unit has none of a market's item to sell (SELL), or not the money to buy one (BUY).
-fn is_short(trade: Trade, plain: &Plain, person: Person, market: &Market) -> bool {
+fn is_short(trade: Trade, plain: &Plain, person: PlainUnit, market: &Market) -> bool {
     match trade {
         Trade::Sell => plain.amount(person.number, false, u32::from(market.item)) == 0,
         Trade::Buy => person.money < u64::from(market.price),
@@ -113,7 +113,7 @@ fn moved(trade: Trade, held: u64, stock: u64, pieces: u64) -> (u64, u64) {
 }
 
 /// The money of a unit after it sold or bought `pieces` at a market.
-fn money_behind(trade: Trade, person: Person, market: &Market, pieces: u64) -> u64 {
+fn money_behind(trade: Trade, person: PlainUnit, market: &Market, pieces: u64) -> u64 {
     match trade {
         Trade::Sell => person
             .money

@@ -1,6 +1,6 @@
 //! Upkeep in the reference calculation (docs/RULES.md, "Upkeep"); for each unit it looks at all
 //! units.
-use super::plain::{Person, Plain};
+use super::plain::{Plain, PlainUnit};
 use atl_campaign::{Entry, Event, EventVerb, Outcome, Thing};
 use atl_world::World;
 use std::alloc::{AllocError, Global};
@@ -19,26 +19,26 @@ struct Purse {
 /// What upkeep takes from a unit: money, and men who starve.
 #[derive(Clone, Copy, Drop)]
 struct Taken {
-    person: Person,
+    person: PlainUnit,
     paid: u64,
     starved: u64,
 }
 
 /// The money that a unit has left after its own upkeep.
-fn left_of(maintenance: u64, person: Person) -> u64 {
+fn left_of(maintenance: u64, person: PlainUnit) -> u64 {
     let due = maintenance.wrapping_mul(person.men);
     person.money.saturating_sub(due)
 }
 
 /// The money that a unit lacks for its own upkeep.
-fn short_of(maintenance: u64, person: Person) -> u64 {
+fn short_of(maintenance: u64, person: PlainUnit) -> u64 {
     let due = maintenance.wrapping_mul(person.men);
     due.saturating_sub(person.money)
 }
 
 /// Adds what a unit has left, and what it is short of, to the sums of `purse`; if it has a lower
 /// number (`is_before`), also to the sums over lower numbers.
-fn add(maintenance: u64, purse: Purse, person: Person, is_before: bool) -> Purse {
+fn add(maintenance: u64, purse: Purse, person: PlainUnit, is_before: bool) -> Purse {
     let (left, short) = (left_of(maintenance, person), short_of(maintenance, person));
     let (left_before, short_before) = if is_before { (left, short) } else { (0, 0) };
     Purse {
@@ -51,7 +51,7 @@ fn add(maintenance: u64, purse: Purse, person: Person, is_before: bool) -> Purse
 
 /// The sums over all units of the faction of the unit `one` in its region, and over those of them
 /// with lower numbers.
-fn purse_of(maintenance: u64, plain: &Plain, one: Person) -> Purse {
+fn purse_of(maintenance: u64, plain: &Plain, one: PlainUnit) -> Purse {
     let mut purse = Purse {
         left: 0,
         short: 0,
@@ -74,7 +74,7 @@ fn part(amount: u64, before: u64, own: u64) -> u64 {
 }
 
 /// How much money upkeep takes from a unit, and how many of its men starve.
-fn taken_from(maintenance: u64, plain: &Plain, person: Person) -> Taken {
+fn taken_from(maintenance: u64, plain: &Plain, person: PlainUnit) -> Taken {
     let purse = purse_of(maintenance, plain, person);
     let amount = purse.left.min(purse.short);
     let left = left_of(maintenance, person);

@@ -1,5 +1,5 @@
 //! WORK in the reference calculation: units share the jobs (`places`) of their region.
-use super::plain::{Person, Plain};
+use super::plain::{Plain, PlainUnit};
 use super::pots::{Claim, Given, Pot, given_to, own};
 use super::tax::MOST_MONEY;
 use atl_campaign::{Entry, EventFault, Thing};
@@ -41,7 +41,7 @@ pub(crate) fn claim(world: &World, plain: &Plain, order: PhaseOrder<'_>) -> Clai
 }
 
 /// Whether a unit has men, and `orders` has no month-long order for it from its own faction.
-fn is_idle(person: Person, orders: &[PhaseOrder<'_>]) -> bool {
+fn is_idle(person: PlainUnit, orders: &[PhaseOrder<'_>]) -> bool {
     for order in orders {
         if order.unit == person.number && order.faction == person.faction {
             return false;

@@ -2,7 +2,7 @@
 ghost use Rattle.atl_campaign.specs.Good.{IsGood};
 
 use super::compare::assert_text;
-use super::scenes::{CART, MAN, NOBODY, Person, Scene, WOOD, campaign_of};
+use super::scenes::{CART, MAN, NOBODY, Scene, SceneUnit, WOOD, campaign_of};
 use atl_campaign::Campaign;
 use atl_report::books_text;
 use atl_tables::read_world;
@@ -15,7 +15,7 @@ use std::test::Fail;
 /// A month after Avalon joined: its man earned 12 by work and paid 10 for upkeep, and the region's
 /// income was 1,000.
 const FIRST_MONTH: Scene = Scene {
-    people: &[Person { money: 1002, ..MAN }],
+    people: &[SceneUnit { money: 1002, ..MAN }],
     regions: &[(1, 1000, 1500)],
     books: &[
         (1, 0, 500),
@@ -120,19 +120,19 @@ people total 1000
 /// with.
 const PRODUCTION: Scene = Scene {
     people: &[
-        Person {
+        SceneUnit {
             region: 3,
             men: 15,
             has: &[(WOOD, 7)],
             ..MAN
         },
-        Person {
+        SceneUnit {
             region: 3,
             men: 25,
             has: &[(WOOD, 13)],
             ..MAN
         },
-        Person {
+        SceneUnit {
             region: 3,
             men: 4,
             has: &[(WOOD, 2), (CART, 2)],

@@ -1,7 +1,7 @@
 //! Tests of the lines on markets in a report. The world is the island with two markets in region 4;
 //! its text names the cart before the wood.
 use super::compare::assert_text;
-use super::scenes::{Built, LODGE, MAN, NOBODY, Person, Scene, campaign_of};
+use super::scenes::{Built, LODGE, MAN, NOBODY, Scene, SceneUnit, campaign_of};
 use atl_report::{report_text, view};
 use atl_tables::read_world;
 use atl_test_worlds::ISLE;
@@ -26,7 +26,7 @@ restock = 20
 "#;
 
 /// A unit of one man in region 4, which has the markets.
-const MERCHANT: Person = Person { region: 4, ..MAN };
+const MERCHANT: SceneUnit = SceneUnit { region: 4, ..MAN };
 
 /// A scene, and the wanted report of faction 1 on what it sees in it.
 #[derive(Clone, Copy)]
@@ -73,7 +73,7 @@ Market cart: 12 in stock at 500, 0 wanted at 400.
     // The lines on markets come before those on structures.
     Case {
         scene: Scene {
-            people: &[Person {
+            people: &[SceneUnit {
                 structure: 1,
                 ..MERCHANT
             }],

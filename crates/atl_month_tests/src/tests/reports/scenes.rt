@@ -56,7 +56,7 @@ pub(crate) const LODGE: i64 = 1;
 
 /// A unit of faction 1 or 2 with all that it has; its name is the one that new units get.
 #[derive(Clone, Copy)]
-pub(crate) struct Person {
+pub(crate) struct SceneUnit {
     pub faction: i64,
     pub region: i64,
     pub structure: i64,
@@ -68,7 +68,7 @@ pub(crate) struct Person {
 }
 
 /// A unit of one man of faction 1 in region 1, with nothing else.
-pub(crate) const MAN: Person = Person {
+pub(crate) const MAN: SceneUnit = SceneUnit {
     faction: 1,
     region: 1,
     structure: 0,
@@ -92,7 +92,7 @@ pub(crate) struct Built {
 #[derive(Clone, Copy)]
 pub(crate) struct Scene {
     /// The units, numbered from 1.
-    pub people: &'static [Person],
+    pub people: &'static [SceneUnit],
     /// The structures, numbered from 1.
     pub built: &'static [Built],
     /// The regions with their peasants and money; if the list is empty, all regions are as at the
@@ -163,7 +163,7 @@ fn reports(alloc: Global) -> Result<Sequence<StoredReport>, Fail> {
 }
 
 /// The row of a unit in the table `unit`.
-fn unit(alloc: Global, number: i64, person: &Person) -> Result<StoredUnit, Fail> {
+fn unit(alloc: Global, number: i64, person: &SceneUnit) -> Result<StoredUnit, Fail> {
     let name = format!(in alloc; "Unit {number}")?;
     Ok(StoredUnit {
         number,
@@ -178,7 +178,7 @@ fn unit(alloc: Global, number: i64, person: &Person) -> Result<StoredUnit, Fail>
 }
 
 /// The rows of all units in the table `unit`, numbered from 1.
-fn units(alloc: Global, people: &[Person]) -> Result<Sequence<StoredUnit>, Fail> {
+fn units(alloc: Global, people: &[SceneUnit]) -> Result<Sequence<StoredUnit>, Fail> {
     let mut all = Sequence::new(alloc);
     let mut number: i64 = 0;
     for person in people {
@@ -202,7 +202,7 @@ fn has_of(all: &mut Sequence<StoredHas>, unit: i64, has: &[((i64, i64), i64)]) -
 }
 
 /// The rows of the table `has` for all units, which are numbered from 1.
-fn has(alloc: Global, people: &[Person]) -> Result<Sequence<StoredHas>, Fail> {
+fn has(alloc: Global, people: &[SceneUnit]) -> Result<Sequence<StoredHas>, Fail> {
     let mut all = Sequence::new(alloc);
     let mut number: i64 = 0;
     for person in people {
@@ -275,7 +275,7 @@ fn books(alloc: Global, rows: &[(i64, i64, i64)]) -> Result<Sequence<StoredBooks
 }
 
 /// How much of an item (its number) a unit of a scene has.
-fn held(person: &Person, item: i64) -> i64 {
+fn held(person: &SceneUnit, item: i64) -> i64 {
     let mut sum: i64 = 0;
     for ((sort, thing), amount) in person.has {
         if *sort == ITEM && *thing == item {
@@ -287,7 +287,7 @@ fn held(person: &Person, item: i64) -> i64 {
 
 /// How much all units have together of a thing of the books: 0 is money, 1 people, and 2 the first
 /// item.
-fn brought(people: &[Person], thing: i64) -> i64 {
+fn brought(people: &[SceneUnit], thing: i64) -> i64 {
     let mut sum: i64 = 0;
     for person in people {
         let amount = match thing {
@@ -301,7 +301,7 @@ fn brought(people: &[Person], thing: i64) -> i64 {
 }
 
 /// Books the money, men and first two items of all units under Joining.
-fn book_joining(people: &[Person], all: &mut Sequence<StoredBooks>) -> Result<(), Fail> {
+fn book_joining(people: &[SceneUnit], all: &mut Sequence<StoredBooks>) -> Result<(), Fail> {
     for thing in 0..=3i64 {
         let amount = brought(people, thing);
         if amount != 0 {

@@ -2,8 +2,8 @@
 //! (docs/RULES.md, "Sight"). The world is the island.
 use super::compare::assert_text;
 use super::scenes::{
-    BOAT, Built, CART, LODGE, LUMBERJACK, MAN, NOBODY, OBSERVATION, Person, SAILING, STEALTH,
-    Scene, WOOD, campaign_of,
+    BOAT, Built, CART, LODGE, LUMBERJACK, MAN, NOBODY, OBSERVATION, SAILING, STEALTH, Scene,
+    SceneUnit, WOOD, campaign_of,
 };
 use atl_campaign::{Campaign, Event, EventVerb, Outcome};
 use atl_orders::{FaultyLine, LineFault, Verb};
@@ -39,21 +39,21 @@ const PLAIN: Case = Case {
 };
 
 /// A unit of faction 1 in region 4: one man with level 1 of observation (30 days).
-const WATCHER: Person = Person {
+const WATCHER: SceneUnit = SceneUnit {
     region: 4,
     has: &[(OBSERVATION, 30)],
     ..MAN
 };
 
 /// A unit of faction 1 in region 4: one man with level 2 of observation (90 days).
-const KEEN_WATCHER: Person = Person {
+const KEEN_WATCHER: SceneUnit = SceneUnit {
     region: 4,
     has: &[(OBSERVATION, 90)],
     ..MAN
 };
 
 /// A unit of faction 2 in region 4: one man with level 2 of stealth (90 days).
-const HIDER: Person = Person {
+const HIDER: SceneUnit = SceneUnit {
     faction: 2,
     region: 4,
     has: &[(STEALTH, 90)],
@@ -117,7 +117,7 @@ Exits: south 3.
             people: &[
                 WATCHER,
                 HIDER,
-                Person {
+                SceneUnit {
                     region: 1,
                     ..KEEN_WATCHER
                 },
@@ -143,7 +143,7 @@ Exits: south 3.
             people: &[
                 WATCHER,
                 HIDER,
-                Person {
+                SceneUnit {
                     faction: 2,
                     ..KEEN_WATCHER
                 },
@@ -163,7 +163,7 @@ Exits: south 3.
     // A unit that guards is seen by all.
     Case {
         scene: Scene {
-            people: &[WATCHER, Person { guard: 1, ..HIDER }],
+            people: &[WATCHER, SceneUnit { guard: 1, ..HIDER }],
             ..NOBODY
         },
         wanted: "Atlantis report, month 0, faction 1 \"Avalon\".
@@ -181,15 +181,15 @@ Exits: south 3.
         scene: Scene {
             people: &[
                 WATCHER,
-                Person {
+                SceneUnit {
                     structure: 1,
                     ..HIDER
                 },
-                Person {
+                SceneUnit {
                     structure: 2,
                     ..KEEN_HIDER
                 },
-                Person {
+                SceneUnit {
                     faction: 2,
                     region: 4,
                     structure: 2,
@@ -260,7 +260,7 @@ None.
 ];
 
 /// A unit of faction 2 in region 4: one man with level 5 of stealth (450 days).
-const KEEN_HIDER: Person = Person {
+const KEEN_HIDER: SceneUnit = SceneUnit {
     faction: 2,
     region: 4,
     has: &[(STEALTH, 450)],
@@ -274,7 +274,7 @@ static EMPTY: [Case; 3] = [
         scene: Scene {
             people: &[
                 WATCHER,
-                Person {
+                SceneUnit {
                     region: 4,
                     men: 2,
                     money: 5,
@@ -320,7 +320,7 @@ Exits: south 3.
         scene: Scene {
             people: &[
                 WATCHER,
-                Person {
+                SceneUnit {
                     region: 3,
                     ..WATCHER
                 },
@@ -383,7 +383,7 @@ static WHOLE: [Case; 2] = [
     Case {
         scene: Scene {
             people: &[
-                Person {
+                SceneUnit {
                     region: 3,
                     structure: 1,
                     men: 2,
@@ -392,7 +392,7 @@ static WHOLE: [Case; 2] = [
                     has: &[(WOOD, 12), (SAILING, 60)],
                     ..MAN
                 },
-                Person {
+                SceneUnit {
                     faction: 2,
                     region: 3,
                     structure: 1,
@@ -422,14 +422,14 @@ Structure 1 \"Ship 1\", boat, 10 of 10, owner 1.
     Case {
         scene: Scene {
             people: &[
-                Person {
+                SceneUnit {
                     men: 3,
                     money: 25,
                     guard: 1,
                     has: &[(OBSERVATION, 90), (LUMBERJACK, 100), (CART, 2), (WOOD, 12)],
                     ..MAN
                 },
-                Person {
+                SceneUnit {
                     faction: 2,
                     structure: 1,
                     men: 2,
@@ -437,17 +437,17 @@ Structure 1 \"Ship 1\", boat, 10 of 10, owner 1.
                     has: &[(STEALTH, 60), (WOOD, 5)],
                     ..MAN
                 },
-                Person {
+                SceneUnit {
                     structure: 2,
                     region: 1,
                     ..HIDER
                 },
-                Person {
+                SceneUnit {
                     region: 3,
                     structure: 3,
                     ..MAN
                 },
-                Person {
+                SceneUnit {
                     region: 3,
                     structure: 3,
                     men: 2,
@@ -455,7 +455,7 @@ Structure 1 \"Ship 1\", boat, 10 of 10, owner 1.
                     has: &[(SAILING, 60)],
                     ..MAN
                 },
-                Person {
+                SceneUnit {
                     faction: 2,
                     region: 3,
                     men: 4,

@@ -3,7 +3,7 @@ use Rattle.atl_records.specs.Holdings.{with_amount_of}
 use Rattle.atl_phase.proofs.ChangeLaws.{changes_as, money_changes, nobody_changes, skill_changes, then_changes}
 use Rattle.atl_phase.proofs.MarkLaws.{on_ok_both}
 use Rattle.atl_action.specs.Study.{with_study}
-use Rattle.atl_action.proofs.study.learn.Goals as goal
+use Rattle.atl_action.proofs.study.pay_and_set_days.Goals as goal
 
 -- where the unit isn't there, nothing changes (`ChangesHolding`)
 pub returns-in_default : goal.returns-in_default
