@@ -22,8 +22,8 @@ use Rattle.std.specs.Prelude.{nat_lt, nat_le}
 
 -- What a path has after a prefix (`after_prefix`) is found by comparing their first bytes, and then what follows in
 -- both.
-behind_step : (x y : ℕ) (w p : List ℕ) → after_prefix (x ∷ w) (y ∷ p) ≡ cond (y == x) (after_prefix w p) None
-behind_step x y w p =
+after_prefix_step : (x y : ℕ) (w p : List ℕ) → after_prefix (x ∷ w) (y ∷ p) ≡ cond (y == x) (after_prefix w p) None
+after_prefix_step x y w p =
     elim (y == x) as (λ t. cond (t && pointwise nat_eq (take (length w) p) w) (Some (drop (length w) p)) None ≡ cond t (after_prefix w p) None) [
       | true ↦ refl
       | false ↦ refl
@@ -31,17 +31,17 @@ behind_step x y w p =
 
 -- If the first bytes are equal, and the rest of a path begins with the rest of a prefix, the path is the prefix
 -- followed by `rest`.
-behind_by : (x y : ℕ) (w p rest : List ℕ) (t : Bool) → (y == x) ≡ t → (after_prefix w p ≡ Some rest → p ≡ w ++ rest) → cond t (after_prefix w p) None ≡ Some rest → y ∷ p ≡ x ∷ (w ++ rest)
-behind_by x y w p rest true e ih k =
+after_prefix_by : (x y : ℕ) (w p rest : List ℕ) (t : Bool) → (y == x) ≡ t → (after_prefix w p ≡ Some rest → p ≡ w ++ rest) → cond t (after_prefix w p) None ≡ Some rest → y ∷ p ≡ x ∷ (w ++ rest)
+after_prefix_by x y w p rest true e ih k =
     let same : y ≡ x = grind (arith, nat_tests) in
     rw (same, ih k) refl
-behind_by x y w p rest false e ih k = cc
+after_prefix_by x y w p rest false e ih k = cc
 
 -- if `after_prefix` gives `rest`, the path is the prefix followed by `rest`
 pub after_prefix_is : (w p rest : List ℕ) → after_prefix w p ≡ Some rest → p ≡ w ++ rest
 after_prefix_is [] p rest h = cc
 after_prefix_is (x ∷ w) [] rest h = cc
-after_prefix_is (x ∷ w) (y ∷ p) rest h = behind_by x y w p rest (y == x) refl (λ k. after_prefix_is w p rest k) (sym (behind_step x y w p) ∙ h)
+after_prefix_is (x ∷ w) (y ∷ p) rest h = after_prefix_by x y w p rest (y == x) refl (λ k. after_prefix_is w p rest k) (sym (after_prefix_step x y w p) ∙ h)
 
 -- looking up a path in rows with a common prefix, past the first byte of both, looks up what follows the prefix, or
 -- finds nothing
@@ -61,7 +61,7 @@ lookup_after_prefix (x ∷ w) t [] h = own-prepend x w t
 lookup_after_prefix (x ∷ w) t (y ∷ p) h =
     seek-lit x w t y p h.0
     ∙ front_by x y w p t (y == x) refl (lookup_after_prefix w t p h.1)
-    ∙ ap (λ r. option_and_then (λ rest. first t rest) r) (sym (behind_step x y w p))
+    ∙ ap (λ r. option_and_then (λ rest. first t rest) r) (sym (after_prefix_step x y w p))
 
 -- ---- a number after a prefix
 
@@ -133,10 +133,10 @@ one_or_none key b p =
 
 -- a choice between a number and None, by three tests of which the last is false, is None: for `number_by`, of a text
 -- that isn't all digits
-number_none : (x y : Bool) (n : Option ℕ) → cond (x && (y && false)) n None ≡ None
-number_none true true n = refl
-number_none true false n = refl
-number_none false y n = refl
+none_if_not_digits : (x y : Bool) (n : Option ℕ) → cond (x && (y && false)) n None ≡ None
+none_if_not_digits true true n = refl
+none_if_not_digits true false n = refl
+none_if_not_digits false y n = refl
 
 -- a byte is below 128 if it passes a test that only such bytes pass (t is the result): for `all_utf8`
 small_by : (test : ℕ → Bool) (b : ℕ) (t : Bool) → test b ≡ t → (test b ≡ true → b < 128) → (t ≡ false → ⊥) → b < 128
@@ -174,7 +174,7 @@ number_by : (key b : ℕ) (p : List ℕ) (t : Bool) → list_all is_ascii_digit 
 unfolding number_of
 number_by key b p true e = inl (taken_whole key b p (first_digit b p (is_ascii_digit b) refl e) (no_slash (b ∷ p) e), inr (digits_utf8 (b ∷ p) e))
 number_by key b p false e =
-    let none : number_of (b ∷ p) ≡ None = rw e (number_none (nat_lt 0 (length (b ∷ p))) (nat_le (length (b ∷ p)) 9) (Some (digits_value 10 (b ∷ p)))) in
+    let none : number_of (b ∷ p) ≡ None = rw e (none_if_not_digits (nat_lt 0 (length (b ∷ p))) (nat_le (length (b ∷ p)) 9) (Some (digits_value 10 (b ∷ p)))) in
     found_or_none key (b ∷ p) none (one_or_none key b p)
 
 -- a text after a prefix finds its key, and is UTF-8 or no number; or it finds nothing, and is no number (`NumberSays`)

@@ -15,7 +15,7 @@ use Rattle.atl_http.specs.declared.request.Progress.{Progress}
 use Rattle.atl_http.specs.declared.request.Progress.TheVariants.{Lacks, Ends}
 use Rattle.atl_http.specs.declared.request.Verdict.TheVariants.{More, Refused}
 use Rattle.atl_http.specs.Checks.{head_checks, verdict_with_body, verdict_of}
-use Rattle.atl_http.specs.Finding.{seen, EndsAs}
+use Rattle.atl_http.specs.Finding.{field_pairs, EndsAs}
 use Rattle.atl_http.specs.Heads.{most_head, most_fields, HasHead, IsRefused, IsUnfinished, Judges, whole, too_long, refused, unfinished, ComesTo, verdict_by}
 
 -- the first 8,192 bytes of an input followed by all later ones are the input
@@ -59,7 +59,7 @@ pub head_stays : (input more : List ℕ) (head : RequestHead) (rest : List ℕ) 
 head_stays input more head rest h = record { reads = ReadsRequest-append input head rest more h.reads; bytes = h.bytes; fields = h.fields }
 
 -- the verdict by the checks of the spans into which a head was parsed is the verdict on this head (`verdict_of`)
-verdict_is : (input : List ℕ) (headers : List HeaderSpan) (spans : RequestSpans) (head : RequestHead) (rest : List ℕ) → IsRequestAt (take most_head input) headers spans head → verdict_with_body (head_checks spans.version (span_bytes (take most_head input) spans.method) (span_bytes (take most_head input) spans.path) (seen (take most_head input) (take spans.headers headers))) rest ≡ verdict_of head rest
+verdict_is : (input : List ℕ) (headers : List HeaderSpan) (spans : RequestSpans) (head : RequestHead) (rest : List ℕ) → IsRequestAt (take most_head input) headers spans head → verdict_with_body (head_checks spans.version (span_bytes (take most_head input) spans.method) (span_bytes (take most_head input) spans.path) (field_pairs (take most_head input) (take spans.headers headers))) rest ≡ verdict_of head rest
 verdict_is input headers spans head rest at = rw (at.version, at.method, at.path, at.fields) refl
 
 -- ---- a refused head
@@ -100,15 +100,15 @@ Finds input rest checks = (head : RequestHead) × HasHead input head rest × ((b
 
 -- if the first 8,192 bytes were parsed as a whole head, the input has this head, and the checks of its spans lead to
 -- the verdict on the head (`Finds`)
-pub finds_head : (input front method target rest : List ℕ) (headers fields : List HeaderSpan) (spans : RequestSpans) → front ≡ take most_head input → IsRequestWithin front headers spans × IsRequestOf front headers spans → length headers ≡ most_fields → method ≡ span_bytes front spans.method → target ≡ span_bytes front spans.path → fields ≡ take spans.headers headers → rest ≡ drop spans.len input → Finds input rest (head_checks spans.version method target (seen front fields))
+pub finds_head : (input front method target rest : List ℕ) (headers fields : List HeaderSpan) (spans : RequestSpans) → front ≡ take most_head input → IsRequestWithin front headers spans × IsRequestOf front headers spans → length headers ≡ most_fields → method ≡ span_bytes front spans.method → target ≡ span_bytes front spans.path → fields ≡ take spans.headers headers → rest ≡ drop spans.len input → Finds input rest (head_checks spans.version method target (field_pairs front fields))
 finds_head input front method target rest headers fields spans e (lies, (head, at)) room method_is target_is fields_are rest_is =
     let at_front : IsRequestAt (take most_head input) headers spans head = subst (λ l. IsRequestAt l headers spans head) e at in
     let lies_front : IsRequestWithin (take most_head input) headers spans = subst (λ l. IsRequestWithin l headers spans) e lies in
-    let checked : head_checks spans.version method target (seen front fields) ≡ head_checks spans.version (span_bytes (take most_head input) spans.method) (span_bytes (take most_head input) spans.path) (seen (take most_head input) (take spans.headers headers)) =
-    ap (λ m. head_checks spans.version m target (seen front fields)) method_is
-    ∙ ap (λ t. head_checks spans.version (span_bytes front spans.method) t (seen front fields)) target_is
-    ∙ ap (λ fs. head_checks spans.version (span_bytes front spans.method) (span_bytes front spans.path) (seen front fs)) fields_are
-    ∙ ap (λ l. head_checks spans.version (span_bytes l spans.method) (span_bytes l spans.path) (seen l (take spans.headers headers))) e in
+    let checked : head_checks spans.version method target (field_pairs front fields) ≡ head_checks spans.version (span_bytes (take most_head input) spans.method) (span_bytes (take most_head input) spans.path) (field_pairs (take most_head input) (take spans.headers headers)) =
+    ap (λ m. head_checks spans.version m target (field_pairs front fields)) method_is
+    ∙ ap (λ t. head_checks spans.version (span_bytes front spans.method) t (field_pairs front fields)) target_is
+    ∙ ap (λ fs. head_checks spans.version (span_bytes front spans.method) (span_bytes front spans.path) (field_pairs front fs)) fields_are
+    ∙ ap (λ l. head_checks spans.version (span_bytes l spans.method) (span_bytes l spans.path) (field_pairs l (take spans.headers headers))) e in
     (head, subst (λ l. HasHead input head l) (sym rest_is) (whole_head input headers spans head lies_front at_front room), λ behind. ap (λ c. verdict_with_body c behind) checked ∙ verdict_is input headers spans head behind at_front)
 
 -- if an input has a whole head, a progress that is the verdict by the head's checks, or a count of missing bytes

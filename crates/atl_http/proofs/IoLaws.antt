@@ -68,12 +68,12 @@ read_so_far between after seen new count h (piece, is, few, more, same) = inr (s
 -- ---- the number of missing bytes
 
 -- if the progress on some bytes (`ComesTo`) is `Lacks count`, so is that on equal bytes
-pub lacks : (seen items : List ℕ) (told : Progress) (count : ℕ) → seen ≡ items → told ≡ Lacks count → ComesTo seen told → ComesTo items (Lacks count)
-lacks seen items told count e f h = subst (λ l. ComesTo l (Lacks count)) e (subst (ComesTo seen) f h)
+pub lacks_of_equal : (seen items : List ℕ) (told : Progress) (count : ℕ) → seen ≡ items → told ≡ Lacks count → ComesTo seen told → ComesTo items (Lacks count)
+lacks_of_equal seen items told count e f h = subst (λ l. ComesTo l (Lacks count)) e (subst (ComesTo seen) f h)
 
 -- if received bytes lack at least `count` further ones (their progress is `Lacks`), the verdict on them is More
-pub no_outcome : (items : List ℕ) (count : ℕ) → ComesTo items (Lacks count) → Judges items More
-no_outcome items count (some, short) = subst (λ l. Judges l More) (append-nil items) (short [] some)
+pub more_while_lacking : (items : List ℕ) (count : ℕ) → ComesTo items (Lacks count) → Judges items More
+more_while_lacking items count (some, short) = subst (λ l. Judges l More) (append-nil items) (short [] some)
 
 -- if `lacking` bytes were missing, after a read of `count` bytes still `lacking` less `count` are missing (`IsShortBy`)
 pub short_by_less : (between after : Option (List ℕ)) (seen new : List ℕ) (lacking count : ℕ) → ComesTo seen (Lacks lacking) → ReadsMore between after seen new (Ok count) → IsShortBy new (lacking - count)
@@ -83,5 +83,5 @@ short_by_less between after seen new lacking count (some, short) (piece, is, few
 
 -- if the request isn't whole with fewer than `count` bytes added to some bytes (`IsShortBy`), it isn't with fewer added
 -- to equal bytes
-pub short_still : (seen items : List ℕ) (count : ℕ) → seen ≡ items → IsShortBy items count → IsShortBy seen count
-short_still seen items count e short = subst (λ l. IsShortBy l count) (sym e) short
+pub short_of_equal : (seen items : List ℕ) (count : ℕ) → seen ≡ items → IsShortBy items count → IsShortBy seen count
+short_of_equal seen items count e short = subst (λ l. IsShortBy l count) (sym e) short

@@ -304,41 +304,41 @@ pub missing : (path : List ℕ) → first kept path ≡ None → route_of path �
 missing path h = missing_by path h (leads path)
 
 -- The route found for a path has UTF-8 parameters, and with them gives `route_of` of the path.
-abbrev Says : (path : List ℕ) → RouteOf RouteKey → Type 0
-Says path e = AllText (walk e.pattern e.text path e.names 0 0) × (route_of path ≡ route_in e.value (named (codes "number") (walk e.pattern e.text path e.names 0 0)))
+abbrev FindsRoute : (path : List ℕ) → RouteOf RouteKey → Type 0
+FindsRoute path e = AllText (walk e.pattern e.text path e.names 0 0) × (route_of path ≡ route_in e.value (named (codes "number") (walk e.pattern e.text path e.names 0 0)))
 
 -- if the router finds for a UTF-8 path what `route_of` gives (`Leads`), the route found has UTF-8 parameters and is
--- that of `route_of` (`Says`)
-route_by : (path : List ℕ) (e : RouteOf RouteKey) → IsUtf8 path → first kept path ≡ Some e → Leads path → Says path e
+-- that of `route_of` (`FindsRoute`)
+route_by : (path : List ℕ) (e : RouteOf RouteKey) → IsUtf8 path → first kept path ≡ Some e → Leads path → FindsRoute path e
 route_by path e text h (to_join at utf8 is) =
     let same : kept_at 1 ≡ e = (let some = kept_first path (Some 1) at in cc) in
-    subst (λ x. Says path x) same (tt, is)
+    subst (λ x. FindsRoute path x) same (tt, is)
 route_by path e text h (to_number key rest at taken cut utf8 is) =
     let same : kept_at key ≡ e = (let some = kept_first path (Some key) at in cc) in
-    subst (λ x. Says path x) same (rw taken (ascii_utf8 (codes "number") refl, cut text, tt), rw taken is)
+    subst (λ x. FindsRoute path x) same (rw taken (ascii_utf8 (codes "number") refl, cut text, tt), rw taken is)
 route_by path e text h (nowhere at is) = (let none = kept_first path None at in cc)
 
--- the route found for a UTF-8 path has UTF-8 parameters and is that of `route_of` (`Says`)
-found : (path : List ℕ) (e : RouteOf RouteKey) → IsUtf8 path → first kept path ≡ Some e → Says path e
+-- the route found for a UTF-8 path has UTF-8 parameters and is that of `route_of` (`FindsRoute`)
+found : (path : List ℕ) (e : RouteOf RouteKey) → IsUtf8 path → first kept path ≡ Some e → FindsRoute path e
 found path e text h = route_by path e text h (leads path)
 
 -- A lookup gives the text of the parameter `number` among the parameters taken from a path, or None if there is none.
 -- This is so if all of them are UTF-8.
-abbrev Gets : {A : Type 0} → (A → List ℕ) → Option A → List (List ℕ × List ℕ) → Type 0
-Gets view r taken = AllText taken → MatchOption r (named number_text taken ≡ None) (λ text. named number_text taken ≡ Some (view text))
+abbrev GetsParameter : {A : Type 0} → (A → List ℕ) → Option A → List (List ℕ × List ℕ) → Type 0
+GetsParameter view r taken = AllText taken → MatchOption r (named number_text taken ≡ None) (λ text. named number_text taken ≡ Some (view text))
 
 -- if the text is None where the result r is None, and `view x` where r is Some x, the text is r mapped by `view`: for
--- `got`, of the parameter's text
-got_is : {A : Type 0} (view : A → List ℕ) (r : Option A) (text : Option (List ℕ)) → MatchOption r (text ≡ None) (λ x. text ≡ Some (view x)) → text ≡ option_map view r
-got_is view None text h = h
-got_is view (Some x) text h = h
+-- `found_route_is`, of the parameter's text
+matched_text_is : {A : Type 0} (view : A → List ℕ) (r : Option A) (text : Option (List ℕ)) → MatchOption r (text ≡ None) (λ x. text ≡ Some (view x)) → text ≡ option_map view r
+matched_text_is view None text h = h
+matched_text_is view (Some x) text h = h
 
 -- for a UTF-8 path, the route made from the found key and its parameter is that of `route_of`
-pub got : {A : Type 0} (view : A → List ℕ) (r : Option A) (path given : List ℕ) (e : RouteOf RouteKey) (route : Option Route) → given ≡ path → IsUtf8 path → first kept path ≡ Some e → Gets view r (walk e.pattern e.text given e.names 0 0) → route ≡ route_in e.value (option_map view r) → route ≡ route_of path
-got view r path given e route same text at gets is =
-    let says : Says path e = found path e text at in
-    let taken : Gets view r (walk e.pattern e.text path e.names 0 0) = subst (λ l. Gets view r (walk e.pattern e.text l e.names 0 0)) same gets in
-    is ∙ ap (λ x. route_in e.value x) (sym (got_is view r (named number_text (walk e.pattern e.text path e.names 0 0)) (taken says.0))) ∙ sym says.1
+pub found_route_is : {A : Type 0} (view : A → List ℕ) (r : Option A) (path given : List ℕ) (e : RouteOf RouteKey) (route : Option Route) → given ≡ path → IsUtf8 path → first kept path ≡ Some e → GetsParameter view r (walk e.pattern e.text given e.names 0 0) → route ≡ route_in e.value (option_map view r) → route ≡ route_of path
+found_route_is view r path given e route same text at gets is =
+    let says : FindsRoute path e = found path e text at in
+    let taken : GetsParameter view r (walk e.pattern e.text path e.names 0 0) = subst (λ l. GetsParameter view r (walk e.pattern e.text l e.names 0 0)) same gets in
+    is ∙ ap (λ x. route_in e.value x) (sym (matched_text_is view r (named number_text (walk e.pattern e.text path e.names 0 0)) (taken says.0))) ∙ sym says.1
 
 -- a path that is not UTF-8, and for which the router finds what `route_of` gives (`Leads`), has no route
 no_text_by : (path : List ℕ) → (IsUtf8 path → ⊥) → Leads path → route_of path ≡ None

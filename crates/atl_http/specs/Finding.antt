@@ -33,8 +33,8 @@ one_more (Once other) value = Several
 one_more Several value = Several
 
 -- the names and values of fields that are given as spans of the received bytes
-abbrev pub seen : List ℕ → List HeaderSpan → List Pair
-seen bytes fields = map (header_bytes bytes) fields
+abbrev pub field_pairs : List ℕ → List HeaderSpan → List Pair
+field_pairs bytes fields = map (header_bytes bytes) fields
 
 -- The code's error is the problem that the definition gives, unless memory ran out.
 abbrev pub Fails : {Y : Type 0} → CheckError → Result Y Problem → Type 0

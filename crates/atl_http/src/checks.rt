@@ -5,7 +5,7 @@ ghost use Rattle.serde_json.specs.View.{view};
 ghost use Rattle.atl_http.specs.declared.problem.Problem.TheVariants.{BadJson};
 ghost use Rattle.atl_http.specs.Routes.{number_of, method_of};
 ghost use Rattle.atl_http.specs.Checks.{or_problem, has_host, requested_route, size_within, posted_size, size_of, pass_field, pass_of, json_of, text_at, joining, request_of, head_checks};
-ghost use Rattle.atl_http.specs.Finding.{seen, Gives};
+ghost use Rattle.atl_http.specs.Finding.{field_pairs, Gives};
 
 use crate::fields::{FieldLookup, find_value, only_value};
 use crate::problem::{CheckError, Problem};
@@ -34,7 +34,7 @@ const PASS: &[u8] = b"Atlantis-Pass";
 #[tactic(auto, unfolding(crate::specs::Checks::has_host))]
 fn has_host(minor: u8, bytes: &[u8], fields: &[HeaderSpan]) -> bool
     requires { All (IsHeaderWithin (length bytes.now)) fields.now }
-    ensures { result ≡ has_host minor (seen bytes.now fields.now) }
+    ensures { result ≡ has_host minor (field_pairs bytes.now fields.now) }
 {
     minor == 0 || only_value(bytes, fields, HOST).is_some()
 }
@@ -52,7 +52,7 @@ fn requested_route(
 ) -> Result<Route, CheckError>
     requires { All (IsHeaderWithin (length bytes.now)) fields.now }
     ensures { Gives (λ route. route) result
-        (requested_route minor method.now target.now (seen bytes.now fields.now)) }
+        (requested_route minor method.now target.now (field_pairs bytes.now fields.now)) }
 {
     if !has_host(minor, bytes, fields) {
         return Err(CheckError::Failed(Problem::BadRequest));
@@ -88,7 +88,8 @@ fn size_within(text: &[u8]) -> Result<usize, CheckError>
 #[tactic(auto, unfolding(crate::specs::Checks::posted_size))]
 fn posted_size(is_optional: bool, bytes: &[u8], fields: &[HeaderSpan]) -> Result<usize, CheckError>
     requires { All (IsHeaderWithin (length bytes.now)) fields.now }
-    ensures { Gives (λ size. size) result (posted_size is_optional (seen bytes.now fields.now)) }
+    ensures { Gives (λ size. size) result
+        (posted_size is_optional (field_pairs bytes.now fields.now)) }
 {
     if !matches!(
         find_value(bytes, fields, TRANSFER_ENCODING),
@@ -107,7 +108,7 @@ fn posted_size(is_optional: bool, bytes: &[u8], fields: &[HeaderSpan]) -> Result
 /// The number of body bytes that are read for a route: 0 for a GET, else the declared length.
 fn size_of(route: Route, bytes: &[u8], fields: &[HeaderSpan]) -> Result<usize, CheckError>
     requires { All (IsHeaderWithin (length bytes.now)) fields.now }
-    ensures { Gives (λ size. size) result (size_of route (seen bytes.now fields.now)) }
+    ensures { Gives (λ size. size) result (size_of route (field_pairs bytes.now fields.now)) }
 {
     match route {
         Route::Join | Route::Orders(_) => posted_size(false, bytes, fields),
@@ -120,7 +121,7 @@ fn size_of(route: Route, bytes: &[u8], fields: &[HeaderSpan]) -> Result<usize, C
 #[tactic(auto, unfolding(crate::specs::Checks::pass_field))]
 fn pass_field<'a>(bytes: &'a [u8], fields: &[HeaderSpan]) -> Result<&'a [u8], CheckError>
     requires { All (IsHeaderWithin (length bytes.now)) fields.now }
-    ensures { Gives (λ pass. pass.now) result (pass_field (seen bytes.now fields.now)) }
+    ensures { Gives (λ pass. pass.now) result (pass_field (field_pairs bytes.now fields.now)) }
 {
     match only_value(bytes, fields, PASS) {
         None => Err(CheckError::Failed(Problem::NoPass)),
@@ -132,7 +133,7 @@ fn pass_field<'a>(bytes: &'a [u8], fields: &[HeaderSpan]) -> Result<&'a [u8], Ch
 /// check.
 fn pass_of<'a>(route: Route, bytes: &'a [u8], fields: &[HeaderSpan]) -> Result<&'a [u8], CheckError>
     requires { All (IsHeaderWithin (length bytes.now)) fields.now }
-    ensures { Gives (λ pass. pass.now) result (pass_of route (seen bytes.now fields.now)) }
+    ensures { Gives (λ pass. pass.now) result (pass_of route (field_pairs bytes.now fields.now)) }
 {
     match route {
         Route::Join => Ok(&[]),
@@ -162,7 +163,7 @@ pub fn head_checks<'a>(
 ) -> Result<ParsedHead<'a>, CheckError>
     requires { All (IsHeaderWithin (length bytes.now)) fields.now }
     ensures { Gives (λ w. (w.route, w.size, w.pass.now)) result
-        (head_checks minor method.now target.now (seen bytes.now fields.now)) }
+        (head_checks minor method.now target.now (field_pairs bytes.now fields.now)) }
 {
     let route = requested_route(alloc, minor, method, target, bytes, fields)?;
     let size = size_of(route, bytes, fields)?;

@@ -3,7 +3,7 @@ ghost use Rattle.std.specs.Prelude.{◌≡◌, All, length, option_map};
 ghost use Rattle.std.specs.Str.{str_eq_ignore_ascii_case};
 ghost use Rattle.httparse.specs.Spans.{IsHeaderWithin};
 ghost use Rattle.atl_http.specs.Fields.{values_of, only};
-ghost use Rattle.atl_http.specs.Finding.{HasValues, one_more, seen};
+ghost use Rattle.atl_http.specs.Finding.{HasValues, one_more, field_pairs};
 
 use httparse::spans::{HeaderSpan, Span};
 
@@ -39,7 +39,7 @@ fn with_value(found: FieldLookup, value: Span) -> FieldLookup
 #[tactic(auto, unfolding(crate::specs::Fields::values_of))]
 pub fn find_value(bytes: &[u8], fields: &[HeaderSpan], name: &[u8]) -> FieldLookup
     requires { All (IsHeaderWithin (length bytes.now)) fields.now }
-    ensures { HasValues bytes.now result (values_of name.now (seen bytes.now fields.now)) }
+    ensures { HasValues bytes.now result (values_of name.now (field_pairs bytes.now fields.now)) }
 {
     let mut found = FieldLookup::Nowhere;
     for field in fields {
@@ -54,7 +54,7 @@ pub fn find_value(bytes: &[u8], fields: &[HeaderSpan], name: &[u8]) -> FieldLook
 pub fn only_value<'a>(bytes: &'a [u8], fields: &[HeaderSpan], name: &[u8]) -> Option<&'a [u8]>
     requires { All (IsHeaderWithin (length bytes.now)) fields.now }
     ensures { option_map (λ value. value.now) result
-        ≡ only (values_of name.now (seen bytes.now fields.now)) }
+        ≡ only (values_of name.now (field_pairs bytes.now fields.now)) }
 {
     match find_value(bytes, fields, name) {
         FieldLookup::Once(value) => Some(value.of(bytes)),

@@ -4,7 +4,7 @@ ghost use Rattle.std.specs.Prelude.{◌≡◌, ◌≤◌, All, IfOk, length, tak
 ghost use Rattle.httparse.specs.Spans.{IsHeaderWithin, IsRequestWithin, IsRequestOf};
 ghost use Rattle.atl_http.specs.Checks.{head_checks};
 ghost use Rattle.atl_http.specs.Heads.{most_head, most_fields, Judges, ComesTo};
-ghost use Rattle.atl_http.specs.Finding.{seen, EndsAs, ParsesHead};
+ghost use Rattle.atl_http.specs.Finding.{field_pairs, EndsAs, ParsesHead};
 
 use crate::checks::{head_checks, request_of};
 use crate::problem::{CheckError, Problem};
@@ -32,7 +32,8 @@ fn progress_with_body(
 ) -> Result<Progress, AllocError>
     requires { All (IsHeaderWithin (length bytes.now)) fields.now }
     ensures { IfOk result
-        (EndsAs (head_checks minor method.now target.now (seen bytes.now fields.now)) rest.now) }
+        (EndsAs (head_checks minor method.now target.now (field_pairs bytes.now fields.now))
+        rest.now) }
 {
     let wanted = match head_checks(alloc, minor, method, target, bytes, fields) {
         Ok(wanted) => wanted,

@@ -1,7 +1,7 @@
 //! The public calls that are tried with too little memory, and what each must answer and leave if
 //! memory is ample.
 use crate::setting::{all_commands, begun, close, founded, join, next_mail, report};
-use crate::texts::{books, rows, told};
+use crate::texts::{answer_text, books, rows};
 use atl_campaign::Campaign;
 use atl_service::{Command, Service};
 use atl_world::let_go;
@@ -90,7 +90,7 @@ pub struct Case {
     /// One command of each kind, to see that a closed service answers Closed to all.
     pub later: Vec<Command>,
     /// The answer to each command of `commands` with ample memory, as text.
-    pub told: Vec<String>,
+    pub answers: Vec<String>,
     /// All rows of the campaign before the first command and after each, with ample memory.
     pub rows: Vec<String>,
     /// The text of the books before the first command.
@@ -100,7 +100,7 @@ pub struct Case {
 /// Drops the commands and the recorded texts of a case.
 impl Drop for Case {
     fn drop(self) {
-        let_go!(self: Case { call, commands, later, told, rows, books });
+        let_go!(self: Case { call, commands, later, answers, rows, books });
     }
 }
 
@@ -171,7 +171,7 @@ impl Case {
             call,
             commands: commands_of(alloc, call)?,
             later: all_commands(alloc)?,
-            told: Vec::new(alloc),
+            answers: Vec::new(alloc),
             rows: Vec::new(alloc),
             books: String::new(alloc),
         })
@@ -183,7 +183,7 @@ impl Case {
         self.rows.push(rows(alloc, service.campaign())?).ok()?;
         for command in &self.commands {
             let answer = service.run(command);
-            self.told.push(told(alloc, &answer)?).ok()?;
+            self.answers.push(answer_text(alloc, &answer)?).ok()?;
             self.rows.push(rows(alloc, service.campaign())?).ok()?;
         }
         Some(())
@@ -192,13 +192,13 @@ impl Case {
     /// Whether the recorded answers are the wanted ones and, if the call closes a month, the month
     /// had the wanted outcome.
     fn is_right(&self, campaign: Option<&Campaign>) -> bool {
-        let mut are_told = true;
-        for (at, told) in self.told.iter().enumerate() {
+        let mut are_wanted = true;
+        for (at, answer) in self.answers.iter().enumerate() {
             if let Some(wanted) = wanted(self.call, at) {
-                are_told = are_told && told.as_str() == wanted;
+                are_wanted = are_wanted && answer.as_str() == wanted;
             }
         }
-        are_told && (self.call != Call::Close || is_month_right(campaign))
+        are_wanted && (self.call != Call::Close || is_month_right(campaign))
     }
 
     /// The case of a call, recorded with ample memory in the database of `conn`; None if an outcome
@@ -219,7 +219,7 @@ impl Case {
 
     /// The case of a call, recorded in a database in memory; None if an outcome isn't the wanted
     /// one.
-    pub fn of(alloc: Global, call: Call) -> Option<Case> {
+    pub fn recorded(alloc: Global, call: Call) -> Option<Case> {
         let conn = Connection::open_in_memory(alloc).ok()?;
         Case::played(alloc, call, conn)
     }

@@ -84,7 +84,7 @@ fn try_call(
     shortage: &mut Shortage,
     step: Option<u32>,
 ) -> io::Result<()> {
-    match (Case::of(rt.alloc(), call), step) {
+    match (Case::recorded(rt.alloc(), call), step) {
         (Some(case), Some(step)) => with_refusals(rt, &case, shortage, step),
         (Some(case), None) => with_blocks(rt, &case, shortage),
         (None, _) => println!(rt; "{call:?}: no case"),

@@ -32,7 +32,7 @@ pub fn books<S: Alter>(service: &Service<S>) -> Option<String> {
 
 /// An answer as text, for comparison; the text of a report is taken as it is. None if memory is
 /// short.
-pub fn told(alloc: Global, answer: &Answer) -> Option<String> {
+pub fn answer_text(alloc: Global, answer: &Answer) -> Option<String> {
     match answer {
         Answer::Joined { faction, unit } => format!(in alloc; "joined {faction} {unit}").ok(),
         Answer::Mailed { orders, faults } => {

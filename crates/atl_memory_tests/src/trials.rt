@@ -3,7 +3,7 @@
 use crate::cases::{Call, Case};
 use crate::setting::{begun, old_of};
 use crate::shortage::Shortage;
-use crate::texts::{is_text, rows, rows_of, text_of, told};
+use crate::texts::{answer_text, is_text, rows, rows_of, text_of};
 use atl_campaign::Campaign;
 use atl_service::{Answer, Cause, Fault, Refused, Service, found, open, upgrade};
 use atl_state::{CheckFault, check};
@@ -15,7 +15,7 @@ use std::alloc::Global;
 /// What a call did with memory short: it answered Memory and left the rows as they were, it had the
 /// outcome of ample memory, or something else.
 #[derive(Clone, Copy, PartialEq, Eq, Debug)]
-enum Came {
+enum Behaviour {
     /// The answer is Memory, and all is as before.
     Memory,
     /// The very outcome of ample memory.
@@ -41,32 +41,32 @@ pub enum Outcome {
 }
 
 /// The outcome of a call, from what it did and whether a growth was refused.
-fn judged(was_refused: Option<bool>, came: Came) -> Outcome {
-    match (was_refused, came) {
-        (_, Came::Wrong(what)) => Outcome::Wrong(what),
-        (Some(false), Came::Memory) => Outcome::Untrue,
-        (_, Came::Memory) => Outcome::Held,
-        (Some(true), Came::Done) => Outcome::MadeGood,
-        (_, Came::Done) => Outcome::Done,
+fn judged(was_refused: Option<bool>, behaviour: Behaviour) -> Outcome {
+    match (was_refused, behaviour) {
+        (_, Behaviour::Wrong(what)) => Outcome::Wrong(what),
+        (Some(false), Behaviour::Memory) => Outcome::Untrue,
+        (_, Behaviour::Memory) => Outcome::Held,
+        (Some(true), Behaviour::Done) => Outcome::MadeGood,
+        (_, Behaviour::Done) => Outcome::Done,
     }
 }
 
 /// What a call that answered Memory did: `Memory` if it left what it had to leave (`is_as_before`),
 /// else `Wrong`.
-fn held(is_as_before: bool) -> Came {
+fn after_memory(is_as_before: bool) -> Behaviour {
     if is_as_before {
-        Came::Memory
+        Behaviour::Memory
     } else {
-        Came::Wrong("Memory, and not all is as before")
+        Behaviour::Wrong("Memory, and not all is as before")
     }
 }
 
 /// What a call that succeeded did: `Done` if the outcome is that of ample memory, else `Wrong`.
-fn done(is_as_wanted: bool) -> Came {
+fn after_success(is_as_wanted: bool) -> Behaviour {
     if is_as_wanted {
-        Came::Done
+        Behaviour::Done
     } else {
-        Came::Wrong("not the outcome of ample memory")
+        Behaviour::Wrong("not the outcome of ample memory")
     }
 }
 
@@ -117,7 +117,9 @@ fn end_of(alloc: Global, answers: &[Answer], wanted: &[String]) -> End {
         end = match (answer, end) {
             (Answer::Fault(Fault::Memory), End::Done) => End::Memory(at),
             (Answer::Fault(Fault::Closed), End::Memory(at)) => End::Memory(at),
-            (answer, End::Done) if is_text(told(alloc, answer), wanted.as_str()) => End::Done,
+            (answer, End::Done) if is_text(answer_text(alloc, answer), wanted.as_str()) => {
+                End::Done
+            }
             _ => End::Astray,
         };
     }
@@ -128,18 +130,18 @@ fn end_of(alloc: Global, answers: &[Answer], wanted: &[String]) -> End {
     }
 }
 
-/// What a call did (`Came`), judged by the answers to a case's commands and the state of the
+/// What a call did (`Behaviour`), judged by the answers to a case's commands and the state of the
 /// service after them.
 fn ended<S: Alter + Drop>(
     alloc: Global,
     service: Service<S>,
     answers: &[Answer],
     case: &Case,
-) -> Came {
-    match end_of(alloc, answers, &case.told) {
-        End::Done => done(has_rows(alloc, service, case.rows_after(answers.len()))),
-        End::Memory(at) => held(is_left_closed(alloc, service, case, case.rows_after(at))),
-        End::Astray => Came::Wrong("another answer"),
+) -> Behaviour {
+    match end_of(alloc, answers, &case.answers) {
+        End::Done => after_success(has_rows(alloc, service, case.rows_after(answers.len()))),
+        End::Memory(at) => after_memory(is_left_closed(alloc, service, case, case.rows_after(at))),
+        End::Astray => Behaviour::Wrong("another answer"),
     }
 }
 
@@ -148,7 +150,7 @@ fn ended<S: Alter + Drop>(
 fn goes_on<S: Alter + Drop>(alloc: Global, mut service: Service<S>, case: &Case) -> bool {
     let is_as_before = is_text(rows(alloc, service.campaign()), case.rows_after(0));
     match service.run_all(&case.commands) {
-        Ok(answers) => is_as_before && ended(alloc, service, &answers, case) == Came::Done,
+        Ok(answers) => is_as_before && ended(alloc, service, &answers, case) == Behaviour::Done,
         Err(_) => false,
     }
 }
@@ -160,19 +162,19 @@ fn founds<S: Alter + Drop>(
     conn: Connection<S>,
     case: &Case,
     shortage: &mut Shortage,
-) -> Came {
+) -> Behaviour {
     shortage.begin(alloc);
     let answer = found(alloc, conn, ISLE, b"gm");
     shortage.end(alloc);
     match answer {
-        Ok(service) => done(has_rows(alloc, service, case.rows_after(0))),
+        Ok(service) => after_success(has_rows(alloc, service, case.rows_after(0))),
         Err(
             Refused {
                 why: Cause::Memory,
                 conn,
             },
-        ) => held(conn.schema().tables.is_empty()),
-        Err(_) => Came::Wrong("another cause"),
+        ) => after_memory(conn.schema().tables.is_empty()),
+        Err(_) => Behaviour::Wrong("another cause"),
     }
 }
 
@@ -183,20 +185,20 @@ fn opens<S: Alter + Drop>(
     service: Service<S>,
     case: &Case,
     shortage: &mut Shortage,
-) -> Came {
+) -> Behaviour {
     let conn = service.end();
     shortage.begin(alloc);
     let answer = open(alloc, conn);
     shortage.end(alloc);
     match answer {
-        Ok(service) => done(has_rows(alloc, service, case.rows_after(0))),
+        Ok(service) => after_success(has_rows(alloc, service, case.rows_after(0))),
         Err(
             Refused {
                 why: Cause::Memory,
                 conn,
             },
-        ) => held(is_text(rows_of(alloc, conn), case.rows_after(0))),
-        Err(_) => Came::Wrong("another cause"),
+        ) => after_memory(is_text(rows_of(alloc, conn), case.rows_after(0))),
+        Err(_) => Behaviour::Wrong("another cause"),
     }
 }
 
@@ -223,22 +225,22 @@ fn upgrades<S: Alter + Drop>(
     service: Service<S>,
     case: &Case,
     shortage: &mut Shortage,
-) -> Came {
+) -> Behaviour {
     let Some(conn) = old_of(alloc, service) else {
-        return Came::Wrong("no old file");
+        return Behaviour::Wrong("no old file");
     };
     shortage.begin(alloc);
     let answer = upgrade(alloc, conn, ISLE_WITH_MARKET);
     shortage.end(alloc);
     match answer {
-        Ok(service) => done(has_rows(alloc, service, case.rows_after(0))),
+        Ok(service) => after_success(has_rows(alloc, service, case.rows_after(0))),
         Err(
             Refused {
                 why: Cause::Memory,
                 conn,
             },
-        ) => held(is_still_old(alloc, conn, case)),
-        Err(_) => Came::Wrong("another cause"),
+        ) => after_memory(is_still_old(alloc, conn, case)),
+        Err(_) => Behaviour::Wrong("another cause"),
     }
 }
 
@@ -249,16 +251,16 @@ fn runs<S: Alter + Drop>(
     mut service: Service<S>,
     case: &Case,
     shortage: &mut Shortage,
-) -> Came {
+) -> Behaviour {
     let Some(command) = case.commands.first() else {
-        return Came::Wrong("no command");
+        return Behaviour::Wrong("no command");
     };
     shortage.begin(alloc);
     let answer = service.run(command);
     shortage.end(alloc);
     match Vec::from_array(alloc, [answer]) {
         Ok(answers) => ended(alloc, service, &answers, case),
-        Err(_) => Came::Wrong("no room"),
+        Err(_) => Behaviour::Wrong("no room"),
     }
 }
 
@@ -269,13 +271,13 @@ fn runs_all<S: Alter + Drop>(
     mut service: Service<S>,
     case: &Case,
     shortage: &mut Shortage,
-) -> Came {
+) -> Behaviour {
     shortage.begin(alloc);
     let answers = service.run_all(&case.commands);
     shortage.end(alloc);
     match answers {
         Ok(answers) => ended(alloc, service, &answers, case),
-        Err(_) => held(goes_on(alloc, service, case)),
+        Err(_) => after_memory(goes_on(alloc, service, case)),
     }
 }
 
@@ -285,27 +287,32 @@ fn tells_books<S: Alter + Drop>(
     service: Service<S>,
     case: &Case,
     shortage: &mut Shortage,
-) -> Came {
+) -> Behaviour {
     shortage.begin(alloc);
     let books = service.books();
     shortage.end(alloc);
     let is_left = goes_on(alloc, service, case);
     match books {
-        Some(Ok(text)) => done(is_left && text.as_str() == case.books.as_str()),
-        Some(Err(_)) => held(is_left),
-        None => Came::Wrong("no books"),
+        Some(Ok(text)) => after_success(is_left && text.as_str() == case.books.as_str()),
+        Some(Err(_)) => after_memory(is_left),
+        None => Behaviour::Wrong("no books"),
     }
 }
 
 /// Asks a campaign for its rows with memory short, and judges the rows and the campaign after it.
-fn gives_rows(alloc: Global, campaign: &Campaign, case: &Case, shortage: &mut Shortage) -> Came {
+fn gives_rows(
+    alloc: Global,
+    campaign: &Campaign,
+    case: &Case,
+    shortage: &mut Shortage,
+) -> Behaviour {
     shortage.begin(alloc);
     let parts = campaign.parts();
     shortage.end(alloc);
     let is_left = is_text(rows(alloc, Some(campaign)), case.rows_after(0));
     match &parts {
-        Ok(parts) => done(is_left && is_text(text_of(alloc, parts), case.rows_after(0))),
-        Err(_) => held(is_left),
+        Ok(parts) => after_success(is_left && is_text(text_of(alloc, parts), case.rows_after(0))),
+        Err(_) => after_memory(is_left),
     }
 }
 
@@ -317,17 +324,19 @@ fn checks(
     campaign: &Campaign,
     case: &Case,
     shortage: &mut Shortage,
-) -> Came {
+) -> Behaviour {
     let Ok(parts) = campaign.parts() else {
-        return Came::Wrong("no rows");
+        return Behaviour::Wrong("no rows");
     };
     shortage.begin(alloc);
     let checked = check(alloc, world, parts);
     shortage.end(alloc);
     match &checked {
-        Ok(checked) => done(is_text(rows(alloc, Some(checked)), case.rows_after(0))),
-        Err(CheckFault::Memory) => held(is_text(rows(alloc, Some(campaign)), case.rows_after(0))),
-        Err(_) => Came::Wrong("a rule is broken"),
+        Ok(checked) => after_success(is_text(rows(alloc, Some(checked)), case.rows_after(0))),
+        Err(CheckFault::Memory) => {
+            after_memory(is_text(rows(alloc, Some(campaign)), case.rows_after(0)))
+        }
+        Err(_) => Behaviour::Wrong("a rule is broken"),
     }
 }
 
@@ -337,13 +346,13 @@ fn reads<S: Alter + Drop>(
     service: Service<S>,
     case: &Case,
     shortage: &mut Shortage,
-) -> Came {
+) -> Behaviour {
     match service.campaign() {
         Some(campaign) if case.call == Call::Parts => {
             gives_rows(alloc, campaign, case, shortage)
         }
         Some(campaign) => checks(alloc, service.world(), campaign, case, shortage),
-        None => Came::Wrong("no campaign"),
+        None => Behaviour::Wrong("no campaign"),
     }
 }
 
@@ -353,7 +362,7 @@ fn called<S: Alter + Drop>(
     service: Service<S>,
     case: &Case,
     shortage: &mut Shortage,
-) -> Came {
+) -> Behaviour {
     match case.call {
         Call::Open => opens(alloc, service, case, shortage),
         Call::Upgrade => upgrades(alloc, service, case, shortage),
@@ -370,21 +379,21 @@ fn tried_in<S: Alter + Drop>(
     conn: Connection<S>,
     case: &Case,
     shortage: &mut Shortage,
-) -> Came {
+) -> Behaviour {
     if case.call == Call::Found {
         return founds(alloc, conn, case, shortage);
     }
     match begun(alloc, conn) {
         Some(service) => called(alloc, service, case, shortage),
-        None => Came::Wrong("no campaign"),
+        None => Behaviour::Wrong("no campaign"),
     }
 }
 
 /// Tries the call of a case with memory short, in a new database in memory, and judges the outcome.
 pub fn tried(alloc: Global, case: &Case, shortage: &mut Shortage) -> Outcome {
-    let came = match Connection::open_in_memory(alloc) {
+    let behaviour = match Connection::open_in_memory(alloc) {
         Ok(conn) => tried_in(alloc, conn, case, shortage),
-        Err(_) => Came::Wrong("no connection"),
+        Err(_) => Behaviour::Wrong("no connection"),
     };
-    judged(shortage.was_refused, came)
+    judged(shortage.was_refused, behaviour)
 }

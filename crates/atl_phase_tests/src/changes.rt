@@ -159,7 +159,7 @@ fn structure_numbers(structure: Option<&Structure>) -> [i64; 3] {
 }
 
 /// The names of a structure's numbers in the result of a case, in the order of `structure_numbers`.
-static SIDES: [&str; 3] = ["region", "done", "owner"];
+static STRUCTURE_NUMBERS: [&str; 3] = ["region", "done", "owner"];
 
 /// The name of a structure and that of its kind; empty texts if there is no structure.
 fn names_of<'a>(world: &'a World, structure: Option<&'a Structure>) -> (&'a str, &'a str) {
@@ -185,7 +185,7 @@ fn tell_structure(
     text(alloc, of, "name", old_name, name, told)?;
     text(alloc, of, "kind", old_kind, kind, told)?;
     let (old, new) = (structure_numbers(before), structure_numbers(after));
-    for (what, (was, is)) in SIDES.iter().zip(old.iter().zip(new.iter())) {
+    for (what, (was, is)) in STRUCTURE_NUMBERS.iter().zip(old.iter().zip(new.iter())) {
         number(alloc, of, what, *was, *is, told)?;
     }
     Ok(())

@@ -79,7 +79,7 @@ fn unit(text: &str) -> Option<UnitSetting> {
 }
 
 /// Reads what a unit has from `UNIT THING AMOUNT`; the thing is an item or a skill of the world.
-fn had(world: &World, text: &str) -> Option<GoodSetting> {
+fn good_setting(world: &World, text: &str) -> Option<GoodSetting> {
     let (unit, rest) = text.split_once(' ')?;
     let (name, amount) = rest.split_once(' ')?;
     let item = world.item_named(name.as_bytes(), false);
@@ -125,7 +125,7 @@ fn add_unit(setting: &mut Setting, text: &str) -> Option<()> {
 
 /// Adds the goods or days of a `has` line to a setting.
 fn add_goods(world: &World, setting: &mut Setting, text: &str) -> Option<()> {
-    setting.has.push(had(world, text)?).ok()
+    setting.has.push(good_setting(world, text)?).ok()
 }
 
 /// Adds the stock of a `stock` line to a setting.

@@ -17,7 +17,7 @@ pub is_refused : {S : Type 0} (g : Ghosts S) (w : WorldValue) (c : CampaignValue
     → Answers g w c conn command c conn (Refused why)
 is_refused g w c conn command why is good = record {
   step_is = is;
-  sound = tt;
+  no_fault = tt;
   same = (refl, refl);
   good = good;
   tables = λ clean text keeps. keeps;

@@ -199,8 +199,8 @@ abbrev faulty_lines_in : WorldValue → List (ℕ × List ℕ) → List (ℕ × 
 faulty_lines_in w es = map (λ e. (e.0, faults_of (reading w e.1))) es
 
 -- the faulty lines of all mailings of a campaign, by faction
-abbrev wrong : WorldValue → CampaignValue → FinMap nat_cmp (List FaultyLine)
-wrong w c = mapped (λ text. faults_of (reading w text)) c.mail
+abbrev faulty_lines_of_mail : WorldValue → CampaignValue → FinMap nat_cmp (List FaultyLine)
+faulty_lines_of_mail w c = mapped (λ text. faults_of (reading w text)) c.mail
 
 -- before the first mailing of a good campaign is read, what was read (nothing) and what is left make the whole mail
 -- (`ReadSoFar`)
@@ -219,13 +219,13 @@ pub read_goes_on : (w : WorldValue) (c : CampaignValue) (ms ns : List Mailing) (
 read_goes_on w c ms ns faults faults' here rest n text m left one_more read kept put (mailings, all, outcome, sent) =
     let is : reading w text ≡ Ok (reading_of m) = ap (reading w) (sym kept) ∙ read in
     let of_all = subst (λ es. map reading_of ms ++ texts_read w es ≡ readings w c) left mailings in
-    let told_of_all = subst (λ es. entries faults ++ faulty_lines_in w es ≡ entries (wrong w c)) left outcome in
+    let told_of_all = subst (λ es. entries faults ++ faulty_lines_in w es ≡ entries (faulty_lines_of_mail w c)) left outcome in
     let first : faults_of (reading w text) ≡ m.faults = ap faults_of is in
-    let told_now = subst (λ fs. entries faults ++ (n, fs) ∷ faulty_lines_in w rest ≡ entries (wrong w c)) first told_of_all in (
+    let told_now = subst (λ fs. entries faults ++ (n, fs) ∷ faulty_lines_in w rest ≡ entries (faulty_lines_of_mail w c)) first told_of_all in (
       ap (λ xs. map reading_of xs ++ texts_read w rest) one_more ∙ ap (λ xs. xs ++ texts_read w rest) (map-append reading_of ms (m ∷ []))
           ∙ append_assoc (map reading_of ms) (reading_of m ∷ []) (texts_read w rest) ∙ ap (λ rs. map reading_of ms ++ (read_of rs ++ texts_read w rest)) (sym is) ∙ of_all,
       subst (All (IsReadWith w)) (sym one_more) (All-push (IsReadWith w) ms m all read),
-      ap (λ fs. entries fs ++ faulty_lines_in w rest) put ∙ ap (λ es. es ++ faulty_lines_in w rest) (insert_last faults (wrong w c) n m.faults (faulty_lines_in w rest) told_now)
+      ap (λ fs. entries fs ++ faulty_lines_in w rest) put ∙ ap (λ es. es ++ faulty_lines_in w rest) (insert_last faults (faulty_lines_of_mail w c) n m.faults (faulty_lines_in w rest) told_now)
           ∙ append_assoc (entries faults) ((n, m.faults) ∷ []) (faulty_lines_in w rest) ∙ told_now,
       (subst (EachEntry IsMailingOf) left sent).1,
     )
@@ -235,7 +235,7 @@ pub read_ends : (w : WorldValue) (c : CampaignValue) (r : ReadMail) (rest : List
 read_ends w c r rest none (mailings, all, outcome, sent) = record {
   readings_are = sym (append-nil (map reading_of r.mailings.items)) ∙ subst (λ es. map reading_of r.mailings.items ++ texts_read w es ≡ readings w c) none mailings;
   read = all;
-  faults = same_entries_map r.faults (wrong w c) (sym (append-nil (entries r.faults)) ∙ subst (λ es. entries r.faults ++ faulty_lines_in w es ≡ entries (wrong w c)) none outcome);
+  faults = same_entries_map r.faults (faulty_lines_of_mail w c) (sym (append-nil (entries r.faults)) ∙ subst (λ es. entries r.faults ++ faulty_lines_in w es ≡ entries (faulty_lines_of_mail w c)) none outcome);
 }
 
 -- ---- the reports, stored one after another

@@ -38,8 +38,8 @@ module _ {S : Type 0} (g : Ghosts S) where
 
   -- founding may refuse with a cause that doesn't depend on the tables (the world text, the pass text, Memory), and
   -- leave the connection unchanged (`RefusesFounding`)
-  pub spared : (conn : Held S) (text pass : List ℕ) (why : Cause) → ((is_there : Bool) → MayBeCause text pass is_there why) → RefusesFounding g conn text pass why conn
-  spared conn text pass why cause = record { cause = cause (has_campaign conn.schema); leaves = leaves why cause; later = later_itself conn }
+  pub refuses_unchanged : (conn : Held S) (text pass : List ℕ) (why : Cause) → ((is_there : Bool) → MayBeCause text pass is_there why) → RefusesFounding g conn text pass why conn
+  refuses_unchanged conn text pass why cause = record { cause = cause (has_campaign conn.schema); leaves = leaves why cause; later = later_itself conn }
     where
       -- with a cause that doesn't depend on the tables the connection may be left unchanged (`LeavesByCause`)
       leaves : (why : Cause) → ((is_there : Bool) → MayBeCause text pass is_there why) → LeavesByCause g conn text pass conn why
@@ -103,11 +103,11 @@ module _ {S : Type 0} (g : Ghosts S) where
     -- if creating the tables fails, founding refuses with the cause of the same name (`RefusesFounding`)
     pub refused_by_store : (fault : CreateFault) → RefusesToCreate g text c old new fault → RefusesFounding g old text pass (of_creation fault) new
     refused_by_store NotEmpty refused = record { cause = ((w, made.world), made.pass_is_good, refused.0); leaves = refused.1; later = later }
-    refused_by_store Store refused = record { cause = ((w, made.world), made.pass_is_good, refused.0.fresh); leaves = (failed refused.0, broken refused.1); later = later }
+    refused_by_store Store refused = record { cause = ((w, made.world), made.pass_is_good, refused.0.fresh); leaves = (failed refused.0, store_refuses refused.1); later = later }
       where
         -- if creating fails with Store, the connection wasn't ready and is unchanged, or a call of the write gave an
         -- error other than out of memory (`RefusesToWrite`)
-        broken : ((¬ IsReadyToCreate (state g old)) × (new ≡ old)) ⊎ BreaksOffCreation g text c old new Store → RefusesToWrite g (FoundsBy text pass) old new
-        broken (inl unasked) = inl unasked
-        broken (inr off) = inr (off.ready, λ clean. creation_failed g (FoundsBy text pass) old new (told_by_founding Store (off.told clean)))
+        store_refuses : ((¬ IsReadyToCreate (state g old)) × (new ≡ old)) ⊎ BreaksOffCreation g text c old new Store → RefusesToWrite g (FoundsBy text pass) old new
+        store_refuses (inl unasked) = inl unasked
+        store_refuses (inr off) = inr (off.ready, λ clean. creation_failed g (FoundsBy text pass) old new (told_by_founding Store (off.told clean)))
     refused_by_store Memory refused = record { cause = tt; leaves = (failed refused.0, inr (λ clean. creation_lacked g (FoundsBy text pass) old new (told_by_founding Memory (refused.1.told clean)))); later = later }

@@ -63,7 +63,7 @@ module _ {S : Type 0} (g : Ghosts S) where
     runs_open (MonthDone n) stands leaves done = record { after = c'; step = done.step_is; same = refl; tables = holding (MonthDone n) stands leaves done }
     runs_open (Text t) stands leaves done = (record { after = c'; step = done.step_is; same = refl; tables = holding (Text t) stands leaves done }, ap₂ (λ h d. shown h w d true) done.same.1 done.same.0)
     runs_open (Refused r) stands leaves done = (done.step_is ∙ ap (λ d. (d, Refused r)) done.same.0, ap₂ (λ h d. shown h w d true) done.same.1 done.same.0)
-    runs_open (Fault f) stands leaves done = absurd done.sound
+    runs_open (Fault f) stands leaves done = absurd done.no_fault
 
     -- what `run` may give (`Runs`): the answer of a command that ended without a fault (`Answered`), in a consistent
     -- service whose field `is_open` is true

@@ -42,7 +42,7 @@ pub record Answers {S : Type 0} (g : Ghosts S) (w : WorldValue) (before : Campai
   -- the campaign after the command and the answer are those of `step`
   pub step_is : step w before command ≡ (after, answer)
   -- the answer is no fault
-  pub sound : IsNoFault answer
+  pub no_fault : IsNoFault answer
   -- a report or a refusal changes neither campaign nor connection
   pub same : IfTextOrRefused answer ((after ≡ before) × (new ≡ old))
   -- the campaign after the command is good (`IsGood`)

@@ -51,7 +51,7 @@ pub record MayClose (w : WorldValue) (c : CampaignValue) (month : ℕ) (pass wor
   -- `step` closes the month and answers MonthDone
   pub step_is : step w c (Close month pass words) ≡ (closed w c words, MonthDone month)
   -- the number of the month last closed is below that of the last month that can be closed
-  pub early : c.month < last_month
+  pub month_left : c.month < last_month
   -- there is one word of the dice for each region of the world
   pub dice : length words ≡ len w.regions
   -- the world is valid (`IsWorld`)

@@ -201,7 +201,7 @@ fn report(
     ensures step { IfOk result
         (λ answer. step world.now campaign.now.value (Command.Report faction pass.now)
         ≡ (campaign.now.value, answer)) }
-    ensures sound { IfOk result IsNoFault }
+    ensures no_fault { IfOk result IsNoFault }
 {
     if let Err(refusal) = faction_with_pass(campaign, faction, pass) {
         return Ok(Answer::Refused(refusal));

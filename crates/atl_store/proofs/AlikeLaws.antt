@@ -93,18 +93,18 @@ reports_tell m k n p s t is there same = (cc, cc)
 -- ---- units, with what they have
 
 -- No unit of the map has an item or skill whose amount is 0.
-abbrev HaveSome : FinMap nat_cmp Unit → Type 0
-HaveSome units = Every (λ n u. (sort : ThingKind) → Every (λ thing amount. amount ≢ 0) (things_of sort u.holding)) units
+abbrev HaveNoZero : FinMap nat_cmp Unit → Type 0
+HaveNoZero units = Every (λ n u. (sort : ThingKind) → Every (λ thing amount. amount ≢ 0) (things_of sort u.holding)) units
 
--- no unit of a good campaign has an item or skill whose amount is 0 (`HaveSome`)
-have_some : (w : WorldValue) (c : CampaignValue) → IsGood w c → HaveSome c.units
-have_some w c good n u is Item thing amount there = let range = (good.sound.steady.numbers.units n u is).1.items thing amount there in λ none. omega (arith, range.0, none)
-have_some w c good n u is Skill thing amount there = let range = good.sound.steady.days n u is thing amount there in λ none. omega (arith, range.0, none)
+-- no unit of a good campaign has an item or skill whose amount is 0 (`HaveNoZero`)
+have_no_zero : (w : WorldValue) (c : CampaignValue) → IsGood w c → HaveNoZero c.units
+have_no_zero w c good n u is Item thing amount there = let range = (good.sound.steady.numbers.units n u is).1.items thing amount there in λ none. omega (arith, range.0, none)
+have_no_zero w c good n u is Skill thing amount there = let range = good.sound.steady.days n u is thing amount there in λ none. omega (arith, range.0, none)
 
 module _ (rows : List Row) (m k : FinMap nat_cmp Unit) (a : HasExactly rows (HasRowsOf m)) (b : HasExactly rows (HasRowsOf k)) where
   -- each item or skill of unit `n` in `m` has the same amount in `k`, if one table `has` has the rows of each map, and
   -- no amount in `m` is 0
-  things_there : HaveSome m → (n : ℕ) (u v : Unit) → get m n ≡ Some u → get k n ≡ Some v → (sort : ThingKind) → Every (λ thing amount. get (things_of sort v.holding) thing ≡ Some amount) (things_of sort u.holding)
+  things_there : HaveNoZero m → (n : ℕ) (u v : Unit) → get m n ≡ Some u → get k n ≡ Some v → (sort : ThingKind) → Every (λ thing amount. get (things_of sort v.holding) thing ≡ Some amount) (things_of sort u.holding)
   things_there some n u v is there sort thing amount has =
       let row = has_row n (sort_number sort) thing amount in
       let (p, x, at, other, object, size, got, apart, same) = (b row).0 ((a row).1 (n, u, is, sort, thing, amount, has, some n u is sort thing amount has, refl)) in
@@ -116,7 +116,7 @@ module _ (rows : List Row) (m k : FinMap nat_cmp Unit) (a : HasExactly rows (Has
       let left : get (things_of sort v.holding) thing ≡ get (things_of other x.holding) object = λ i. get (things_of (kind i) (unit i).holding) (what i) in
       left ∙ got ∙ sym (ap Some count)
 
-module _ (rows goods : List Row) (m k : FinMap nat_cmp Unit) (a : HasExactly rows (RowsOf unit_line m)) (b : HasExactly rows (RowsOf unit_line k)) (h : HasExactly goods (HasRowsOf m)) (j : HasExactly goods (HasRowsOf k)) (some : HaveSome m) (more : HaveSome k) where
+module _ (rows goods : List Row) (m k : FinMap nat_cmp Unit) (a : HasExactly rows (RowsOf unit_line m)) (b : HasExactly rows (RowsOf unit_line k)) (h : HasExactly goods (HasRowsOf m)) (j : HasExactly goods (HasRowsOf k)) (some : HaveNoZero m) (more : HaveNoZero k) where
   -- each unit of `m` is in `k`, if the tables `unit` and `has` have exactly the rows of each map, and no amount is 0
   units_there : Every (λ n u. get k n ≡ Some u) m
   units_there n u is =
@@ -245,8 +245,8 @@ holds_one w db one other c d good sound h j =
     let structures = same_values structure_line _ c.structures d.structures (structures_tell _ _) (structures_tell _ _) (h.rows Structures) (j.rows Structures) in
     let mail = same_values mail_row _ c.mail d.mail (mails_tell _ _) (mails_tell _ _) (h.rows Mail) (j.rows Mail) in
     let reports = same_values report_row _ c.reports d.reports (reports_tell _ _) (reports_tell _ _) (h.rows Reports) (j.rows Reports) in
-    let some = have_some w c good in
-    let more = have_some w d sound in
+    let some = have_no_zero w c good in
+    let more = have_no_zero w d sound in
     let units = agree c.units d.units (units_there _ _ c.units d.units (h.rows Units) (j.rows Units) (h.rows Goods) (j.rows Goods) some more) (units_there _ _ d.units c.units (j.rows Units) (h.rows Units) (j.rows Goods) (h.rows Goods) more some) in
     let books = one_books (founding.things_of w) _ c.books d.books numbers.books others.books (h.rows Books) (j.rows Books) in (
       text,

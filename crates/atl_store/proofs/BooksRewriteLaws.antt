@@ -28,7 +28,7 @@ use Rattle.atl_sql.specs.Marked.{entry_and_thing_pass, amount_marked, is_marked_
 use Rattle.atl_store.specs.Rewriting.{RewritesAmounts, RewritesBooks, is_number, is_among, of_amounts}
 use Rattle.atl_store.proofs.HasTableLaws.{optional_has, has_optional}
 use Rattle.atl_store.proofs.LedgerLaws.{two_same, differs_zero, is_differing}
-use Rattle.atl_store.proofs.RewriteLaws.{Remaining, one_less_remaining, all_rewritten, tied, is_itself, rewrites_key}
+use Rattle.atl_store.proofs.RewriteLaws.{Remaining, one_less_remaining, all_rewritten, equal_by_order, is_itself, rewrites_key}
 use Rattle.atl_store.proofs.WholeLaws.{inside_weaker}
 
 -- ---- a row that begins with an entry and a thing
@@ -102,7 +102,7 @@ module _ (marks : FinSet nat_cmp) where
   beyond : (from count i : ℕ) → from + count ≤ i → is_among (range_with_len from count) i ≡ false
   beyond from zero i past = refl
   beyond from (suc count) i past =
-      ap (λ b. b || is_among (range_with_len (from + 1) count) i) (false_from_ne_true (eq_by_cmp nat_cmp i from) (λ is. absurd (omega (arith, past, tied i from is)))) ∙ beyond (from + 1) count i (omega (arith, past))
+      ap (λ b. b || is_among (range_with_len (from + 1) count) i) (false_from_ne_true (eq_by_cmp nat_cmp i from) (λ is. absurd (omega (arith, past, equal_by_order i from is)))) ∙ beyond (from + 1) count i (omega (arith, past))
 
   -- a number is among the first `count` numbers exactly if it is below `count`
   among_first : (count e : ℕ) → is_among (range_with_len 0 count) e ≡ nat_le (suc e) count
@@ -168,14 +168,14 @@ module _ (c : MarkedCampaign) (e : Entry) (t : Thing) where
   unmarked_none unmarked r = accounts_none _ (λ k j. false_from_ne_true _ (λ is.
       let one = and_parts _ _ is in
       let two = and_parts _ _ one.1 in
-      true≢false (sym two.1 ∙ ap (λ x. contains c.marks.books (entry_count * x + k)) (tied j (thing_index t) two.0) ∙ ap (λ x. contains c.marks.books (entry_count * thing_index t + x)) (tied k (entry_index e) one.0) ∙ unmarked))) r
+      true≢false (sym two.1 ∙ ap (λ x. contains c.marks.books (entry_count * x + k)) (equal_by_order j (thing_index t) two.0) ∙ ap (λ x. contains c.marks.books (entry_count * thing_index t + x)) (equal_by_order k (entry_index e) one.0) ∙ unmarked))) r
 
   -- a row of entry `e` and thing `t`, whose amount is marked (`is_here`), has the key of `e` and `t`
   key_of : (r : Row) → is_here r ≡ true → take 2 r ≡ books_key (entry_index e + 1) (thing_index t)
   key_of (Int (pos (suc place)) ∷ Int (pos thing) ∷ row) is =
       let one = and_parts _ _ is in
       let two = and_parts _ _ one.1 in
-      ap (λ k. books_key k thing) (next place (entry_index e) (tied place (entry_index e) one.0)) ∙ ap (books_key (entry_index e + 1)) (tied thing (thing_index t) two.0)
+      ap (λ k. books_key k thing) (next place (entry_index e) (equal_by_order place (entry_index e) one.0)) ∙ ap (books_key (entry_index e + 1)) (equal_by_order thing (thing_index t) two.0)
     where
       -- for `key_of`: if `a` is `b`, the successor of `a` is `b + 1`; a row of `books` has an entry's index plus 1
       next : (a b : ℕ) → a ≡ b → suc a ≡ b + 1

@@ -31,24 +31,24 @@ use Rattle.atl_sql.specs.Rows.{RowsOf, HasRowsOf, BooksRowsOf, MarketRowsOf, row
 use Rattle.atl_sql.specs.Marked.{begins_marked, has_thing, goods_marked, stocks_marked, amount_marked, is_marked}
 use Rattle.atl_store.specs.Changing.{Chosen, rows_after_rewrite, campaign_row_after, HasUnmarked, WritesChanges, HoldsUnmarked}
 use Rattle.atl_store.specs.Rewriting.{marked_things}
-use Rattle.atl_store.proofs.HasTableLaws.{had_of, of_had}
-use Rattle.atl_store.proofs.MarketLaws.{stock_had, had_stock}
+use Rattle.atl_store.proofs.HasTableLaws.{row_has_amount, amount_has_row}
+use Rattle.atl_store.proofs.MarketLaws.{row_has_stock, stock_has_row}
 
 -- ---- a table whose unmarked rows are the campaign's
 
 -- a table whose unmarked rows are the wanted ones has exactly the wanted rows once the marked rows are written
 all_held : (is_marked : Row → Bool) (After : Row → Type 0) (old new : List Row) → ((r : Row) → is_marked r ≡ false → Has old r ↔ After r) → HasExactly new (rows_after_rewrite is_marked After (Has old)) → HasExactly new After
-all_held is_marked After old new rest now r = (λ there. from (is_marked r) refl ((now r).0 there), λ of. (now r).1 (to (is_marked r) refl of))
+all_held is_marked After old new rest now r = (λ there. written_is_wanted (is_marked r) refl ((now r).0 there), λ of. (now r).1 (wanted_is_written (is_marked r) refl of))
   where
     -- for `all_held`: a row that the rewrite puts (it is marked) or keeps (it isn't) is a wanted row (`After`)
-    from : (b : Bool) → is_marked r ≡ b → Chosen b (After r) (Has old r) → After r
-    from true is h = h
-    from false is h = (rest r is).0 h
+    written_is_wanted : (b : Bool) → is_marked r ≡ b → Chosen b (After r) (Has old r) → After r
+    written_is_wanted true is h = h
+    written_is_wanted false is h = (rest r is).0 h
 
     -- for `all_held`: a wanted row (`After`) is one that the rewrite puts (if it is marked) or keeps (if not)
-    to : (b : Bool) → is_marked r ≡ b → After r → Chosen b (After r) (Has old r)
-    to true is of = of
-    to false is of = (rest r is).1 of
+    wanted_is_written : (b : Bool) → is_marked r ≡ b → After r → Chosen b (After r) (Has old r)
+    wanted_is_written true is of = of
+    wanted_is_written false is of = (rest r is).1 of
 
 -- if `Before` and `After` have the same unmarked rows, a table with the rows `Before` has the unmarked rows of `After`
 rest_of : (is_marked : Row → Bool) (Before After : Row → Type 0) (old : List Row) → ((r : Row) → is_marked r ≡ false → Before r → After r) → ((r : Row) → is_marked r ≡ false → After r → Before r) → HasExactly old Before
@@ -115,19 +115,19 @@ goods_same m before after covers Skill = covers.days
 -- an unmarked row of `has` of one campaign is one of the other, if the two differ only in marked items and skills
 goods_follow : (one other : FinMap nat_cmp Unit) (marks : Marks) (r : Row) → ((sort : ThingKind) → SameThings marks.goods (marked_things marks sort) (things_under sort) one other) → goods_marked marks r ≡ false → HasRowsOf one r → HasRowsOf other r
 goods_follow one other marks r same not_marked of =
-    let had = had_of one r of in
+    let had = row_has_amount one r of in
     let amount = amount_under one had.0 had.1 had.2 in
     let is : amount ≡ amount_under other had.0 had.1 had.2 = ap (λ (o : Option ℕ). unwrap_or o 0) (sym (same had.1 had.0 had.2 (sym (goods_heads marks had.0 had.1 had.2 amount) ∙ ap (goods_marked marks) (sym had.4) ∙ not_marked))) in
-    subst (HasRowsOf other) (sym had.4) (of_had other had.0 had.1 had.2 amount is had.3)
+    subst (HasRowsOf other) (sym had.4) (amount_has_row other had.0 had.1 had.2 amount is had.3)
 
 -- ---- stocks
 
 -- an unmarked row of `market` of one campaign is one of the other, if the two differ only in marked stocks
 stocks_follow : (one other : FinMap nat_cmp Region) (marks : Marks) (r : Row) → ((n item : ℕ) → is_thing_marked marks.stocks marks.stock_items n item ≡ false → stock_in other n item ≡ stock_in one n item) → stocks_marked marks r ≡ false → MarketRowsOf one r → MarketRowsOf other r
 stocks_follow one other marks r same not_marked of =
-    let had = stock_had one r of in
+    let had = row_has_stock one r of in
     let is = same had.0 had.1 (ap (stocks_marked marks) (sym had.3) ∙ not_marked) in
-    subst (MarketRowsOf other) (sym had.3) (had_stock other had.0 had.1 (stock_in one had.0 had.1) (sym is) had.2)
+    subst (MarketRowsOf other) (sym had.3) (stock_has_row other had.0 had.1 (stock_in one had.0 had.1) (sym is) had.2)
 
 -- ---- amounts
 

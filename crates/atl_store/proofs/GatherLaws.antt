@@ -114,8 +114,8 @@ module _ {S : Type 0} (g : Ghosts S) where
     this_select = (sql, forms) ∷ []
 
     -- the rows that a SELECT showed (`Selects`) are those that it shows of the tables of `old` (`SelectShows`)
-    tells : (rows : List Row) → Selects g sql old rows → SelectShows g old sql rows
-    tells rows told = record { before = told.0; during = told.1; same = told.2.same; shown = told.3 }
+    shows_rows : (rows : List Row) → Selects g sql old rows → SelectShows g old sql rows
+    shows_rows rows told = record { before = told.0; during = told.1; same = told.2.same; shown = told.3 }
 
     -- a connection whose SELECT showed rows was open
     selects_open : (rows : List Row) → Selects g sql old rows → IsTrue (state g old).is_open
@@ -126,15 +126,15 @@ module _ {S : Type 0} (g : Ghosts S) where
     found_one : {Z : Type 0} (r : Result (Vec A Z) ReadFault) → ReadsRows g sql old forms shown r new → GivesTable g (select_of_part part).since (select_of_part part).in_table shown r old new → HasCleanDisk (state g new) → IfOk (rows_or_none r) (Found g old this_select (λ all. AreAllRows (state g old).now ((part, map shown all.items) ∷ [])))
     found_one (Ok all) reads gives clean =
         let told = reads.rows clean in
-        (each_of_one (λ s. (rows : List Row) × SelectShows g old s.0 rows × AreTyped s.1 rows) (sql, forms) (told.0, tells told.0 told.1, told.3), each_of_one (λ read. AreRows (state g old).now read.0 read.1) (part, map shown all.items) (gives clean))
+        (each_of_one (λ s. (rows : List Row) × SelectShows g old s.0 rows × AreTyped s.1 rows) (sql, forms) (told.0, shows_rows told.0 told.1, told.3), each_of_one (λ read. AreRows (state g old).now read.0 read.1) (part, map shown all.items) (gives clean))
     found_one (Err read.OtherType) reads gives clean =
         let told = reads.other clean refl in
         record {
-          all = each_of_one (λ s. (rows : List Row) × SelectShows g old s.0 rows) (sql, forms) (told.0, tells told.0 told.1);
+          all = each_of_one (λ s. (rows : List Row) × SelectShows g old s.0 rows) (sql, forms) (told.0, shows_rows told.0 told.1);
           select = (sql, forms);
           one = inl refl;
           rows = told.0;
-          told = tells told.0 told.1;
+          told = shows_rows told.0 told.1;
           other = told.2;
         }
     found_one (Err read.Memory) reads gives clean = tt
@@ -154,15 +154,15 @@ module _ {S : Type 0} (g : Ghosts S) where
     refuses fault refused = record { select = (sql, forms); one = inl refl; before = old; leaves = leaves_none old idle; refused = refused }
 
     -- if a SELECT is refused for lack of memory, or is answered, reading its table may return Memory
-    wants : RefusesToSelect g sql old read.Memory ⊎ ((rows : List Row) × Selects g sql old rows) → FailsToRead g old this_select Memory
-    wants (inl refused) = inl (refuses read.Memory refused)
-    wants (inr told) = inr (record { select = (sql, forms); one = inl refl; before = old; leaves = leaves_none old idle; rows = told.0; answered = told.1 })
+    may_lack_memory : RefusesToSelect g sql old read.Memory ⊎ ((rows : List Row) × Selects g sql old rows) → FailsToRead g old this_select Memory
+    may_lack_memory (inl refused) = inl (refuses read.Memory refused)
+    may_lack_memory (inr told) = inr (record { select = (sql, forms); one = inl refl; before = old; leaves = leaves_none old idle; rows = told.0; answered = told.1 })
 
     -- on a clean disk, a fault of reading one table is one that reading by its SELECT alone may return (`FailsToRead`)
     fails_one : {Z : Type 0} (r : Result (Vec A Z) ReadFault) → ReadsRows g sql old forms shown r new → HasCleanDisk (state g new) → IfErr (rows_or_none r) (FailsToRead g old this_select)
     fails_one (Ok all) reads clean = tt
     fails_one (Err read.OtherType) reads clean = tt
-    fails_one (Err read.Memory) reads clean = wants (reads.memory clean refl)
+    fails_one (Err read.Memory) reads clean = may_lack_memory (reads.memory clean refl)
     fails_one (Err read.Store) reads clean = inl (refuses read.Store (reads.refused clean not_store store_no_memory))
     fails_one (Err read.Refused) reads clean = inr (refuses read.Refused (reads.refused clean not_refused refused_no_memory))
 

@@ -159,21 +159,21 @@ module _ (units : FinMap nat_cmp Unit) where
   amount_some n sort thing u there = ap (λ o. amount_of (things_under sort o) thing) there ∙ ap (λ things. amount_of things thing) (under_unit sort u)
 
   -- each row of `has` gives the amount, which is not 0, of an item or skill of its unit
-  pub had_of : (r : Row) → HasRowsOf units r → (n : ℕ) × (sort : ThingKind) × (thing : ℕ) × (amount_under units n sort thing ≢ 0) × (r ≡ has_row n (sort_number sort) thing (amount_under units n sort thing))
-  had_of r of =
+  pub row_has_amount : (r : Row) → HasRowsOf units r → (n : ℕ) × (sort : ThingKind) × (thing : ℕ) × (amount_under units n sort thing ≢ 0) × (r ≡ has_row n (sort_number sort) thing (amount_under units n sort thing))
+  row_has_amount r of =
       let amount : amount_under units of.0 of.3 of.4 ≡ of.5 = amount_some of.0 of.3 of.4 of.1 of.2 ∙ ap (λ (o : Option ℕ). unwrap_or o 0) of.6 in
       (of.0, of.3, of.4, λ none. of.7 (sym amount ∙ none), of.8 ∙ ap (has_row of.0 (sort_number of.3) of.4) (sym amount))
 
   -- each amount of a unit's item or skill that is not 0 has its row of `has`
-  pub of_had : (n : ℕ) (sort : ThingKind) (thing amount : ℕ) → amount ≡ amount_under units n sort thing → amount ≢ 0 → HasRowsOf units (has_row n (sort_number sort) thing amount)
-  of_had n sort thing amount is some = there (get units n) refl
+  pub amount_has_row : (n : ℕ) (sort : ThingKind) (thing amount : ℕ) → amount ≡ amount_under units n sort thing → amount ≢ 0 → HasRowsOf units (has_row n (sort_number sort) thing amount)
+  amount_has_row n sort thing amount is some = there (get units n) refl
     where
-      -- for `of_had`: an amount other than 0, which a look-up gives with 0 as its default, was found
+      -- for `amount_has_row`: an amount other than 0, which a look-up gives with 0 as its default, was found
       got : (o : Option ℕ) → amount ≡ unwrap_or o 0 → o ≡ Some amount
       got None zero = absurd (some zero)
       got (Some x) same = ap Some (sym same)
 
-      -- for `of_had`: by the look-up `o` of the unit the amount's row is there; with no unit the amount would be 0
+      -- for `amount_has_row`: by the look-up `o` of the unit the amount's row is there; with no unit it would be 0
       there : (o : Option Unit) → get units n ≡ o → HasRowsOf units (has_row n (sort_number sort) thing amount)
       there None none = absurd (some (is ∙ amount_none n sort thing none))
       there (Some u) found = (n, u, found, sort, thing, amount, got (get (things_of sort u.holding) thing) (is ∙ amount_some n sort thing u found), some, refl)

@@ -189,14 +189,14 @@ module _ (f : Format) {S : Type 0} (g : Ghosts S) where
   damaged old w p all begins Mail first = breaks old w p all begins Mail first
 
   -- Memory may be returned, if the campaign row keeps the first rule and the connection is in no transaction
-  wants_memory : (old : Held S) → old.in_transaction ≡ false → KeepsOneRow f g old → MayReturnMemory g old
-  wants_memory old idle kept = (idle, inr (kept.rows, kept.selects))
+  may_return_memory : (old : Held S) → old.in_transaction ≡ false → KeepsOneRow f g old → MayReturnMemory g old
+  may_return_memory old idle kept = (idle, inr (kept.rows, kept.selects))
 
   -- outside a transaction, with the format's schema, a fault of checking the rows refuses the load: Damaged with the
   -- first broken rule, or Memory
   pub judged_damaged : (old : Held S) → old.in_transaction ≡ false → (w : WorldValue) (p : Parts) → Gathered f g old w p → HasTablesOf f old.schema → (fault : CheckFault) → Checks f w p (Err fault) → RefusesToLoadIn f g old (fault_of_check fault)
   judged_damaged old idle w p all begins (check.Damaged rule) first = damaged old w p all begins rule first
-  judged_damaged old idle w p all begins check.Memory none = wants_memory old idle all.one
+  judged_damaged old idle w p all begins check.Memory none = may_return_memory old idle all.one
 
   -- ---- what else refuses the load after the first rule holds
 
@@ -211,7 +211,7 @@ module _ (f : Format) {S : Type 0} (g : Ghosts S) where
       refused (Damaged rule) fails = absurd fails
       refused NotACampaign fails = absurd fails
       refused OtherFormat fails = absurd fails
-      refused Memory fails = wants_memory old idle kept
+      refused Memory fails = may_return_memory old idle kept
 
   -- the tables are tested on a connection after reads, with a clean disk
   module _ (old mid : Held S) (kept : KeepsOneRow f g old) (first : AfterReads g old mid) (clean : HasCleanDisk (state g mid)) where
@@ -243,7 +243,7 @@ module _ (f : Format) {S : Type 0} (g : Ghosts S) where
     unconfirmed_refuses idle typed (Damaged rule) fails = absurd fails
     unconfirmed_refuses idle typed NotACampaign fails = absurd fails
     unconfirmed_refuses idle typed OtherFormat fails = absurd fails
-    unconfirmed_refuses idle typed Memory fails = wants_memory old idle kept
+    unconfirmed_refuses idle typed Memory fails = may_return_memory old idle kept
 
 -- what was read of the other tables after the campaign row was read
 module _ (f : Format) {S : Type 0} (g : Ghosts S) {A : Type 0} (rows : A → ReadRows) (old mid new : Held S) (own : StoredCampaign) (w : WorldValue) (row : OwnRead g old f own w) (before : AfterReads g old mid) (r : Result (Option A) LoadFault)
@@ -270,13 +270,13 @@ module _ (f : Format) {S : Type 0} (g : Ghosts S) {A : Type 0} (rows : A → Rea
       refused (Damaged rule) lacks = absurd lacks
       refused NotACampaign lacks = absurd lacks
       refused OtherFormat lacks = absurd lacks
-      refused Memory lacks = wants_memory f g old idle (own_kept f g old own w row)
+      refused Memory lacks = may_return_memory f g old idle (own_kept f g old own w row)
 
 module _ {S : Type 0} (g : Ghosts S) where
   -- if a result is an error with this fault, what holds of the fault (`P`) holds of the result's error
-  pub told_as : {A : Type 0} (P : LoadFault → Type 0) (fault : LoadFault) (r : Result A LoadFault) → IsErrAnd r (λ told. told ≡ fault) → P fault → IfErr r P
-  told_as P fault (Ok a) told p = tt
-  told_as P fault (Err f) told p = subst P (sym told) p
+  pub holds_of_error : {A : Type 0} (P : LoadFault → Type 0) (fault : LoadFault) (r : Result A LoadFault) → IsErrAnd r (λ told. told ≡ fault) → P fault → IfErr r P
+  holds_of_error P fault (Ok a) told p = tt
+  holds_of_error P fault (Err f) told p = subst P (sym told) p
 
   -- ---- the whole
 

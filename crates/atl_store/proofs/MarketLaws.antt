@@ -16,7 +16,7 @@ use Rattle.atl_sql.specs.Tables.{market_table}
 use Rattle.atl_sql.specs.Inside.{Inside, HasTables, Puts, Drops}
 use Rattle.atl_sql.specs.Marked.{of_stock}
 use Rattle.atl_store.specs.Rewriting.{FindsByNumbers, RewritesChosenStocks, is_thing}
-use Rattle.atl_store.proofs.RewriteLaws.{tied, is_itself, rewrites_key, kept_only}
+use Rattle.atl_store.proofs.RewriteLaws.{equal_by_order, is_itself, rewrites_key, kept_only}
 use Rattle.atl_store.proofs.WholeLaws.{inside_weaker}
 use Rattle.atl_sql.specs.Rows.{MarketRowsOf}
 use Rattle.atl_store.specs.GroupedRows.{AreGroups, region_lines}
@@ -52,21 +52,21 @@ module _ (regions : FinMap nat_cmp Region) where
   in_stock item o = option_map_or (λ r. amount_of r.stocks item) o 0
 
   -- each row of `market` gives the stock, which is not 0, of an item of its region
-  pub stock_had : (r : Row) → MarketRowsOf regions r → (n : ℕ) × (item : ℕ) × (stock_in regions n item ≢ 0) × (r ≡ market_row n item (stock_in regions n item))
-  stock_had r of =
+  pub row_has_stock : (r : Row) → MarketRowsOf regions r → (n : ℕ) × (item : ℕ) × (stock_in regions n item ≢ 0) × (r ≡ market_row n item (stock_in regions n item))
+  row_has_stock r of =
       let amount : stock_in regions of.0 of.3 ≡ of.4 = ap (in_stock of.3) of.2 ∙ ap (λ (o : Option ℕ). unwrap_or o 0) of.5 in
       (of.0, of.3, λ none. of.6 (sym amount ∙ none), of.7 ∙ ap (market_row of.0 of.3) (sym amount))
 
   -- each stock that is not 0 has a row of `market`, with its region and item
-  pub had_stock : (n item amount : ℕ) → amount ≡ stock_in regions n item → amount ≢ 0 → MarketRowsOf regions (market_row n item amount)
-  had_stock n item amount is some = there (get regions n) refl
+  pub stock_has_row : (n item amount : ℕ) → amount ≡ stock_in regions n item → amount ≢ 0 → MarketRowsOf regions (market_row n item amount)
+  stock_has_row n item amount is some = there (get regions n) refl
     where
-      -- for `had_stock`: a stock other than 0, which a look-up gives with 0 as its default, was found
+      -- for `stock_has_row`: a stock other than 0, which a look-up gives with 0 as its default, was found
       got : (o : Option ℕ) → amount ≡ unwrap_or o 0 → o ≡ Some amount
       got None zero = absurd (some zero)
       got (Some x) same = ap Some (sym same)
 
-      -- for `had_stock`: by the look-up `o` of the region the stock's row is there; with no region the stock would be 0
+      -- for `stock_has_row`: by the look-up `o` of the region the stock's row is there; with no region it would be 0
       there : (o : Option Region) → get regions n ≡ o → MarketRowsOf regions (market_row n item amount)
       there None none = absurd (some (is ∙ ap (in_stock item) none))
       there (Some region) found = (n, region, found, item, amount, got (get region.stocks item) (is ∙ ap (in_stock item) found), some, refl)
@@ -100,7 +100,7 @@ module _ (region item : ℕ) where
   key_of : (r : Row) → is_here r ≡ true → take 2 r ≡ market_key region item
   key_of (Int (pos n) ∷ Int (pos t) ∷ row) is =
       let both = and_parts _ _ is in
-      ap (λ k. market_key k t) (tied n region both.0) ∙ ap (market_key region) (tied t item both.1)
+      ap (λ k. market_key k t) (equal_by_order n region both.0) ∙ ap (market_key region) (equal_by_order t item both.1)
   key_of row is = absurd (true≢false (sym is))
 
   -- a row with the key of the region and the item is of this region and this item
@@ -120,7 +120,7 @@ module _ (region item : ℕ) where
     -- a row of this region and item among the campaign's rows is that of the stock, which isn't 0
     wanted_here : (r : Row) → is_here r ≡ true → MarketRowsOf c.regions r → (stock ≢ 0) × (r ≡ row)
     wanted_here r here of =
-        let had = stock_had c.regions r of in
+        let had = row_has_stock c.regions r of in
         let keys = two_same had.0 had.1 region item (ap (take 2) (sym had.3) ∙ key_of r here) in
         let Determines : ℕ → ℕ → Type 0 = λ n t. (stock_in c.regions n t ≢ 0) × (r ≡ market_row n t (stock_in c.regions n t)) in
         let told : Determines region item = subst (λ n. Determines n item) keys.0 (subst (Determines had.0) keys.1 (had.2, had.3)) in
@@ -134,7 +134,7 @@ module _ (region item : ℕ) where
     pub stock_put : stock ≢ 0 → (old new : State) → Inside HasTables (Puts market_table 2 row) old new → Inside HasTables (RewritesChosenStocks c (is_thing region item)) old new
     stock_put some old new did = inside_weaker HasTables (Puts market_table 2 row) (RewritesChosenStocks c (is_thing region item)) old new
         (λ has puts. rewrites_key is_here (λ r. take 2 r ≡ market_key region item) (λ r. r ≡ row) (MarketRowsOf c.regions) key_of of_key
-        (λ r same. (ap (take 2) same, subst (MarketRowsOf c.regions) (sym same) (had_stock c.regions region item stock is some)))
+        (λ r same. (ap (take 2) same, subst (MarketRowsOf c.regions) (sym same) (stock_has_row c.regions region item stock is some)))
         (λ r here of. (wanted_here r here of).1)
         market_table old.now new.now puts.rows puts.others)
         did

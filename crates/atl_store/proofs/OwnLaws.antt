@@ -37,27 +37,27 @@ one_mapped f (x ∷ z ∷ xs) y is = absurd (let k = is in cc)
 -- a row as it was read equals a row with this world text
 module _ (own : StoredCampaign) (h : StoredCampaignRow) (text : List ℕ) (is : campaign_stored own ≡ own_stored text h) where
   -- the row `own`, as it was read, has in each column the value of the row that shows `h` and this world text
-  at : (n : ℕ) → column (campaign_stored own) n ≡ column (own_stored text h) n
-  at n = ap (λ r. column r n) is
+  same_column : (n : ℕ) → column (campaign_stored own) n ≡ column (own_stored text h) n
+  same_column n = ap (λ r. column r n) is
 
   -- the row `own`, as it was read, has the id of `h`, since both are shown as equal rows
   pub same_id : own.head.id ≡ h.id
-  same_id = let e = at 0 in cc
+  same_id = let e = same_column 0 in cc
 
   -- the row `own`, as it was read, has the format of `h`, since both are shown as equal rows
   pub same_format : own.head.format ≡ h.format
-  same_format = let e = at 1 in cc
+  same_format = let e = same_column 1 in cc
 
   -- the row `own`, as it was read, has the world text `text`, since it is shown as a row with this text
   pub same_text : string_bytes own.world ≡ text
-  same_text = let e = at 7 in cc
+  same_text = let e = same_column 7 in cc
 
 -- if the shown rows keep the first rule (`AreOwnRow`), the parsed row keeps it too
 pub own_read : (f : Format) (items : List StoredCampaign) (rows : List Row) (h : StoredCampaignRow) (text : List ℕ) (w : WorldValue)
     → map campaign_stored items ≡ map (first_columns (length campaign_forms)) rows → AreOwnRow f rows h text w
     → (own : StoredCampaign) × IsOwn f items own w
 own_read f items rows h text w shown own =
-    let one = one_mapped campaign_stored items (own_stored text h) (shown ∙ own.is) in (
+    let one = one_mapped campaign_stored items (own_stored text h) (shown ∙ own.shown) in (
       one.0,
       record {
         only = one.1;
@@ -70,7 +70,7 @@ own_read f items rows h text w shown own =
 -- the values of a row that keeps the first rule (`AreOwnRow`) are of their columns' types
 pub own_typed : (f : Format) (rows : List Row) (h : StoredCampaignRow) (text : List ℕ) (w : WorldValue) → AreOwnRow f rows h text w → AreTyped campaign_forms rows
 own_typed f rows h text w own row there =
-    let one = one_mapped (first_columns (length campaign_forms)) rows (own_stored text h) own.is in
+    let one = one_mapped (first_columns (length campaign_forms)) rows (own_stored text h) own.shown in
     typed row (found row there one.0 one.1 ∙ one.2)
   where
     -- for `own_typed`: a row of a list that has only the row `r` has the first columns of `r`
@@ -115,7 +115,7 @@ module _ (f : Format) where
   pub judged_rows : (items : List StoredCampaign) (rows : List Row) (r : Result (StoredCampaign × WorldValue) LoadFault)
       → map campaign_stored items ≡ map (first_columns (length campaign_forms)) rows → JudgesOwn f items r → JudgesRows f rows r
   judged_rows items rows r shown =
-      judged_as (λ both. IsOwn f items both.0 both.1) ((own : StoredCampaign) (w : WorldValue) → ¬ IsOwn f items own w) (JudgesRows f rows) (λ both own. record { is = sym shown ∙ ap (map campaign_stored) own.only; id = own.id; format = own.format; utf8 = IsUtf8-string_bytes both.0.world; world = own.world }) tt
+      judged_as (λ both. IsOwn f items both.0 both.1) ((own : StoredCampaign) (w : WorldValue) → ¬ IsOwn f items own w) (JudgesRows f rows) (λ both own. record { shown = sym shown ∙ ap (map campaign_stored) own.only; id = own.id; format = own.format; utf8 = IsUtf8-string_bytes both.0.world; world = own.world }) tt
       (λ none h text w own. let was = own_read f items rows h text w shown own in none was.0 w was.1) r
 
   -- if the rows weren't parsed (a value of another type, or no memory), the fault is one of judging them (`JudgesRows`)
@@ -137,7 +137,7 @@ module _ (f : Format) {S : Type 0} (g : Ghosts S) (old : Held S) where
   -- if judging the shown rows by the first rule gives Ok, the campaign row was read (`OwnRead`)
   rows_own : (rows : List Row) (r : Result (StoredCampaign × WorldValue) LoadFault) → JudgesRows f rows r → Selects g (selection campaign_table 1) old rows → IfOk r (λ both. OwnRead g old f both.0 both.1)
   rows_own rows (Err fault) judged told = tt
-  rows_own rows (Ok both) judged told = record { rows = rows; selects = told; row = judged; table = λ begins. subst (IsPermutation (rows_in campaign_table (state g old).now.trees)) judged.is (asked_rows First (selection campaign_table 1) (rows_in campaign_table) 8 (reads_part Own 8 refl) (state g old) (state g told.0) (state g told.1) rows told.2 told.3 begins) }
+  rows_own rows (Ok both) judged told = record { rows = rows; selects = told; row = judged; table = λ begins. subst (IsPermutation (rows_in campaign_table (state g old).now.trees)) judged.shown (asked_rows First (selection campaign_table 1) (rows_in campaign_table) 8 (reads_part Own 8 refl) (state g old) (state g told.0) (state g told.1) rows told.2 told.3 begins) }
 
   -- if judging the rows gives Ok, the campaign row and its world were read (`OwnRead`)
   pub own_is : (rows : List Row) (r : Result (StoredCampaign × WorldValue) LoadFault) → JudgesFormat f rows r → Selects g (selection campaign_table 1) old rows

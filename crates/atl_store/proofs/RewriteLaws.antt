@@ -119,8 +119,8 @@ module _ (table : Table) (Wanted : Set) where
 -- ---- numbers
 
 -- two numbers that are equal by the order of numbers are equal
-pub tied : (k n : ℕ) → eq_by_cmp nat_cmp k n ≡ true → k ≡ n
-tied k n is = elim (nat_cmp k n) as (λ o. nat_cmp k n ≡ o → is_eq o ≡ true → k ≡ n) [
+pub equal_by_order : (k n : ℕ) → eq_by_cmp nat_cmp k n ≡ true → k ≡ n
+equal_by_order k n is = elim (nat_cmp k n) as (λ o. nat_cmp k n ≡ o → is_eq o ≡ true → k ≡ n) [
   | Less ↦ λ _ never. absurd (true≢false (sym never))
   | Equal ↦ λ same _. nat_cmp-IsAntisymmetric k n same
   | Greater ↦ λ _ never. absurd (true≢false (sym never))
@@ -144,7 +144,7 @@ begins_none row = refl
 
 -- a row that passes the test for a number has the number as its first column
 pub begins_key : (n : ℕ) (r : Row) → first_column_passes (is_number n) r ≡ true → take 1 r ≡ int n ∷ []
-begins_key n (Int (pos k) ∷ row) is = ap (λ k. int k ∷ []) (tied k n is)
+begins_key n (Int (pos k) ∷ row) is = ap (λ k. int k ∷ []) (equal_by_order k n is)
 begins_key n row is = absurd (true≢false (sym is))
 
 -- a row with a number as its first column passes the test for the number

@@ -16,8 +16,8 @@ use Rattle.atl_sql.specs.Rows.{HasRowsOf, amount_under}
 use Rattle.atl_sql.specs.Inside.{Inside, HasTables, Puts, Drops}
 use Rattle.atl_sql.specs.Marked.{of_kind}
 use Rattle.atl_store.specs.Rewriting.{FindsByNumbers, RewritesThings, is_thing}
-use Rattle.atl_store.proofs.HasTableLaws.{three_same, had_of, of_had}
-use Rattle.atl_store.proofs.RewriteLaws.{tied, is_itself, rewrites_key, kept_only}
+use Rattle.atl_store.proofs.HasTableLaws.{three_same, row_has_amount, amount_has_row}
+use Rattle.atl_store.proofs.RewriteLaws.{equal_by_order, is_itself, rewrites_key, kept_only}
 use Rattle.atl_store.proofs.WholeLaws.{inside_weaker}
 
 -- `of_kind` finds by "`f` or `g`" what it finds by `f` and by `g`, and nothing by a false test (`FindsByNumbers`)
@@ -51,7 +51,7 @@ module _ (unit : ℕ) (sort : ThingKind) (thing : ℕ) where
   key_of (Int (pos n) ∷ Int (pos number) ∷ Int (pos t) ∷ row) is =
       let one = and_parts _ _ is in
       let two = and_parts _ _ one.1 in
-      ap (λ k. has_key k number t) (tied n unit two.0) ∙ ap (λ k. has_key unit k t) (equals number (sort_number sort) one.0) ∙ ap (has_key unit (sort_number sort)) (tied t thing two.1)
+      ap (λ k. has_key k number t) (equal_by_order n unit two.0) ∙ ap (λ k. has_key unit k t) (equals number (sort_number sort) one.0) ∙ ap (has_key unit (sort_number sort)) (equal_by_order t thing two.1)
     where
       -- for `key_of`: two numbers that pass the test for equality are equal
       equals : (a b : ℕ) → (a == b) ≡ true → a ≡ b
@@ -82,7 +82,7 @@ module _ (unit : ℕ) (sort : ThingKind) (thing : ℕ) where
     -- a row of the campaign for this unit, kind and thing has the unit's amount, which is not 0
     wanted_here : (r : Row) → is_here r ≡ true → HasRowsOf c.units r → (amount ≢ 0) × (r ≡ row)
     wanted_here r here of =
-        let had = had_of c.units r of in
+        let had = row_has_amount c.units r of in
         let keys = three_same had.0 (sort_number had.1) had.2 unit (sort_number sort) thing (ap (take 3) (sym had.4) ∙ key_of r here) in
         let Determines : ℕ → ThingKind → ℕ → Type 0 = λ n s t. (amount_under c.units n s t ≢ 0) × (r ≡ has_row n (sort_number s) t (amount_under c.units n s t)) in
         let told : Determines unit sort thing = subst (λ n. Determines n sort thing) keys.0 (subst (λ s. Determines had.0 s thing) (same_sort had.1 sort keys.1) (subst (Determines had.0 had.1) keys.2 (had.3, had.4))) in
@@ -96,7 +96,7 @@ module _ (unit : ℕ) (sort : ThingKind) (thing : ℕ) where
     pub thing_put : amount ≢ 0 → (old new : State) → Inside HasTables (Puts has_table 3 row) old new → Inside HasTables (RewritesThings c sort (is_thing unit thing)) old new
     thing_put some old new did = inside_weaker HasTables (Puts has_table 3 row) (RewritesThings c sort (is_thing unit thing)) old new
         (λ has puts. rewrites_key is_here (λ r. take 3 r ≡ has_key unit (sort_number sort) thing) (λ r. r ≡ row) (HasRowsOf c.units) key_of of_key
-        (λ r same. (ap (take 3) same, subst (HasRowsOf c.units) (sym same) (of_had c.units unit sort thing amount is some)))
+        (λ r same. (ap (take 3) same, subst (HasRowsOf c.units) (sym same) (amount_has_row c.units unit sort thing amount is some)))
         (λ r here of. (wanted_here r here of).1)
         has_table old.now new.now puts.rows puts.others)
         did

@@ -100,20 +100,20 @@ own_row rows old was row key one made r = (
 
 module _ (text : List ℕ) (c : CampaignValue) (old mid new : Database) (first : AddsMarkets old mid) (second : UpgradesCampaignRow (campaign_row_of c) text mid new) (before : List ℕ) (held : HoldsIn First old.trees before c) (bare : HasNoStocks c) where
   -- after the table `market` is added, the other tables have the campaign's rows of the first format
-  was : (part : Part) → Has (parts_in First) part → HasExactly (rows_in (table_of part) mid.trees) (rows_for (campaign_row_in First (campaign_row_of c) before) c part)
-  was part there = subst (λ rows. HasExactly rows (rows_for (campaign_row_in First (campaign_row_of c) before) c part)) (sym (ap (map (visible (table_of part))) (first.others (table_of part) (has_map table_of (parts_in First) part there)))) (held.rows part there)
+  rows_between : (part : Part) → Has (parts_in First) part → HasExactly (rows_in (table_of part) mid.trees) (rows_for (campaign_row_in First (campaign_row_of c) before) c part)
+  rows_between part there = subst (λ rows. HasExactly rows (rows_for (campaign_row_in First (campaign_row_of c) before) c part)) (sym (ap (map (visible (table_of part))) (first.others (table_of part) (has_map table_of (parts_in First) part there)))) (held.rows part there)
 
   -- the campaign row of the second format, with the new text, was put
-  did : Puts campaign_table 1 (campaign_row (campaign_row_of c) text) mid new
-  did = second before (was Own (inl refl))
+  row_put : Puts campaign_table 1 (campaign_row (campaign_row_of c) text) mid new
+  row_put = second before (rows_between Own (inl refl))
 
   -- each table but `campaign` has the rows that it had after the table `market` was added
-  rest : (part : Part) → part ≢ Own → rows_in (table_of part) new.trees ≡ rows_in (table_of part) mid.trees
-  rest part other = ap (map (visible (table_of part))) (did.others (table_of part) (listed part) (λ same. other (same_part part Own same)))
+  other_tables_stay : (part : Part) → part ≢ Own → rows_in (table_of part) new.trees ≡ rows_in (table_of part) mid.trees
+  other_tables_stay part other = ap (map (visible (table_of part))) (row_put.others (table_of part) (listed part) (λ same. other (same_part part Own same)))
 
   -- each table of the first format but `campaign` still has the campaign's rows after the campaign row is changed
-  kept : (part : Part) → part ≢ Own → Has (parts_in First) part → HasExactly (rows_in (table_of part) new.trees) (rows_for (campaign_row_in First (campaign_row_of c) before) c part)
-  kept part other there = subst (λ rows. HasExactly rows (rows_for (campaign_row_in First (campaign_row_of c) before) c part)) (sym (rest part other)) (was part there)
+  rows_stay : (part : Part) → part ≢ Own → Has (parts_in First) part → HasExactly (rows_in (table_of part) new.trees) (rows_for (campaign_row_in First (campaign_row_of c) before) c part)
+  rows_stay part other there = subst (λ rows. HasExactly rows (rows_for (campaign_row_in First (campaign_row_of c) before) c part)) (sym (other_tables_stay part other)) (rows_between part there)
 
   -- after the campaign row is changed, the tables of the second format hold the campaign
   pub upgrade_held : Holds new.trees text c
@@ -121,9 +121,9 @@ module _ (text : List ℕ) (c : CampaignValue) (old mid new : Database) (first :
     where
       -- for `upgrade_held`: each part's table has the campaign's rows of the second format
       rows : (part : Part) → HasExactly (rows_in (table_of part) new.trees) (rows_for (campaign_line text c) c part)
-      rows Own = own_row _ _ (campaign_row_in First (campaign_row_of c) before) (campaign_line text c) refl (was Own (inl refl)) did.rows
-      rows Markets = λ r. (λ there. absurd (subst (λ l. Has l r) (rest Markets (λ e. absurd cc) ∙ ap (map (visible market_table)) first.empty) there), λ of. absurd (no_stocks c bare r of))
-      rows part = kept part (λ e. absurd cc) (in_first part (λ e. absurd cc))
+      rows Own = own_row _ _ (campaign_row_in First (campaign_row_of c) before) (campaign_line text c) refl (rows_between Own (inl refl)) row_put.rows
+      rows Markets = λ r. (λ there. absurd (subst (λ l. Has l r) (other_tables_stay Markets (λ e. absurd cc) ∙ ap (map (visible market_table)) first.empty) there), λ of. absurd (no_stocks c bare r of))
+      rows part = rows_stay part (λ e. absurd cc) (in_first part (λ e. absurd cc))
 
 -- adding the table `market`, and then changing the campaign row, writes the upgrade (`WritesUpgrade`)
 pub upgrade_done : (text : List ℕ) (c : CampaignValue) (start mid end : State) → Inside IsFirstFormat AddsMarkets start mid → Inside HasTables (UpgradesCampaignRow (campaign_row_of c) text) mid end → Inside IsFirstFormat (WritesUpgrade text c) start end

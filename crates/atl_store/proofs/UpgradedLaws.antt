@@ -35,9 +35,9 @@ use Rattle.atl_store.proofs.BareWorldLaws.{good_either}
 use Rattle.atl_store.proofs.StayLaws.{commits_keeps, leaves_spares, may_found}
 
 -- if a result is an error with this fault, what holds of the fault (`P`) holds of the result's error
-pub told_as : {A F : Type 0} (P : F → Type 0) (r : Result A F) (fault : F) → IsErrAnd r (λ f. f ≡ fault) → P fault → IfErr r P
-told_as P (Ok a) fault told p = tt
-told_as P (Err f) fault told p = subst P (sym told) p
+pub holds_of_error : {A F : Type 0} (P : F → Type 0) (r : Result A F) (fault : F) → IsErrAnd r (λ f. f ≡ fault) → P fault → IfErr r P
+holds_of_error P (Ok a) fault told p = tt
+holds_of_error P (Err f) fault told p = subst P (sym told) p
 
 -- a fault of loading in the first format makes a check of the upgrade fail (`FailsCheck`)
 pub unloaded : {S : Type 0} (g : Ghosts S) (text : List ℕ) (old mid : Held S) (fault : LoadFault) → RefusesToLoadIn First g old fault → FailsCheck g text old mid (first_fault fault)
@@ -70,7 +70,7 @@ module _ {S : Type 0} (g : Ghosts S) (text : List ℕ) (old mid : Held S) (alone
   pub matched : (w : WorldValue) (c : MarkedCampaign) → IsReadyToUpgrade g text old mid w c → Matches (state g old) text w c.value
   matched w c ready = record {
     world = ready.world;
-    was = subst (λ v. HoldsOld (state g old) v c.value) (sym (bare_before ready.before c ready.loads) ∙ sym ready.same) (loaded_old ready.before c ready.loads);
+    held = subst (λ v. HoldsOld (state g old) v c.value) (sym (bare_before ready.before c ready.loads) ∙ sym ready.same) (loaded_old ready.before c ready.loads);
   }
 
   -- a new world that differs from the old one in more than markets makes a check fail (`HasOtherWorld`)
@@ -79,8 +79,8 @@ module _ {S : Type 0} (g : Ghosts S) (text : List ℕ) (old mid : Held S) (alone
     world = w;
     before = before;
     campaign = c.value;
-    was = loaded_old before c loads;
-    is = is;
+    held = loaded_old before c loads;
+    reads_as = is;
     differs = λ same. differs (same ∙ sym (bare_before before c loads));
   }
 
@@ -157,7 +157,7 @@ module _ {S : Type 0} (g : Ghosts S) (text : List ℕ) (old mid new : Held S) (w
       → Upgrades g text old new w c
   upgrades settled just done survives over = record {
     world = ready.world;
-    was = λ clean. (matched g text old mid alone (before survives clean) w c ready).was;
+    held_before = λ clean. (matched g text old mid alone (before survives clean) w c ready).held;
     bare = ready.loads.fits.stocks;
     tables = λ clean.
         let clean_mid = before survives clean in

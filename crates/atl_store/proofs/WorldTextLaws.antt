@@ -21,12 +21,12 @@ has_own Second = inl refl
 
 -- if the table `campaign` has just the campaign row with this text, the world text of the tables is this one
 text_held : (f : Format) (s : State) (text : List ℕ) (c : CampaignValue) → HasExactly (rows_in campaign_table s.now.trees) (λ r. r ≡ campaign_row_in f (campaign_row_of c) text) → world_text s ≡ text
-text_held f s text c holds = of (rows_in campaign_table s.now.trees) holds
+text_held f s text c holds = text_in_rows (rows_in campaign_table s.now.trees) holds
   where
     -- for `text_held`: if a list of rows has only the campaign row with this text, its world text is this one
-    of : (rows : List Row) → HasExactly rows (λ r. r ≡ campaign_row_in f (campaign_row_of c) text) → world_in rows ≡ text
-    of [] is = absurd ((is (campaign_row_in f (campaign_row_of c) text)).1 refl)
-    of (r ∷ rows) is = ap (λ (x : Row). world_in (x ∷ [])) ((is r).0 (inl refl))
+    text_in_rows : (rows : List Row) → HasExactly rows (λ r. r ≡ campaign_row_in f (campaign_row_of c) text) → world_in rows ≡ text
+    text_in_rows [] is = absurd ((is (campaign_row_in f (campaign_row_of c) text)).1 refl)
+    text_in_rows (r ∷ rows) is = ap (λ (x : Row). world_in (x ∷ [])) ((is r).0 (inl refl))
 
 -- if a connection keeps a campaign with this text, its tables' world text is this one
 pub world_text_is : (s : State) (text : List ℕ) (c : CampaignValue) → Keeps s text c → world_text s ≡ text

@@ -89,7 +89,7 @@ pub record HaveRows (f : Format) (db : Trees) (text : List ℕ) (p : Parts) : Ty
 -- Its world text is UTF-8 and reads as the world `w`.
 pub record AreOwnRow (f : Format) (rows : List Row) (h : StoredCampaignRow) (text : List ℕ) (w : WorldValue) : Type 0 where
   -- the SELECT of `campaign` shows one row, whose first columns show `h` and the world text
-  pub is : map (first_columns (length campaign_forms)) rows ≡ own_stored text h ∷ []
+  pub shown : map (first_columns (length campaign_forms)) rows ≡ own_stored text h ∷ []
   -- the id of the campaign row is 1
   pub id : h.id ≡ pos 1
   -- the format of the campaign row is `f`

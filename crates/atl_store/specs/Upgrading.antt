@@ -40,7 +40,7 @@ pub record Matches (s : State) (text : List ℕ) (w : WorldValue) (c : CampaignV
   -- the new text reads as the world `w`
   pub world : world_of text ≡ Ok w
   -- the tables hold the campaign in the first format, with a text of `w` without markets
-  pub was : HoldsOld s (without_markets w) c
+  pub held : HoldsOld s (without_markets w) c
 
 -- a crash leaves what it could have left before, or the upgraded campaign with the new text
 abbrev pub MayUpgrade : State → List ℕ → State → Type 0
@@ -53,7 +53,7 @@ module _ {S : Type 0} (g : Ghosts S) (text : List ℕ) (old new : Held S) where
     -- the new text reads as the world `w`
     pub world : world_of text ≡ Ok w
     -- if the disk is clean, the tables held the campaign in the first format, with a text of `w` without markets
-    pub was : HasCleanDisk (state g new) → HoldsOld (state g old) (without_markets w) c.value
+    pub held_before : HasCleanDisk (state g new) → HoldsOld (state g old) (without_markets w) c.value
     -- nothing is in stock
     pub bare : HasNoStocks c.value
     -- the connection keeps the campaign, with the new text
@@ -111,9 +111,9 @@ module _ {S : Type 0} (g : Ghosts S) (text : List ℕ) (old new : Held S) where
     -- the campaign that the tables hold
     pub campaign : CampaignValue
     -- the tables hold the campaign in the first format, with a text of the world `before`
-    pub was : HoldsOld (state g old) before campaign
+    pub held : HoldsOld (state g old) before campaign
     -- the new text reads as `world`
-    pub is : world_of text ≡ Ok world
+    pub reads_as : world_of text ≡ Ok world
     -- `world` without markets is not the world `before`
     pub differs : without_markets world ≢ before
 

@@ -52,7 +52,7 @@ fn write_founding<S: Alter>(
 }
 
 /// Whether the schema has a table `campaign`.
-fn is_there(schema: &Schema) -> bool
+fn has_campaign_table(schema: &Schema) -> bool
     ensures { result ≡ has_campaign schema.now }
 {
     let mut tables = schema.tables.as_slice().iter();
@@ -98,7 +98,7 @@ pub fn create<S: Alter>(
     ensures unmarked { OnOk result (campaign.new ≡ record campaign.old { marks = no_marks }) }
     ensures spared { OnErr result (campaign.new ≡ campaign.old) }
 {
-    if is_there(conn.schema()) {
+    if has_campaign_table(conn.schema()) {
         return Err(CreateFault::NotEmpty);
     }
     if !is_ready(conn) {

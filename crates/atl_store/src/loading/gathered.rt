@@ -51,7 +51,7 @@ pub(crate) trait AllRows: Drop + Sized {
 
 /// Turns the result of reading one table into its rows, None if a value is of another type than its
 /// column, or the fault of loading.
-fn kept<T: Drop>(rows: Result<Vec<T>, ReadFault>) -> Result<Option<Vec<T>>, LoadFault>
+fn rows_or_none<T: Drop>(rows: Result<Vec<T>, ReadFault>) -> Result<Option<Vec<T>>, LoadFault>
     ensures { result ≡ rows_or_none rows }
 {
     match rows {
@@ -77,7 +77,7 @@ impl<A: HasSelect> AllRows for Vec<A> {
         alloc: Global,
         conn: &mut Connection<S>,
     ) -> Result<Option<Vec<A>>, LoadFault> {
-        kept(A::read(alloc, conn))
+        rows_or_none(A::read(alloc, conn))
     }
 
     /// No rows of the table: an empty list.

@@ -35,7 +35,7 @@ fn own_fault(fault: ReadFault) -> LoadFault
 }
 
 /// The only row of a list of one, else None.
-fn only(mut rows: Vec<StoredCampaign>) -> Option<StoredCampaign>
+fn only_row(mut rows: Vec<StoredCampaign>) -> Option<StoredCampaign>
     ensures { result ≡ only_of rows.items }
 {
     let last = rows.pop();
@@ -80,7 +80,7 @@ fn check_own_rows(
 ) -> Result<(StoredCampaign, World), LoadFault>
     ensures { JudgesOwn format rows.items result }
 {
-    let Some(own) = only(rows) else {
+    let Some(own) = only_row(rows) else {
         return Err(LoadFault::Damaged(Rule::OneRow));
     };
     if !is_own(&own.head, format) {
@@ -102,7 +102,7 @@ fn own_of(alloc: Global, rows: &[Row], format: Format) -> Result<(StoredCampaign
 }
 
 /// The other one of the two formats: a single campaign row of it is OtherFormat, not Damaged.
-fn other(format: Format) -> Format
+fn other_format(format: Format) -> Format
     ensures { result ≡ other_format format }
 {
     match format {
@@ -112,7 +112,7 @@ fn other(format: Format) -> Format
 }
 
 /// Whether a row of `campaign` has the number of this format in its second column, `format`.
-fn says(row: &Row, format: Format) -> bool
+fn has_format(row: &Row, format: Format) -> bool
     ensures { IsTrue result ↔ (column row.now 1 ≡ int (format_number format)) }
 {
     match row.get_ref(1) {
@@ -125,7 +125,7 @@ fn says(row: &Row, format: Format) -> bool
 fn is_other(rows: &[Row], format: Format) -> bool
     ensures { IsTrue result ↔ (IsOther format rows.now) }
 {
-    rows.len() == 1 && says(&rows[0], other(format))
+    rows.len() == 1 && has_format(&rows[0], other_format(format))
 }
 
 /// The campaign row and its world, from the rows that SQL shows of `campaign`; OtherFormat if there

@@ -58,7 +58,7 @@ returns-clause-ok g c =
     let same : c.unmark.new.self.value ≡ c.store_first_report.new.campaign.value = ap (λ (m : MarkedCampaign). m.value) c.unmark.ensures in
     record {
       step_is = rw (same, done) (steps_on w old c.args.name.now c.args.pass.now c.args.word c.join.new.self.value c.in-Ok.numbers.0 c.in-Ok.numbers.1 (cc) (cc) is);
-      sound = tt;
+      no_fault = tt;
       same = tt;
       good = rw (same, done) (IsGood-joined w c.args.name.now c.args.pass.now c.args.word old c.join.new.self.value c.in-Ok.numbers.0 c.in-Ok.numbers.1 _ is c.requires.good c.join.ensures.sound);
       tables = λ clean text keeps. rw same (c.in_ok-write_join.ensures.ok clean text old keeps (rw done is_joining));

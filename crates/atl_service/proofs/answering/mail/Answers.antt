@@ -19,7 +19,7 @@ returns-clause-ok g c =
     let done : c.unmark.new.self.value ≡ with_mail old c.args.faction c.args.text.now = ap (λ (m : MarkedCampaign). m.value) c.unmark.ensures ∙ c.in_ok-set_mail.ensures.ok ∙ ap (with_mail old c.args.faction) (c.into_parts-kept.ensures.text ∙ c.in-Ok.ensures.text) in
     record {
       step_is = rw (done, c.len-orders.ensures, c.into_parts-kept.ensures.faults) c.in-Ok.ensures.step;
-      sound = tt;
+      no_fault = tt;
       same = tt;
       good = rw done (IsGood-with_mail c.args.world.now old c.args.faction c.args.text.now c.in-Ok.ensures.own c.in-Ok.ensures.active c.requires.good);
       tables = λ clean text keeps. rw done (rw c.as_slice.ensures at (c.in_ok-write_mail.ensures.ok clean text old keeps));

@@ -43,7 +43,7 @@ returns-clause-ok g c =
     let written : c.write_changes.new.campaign.value ≡ after = ap (λ (m : MarkedCampaign). m.value) c.in_ok-write_changes.ensures.done in
     record {
       step_is = rw (written, done.0) c.in_default.ensures.ok.step_is;
-      sound = tt;
+      no_fault = tt;
       same = tt;
       good = rw written done.1;
       tables = λ clean text keeps. rw written (c.in_ok-write_changes.ensures.ok clean text old keeps marks.covers);

@@ -2,12 +2,12 @@ use Rattle.std.proofs.Common.{Some, true, sym, ap, subst}
 use Rattle.atl_campaign.specs.Campaign.{CampaignValue, MarkedCampaign}
 use Rattle.atl_service.specs.Service.{IsConsistent}
 use Rattle.atl_service.specs.Found.{Founds}
-use Rattle.atl_service.proofs.FoundServiceLaws.{spared, founded_consistent, founds_on, refused_by_store}
+use Rattle.atl_service.proofs.FoundServiceLaws.{refuses_unchanged, founded_consistent, founds_on, refused_by_store}
 use Rattle.atl_service.proofs.service.found.Goals as goal
 
 -- if world and campaign can't be made, founding is rightly refused, and the connection unchanged (`RefusesFounding`)
 pub returns-in-Err-clause-err : goal.returns-in-Err-clause-err
-returns-in-Err-clause-err g c = spared g.S.Store c.args.conn c.args.world_text.now c.args.pass.now c.in-Err.why c.in-Err.ensures.err
+returns-in-Err-clause-err g c = refuses_unchanged g.S.Store c.args.conn c.args.world_text.now c.args.pass.now c.in-Err.why c.in-Err.ensures.err
 
 -- the service of the founded campaign is consistent, and its dirty set empty (`IsService`)
 pub opened-requires : goal.opened-requires

@@ -12,7 +12,7 @@ returns-clause-ok g c =
     let old = state g.S.Store c.args.conn.now in
     let new = state g.S.Store c.write_founding.new.conn in
     record {
-      fresh = not_there g.S.Store c.args.conn.now c.schema.result.now _ c.schema.ensures.value c.is_there.ensures c.if-is_there.false;
+      fresh = not_there g.S.Store c.args.conn.now c.schema.result.now _ c.schema.ensures.value c.has_campaign_table.ensures c.if-has_campaign_table.false;
       idle = c.write_founding.ensures.idle;
       tables = λ clean. commits_keeps old new c.args.world_text.now (λ db up. g.met.S.Store.settled c.write_founding.new.conn.store db up) IsBlank (WritesFounding c.args.world_text.now c.args.campaign.now.value) c.args.campaign.now.value (c.in_ok-write_founding.ensures.ok clean)
           (c.is_ready.ensures.ready.0 c.if-not-is_ready.false).0 (λ did. did);
@@ -25,7 +25,7 @@ returns-in_err-write_founding-clause-err g c =
     let new = state g.S.Store c.write_founding.new.conn in
     let ready = c.is_ready.ensures.ready.0 c.if-not-is_ready.false in
     let fails : FailsToCreate g.S.Store c.args.world_text.now c.args.campaign.now.value c.args.conn.now c.write_founding.new.conn = record {
-      fresh = not_there g.S.Store c.args.conn.now c.schema.result.now _ c.schema.ensures.value c.is_there.ensures c.if-is_there.false;
+      fresh = not_there g.S.Store c.args.conn.now c.schema.result.now _ c.schema.ensures.value c.has_campaign_table.ensures c.if-has_campaign_table.false;
       tables = λ clean. leaves_spares old new _ clean (c.in_err-write_founding.ensures.err clean) c.write_founding.ensures.crash ready.1 (c.is_ready.ensures.settled c.if-not-is_ready.false);
       crash = λ clean. may_found old new c.args.world_text.now c.args.campaign.now.value IsBlank (WritesFounding c.args.world_text.now c.args.campaign.now.value) ready.0 (λ db did. did) clean c.write_founding.ensures.crash;
     } in
@@ -35,7 +35,7 @@ returns-in_err-write_founding-clause-err g c =
 pub returns-then-not-is_ready-clause-err : goal.returns-then-not-is_ready-clause-err
 returns-then-not-is_ready-clause-err g c = (
   record {
-    fresh = not_there g.S.Store c.args.conn.now c.schema.result.now _ c.schema.ensures.value c.is_there.ensures c.if-is_there.false;
+    fresh = not_there g.S.Store c.args.conn.now c.schema.result.now _ c.schema.ensures.value c.has_campaign_table.ensures c.if-has_campaign_table.false;
     tables = λ clean. spares_itself (state g.S.Store c.args.conn.now);
     crash = λ clean db may. inl may;
   },

@@ -1,7 +1,7 @@
 use Rattle.std.proofs.Common.{refl}
 use Rattle.atl_sql.specs.Tables.{Goods}
 use Rattle.atl_store.specs.OwnStatements.{changes_row, puts_row, drops_row}
-use Rattle.atl_store.proofs.HasTableLaws.{of_had}
+use Rattle.atl_store.proofs.HasTableLaws.{amount_has_row}
 use Rattle.atl_store.proofs.ThingLaws.{no_thing, thing_put, thing_dropped}
 use Rattle.atl_sql.proofs.WriteLaws.{weaker, among_only}
 use Rattle.atl_store.proofs.things.rewrite_thing.Goals as goal
@@ -12,7 +12,7 @@ returns g c =
     let campaign = c.args.campaign.now.value in
     let amount = c.amount_of-amount in
     weaker g.S.Store (thing_put c.args.unit c.args.sort c.args.thing campaign amount.result amount.ensures c.if-amount-eq0.false)
-    (among_only g.S.Store _ _ (changes_row (puts_row Goods (λ own. of_had campaign.units c.args.unit c.args.sort c.args.thing amount.result amount.ensures c.if-amount-eq0.false))) c.put_has.ensures)
+    (among_only g.S.Store _ _ (changes_row (puts_row Goods (λ own. amount_has_row campaign.units c.args.unit c.args.sort c.args.thing amount.result amount.ensures c.if-amount-eq0.false))) c.put_has.ensures)
 
 -- deleting the row of an amount of 0 rewrites the unit's item or skill, with a statement of a change
 pub returns-then-amount-eq0 : goal.returns-then-amount-eq0

@@ -1,7 +1,7 @@
 use Rattle.std.proofs.Common.{refl}
 use Rattle.atl_sql.specs.Tables.{Markets}
 use Rattle.atl_store.specs.OwnStatements.{changes_row, puts_row, drops_row}
-use Rattle.atl_store.proofs.MarketLaws.{had_stock, no_stock, stock_put, stock_dropped}
+use Rattle.atl_store.proofs.MarketLaws.{stock_has_row, no_stock, stock_put, stock_dropped}
 use Rattle.atl_sql.proofs.WriteLaws.{weaker, among_only}
 use Rattle.atl_store.proofs.markets.SingleStocksSingleAmounts.rewrite_single.Goals as goal
 
@@ -11,7 +11,7 @@ returns g c =
     let campaign = c.args.campaign.now.value in
     let stock = c.stock-stock in
     weaker g.S.Store (stock_put c.args.owner c.args.number campaign stock.result stock.ensures c.if-stock-eq0.false)
-    (among_only g.S.Store _ _ (changes_row (puts_row Markets (λ own. had_stock campaign.regions c.args.owner c.args.number stock.result stock.ensures c.if-stock-eq0.false))) c.put_stock.ensures)
+    (among_only g.S.Store _ _ (changes_row (puts_row Markets (λ own. stock_has_row campaign.regions c.args.owner c.args.number stock.result stock.ensures c.if-stock-eq0.false))) c.put_stock.ensures)
 
 -- deleting the row of a stock of 0 rewrites the stock, with a statement of a change
 pub returns-then-stock-eq0 : goal.returns-then-stock-eq0
