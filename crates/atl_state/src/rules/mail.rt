@@ -30,7 +30,5 @@ fn is_mailing_of_active(campaign: &Campaign, number: u32, text: &Sequence<u8>) -
 pub(crate) fn are_mailings(campaign: &Campaign) -> bool
     ensures { IsTrue result ↔ (IsMail campaign.now.value) }
 {
-    campaign
-        .mail()
-        .all(|(number, text)| is_mailing_of_active(campaign, number, text))
+    campaign.mail().all(|(number, text)| is_mailing_of_active(campaign, number, text))
 }
