@@ -18,14 +18,13 @@ use Rattle.atl_records.specs.declared.records.Unit.{Unit}
 use Rattle.atl_records.specs.Every.{Every}
 use Rattle.atl_campaign.specs.Good.{AreAfloat, AreInRange, AreKnown, AreNumbered, AreOfOneFaction, AreOwned, GoneHaveNone, IsPlaced, IsSteady, guards}
 use Rattle.atl_records.specs.Holdings.{HoldingValue, IsHolding, has_amount, with_amount_of}
-use Rattle.atl_campaign.specs.Lending.{after_loan, with_holding_at}
-use Rattle.atl_campaign.specs.Marking.{mark_item, mark_skill, mark_unit_row, whole_marked}
+use Rattle.atl_campaign.specs.Marking.{mark_item, mark_skill, mark_unit_row}
 use Rattle.atl_campaign.specs.Marks.{thing_marked}
 use Rattle.atl_campaign.specs.Roster.{unless_has}
 use Rattle.atl_campaign.specs.Campaign.{MarkedCampaign, CampaignValue, unit_changed, with_item, with_skill}
 use Rattle.atl_records.specs.Amounts.{region_amount, unit_amount}
 use Rattle.atl_campaign.specs.Totals.{total}
-use Rattle.atl_campaign.proofs.CoverLaws.{Items, Rows, Skills, Stays, KeepsUnmarked, Units, apart_by, apart_by_thing, changed_there, marks-refl, marks-unit, part_by_part, put_stays, shown_still, thing_stays}
+use Rattle.atl_campaign.proofs.CoverLaws.{Items, Rows, Skills, Stays, KeepsUnmarked, Units, apart_by, apart_by_thing, changed_there, marks-refl, part_by_part, put_stays, shown_still, thing_stays}
 use Rattle.atl_records.proofs.EveryLaws.{every-insert, get-insert_other, none_some, there-insert}
 use Rattle.atl_records.proofs.HoldingLaws.{get-set_other, set_again}
 use Rattle.atl_campaign.proofs.RegionLaws.{get-insert_same, same_len}

@@ -1,18 +1,12 @@
 -- A law of markets: an item that has a market in a region is one of the world's items.
-use Rattle.std.proofs.Common.{◌≡◌, ℕ, ◌<◌, Option, Some, None, is_some, IsSome, length, true, refl, sym, ap, ◌∙◌, arith}
-use Rattle.std.specs.Prelude.{option_and_then, option_map}
+use Rattle.std.proofs.Common.{◌≡◌, ℕ, ◌<◌, Option, Some, None, is_some, IsSome, length, true, refl, arith}
+use Rattle.std.specs.Prelude.{option_and_then}
 use Rattle.std.proofs.lemmas.Bool.{false≢true}
-use Rattle.std.specs.Ordering.{nat_cmp}
-use Rattle.std.specs.Cmp.{nat_cmp_total}
-use Rattle.std.specs.FinMap.{FinMap, empty, get, get-empty, nat_cmp-IsAntisymmetric, same_map}
+use Rattle.std.specs.FinMap.{get}
 use Rattle.atl_world.specs.ByNumber.{market_of}
-use Rattle.atl_world.specs.Worlds.{IsWorld, WorldValue, without_market, without_markets}
+use Rattle.atl_world.specs.Worlds.{IsWorld, WorldValue}
 use Rattle.atl_world.specs.declared.world.Market.{Market}
 use Rattle.atl_world.specs.declared.world.RegionPlan.{RegionPlan}
-use Rattle.atl_world.proofs.MappedLaws.{get-mapped}
-use Rattle.atl_campaign.specs.Campaign.{CampaignValue}
-use Rattle.atl_campaign.specs.Good.{AreKnown, HasNoStocks}
-use Rattle.atl_campaign.proofs.RuleLaws.{free_from}
 
 -- an item that has a market in a region is one of the world's items
 pub market_known : (w : WorldValue) → IsWorld w → (n i : ℕ) → IsSome (market_of w n i) → i < length w.items

@@ -16,7 +16,7 @@ use Rattle.atl_http.specs.declared.request.Progress.TheVariants.{Lacks, Ends}
 use Rattle.atl_http.specs.declared.request.Verdict.TheVariants.{More, Refused}
 use Rattle.atl_http.specs.Checks.{head_checks, verdict_with_body, verdict_of}
 use Rattle.atl_http.specs.Finding.{field_pairs, EndsAs}
-use Rattle.atl_http.specs.Heads.{most_head, most_fields, HasHead, IsRefused, IsUnfinished, Judges, whole, too_long, refused, unfinished, ComesTo, verdict_by}
+use Rattle.atl_http.specs.Heads.{most_head, most_fields, HasHead, IsRefused, IsUnfinished, Judges, whole, refused, unfinished, ComesTo, verdict_by}
 
 -- the first 8,192 bytes of an input followed by all later ones are the input
 front_and_rest : (input : List ℕ) → take most_head input ++ drop most_head input ≡ input

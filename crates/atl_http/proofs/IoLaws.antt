@@ -1,5 +1,5 @@
 -- Laws on reading and writing in pieces: the bytes read or written so far, with those of one more call.
-use Rattle.std.proofs.Common.{◌≡◌, ℕ, ◌+◌, ◌-◌, ◌≤◌, ◌<◌, List, [], ◌++◌, length, take, drop, Option, Some, None, sym, ap, ◌∙◌, subst, inr, arith}
+use Rattle.std.proofs.Common.{◌≡◌, ℕ, ◌+◌, ◌-◌, ◌<◌, List, [], ◌++◌, length, take, drop, Option, Some, None, sym, ap, ◌∙◌, subst, inr, arith}
 use Rattle.std.specs.Io.KnownBytes.{Keeps, Appends, Consumes}
 use Rattle.std.proofs.lemmas.List.{append_assoc, append-nil, length-append}
 use Rattle.std.specs.Prelude.{Ok, Err}
@@ -10,7 +10,7 @@ use Rattle.atl_http.specs.Heads.{Judges, IsReadSoFar, IsShortBy, ComesTo}
 use Rattle.atl_http.specs.declared.request.Progress.{Progress}
 use Rattle.atl_http.specs.declared.request.Progress.TheVariants.{Lacks}
 use Rattle.atl_http.specs.Io.{ReadsMore, Receives}
-use Rattle.std.proofs.Math.Seq.{take-add, take-length}
+use Rattle.std.proofs.Math.Seq.{take-add}
 
 -- if the bytes `seen` were read from `before` to `between`, and `piece` from there to `after`, then `seen ++ piece` was
 -- read from `before` to `after` (`Consumes`)

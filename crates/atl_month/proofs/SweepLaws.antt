@@ -36,7 +36,6 @@ use Rattle.atl_records.proofs.RemovedLaws.{get-remove_other, still}
 use Rattle.atl_campaign.proofs.NumberListLaws.{IsListed, listed_passing}
 use Rattle.atl_campaign.proofs.LeavingLaws.{only_reduced, steady-without, total-without}
 use Rattle.atl_month.proofs.PassingLaws.{Owes, PassesOn, pass_items, pass_money, passes-trans, pass_item}
-use Rattle.std.specs.Option.{option_map_or}
 use Rattle.atl_instant.specs.Quit.{loss_under}
 
 -- ---- how much of each thing a unit passes on

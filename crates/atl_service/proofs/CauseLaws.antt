@@ -1,5 +1,5 @@
 -- Laws on the cause of a fault: for Memory a call of the write ran out of memory, for Store it gave another error.
-use Rattle.std.proofs.Common.{◌≡◌, ◌≢◌, Bool, true, false, cond, Result, Ok, Err, IfErr, refl, sym, subst, inl, inr}
+use Rattle.std.proofs.Common.{◌≡◌, ◌≢◌, Bool, true, false, cond, Result, Ok, Err, IfErr, refl, sym, subst, inr}
 use Rattle.std.specs.Prelude.{IsErrAnd}
 use Rattle.sqlite_trees.specs.declared.store.Store.{Ghosts}
 use Rattle.sqlite.specs.Held.{Held, state}

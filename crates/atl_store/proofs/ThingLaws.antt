@@ -1,5 +1,5 @@
 -- Laws on writing a single item or skill of a unit: its row alone is put or deleted.
-use Rattle.std.proofs.Common.{◌≡◌, ◌≢◌, ◌==◌, ◌&&◌, ◌||◌, ℕ, pos, Bool, true, false, [], ◌∷◌, take, refl, sym, ap, ◌∙◌, subst, inr, true≢false, arith}
+use Rattle.std.proofs.Common.{◌≡◌, ◌≢◌, ◌==◌, ◌||◌, ℕ, pos, Bool, true, false, [], ◌∷◌, take, refl, sym, ap, ◌∙◌, subst, inr, true≢false, arith}
 use Rattle.std.proofs.lemmas.Bool.{and_parts, and_from}
 use Rattle.std.proofs.lemmas.Bool.Decides.{nat_tests}
 use Rattle.std.proofs.Math.Bool.{and-false, and-or_distrib_left}

@@ -1,8 +1,7 @@
 -- The statements that each write may run, with the values of their parameters.
-use Rattle.std.specs.Prelude.{◌≡◌, ◌≢◌, ◌+◌, ℕ, pos, List, [], ◌∷◌, Some, length, map, take}
+use Rattle.std.specs.Prelude.{◌≡◌, ◌≢◌, ◌+◌, ℕ, pos, List, [], ◌∷◌, Some, length, take}
 use Rattle.std.specs.FinMap.{get}
 use Rattle.sqlite.specs.Order.{Row}
-use Rattle.sqlite_rules.specs.Lists.{Has}
 use Rattle.atl_campaign.specs.Campaign.{CampaignValue}
 use Rattle.atl_records.specs.Books.{amount_in, entry_index, thing_index}
 use Rattle.atl_records.specs.declared.books.Entry.{Entry}
@@ -11,11 +10,10 @@ use Rattle.atl_records.specs.declared.books.Thing.{Thing}
 use Rattle.atl_records.specs.declared.books.Thing.TheVariants.{Money, People}
 use Rattle.atl_records.specs.declared.records.Faction.{Faction}
 use Rattle.atl_records.specs.declared.records.Unit.{Unit}
-use Rattle.atl_sql.specs.Sets.{Set}
 use Rattle.atl_sql.specs.Shown.{int, campaign_row_values, mail_row, report_row, books_key, books_row}
 use Rattle.atl_sql.specs.Rows.{campaign_row_of, faction_line, unit_line, rows_for}
 use Rattle.atl_sql.specs.Statements.{Statements, Only, Creations, campaign_upsert, upgrading_upsert, deletion, upsert}
-use Rattle.atl_sql.specs.Tables.{Part, Markets, all_parts, books_table, creation_of, faction_table, IsGroupedPart, key_of, mail_table, report_table, table_of, unit_table}
+use Rattle.atl_sql.specs.Tables.{Part, Markets, books_table, creation_of, faction_table, IsGroupedPart, key_of, mail_table, report_table, table_of, unit_table}
 
 -- the statement that writes an amount of the books: puts the amount's row, or deletes the row if the amount is 0
 pub data OfAmount (c : CampaignValue) (entry : Entry) (thing : Thing) : List ℕ → Row → Type 0 where
