@@ -27,10 +27,10 @@ impl Work for MakeBooksText {
 }
 
 /// The subcommand `books`, which prints the books of a campaign.
-pub struct Books;
+pub struct ShowBooks;
 
 /// Prints the books of the campaign in the file `--db`.
-impl Subcommand for Books {
+impl Subcommand for ShowBooks {
     const NAME: &'static str = "books";
 
     // What the help says of `books`.

@@ -40,7 +40,7 @@ type All = (
                     close::Close,
                     (
                         report::Report,
-                        (books::Books, (serve::Serve, (upgrade::Upgrade, ()))),
+                        (books::ShowBooks, (serve::Serve, (upgrade::Upgrade, ()))),
                     ),
                 ),
             ),

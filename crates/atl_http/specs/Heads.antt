@@ -6,8 +6,8 @@ use Rattle.httparse.specs.Spans.{RequestExceeds, RequestOverflows}
 use Rattle.atl_http.specs.declared.problem.Problem.TheVariants.{BadRequest}
 use Rattle.atl_http.specs.declared.request.Verdict.{Verdict}
 use Rattle.atl_http.specs.declared.request.Verdict.TheVariants.{More, Refused, Asks}
-use Rattle.atl_http.specs.declared.request.Outcome.{Outcome}
-use Rattle.atl_http.specs.declared.request.Outcome.TheVariants as outcome
+use Rattle.atl_http.specs.declared.request.FinalVerdict.{FinalVerdict}
+use Rattle.atl_http.specs.declared.request.FinalVerdict.TheVariants as outcome
 use Rattle.atl_http.specs.declared.request.Progress.{Progress}
 use Rattle.atl_http.specs.declared.request.Progress.TheVariants as progress
 use Rattle.atl_http.specs.Checks.{verdict_of}
@@ -65,7 +65,7 @@ IsFinal (Refused problem) = ⊤
 IsFinal (Asks asked) = ⊤
 
 -- the verdict of an outcome: refused, or asking for a command
-abbrev pub final : Outcome → Verdict
+abbrev pub final : FinalVerdict → Verdict
 final (outcome.Refused problem) = Refused problem
 final (outcome.Asks asked) = Asks asked
 

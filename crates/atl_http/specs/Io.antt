@@ -9,7 +9,7 @@ use Rattle.atl_http.specs.declared.dice.Dice.{Dice}
 use Rattle.atl_http.specs.declared.message.Message.{Message}
 use Rattle.atl_http.specs.declared.io.HttpFault.{HttpFault}
 use Rattle.atl_http.specs.declared.io.HttpFault.TheVariants.{Cut, ReadFault, WriteFault, Memory}
-use Rattle.atl_http.specs.declared.request.Outcome.{Outcome}
+use Rattle.atl_http.specs.declared.request.FinalVerdict.{FinalVerdict}
 use Rattle.atl_http.specs.declared.request.Verdict.TheVariants.{More}
 use Rattle.atl_http.specs.Heads.{Judges, IsReadSoFar, final, most_at_once}
 use Rattle.atl_http.specs.Replies.{Reply, bytes_of}
@@ -28,7 +28,7 @@ ReadsMore before after old new (Err Memory) = ⊤
 
 -- The bytes `seen` were read, and no more than needed: their verdict is the outcome, or More if the input ended or a
 -- read failed. Memory leaves open what was read.
-abbrev pub Receives : (before after : Option (List ℕ)) → (seen : List ℕ) → Result Outcome HttpFault → Type 0
+abbrev pub Receives : (before after : Option (List ℕ)) → (seen : List ℕ) → Result FinalVerdict HttpFault → Type 0
 Receives before after seen (Ok outcome) = Consumes before after seen × IsReadSoFar seen × Judges seen (final outcome)
 Receives before after seen (Err Cut) = Consumes before after seen × Judges seen More × IsAtEnd after
 Receives before after seen (Err ReadFault) = Consumes before after seen × Judges seen More
@@ -51,6 +51,6 @@ Sends before after bytes (Err WriteFault) = (count : ℕ) × (count < length byt
 Sends before after bytes (Err Memory) = ⊥
 
 -- The message is the reply to the outcome. If memory ran out there is no message, and the command has been run or not.
-abbrev pub RepliesWith : {S : Type 0} → Ghosts S → Dice → (old : ServiceValue S) → Outcome → Result Message AllocError → (new : ServiceValue S) → Type 0
+abbrev pub RepliesWith : {S : Type 0} → Ghosts S → Dice → (old : ServiceValue S) → FinalVerdict → Result Message AllocError → (new : ServiceValue S) → Type 0
 RepliesWith g dice old outcome (Ok message) new = (reply : Reply) × Says reply message × IsReply g dice old outcome reply new
 RepliesWith g dice old outcome (Err e) new = (new ≡ old) ⊎ ((reply : Reply) × IsReply g dice old outcome reply new)

@@ -14,8 +14,8 @@ use Rattle.atl_http.specs.declared.io.HttpFault.{HttpFault}
 use Rattle.atl_http.specs.declared.io.HttpFault.TheVariants.{Cut, ReadFault, WriteFault, Memory}
 use Rattle.atl_http.specs.declared.request.Request.{Request}
 use Rattle.atl_http.specs.declared.request.Request.TheVariants.{Join, Orders, Close, Report}
-use Rattle.atl_http.specs.declared.request.Outcome.{Outcome}
-use Rattle.atl_http.specs.declared.request.Outcome.TheVariants.{Refused, Asks}
+use Rattle.atl_http.specs.declared.request.FinalVerdict.{FinalVerdict}
+use Rattle.atl_http.specs.declared.request.FinalVerdict.TheVariants.{Refused, Asks}
 use Rattle.atl_http.specs.declared.request.Verdict.TheVariants.{More}
 use Rattle.atl_http.specs.Dice.{generator, joining_streams, word_of, first_words}
 use Rattle.atl_http.specs.Heads.{Judges, IsReadSoFar, final}
@@ -41,13 +41,13 @@ command_in dice old request = command_of dice (next_faction old.campaign) (len o
 
 -- The reply is right for an outcome: a refused request changes nothing; for any other its command is run, and its
 -- answer is the reply.
-abbrev pub IsReply : {S : Type 0} → Ghosts S → Dice → (old : ServiceValue S) → Outcome → Reply → (new : ServiceValue S) → Type 0
+abbrev pub IsReply : {S : Type 0} → Ghosts S → Dice → (old : ServiceValue S) → FinalVerdict → Reply → (new : ServiceValue S) → Type 0
 IsReply g dice old (Refused problem) reply new = (reply ≡ problem_reply problem) × (new ≡ old)
 IsReply g dice old (Asks request) reply new = (answer : Answer) × Runs g old (command_in dice old request) answer new × (reply ≡ answer_reply answer)
 
 -- The reply is right for the bytes `seen`: no more were read than needed, and the reply is that to their verdict.
 abbrev pub RepliesTo : {S : Type 0} → Ghosts S → Dice → (old : ServiceValue S) → (seen : List ℕ) → Reply → (new : ServiceValue S) → Type 0
-RepliesTo g dice old seen reply new = (outcome : Outcome) × IsReadSoFar seen × Judges seen (final outcome) × IsReply g dice old outcome reply new
+RepliesTo g dice old seen reply new = (outcome : FinalVerdict) × IsReadSoFar seen × Judges seen (final outcome) × IsReply g dice old outcome reply new
 
 -- the bytes that a reader has left and those that a writer holds, as far as they are known
 pub record Known : Type 0 where

@@ -7,7 +7,7 @@ ghost use Rattle.atl_http.specs.Io.{ReadsMore, Receives, Sends};
 
 use crate::calls::{MOST_INTERRUPTED, MOST_READS, ReadOutcome, Reads, WriteOutcome, Writes};
 use crate::parsing::{progress_of, rest_after};
-use crate::request::{Outcome, Progress};
+use crate::request::{FinalVerdict, Progress};
 use std::alloc::{AllocError, Global};
 use std::fmt;
 use std::io::{Read, Write};
@@ -149,7 +149,7 @@ fn receive_in<R: Read>(
     reads: &mut Reads,
     room: &mut [u8],
     seen: &mut Vec<u8>,
-) -> Result<Outcome, HttpFault>
+) -> Result<FinalVerdict, HttpFault>
     requires room { length room.old ≡ most_at_once }
     requires empty { seen.old.items ≡ [] }
     requires fresh { reads.old ≡ no_reads }
@@ -178,7 +178,7 @@ pub fn receive<R: Read>(
     reader: &mut R,
     reads: &mut Reads,
     seen: &mut Vec<u8>,
-) -> Result<Outcome, HttpFault>
+) -> Result<FinalVerdict, HttpFault>
     requires empty { seen.old.items ≡ [] }
     requires fresh { reads.old ≡ no_reads }
     ensures receives { Receives (R.remaining reader.old) (R.remaining reader.new) seen.new.items

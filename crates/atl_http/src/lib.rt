@@ -23,6 +23,6 @@ pub use io::HttpFault;
 pub use parsing::verdict_on;
 pub use pieces::pieces_do_not_matter;
 pub use problem::Problem;
-pub use request::{Outcome, Request, Verdict};
+pub use request::{FinalVerdict, Request, Verdict};
 pub use route::Route;
 pub use serving::{run_request, serve_one};

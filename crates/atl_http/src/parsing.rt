@@ -8,7 +8,7 @@ ghost use Rattle.atl_http.specs.Finding.{field_pairs, EndsAs, ParsesHead};
 
 use crate::checks::{head_checks, request_of};
 use crate::problem::{CheckError, Problem};
-use crate::request::{Outcome, Progress, Verdict};
+use crate::request::{FinalVerdict, Progress, Verdict};
 use httparse::Status;
 use httparse::spans::{EMPTY_HEADER_SPAN, HeaderSpan, RequestSpans, parse_request};
 use std::alloc::{AllocError, Global};
@@ -38,16 +38,18 @@ fn progress_with_body(
     let wanted = match head_checks(alloc, minor, method, target, bytes, fields) {
         Ok(wanted) => wanted,
         Err(CheckError::Memory) => return Err(AllocError),
-        Err(CheckError::Failed(problem)) => return Ok(Progress::Ends(Outcome::Refused(problem))),
+        Err(CheckError::Failed(problem)) => return Ok(Progress::Ends(FinalVerdict::Refused(
+            problem,
+        ))),
     };
     if rest.len() < wanted.size {
         return Ok(Progress::Lacks(wanted.size - rest.len()));
     }
     let body = &rest[..wanted.size];
     match request_of(alloc, wanted.route, wanted.pass, body) {
-        Ok(request) => Ok(Progress::Ends(Outcome::Asks(request))),
+        Ok(request) => Ok(Progress::Ends(FinalVerdict::Asks(request))),
         Err(CheckError::Memory) => Err(AllocError),
-        Err(CheckError::Failed(problem)) => Ok(Progress::Ends(Outcome::Refused(problem))),
+        Err(CheckError::Failed(problem)) => Ok(Progress::Ends(FinalVerdict::Refused(problem))),
     }
 }
 
@@ -136,8 +138,8 @@ fn progress_in(
     match parse_head(front, fields) {
         HeadParse::Whole(head) => progress_past_head(alloc, seen, front, fields, &head),
         HeadParse::Partial if seen.len() < MOST_HEAD => Ok(Progress::Lacks(1)),
-        HeadParse::Partial => Ok(Progress::Ends(Outcome::Refused(Problem::BadRequest))),
-        HeadParse::Refused => Ok(Progress::Ends(Outcome::Refused(Problem::BadRequest))),
+        HeadParse::Partial => Ok(Progress::Ends(FinalVerdict::Refused(Problem::BadRequest))),
+        HeadParse::Refused => Ok(Progress::Ends(FinalVerdict::Refused(Problem::BadRequest))),
     }
 }
 

@@ -116,7 +116,7 @@ pub enum Verdict {
 
 /// The final verdict on a request, after which no more is read.
 #[derive(Drop)]
-pub enum Outcome {
+pub enum FinalVerdict {
     /// The request fails a check.
     Refused(Problem),
     /// The request is whole and passes each check but that of its command.
@@ -129,7 +129,7 @@ pub enum Progress {
     /// The request isn't whole, and needs at least this many bytes more, which is 1 or more.
     Lacks(usize),
     /// The request is whole or refused.
-    Ends(Outcome),
+    Ends(FinalVerdict),
 }
 
 /// Gives the verdict of a progress.
@@ -142,8 +142,8 @@ impl Progress {
     {
         match self {
             Progress::Lacks(_) => Verdict::More,
-            Progress::Ends(Outcome::Refused(problem)) => Verdict::Refused(problem),
-            Progress::Ends(Outcome::Asks(request)) => Verdict::Asks(request),
+            Progress::Ends(FinalVerdict::Refused(problem)) => Verdict::Refused(problem),
+            Progress::Ends(FinalVerdict::Asks(request)) => Verdict::Asks(request),
         }
     }
 }

@@ -11,7 +11,7 @@ use crate::calls::{Reads, Writes};
 use crate::dice::Dice;
 use crate::io::{HttpFault, receive, send};
 use crate::message::{Message, problem_message};
-use crate::request::{Outcome, Request};
+use crate::request::{FinalVerdict, Request};
 use atl_service::{Answer, Service};
 use sqlite::Alter;
 use std::alloc::{AllocError, Global};
@@ -46,13 +46,13 @@ fn reply_to<S: Alter>(
     alloc: Global,
     service: &mut Service<S>,
     dice: Dice,
-    outcome: Outcome,
+    outcome: FinalVerdict,
 ) -> Result<Message, AllocError>
     ensures { RepliesWith S.Store dice service.old outcome result service.new }
 {
     match outcome {
-        Outcome::Refused(problem) => problem_message(alloc, problem),
-        Outcome::Asks(request) => {
+        FinalVerdict::Refused(problem) => problem_message(alloc, problem),
+        FinalVerdict::Asks(request) => {
             let answer = run_request(alloc, service, dice, request)?;
             answer_message(alloc, &answer)
         }

@@ -14,7 +14,7 @@ mod trials;
 
 use crate::cases::{CALLS, Call, Case};
 use crate::shortage::{Limit, Shortage};
-use crate::trials::{Outcome, tried};
+use crate::trials::{TrialResult, tried};
 use std::alloc::{AllocError, Global};
 use std::{env, io};
 
@@ -39,8 +39,8 @@ fn with_blocks(rt: &HostRuntime, case: &Case, shortage: &mut Shortage) -> io::Re
     for blocks in 0..2_000u32 {
         shortage.limit = Limit::Blocks(blocks);
         match tried(rt.alloc(), case, shortage) {
-            Outcome::Held => {}
-            Outcome::Done if blocks > 0 => {
+            TrialResult::Held => {}
+            TrialResult::Done if blocks > 0 => {
                 return println!(rt; "{call:?}: without memory Memory, and with it done");
             }
             outcome => return println!(rt; "{call:?} with {blocks} blocks: {outcome:?}"),
@@ -63,9 +63,9 @@ fn with_refusals(
         let growth = refused.saturating_mul(step).saturating_add(1);
         shortage.limit = Limit::Growth(growth);
         match tried(rt.alloc(), case, shortage) {
-            Outcome::Held => {}
-            Outcome::MadeGood => made_good = made_good.saturating_add(1),
-            Outcome::Done => {
+            TrialResult::Held => {}
+            TrialResult::MadeGood => made_good = made_good.saturating_add(1),
+            TrialResult::Done => {
                 return println!(rt;
                     "{call:?}: {refused} growths refused, {made_good} made good, and growth {growth} never comes"
                 );

@@ -27,7 +27,7 @@ enum Behaviour {
 /// What a call did with memory short, judged together with whether a growth (a request for memory)
 /// was refused.
 #[derive(Clone, Copy, PartialEq, Eq, Debug)]
-pub enum Outcome {
+pub enum TrialResult {
     /// The answer is Memory, and all is as before.
     Held,
     /// The outcome is that of ample memory, and no growth was refused as far as is known.
@@ -41,13 +41,13 @@ pub enum Outcome {
 }
 
 /// The outcome of a call, from what it did and whether a growth was refused.
-fn judged(was_refused: Option<bool>, behaviour: Behaviour) -> Outcome {
+fn judged(was_refused: Option<bool>, behaviour: Behaviour) -> TrialResult {
     match (was_refused, behaviour) {
-        (_, Behaviour::Wrong(what)) => Outcome::Wrong(what),
-        (Some(false), Behaviour::Memory) => Outcome::Untrue,
-        (_, Behaviour::Memory) => Outcome::Held,
-        (Some(true), Behaviour::Done) => Outcome::MadeGood,
-        (_, Behaviour::Done) => Outcome::Done,
+        (_, Behaviour::Wrong(what)) => TrialResult::Wrong(what),
+        (Some(false), Behaviour::Memory) => TrialResult::Untrue,
+        (_, Behaviour::Memory) => TrialResult::Held,
+        (Some(true), Behaviour::Done) => TrialResult::MadeGood,
+        (_, Behaviour::Done) => TrialResult::Done,
     }
 }
 
@@ -390,7 +390,7 @@ fn tried_in<S: Alter + Drop>(
 }
 
 /// Tries the call of a case with memory short, in a new database in memory, and judges the outcome.
-pub fn tried(alloc: Global, case: &Case, shortage: &mut Shortage) -> Outcome {
+pub fn tried(alloc: Global, case: &Case, shortage: &mut Shortage) -> TrialResult {
     let behaviour = match Connection::open_in_memory(alloc) {
         Ok(conn) => tried_in(alloc, conn, case, shortage),
         Err(_) => Behaviour::Wrong("no connection"),

@@ -6,7 +6,7 @@ ghost use Rattle.atl_phase.specs.Fit.{AreFit};
 use super::crowd::{crowd, crowd_month, crowd_world};
 use super::reference::plain::Plain;
 use super::reference::sharing::Sharing;
-use super::reference::trade::Trade;
+use super::reference::trade::PlainTrade;
 use super::reference::{shares, sharing, upkeep};
 use super::shares::{are_small, assert_shares};
 use atl_campaign::Campaign;
@@ -85,8 +85,8 @@ enum Played {
 
 /// All phases that are compared with the reference.
 static PLAYED: [Played; 7] = [
-    Played::Sharing(Sharing::Trade(Trade::Sell)),
-    Played::Sharing(Sharing::Trade(Trade::Buy)),
+    Played::Sharing(Sharing::Trade(PlainTrade::Sell)),
+    Played::Sharing(Sharing::Trade(PlainTrade::Buy)),
     Played::Sharing(Sharing::Tax),
     Played::Sharing(Sharing::Recruit),
     Played::Sharing(Sharing::Produce),
@@ -205,8 +205,8 @@ fn run_sharing(
     requires read { AreFit world.now month.readings }
 {
     match sharing {
-        Sharing::Trade(Trade::Sell) => run_sell(alloc, world, campaign, month),
-        Sharing::Trade(Trade::Buy) => run_buy(alloc, world, campaign, month),
+        Sharing::Trade(PlainTrade::Sell) => run_sell(alloc, world, campaign, month),
+        Sharing::Trade(PlainTrade::Buy) => run_buy(alloc, world, campaign, month),
         Sharing::Tax => run_tax(alloc, world, campaign, month),
         Sharing::Recruit => run_recruit(alloc, world, campaign, month),
         Sharing::Produce => run_produce(alloc, world, campaign, month),

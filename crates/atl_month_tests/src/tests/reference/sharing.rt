@@ -2,7 +2,7 @@
 //! payments.
 use super::plain::{Land, Plain};
 use super::pots::{Claim, Claimed, Given, Pot, given_to, outcome, shared};
-use super::trade::Trade;
+use super::trade::PlainTrade;
 use super::{produce, recruit, tax, trade, work};
 use atl_market::{BuyPhase, ProducePhase, RecruitPhase, SellPhase, TaxPhase};
 use atl_orders::{Mailing, Operands, Order, Verb};
@@ -13,7 +13,7 @@ use std::alloc::{AllocError, Global};
 /// A phase that shares pots.
 #[derive(Clone, Copy, Drop)]
 pub(crate) enum Sharing {
-    Trade(Trade),
+    Trade(PlainTrade),
     Tax,
     Recruit,
     Produce,
@@ -30,8 +30,8 @@ fn orders<'m>(
 ) -> Result<Vec<PhaseOrder<'m>>, AllocError> {
     let arrangement = Arrangement::ByUnit;
     match sharing {
-        Sharing::Trade(Trade::Sell) => month.orders(alloc, &SellPhase {}, arrangement),
-        Sharing::Trade(Trade::Buy) => month.orders(alloc, &BuyPhase {}, arrangement),
+        Sharing::Trade(PlainTrade::Sell) => month.orders(alloc, &SellPhase {}, arrangement),
+        Sharing::Trade(PlainTrade::Buy) => month.orders(alloc, &BuyPhase {}, arrangement),
         Sharing::Tax => month.orders(alloc, &TaxPhase, arrangement),
         Sharing::Recruit => month.orders(alloc, &RecruitPhase, arrangement),
         Sharing::Produce => month.orders(alloc, &ProducePhase, arrangement),

@@ -14,7 +14,7 @@ const MOST_PIECES: u64 = MOST_MONEY;
 
 /// Which of the two phases of trade: SELL or BUY.
 #[derive(Clone, Copy, Drop)]
-pub(crate) enum Trade {
+pub(crate) enum PlainTrade {
     Sell,
     Buy,
 }
@@ -46,16 +46,21 @@ fn most_bought(plain: &Plain, person: PlainUnit, market: &Market) -> u64 {
 }
 
 /// Whether a unit has none of a market's item to sell (SELL), or not the money to buy one (BUY).
-fn is_short(trade: Trade, plain: &Plain, person: PlainUnit, market: &Market) -> bool {
+fn is_short(trade: PlainTrade, plain: &Plain, person: PlainUnit, market: &Market) -> bool {
     match trade {
-        Trade::Sell => plain.amount(person.number, false, u32::from(market.item)) == 0,
-        Trade::Buy => person.money < u64::from(market.price),
+        PlainTrade::Sell => plain.amount(person.number, false, u32::from(market.item)) == 0,
+        PlainTrade::Buy => person.money < u64::from(market.price),
     }
 }
 
 /// How many of which item an order of SELL or BUY asks for, as far as the unit can trade, or its
 /// fault.
-pub(crate) fn claim(trade: Trade, world: &World, plain: &Plain, order: PhaseOrder<'_>) -> Claim {
+pub(crate) fn claim(
+    trade: PlainTrade,
+    world: &World,
+    plain: &Plain,
+    order: PhaseOrder<'_>,
+) -> Claim {
     let Some(person) = own(plain, order) else {
         return Claim::Fault(EventFault::NotYours);
     };
@@ -67,29 +72,29 @@ pub(crate) fn claim(trade: Trade, world: &World, plain: &Plain, order: PhaseOrde
         return Claim::Fault(EventFault::NotEnough);
     }
     let most = match trade {
-        Trade::Sell => most_sold(plain, person, market),
-        Trade::Buy => most_bought(plain, person, market),
+        PlainTrade::Sell => most_sold(plain, person, market),
+        PlainTrade::Buy => most_bought(plain, person, market),
     };
     Claim::Want(u32::from(item), amount.min(most))
 }
 
 /// The pot of a market: how much more it has room for (SELL), or its stock (BUY).
-fn pot(trade: Trade, plain: &Plain, region: u32, market: &Market) -> Pot {
+fn pot(trade: PlainTrade, plain: &Plain, region: u32, market: &Market) -> Pot {
     let thing = u32::from(market.item);
     let stock = plain.stock(region, thing);
     Pot {
         region,
         thing,
         size: match trade {
-            Trade::Sell => u64::from(market.limit).saturating_sub(stock),
-            Trade::Buy => stock,
+            PlainTrade::Sell => u64::from(market.limit).saturating_sub(stock),
+            PlainTrade::Buy => stock,
         },
     }
 }
 
 /// Appends a region's pots in SELL or BUY, one for each of its markets.
 pub(crate) fn add_pots(
-    trade: Trade,
+    trade: PlainTrade,
     world: &World,
     plain: &Plain,
     region: u32,
@@ -105,36 +110,36 @@ pub(crate) fn add_pots(
 
 /// What a unit and a market have of an item after `pieces` changed hands; before that they had
 /// `held` and `stock`.
-fn moved(trade: Trade, held: u64, stock: u64, pieces: u64) -> (u64, u64) {
+fn moved(trade: PlainTrade, held: u64, stock: u64, pieces: u64) -> (u64, u64) {
     match trade {
-        Trade::Sell => (held.wrapping_sub(pieces), stock.wrapping_add(pieces)),
-        Trade::Buy => (held.wrapping_add(pieces), stock.wrapping_sub(pieces)),
+        PlainTrade::Sell => (held.wrapping_sub(pieces), stock.wrapping_add(pieces)),
+        PlainTrade::Buy => (held.wrapping_add(pieces), stock.wrapping_sub(pieces)),
     }
 }
 
 /// The money of a unit after it sold or bought `pieces` at a market.
-fn money_behind(trade: Trade, person: PlainUnit, market: &Market, pieces: u64) -> u64 {
+fn money_behind(trade: PlainTrade, person: PlainUnit, market: &Market, pieces: u64) -> u64 {
     match trade {
-        Trade::Sell => person
+        PlainTrade::Sell => person
             .money
             .wrapping_add(pieces.wrapping_mul(u64::from(market.pays))),
-        Trade::Buy => person
+        PlainTrade::Buy => person
             .money
             .wrapping_sub(pieces.wrapping_mul(u64::from(market.price))),
     }
 }
 
 /// The entry of the books under which the money of SELL or BUY is booked.
-fn entry_of(trade: Trade) -> Entry {
+fn entry_of(trade: PlainTrade) -> Entry {
     match trade {
-        Trade::Sell => Entry::Sold,
-        Trade::Buy => Entry::Bought,
+        PlainTrade::Sell => Entry::Sold,
+        PlainTrade::Buy => Entry::Bought,
     }
 }
 
 /// Carries out a unit's trade: moves the items and the money, and books the money.
 pub(crate) fn pay(
-    trade: Trade,
+    trade: PlainTrade,
     world: &World,
     plain: &mut Plain,
     given: Given,
