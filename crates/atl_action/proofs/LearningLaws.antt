@@ -20,10 +20,10 @@ module _ (w : WorldValue) (c : CampaignValue) where
   abbrev IfLearns : (ℕ → ℕ → Type 0) → Task → Type 0
   IfLearns P t = (s : ℕ) → skill_of t.order_value.operands ≡ Some s → learns w s t.faction (get c.units t.unit) ≡ true → P t.unit s
 
-  -- the map with the unit of an order under this skill, if the unit learns the skill;
-  -- unchanged where the order names no skill
-  abbrev with_skill : Learning → Task → Option ℕ → Learning
-  with_skill learning t skill = option_map_or (λ s. if learns w s t.faction (get c.units t.unit) then insert learning t.unit s else learning) skill learning
+  -- the map with this skill put under the unit of an order, if the order names a skill (Some) and the unit learns it;
+  -- else unchanged
+  abbrev with_named_skill : Learning → Task → Option ℕ → Learning
+  with_named_skill learning t skill = option_map_or (λ s. if learns w s t.faction (get c.units t.unit) then insert learning t.unit s else learning) skill learning
 
   -- Q holds of the map after an order of STUDY, if it holds of the map before. Where the unit of the order learns by
   -- it, Q has to hold with the unit and its skill added.
@@ -31,7 +31,7 @@ module _ (w : WorldValue) (c : CampaignValue) where
   learner_cases Q t learning same added = by_skill (skill_of t.order_value.operands) refl
     where
       -- for `learner_cases`: Q holds of the map after an order of STUDY, whether the order names a skill or not
-      by_skill : (o : Option ℕ) → skill_of t.order_value.operands ≡ o → Q (with_skill learning t o)
+      by_skill : (o : Option ℕ) → skill_of t.order_value.operands ≡ o → Q (with_named_skill learning t o)
       by_skill None says = same
       by_skill (Some s) says = cond_both (learns w s t.faction (get c.units t.unit)) (insert learning t.unit s) learning Q (added s says) (λ _. same)
 
@@ -50,7 +50,7 @@ module _ (w : WorldValue) (c : CampaignValue) where
   -- the unit of an order of STUDY is learning after the order, if the unit learns by the order
   added : (t : Task) (learning : Learning) → IfLearns (λ n s. HasValue (with_learner w c learning t) n) t
   added t learning s says can =
-      subst (λ o. HasValue (with_skill learning t o) t.unit) (sym says)
+      subst (λ o. HasValue (with_named_skill learning t o) t.unit) (sym says)
       (subst (λ b. HasValue (if b then insert learning t.unit s else learning) t.unit) (sym can) (s, get-insert_same learning t.unit s))
 
   -- each unit that learns by one of some orders of STUDY is in the map once the units of these orders are added

@@ -1,4 +1,5 @@
--- Laws of steady campaigns: a campaign stays steady when units change region, structure and guard flag,
+-- Laws of steady campaigns: a campaign stays steady when units change region, structure and guard flag, and structures
+-- change region and owner. The campaign after that is called the travelled one.
 -- and structures change region and owner.
 use Rattle.std.proofs.Common.{◌≡◌, ◌≢◌, ℕ, ◌*◌, ◌≤◌, true, false, Some, None, sym, ap, subst, ◌∙◌}
 use Rattle.std.specs.Prelude.{IsTrue, option_map}

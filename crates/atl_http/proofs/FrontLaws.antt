@@ -81,15 +81,16 @@ no_slash : (p : List ℕ) → list_all is_ascii_digit p ≡ true → has_slash p
 no_slash [] h = refl
 no_slash (b ∷ p) h = slash_step b p (is_ascii_digit b) refl (λ k. no_slash p k) h
 
--- the first byte of a text of digits is not the parameter's token
+-- the first byte of a text of digits is not `param_token`, the sign for a parameter in the router's rows
 first_digit : (b : ℕ) (p : List ℕ) (t : Bool) → is_ascii_digit b ≡ t → (t && list_all is_ascii_digit p) ≡ true → (param_token == b) ≡ false
 first_digit b p true e h = grind (arith, nat_tests)
 first_digit b p false e h = cc
 
--- the parameter matches the whole text if the text has no slash and doesn't begin with the parameter's token
-taken_whole : (key b : ℕ) (p : List ℕ) → (param_token == b) ≡ false → has_slash (b ∷ p) ≡ false → first (number_row key) (b ∷ p) ≡ Some key
+-- looking up a text that isn't empty in the row of a parameter finds the row's key, if the text has no slash and doesn't
+-- begin with `param_token`, the sign for a parameter in the router's rows
+key_found : (key b : ℕ) (p : List ℕ) → (param_token == b) ≡ false → has_slash (b ∷ p) ≡ false → first (number_row key) (b ∷ p) ≡ Some key
 unfolding seek
-taken_whole key b p e h =
+key_found key b p e h =
     let whole : after_param (([], key) ∷ []) (b ∷ p) ≡ Some key = after_param-end [] (Some key) b p tt refl h in
     rw (e, seek-empty 0 p, whole) refl
 
@@ -172,7 +173,7 @@ found_or_none key rest none (inr e) = inr (e, none)
 -- (`NumberSays`), whether all its bytes are digits (t) or not
 number_by : (key b : ℕ) (p : List ℕ) (t : Bool) → list_all is_ascii_digit (b ∷ p) ≡ t → NumberSays key (b ∷ p)
 unfolding number_of
-number_by key b p true e = inl (taken_whole key b p (first_digit b p (is_ascii_digit b) refl e) (no_slash (b ∷ p) e), inr (digits_utf8 (b ∷ p) e))
+number_by key b p true e = inl (key_found key b p (first_digit b p (is_ascii_digit b) refl e) (no_slash (b ∷ p) e), inr (digits_utf8 (b ∷ p) e))
 number_by key b p false e =
     let none : number_of (b ∷ p) ≡ None = rw e (none_if_not_digits (nat_lt 0 (length (b ∷ p))) (nat_le (length (b ∷ p)) 9) (Some (digits_value 10 (b ∷ p)))) in
     found_or_none key (b ∷ p) none (one_or_none key b p)

@@ -39,14 +39,6 @@ pub holds_of_error : {A F : Type 0} (P : F → Type 0) (r : Result A F) (fault :
 holds_of_error P (Ok a) fault told p = tt
 holds_of_error P (Err f) fault told p = subst P (sym told) p
 
--- a fault of loading in the first format makes a check of the upgrade fail (`FailsCheck`)
-pub unloaded : {S : Type 0} (g : Ghosts S) (text : List ℕ) (old mid : Held S) (fault : LoadFault) → RefusesToLoadIn First g old fault → FailsCheck g text old mid (first_fault fault)
-unloaded g text old mid load.Store refused = inl refused
-unloaded g text old mid (load.Damaged rule) refused = refused
-unloaded g text old mid load.NotACampaign refused = refused
-unloaded g text old mid load.OtherFormat refused = refused
-unloaded g text old mid load.Memory refused = inl refused
-
 -- ---- what was loaded is what the tables held
 
 module _ {S : Type 0} (g : Ghosts S) (text : List ℕ) (old mid : Held S) (alone : LeavesAlone g old mid) (clean : HasCleanDisk (state g mid)) where
@@ -104,7 +96,8 @@ later_both old mid new FirstMayLeave SecondMayLeave one two = record { clean = �
 -- ---- before the transaction
 
 module _ {S : Type 0} (g : Ghosts S) (text : List ℕ) (old new : Held S) where
-  -- an upgrade that ends with a fault of loading in the first format ends by a failed check (`FailsCheck`)
+  -- if loading in the first format gives a fault, a check of the upgrade fails with `upgrade`'s fault for it
+  -- (`FailsCheck`)
   pub fails_to_load : (fault : LoadFault) → RefusesToLoadIn First g old fault → FailsCheck g text old new (first_fault fault)
   fails_to_load load.Store refused = inl refused
   fails_to_load (load.Damaged rule) refused = refused

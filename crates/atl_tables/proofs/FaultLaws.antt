@@ -66,6 +66,6 @@ gives_last view r None v h = h
 gives_last view r (Some f) v h = h
 
 -- if `?` returns the error of a call, and that error is the first fault of the conditions, or Memory (`Stops`), the
--- function returns what `Gives` demands
-pub exits : {X Y : Type 0} (view : X → Y) (r : Result X WorldFault) (e : WorldFault) (fault : Option WorldFault) (v : Y) → IsErrAnd r (λ f. f ≡ e) → Stops e fault → Gives view r fault v
-exits view r e fault v h s = let p = err_from_is_err_and r h in rw (p.1, p.2) s
+-- function returns this fault, or Memory, as it should (`Gives`)
+pub gives_error : {X Y : Type 0} (view : X → Y) (r : Result X WorldFault) (e : WorldFault) (fault : Option WorldFault) (v : Y) → IsErrAnd r (λ f. f ≡ e) → Stops e fault → Gives view r fault v
+gives_error view r e fault v h s = let p = err_from_is_err_and r h in rw (p.1, p.2) s

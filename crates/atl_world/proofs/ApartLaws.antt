@@ -183,8 +183,8 @@ pub less_apart : (xs ys : List ℕ) (i j : ℕ) → AreApart (set.from_list xs) 
 less_apart xs ys i j h l m le =
     elim (cases_order (get_or xs i 0) (get_or ys j 0)) [
       | inl e ↦
-          let first : set.contains {R = nat_cmp} (set.from_list xs) (get_or ys j 0) ≡ true = contains-stands xs (get_or ys j 0) i (record { within = l; is = e }) in
-          let second : set.contains {R = nat_cmp} (set.from_list ys) (get_or ys j 0) ≡ true = contains-stands ys (get_or ys j 0) j (record { within = m; is = refl }) in
+          let first : set.contains {R = nat_cmp} (set.from_list xs) (get_or ys j 0) ≡ true = contains-stands xs (get_or ys j 0) i (record { within = l; number_there = e }) in
+          let second : set.contains {R = nat_cmp} (set.from_list ys) (get_or ys j 0) ≡ true = contains-stands ys (get_or ys j 0) j (record { within = m; number_there = refl }) in
           absurd (false≢true (sym (h.apart (get_or ys j 0) first) ∙ second))
       | inr r ↦ elim r [ inl less ↦ less | inr more ↦ absurd (omega (arith, le, more)) ]
     ]

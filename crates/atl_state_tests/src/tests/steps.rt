@@ -1,4 +1,4 @@
-//! The steps of the tables of these tests: calls that change a campaign, as values.
+//! Steps: calls that change a campaign, as values, which the rows of a test's table of cases name.
 use super::making::{man_comes, structure_begins};
 use atl_campaign::{Campaign, Holding};
 use atl_world::{Sequence, Text};
@@ -73,7 +73,7 @@ pub(crate) enum OfStructure {
 }
 
 /// Makes the call that changes a faction as `change` says.
-fn changes_faction(
+fn change_faction(
     alloc: Global,
     campaign: &mut Campaign,
     faction: u32,
@@ -91,7 +91,7 @@ fn changes_faction(
 }
 
 /// Makes the call that changes a region as `change` says.
-fn changes_region(campaign: &mut Campaign, region: u32, change: OfRegion) -> Result<(), Fail> {
+fn change_region(campaign: &mut Campaign, region: u32, change: OfRegion) -> Result<(), Fail> {
     match change {
         OfRegion::Peasants(peasants) => campaign.set_peasants(region, peasants),
         OfRegion::Money(money) => campaign.set_region_money(region, money),
@@ -118,7 +118,7 @@ fn changes_lent(lent: Option<&mut Holding>, change: OfUnit) -> Result<(), Fail> 
 
 /// Makes the call that changes a unit as `change` says, or changes the holding that `unit_mut`
 /// lends.
-fn changes_unit(
+fn change_unit(
     alloc: Global,
     campaign: &mut Campaign,
     unit: u32,
@@ -141,7 +141,7 @@ fn changes_unit(
 }
 
 /// Makes the call that changes a structure as `change` says.
-fn changes_structure(
+fn change_structure(
     alloc: Global,
     campaign: &mut Campaign,
     structure: u32,
@@ -174,11 +174,11 @@ pub(crate) fn does(alloc: Global, campaign: &mut Campaign, step: Step) -> Result
         Step::Unmark => campaign.unmark(),
         Step::Month(month) => campaign.set_month(month),
         Step::ClearMail => campaign.clear_mail(),
-        Step::Faction(faction, change) => changes_faction(alloc, campaign, faction, change)?,
-        Step::Region(region, change) => changes_region(campaign, region, change)?,
-        Step::Unit(unit, change) => changes_unit(alloc, campaign, unit, change)?,
+        Step::Faction(faction, change) => change_faction(alloc, campaign, faction, change)?,
+        Step::Region(region, change) => change_region(campaign, region, change)?,
+        Step::Unit(unit, change) => change_unit(alloc, campaign, unit, change)?,
         Step::Structure(structure, change) => {
-            changes_structure(alloc, campaign, structure, change)?;
+            change_structure(alloc, campaign, structure, change)?;
         }
         Step::Comes(faction, number) => gets(man_comes(alloc, campaign, faction)?, number)?,
         Step::Begins(kind, number) => gets(structure_begins(alloc, campaign, kind)?, number)?,

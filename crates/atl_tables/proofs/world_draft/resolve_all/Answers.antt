@@ -1,13 +1,13 @@
 use Rattle.std.proofs.Common.{◌+◌, ◌∷◌, [], drop, sym, ap, ◌∙◌, arith, length-append}
 use Rattle.std.proofs.lemmas.List.{drop_more}
-use Rattle.atl_tables.proofs.FaultLaws.{exits}
+use Rattle.atl_tables.proofs.FaultLaws.{gives_error}
 use Rattle.atl_tables.proofs.EachLaws.{goes_on_at, ends_at, mapped_on, each_index_push}
 use Rattle.atl_tables.proofs.world_draft.resolve_all.Goals as goal
 
 -- an error in looking up the names of one table is the first fault of all tables, or Memory
 pub returns-in_err-record-clause-value : goal.returns-in_err-record-clause-value
 returns-in_err-record-clause-value g c =
-    exits _ _ _ _ _ c.from_residual.ensures.1 (ends_at (g.D.Draft.unknown c.args.all.now) c.args.drafts.now c.loop-i.i c.index-drafts-i.result _ c.loop-i-test.true c.index-drafts-i.is c.loop-i.invariant.faults c.in_err-record.field-0.0 c.in_err-record.ensures.value)
+    gives_error _ _ _ _ _ c.from_residual.ensures.1 (ends_at (g.D.Draft.unknown c.args.all.now) c.args.drafts.now c.loop-i.i c.index-drafts-i.result _ c.loop-i-test.true c.index-drafts-i.is c.loop-i.invariant.faults c.in_err-record.field-0.0 c.in_err-record.ensures.value)
 
 -- after one more record, the first fault of the tables after it is still that of all tables, and the records so far,
 -- followed by those of the tables after it, are all records

@@ -8,23 +8,23 @@ use Rattle.atl_records.specs.Every.{Every}
 use Rattle.atl_campaign.specs.Good.{AreOwned}
 use Rattle.atl_state.proofs.rules.owners.are_owned.Goals as goal
 
--- the owner of each structure is a unit inside it, or 0
-abbrev HaveOwners : CampaignValue → Type 0
-HaveOwners c = Every (HasOwnerInside c) c.structures
+-- each structure has no owner (0), or its owner is a unit inside it
+abbrev AreOwnersInside : CampaignValue → Type 0
+AreOwnersInside c = Every (HasOwnerInside c) c.structures
 
 -- each structure that a unit is inside has an owner
 abbrev AreWithOwners : CampaignValue → Type 0
 AreWithOwners c = Every (λ m u. (s : Structure) → get c.structures u.structure ≡ Some s → s.owner ≢ 0) c.units
 
 -- if each owner is a unit inside or 0, and no unit is inside an ownerless structure, owners keep their rule (AreOwned)
-together : (c : CampaignValue) → HaveOwners c → AreWithOwners c → AreOwned c
+together : (c : CampaignValue) → AreOwnersInside c → AreWithOwners c → AreOwned c
 together c owned with n s is = record {
   owned = (owned n s is).owned;
   ownerless = λ none m u there same. with m u there s (ap (get c.structures) same ∙ is) none;
 }
 
 -- if owners keep their rule (AreOwned), the owner of each structure is a unit inside it, or 0
-have_owners : (c : CampaignValue) → AreOwned c → HaveOwners c
+have_owners : (c : CampaignValue) → AreOwned c → AreOwnersInside c
 have_owners c all n s is = record { owned = (all n s is).owned }
 
 -- if owners keep their rule (AreOwned), each structure that a unit is inside has an owner
