@@ -1,6 +1,5 @@
 -- Laws of steady campaigns: a campaign stays steady when units change region, structure and guard flag, and structures
 -- change region and owner. The campaign after that is called the travelled one.
--- and structures change region and owner.
 use Rattle.std.proofs.Common.{◌≡◌, ◌≢◌, ℕ, ◌*◌, ◌≤◌, true, false, Some, None, sym, ap, subst, ◌∙◌}
 use Rattle.std.specs.Prelude.{IsTrue, option_map}
 use Rattle.std.specs.Ordering.{nat_cmp}
@@ -115,8 +114,8 @@ module _ (w : WorldValue) (c : CampaignValue) (units : FinMap nat_cmp Unit) (str
         (h.0, record { men = rw s.men h.1.men; money = rw s.money h.1.money; items = rw s.items h.1.items })))
         (every_structure (λ k x. (1 ≤ x.done) × (x.done ≤ size_of w x.kind)) (λ k y was. let s = are.same_structures k y was in rw (s.done, s.kind) (old.structures k y was))) old
 
-    -- in the travelled campaign each unit's faction, region and structure are there, and its items and skills are of
-    -- the world (`IsPlaced`)
+    -- if all that campaign c refers to exists (`AreKnown`), then in the travelled campaign each unit's faction, region
+    -- and structure are there, and its items and skills are of the world (`IsPlaced`)
     placed_kept : AreKnown w c → Every (λ k x. IsPlaced w travelled x) units
     placed_kept old = every_unit (λ k x. IsPlaced w travelled x) (λ k u was.
         let s = are.same_units k u was in

@@ -1,7 +1,7 @@
 use Rattle.std.proofs.Common.{◌+◌, ◌∷◌, [], drop, arith, length-append}
 use Rattle.std.proofs.lemmas.List.Elements.{All-push}
 use Rattle.toml.specs.View.{view, items_view}
-use Rattle.atl_tables.proofs.FaultLaws.{exits}
+use Rattle.atl_tables.proofs.FaultLaws.{gives_error}
 use Rattle.atl_tables.proofs.ElementLaws.{from_here, goes_on, ends, one_more}
 use Rattle.atl_tables.proofs.elements.elements.Goals as goal
 
@@ -10,7 +10,7 @@ pub returns-in_err-one-clause-value : goal.returns-in_err-one-clause-value
 returns-in_err-one-clause-value g c =
     let vs = c.args.values.now.items in
     let here = from_here vs c.loop-i.i c.index.result.now (omega (arith, c.args.values.now.ok.0)) c.index.ensures in
-    exits _ _ _ _ _ c.from_residual.ensures.1 (ends g.E.FromTable.conditions c.args.key.now c.loop-i.i (view c.index.result.now) (items_view (drop (c.loop-i.i + 1) vs)) _ c.in_err-one.field-0.0 (rw here at c.loop-i.invariant.faults) c.in_err-one.ensures.value)
+    gives_error _ _ _ _ _ c.from_residual.ensures.1 (ends g.E.FromTable.conditions c.args.key.now c.loop-i.i (view c.index.result.now) (items_view (drop (c.loop-i.i + 1) vs)) _ c.in_err-one.field-0.0 (rw here at c.loop-i.invariant.faults) c.in_err-one.ensures.value)
 
 -- after one more element, the first fault of the elements after it is still that of the array, and the values read so
 -- far, followed by the values of the elements after it, are all values of the array

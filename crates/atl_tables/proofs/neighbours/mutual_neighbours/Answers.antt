@@ -5,14 +5,14 @@ use Rattle.std.proofs.lemmas.List.Elements.{All-push}
 use Rattle.atl_tables.specs.Neighbours.{neighbours_at}
 use Rattle.atl_world.specs.Worlds.{HasNeighbours}
 use Rattle.atl_tables.specs.declared.region_table.RegionDraft.{RegionDraft}
-use Rattle.atl_tables.proofs.FaultLaws.{exits}
+use Rattle.atl_tables.proofs.FaultLaws.{gives_error}
 use Rattle.atl_tables.proofs.EachLaws.{goes_on_at, ends_at}
 use Rattle.atl_tables.proofs.neighbours.mutual_neighbours.Goals as goal
 
 -- an error in checking one region is the first fault of all regions, or Memory
 pub returns-in_err-neighbours_of-clause-value : goal.returns-in_err-neighbours_of-clause-value
 returns-in_err-neighbours_of-clause-value c =
-    exits _ _ _ _ _ c.from_residual.ensures.1 (ends_at (neighbours_at c.args.regions.now) c.args.drafts.now c.loop-i.i c.index-drafts-i.result _ c.loop-i-test.true c.index-drafts-i.is c.loop-i.invariant.faults c.in_err-neighbours_of.field-0.0 c.in_err-neighbours_of.ensures.value)
+    gives_error _ _ _ _ _ c.from_residual.ensures.1 (ends_at (neighbours_at c.args.regions.now) c.args.drafts.now c.loop-i.i c.index-drafts-i.result _ c.loop-i-test.true c.index-drafts-i.is c.loop-i.invariant.faults c.in_err-neighbours_of.field-0.0 c.in_err-neighbours_of.ensures.value)
 
 -- after one more region, the first fault of the regions after it is that of all regions, and each region checked so far
 -- is on the opposite side of each of its neighbours

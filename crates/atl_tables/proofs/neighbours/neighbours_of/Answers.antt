@@ -1,19 +1,19 @@
 use Rattle.atl_tables.specs.Neighbours.{neighbours_at}
-use Rattle.atl_tables.proofs.FaultLaws.{exits, stops_here, gives_last}
+use Rattle.atl_tables.proofs.FaultLaws.{gives_error, stops_here, gives_last}
 use Rattle.atl_tables.proofs.neighbours.neighbours_of.Goals as goal
 
 -- an error at the neighbour to the north is the region's first fault (`neighbours_at`), or Memory
 pub returns-in_err-neighbour-clause-value : goal.returns-in_err-neighbour-clause-value
 unfolding neighbours_at
 returns-in_err-neighbour-clause-value c =
-    exits _ _ _ _ _ c.from_residual-in_err-neighbour.ensures.1 (stops_here c.in_err-neighbour.field-0.0 _ _ (rw (c.as_str-at.ensures, c.in_ok-place.ensures) at c.in_err-neighbour.ensures.value))
+    gives_error _ _ _ _ _ c.from_residual-in_err-neighbour.ensures.1 (stops_here c.in_err-neighbour.field-0.0 _ _ (rw (c.as_str-at.ensures, c.in_ok-place.ensures) at c.in_err-neighbour.ensures.value))
 
 -- an error at the neighbour to the south is the region's first fault (`neighbours_at`), or Memory
 pub returns-in_err-neighbour-2-clause-value : goal.returns-in_err-neighbour-2-clause-value
 unfolding neighbours_at
 returns-in_err-neighbour-2-clause-value c =
     let side1 = rw (c.as_str-at.ensures, c.in_ok-place.ensures) at c.in_ok-neighbour.ensures.value.0 in
-    rw side1 (exits _ _ _ _ _ c.from_residual-in_err-neighbour-2.ensures.1 (stops_here c.in_err-neighbour-2.field-0.0 _ _ (rw (c.as_str-at.ensures, c.in_ok-place.ensures) at c.in_err-neighbour-2.ensures.value)))
+    rw side1 (gives_error _ _ _ _ _ c.from_residual-in_err-neighbour-2.ensures.1 (stops_here c.in_err-neighbour-2.field-0.0 _ _ (rw (c.as_str-at.ensures, c.in_ok-place.ensures) at c.in_err-neighbour-2.ensures.value)))
 
 -- an error at the neighbour to the east is the region's first fault (`neighbours_at`), or Memory
 pub returns-in_err-neighbour-3-clause-value : goal.returns-in_err-neighbour-3-clause-value
@@ -21,7 +21,7 @@ unfolding neighbours_at
 returns-in_err-neighbour-3-clause-value c =
     let side1 = rw (c.as_str-at.ensures, c.in_ok-place.ensures) at c.in_ok-neighbour.ensures.value.0 in
     let side2 = rw (c.as_str-at.ensures, c.in_ok-place.ensures) at c.in_ok-neighbour-2.ensures.value.0 in
-    rw (side1, side2) (exits _ _ _ _ _ c.from_residual-in_err-neighbour-3.ensures.1 (stops_here c.in_err-neighbour-3.field-0.0 _ _ (rw (c.as_str-at.ensures, c.in_ok-place.ensures) at c.in_err-neighbour-3.ensures.value)))
+    rw (side1, side2) (gives_error _ _ _ _ _ c.from_residual-in_err-neighbour-3.ensures.1 (stops_here c.in_err-neighbour-3.field-0.0 _ _ (rw (c.as_str-at.ensures, c.in_ok-place.ensures) at c.in_err-neighbour-3.ensures.value)))
 
 -- if the sides before it have no fault, the check of the neighbour to the west, the last side, returns Ok or the
 -- region's first fault (`neighbours_at`), or Memory

@@ -7,7 +7,7 @@ use Rattle.atl_tables.specs.Titles.{known, item_number}
 use Rattle.atl_tables.specs.declared.fault.WorldFault.{WorldFault}
 use Rattle.atl_tables.specs.declared.output_table.Output.{Output}
 use Rattle.atl_tables.specs.declared.world_draft.WorldDraft.{WorldDraft}
-use Rattle.atl_tables.proofs.FaultLaws.{exits, stops_here}
+use Rattle.atl_tables.proofs.FaultLaws.{gives_error, stops_here}
 use Rattle.atl_tables.proofs.EachLaws.{goes_on_at, ends_at}
 use Rattle.atl_tables.proofs.output_table.known_keys.Goals as goal
 
@@ -30,7 +30,7 @@ returns-in_err-known c =
     let at = c.args.at.now in
     let all = c.args.all.now in
     let e = c.in_err-known.field-0.0 in
-    exits _ _ _ _ _ c.from_residual.ensures.1 (ends_at (known_key_at all at) outputs c.loop-i.i o _ c.loop-i-test.true c.index-outputs-i.is c.loop-i.invariant e (unknown_here e all at c.loop-i.i o (rw (c.as_slice.ensures, c.as_str.ensures, ← c.index-outputs-i.is) at c.in_err-known.ensures.value)))
+    gives_error _ _ _ _ _ c.from_residual.ensures.1 (ends_at (known_key_at all at) outputs c.loop-i.i o _ c.loop-i-test.true c.index-outputs-i.is c.loop-i.invariant e (unknown_here e all at c.loop-i.i o (rw (c.as_slice.ensures, c.as_str.ensures, ← c.index-outputs-i.is) at c.in_err-known.ensures.value)))
 
 -- after a key that names an item, the first fault of the keys after it is that of all keys
 pub loop-i-preserved : goal.loop-i-preserved

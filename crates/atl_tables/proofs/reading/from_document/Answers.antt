@@ -1,6 +1,6 @@
 use Rattle.toml.specs.View.{table_view}
 use Rattle.atl_tables.specs.World.{conditions, keys_conditions, table_conditions, tables_of, world_of_tables}
-use Rattle.atl_tables.proofs.FaultLaws.{exits, stops_on, gives_after}
+use Rattle.atl_tables.proofs.FaultLaws.{gives_error, stops_on, gives_after}
 use Rattle.atl_tables.proofs.reading.from_document.Goals as goal
 
 -- an error in reading the tables is the first fault of the document (`conditions`), or Memory
@@ -8,7 +8,7 @@ pub returns-in_err-all : goal.returns-in_err-all
 unfolding conditions
 returns-in_err-all c =
     let doc = table_view c.args.document.now in
-    exits _ _ _ _ _ c.from_residual.ensures.1 (stops_on c.in_err-all.field-0.0 (keys_conditions c.args.format doc) (table_conditions (tables_of c.args.format doc)) c.in_err-all.ensures.value)
+    gives_error _ _ _ _ _ c.from_residual.ensures.1 (stops_on c.in_err-all.field-0.0 (keys_conditions c.args.format doc) (table_conditions (tables_of c.args.format doc)) c.in_err-all.ensures.value)
 
 -- if the tables are read without a fault, what `from_tables` returns is the document's world or its first fault
 pub returns : goal.returns

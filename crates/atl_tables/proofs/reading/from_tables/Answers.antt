@@ -3,7 +3,7 @@ use Rattle.atl_tables.specs.Faults.{Conditions}
 use Rattle.atl_world.specs.Worlds.{land_of}
 use Rattle.atl_tables.specs.World.{names_differ, names_are_known, neighbours_are_mutual, is_some_land, world_of_tables}
 use Rattle.atl_tables.specs.declared.world_draft.WorldDraft.{WorldDraft}
-use Rattle.atl_tables.proofs.FaultLaws.{exits, stops_on, stops_after, gives_after}
+use Rattle.atl_tables.proofs.FaultLaws.{gives_error, stops_on, stops_after, gives_after}
 use Rattle.atl_tables.proofs.DuplicateLaws.{thing_names_differ}
 use Rattle.atl_tables.proofs.reading.from_tables.Goals as goal
 
@@ -15,14 +15,14 @@ last all = neighbours_are_mutual all ++ is_some_land (land_of (world_of_tables a
 pub returns-in_err-names_differ : goal.returns-in_err-names_differ
 returns-in_err-names_differ c =
     let all = c.args.all in
-    exits _ _ _ _ _ c.from_residual.ensures.1 (stops_on c.in_err-names_differ.field-0.0 (names_differ all) (names_are_known all ++ last all) c.in_err-names_differ.ensures)
+    gives_error _ _ _ _ _ c.from_residual.ensures.1 (stops_on c.in_err-names_differ.field-0.0 (names_differ all) (names_are_known all ++ last all) c.in_err-names_differ.ensures)
 
 -- an error in looking up names is the first fault of the tables (`table_conditions`), or Memory
 pub returns-in_err-parts : goal.returns-in_err-parts
 returns-in_err-parts c =
     let all = c.args.all in
     let e = c.in_err-parts.field-0.0 in
-    exits _ _ _ _ _ c.from_residual-in_err-parts.ensures.1 (stops_after e (names_differ all) (names_are_known all ++ last all) c.in_ok-names_differ.ensures.0 (stops_on e (names_are_known all) (last all) c.in_err-parts.ensures.value))
+    gives_error _ _ _ _ _ c.from_residual-in_err-parts.ensures.1 (stops_after e (names_differ all) (names_are_known all ++ last all) c.in_ok-names_differ.ensures.0 (stops_on e (names_are_known all) (last all) c.in_err-parts.ensures.value))
 
 -- if names differ and refer to things, what `join` returns is the world of the tables or their first fault
 pub returns : goal.returns

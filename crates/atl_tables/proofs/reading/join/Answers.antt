@@ -10,7 +10,7 @@ use Rattle.atl_tables.specs.World.{neighbours_are_mutual, is_some_land, world_of
 use Rattle.atl_tables.specs.declared.reading.WorldParts.{WorldParts}
 use Rattle.atl_tables.specs.declared.world_draft.WorldDraft.{WorldDraft}
 use Rattle.atl_world.specs.declared.world.RegionPlan.{RegionPlan}
-use Rattle.atl_tables.proofs.FaultLaws.{exits, stops_on, gives_after}
+use Rattle.atl_tables.proofs.FaultLaws.{gives_error, stops_on, gives_after}
 use Rattle.atl_tables.proofs.WorldLaws.{is_world}
 use Rattle.atl_tables.proofs.reading.join.Goals as goal
 
@@ -39,7 +39,7 @@ unfolding neighbours_are_mutual
 returns-in_err-mutual_neighbours c =
     let all = c.args.all in
     let made = c.in_ok-regions.ensures.value ∙ regions_are all c.args.parts c.into_vec.result.items c.requires.parts c.into_vec.ensures in
-    exits _ _ _ _ _ c.from_residual-in_err-mutual_neighbours.ensures.1 (stops_on c.in_err-mutual_neighbours.field-0.0 (neighbours_are_mutual all) (land all) (rw (c.as_slice.ensures, made) at c.in_err-mutual_neighbours.ensures.value))
+    gives_error _ _ _ _ _ c.from_residual-in_err-mutual_neighbours.ensures.1 (stops_on c.in_err-mutual_neighbours.field-0.0 (neighbours_are_mutual all) (land all) (rw (c.as_slice.ensures, made) at c.in_err-mutual_neighbours.ensures.value))
 
 -- the parts make a world (`IsWorld`) if the terrain of some region is land, as `with_land` requires
 pub with_land-requires : goal.with_land-requires

@@ -6,7 +6,7 @@ use Rattle.atl_tables.specs.Regions.{duplicate_numbers}
 use Rattle.atl_tables.specs.TerrainTable.{duplicate_output_keys}
 use Rattle.atl_tables.specs.World.{titles_differ, names_differ}
 use Rattle.atl_tables.specs.declared.world_draft.WorldDraft.{WorldDraft}
-use Rattle.atl_tables.proofs.FaultLaws.{exits, stops_on, stops_after, gives_after}
+use Rattle.atl_tables.proofs.FaultLaws.{gives_error, stops_on, stops_after, gives_after}
 use Rattle.atl_tables.proofs.reading.names_differ.Goals as goal
 
 -- the conditions that no two regions of the file have the same number
@@ -27,7 +27,7 @@ unfolding names_differ
 returns-in_err-titles_differ c =
     let t = c.args.all.now in
     let e = c.in_err-titles_differ.field-0.0 in
-    exits _ _ _ _ _ c.from_residual.ensures.1 (stops_on e (titles_differ t) (numbers t ++ (outputs t ++ markets t)) c.in_err-titles_differ.ensures)
+    gives_error _ _ _ _ _ c.from_residual.ensures.1 (stops_on e (titles_differ t) (numbers t ++ (outputs t ++ markets t)) c.in_err-titles_differ.ensures)
 
 -- an error in comparing the numbers of regions is the first fault of `names_differ`, or Memory
 pub returns-in_err-no_duplicate_numbers : goal.returns-in_err-no_duplicate_numbers
@@ -35,7 +35,7 @@ unfolding names_differ
 returns-in_err-no_duplicate_numbers c =
     let t = c.args.all.now in
     let e = c.in_err-no_duplicate_numbers.field-0.0 in
-    exits _ _ _ _ _ c.from_residual-in_err-no_duplicate_numbers.ensures.1 (stops_after e (titles_differ t) (numbers t ++ (outputs t ++ markets t)) c.in_ok-titles_differ.ensures.0 (stops_on e (numbers t) (outputs t ++ markets t) (rw c.as_slice.ensures at c.in_err-no_duplicate_numbers.ensures)))
+    gives_error _ _ _ _ _ c.from_residual-in_err-no_duplicate_numbers.ensures.1 (stops_after e (titles_differ t) (numbers t ++ (outputs t ++ markets t)) c.in_ok-titles_differ.ensures.0 (stops_on e (numbers t) (outputs t ++ markets t) (rw c.as_slice.ensures at c.in_err-no_duplicate_numbers.ensures)))
 
 -- an error in comparing the keys of outputs is the first fault of `names_differ`, or Memory
 pub returns-in_err-no_duplicates_inside : goal.returns-in_err-no_duplicates_inside
@@ -43,7 +43,7 @@ unfolding names_differ
 returns-in_err-no_duplicates_inside c =
     let t = c.args.all.now in
     let e = c.in_err-no_duplicates_inside.field-0.0 in
-    exits _ _ _ _ _ c.from_residual-in_err-no_duplicates_inside.ensures.1 (stops_after e (titles_differ t) (numbers t ++ (outputs t ++ markets t)) c.in_ok-titles_differ.ensures.0 (stops_after e (numbers t) (outputs t ++ markets t) (rw c.as_slice.ensures at c.in_ok-no_duplicate_numbers.ensures.0) (stops_on e (outputs t) (markets t) (rw c.as_slice-2.ensures at c.in_err-no_duplicates_inside.ensures))))
+    gives_error _ _ _ _ _ c.from_residual-in_err-no_duplicates_inside.ensures.1 (stops_after e (titles_differ t) (numbers t ++ (outputs t ++ markets t)) c.in_ok-titles_differ.ensures.0 (stops_after e (numbers t) (outputs t ++ markets t) (rw c.as_slice.ensures at c.in_ok-no_duplicate_numbers.ensures.0) (stops_on e (outputs t) (markets t) (rw c.as_slice-2.ensures at c.in_err-no_duplicates_inside.ensures))))
 
 -- if no condition before it is broken, the check of the market items, the last one, returns Ok or the first fault of
 -- `names_differ`, or Memory

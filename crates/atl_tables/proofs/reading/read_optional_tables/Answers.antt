@@ -9,7 +9,7 @@ use Rattle.atl_tables.specs.KindTable.{kind_keys}
 use Rattle.atl_world.specs.Limits.{most_items, most_skills, most_kinds}
 use Rattle.atl_tables.specs.SkillTable.{skill_keys}
 use Rattle.atl_tables.specs.World.{optional_conditions, optional_tables_of}
-use Rattle.atl_tables.proofs.FaultLaws.{exits, stops_on, stops_after, passes_both}
+use Rattle.atl_tables.proofs.FaultLaws.{gives_error, stops_on, stops_after, passes_both}
 use Rattle.atl_tables.proofs.reading.read_optional_tables.Goals as goal
 
 -- the conditions on the array of items, which may be missing, and on the keys of its tables
@@ -30,7 +30,7 @@ unfolding optional_conditions
 returns-in_err-items-clause-value c =
     let t = table_view c.args.document.now in
     let e = c.in_err-items.field-0.0 in
-    exits _ _ _ _ _ c.from_residual.ensures.1 (stops_on e (items t) (skills t ++ kinds t) c.in_err-items.ensures.value)
+    gives_error _ _ _ _ _ c.from_residual.ensures.1 (stops_on e (items t) (skills t ++ kinds t) c.in_err-items.ensures.value)
 
 -- an error in reading the tables of skills is the first fault of `optional_conditions`, or Memory
 pub returns-in_err-skills-clause-value : goal.returns-in_err-skills-clause-value
@@ -38,7 +38,7 @@ unfolding optional_conditions
 returns-in_err-skills-clause-value c =
     let t = table_view c.args.document.now in
     let e = c.in_err-skills.field-0.0 in
-    exits _ _ _ _ _ c.from_residual-in_err-skills.ensures.1 (stops_after e (items t) (skills t ++ kinds t) c.in_ok-items.ensures.value.0 (stops_on e (skills t) (kinds t) c.in_err-skills.ensures.value))
+    gives_error _ _ _ _ _ c.from_residual-in_err-skills.ensures.1 (stops_after e (items t) (skills t ++ kinds t) c.in_ok-items.ensures.value.0 (stops_on e (skills t) (kinds t) c.in_err-skills.ensures.value))
 
 -- an error in reading the tables of kinds is the first fault of `optional_conditions`, or Memory
 pub returns-in_err-kinds-clause-value : goal.returns-in_err-kinds-clause-value
@@ -46,7 +46,7 @@ unfolding optional_conditions
 returns-in_err-kinds-clause-value c =
     let t = table_view c.args.document.now in
     let e = c.in_err-kinds.field-0.0 in
-    exits _ _ _ _ _ c.from_residual-in_err-kinds.ensures.1 (stops_after e (items t) (skills t ++ kinds t) c.in_ok-items.ensures.value.0 (stops_after e (skills t) (kinds t) c.in_ok-skills.ensures.value.0 c.in_err-kinds.ensures.value))
+    gives_error _ _ _ _ _ c.from_residual-in_err-kinds.ensures.1 (stops_after e (items t) (skills t ++ kinds t) c.in_ok-items.ensures.value.0 (stops_after e (skills t) (kinds t) c.in_ok-skills.ensures.value.0 c.in_err-kinds.ensures.value))
 
 -- if all tables are read, no condition on them is broken, and they are those that `optional_tables_of` gives
 pub returns-clause-value : goal.returns-clause-value

@@ -8,7 +8,7 @@ use Rattle.atl_tables.specs.RulesTable.{rules_known}
 use Rattle.atl_tables.specs.TerrainTable.{terrain_known}
 use Rattle.atl_tables.specs.World.{names_are_known}
 use Rattle.atl_tables.specs.declared.world_draft.WorldDraft.{WorldDraft}
-use Rattle.atl_tables.proofs.FaultLaws.{exits, stops_on, stops_after, passes_both}
+use Rattle.atl_tables.proofs.FaultLaws.{gives_error, stops_on, stops_after, passes_both}
 use Rattle.atl_tables.proofs.reading.resolve.Goals as goal
 
 -- the conditions that each skill that the rules name is a skill of the file
@@ -37,7 +37,7 @@ unfolding names_are_known
 returns-in_err-rules-clause-value c =
     let t = c.args.all.now in
     let e = c.in_err-rules.field-0.0 in
-    exits _ _ _ _ _ c.from_residual.ensures.1 (stops_on e (rules t) (terrains t ++ (items t ++ (kinds t ++ regions t))) c.in_err-rules.ensures.value)
+    gives_error _ _ _ _ _ c.from_residual.ensures.1 (stops_on e (rules t) (terrains t ++ (items t ++ (kinds t ++ regions t))) c.in_err-rules.ensures.value)
 
 -- an error in looking up the names in terrains is the first fault of `names_are_known`, or Memory
 pub returns-in_err-terrains-clause-value : goal.returns-in_err-terrains-clause-value
@@ -45,7 +45,7 @@ unfolding names_are_known
 returns-in_err-terrains-clause-value c =
     let t = c.args.all.now in
     let e = c.in_err-terrains.field-0.0 in
-    exits _ _ _ _ _ c.from_residual-in_err-terrains.ensures.1 (stops_after e (rules t) (terrains t ++ (items t ++ (kinds t ++ regions t))) c.in_ok-rules.ensures.value.0 (stops_on e (terrains t) (items t ++ (kinds t ++ regions t)) (rw c.as_slice.ensures at c.in_err-terrains.ensures.value)))
+    gives_error _ _ _ _ _ c.from_residual-in_err-terrains.ensures.1 (stops_after e (rules t) (terrains t ++ (items t ++ (kinds t ++ regions t))) c.in_ok-rules.ensures.value.0 (stops_on e (terrains t) (items t ++ (kinds t ++ regions t)) (rw c.as_slice.ensures at c.in_err-terrains.ensures.value)))
 
 -- an error in looking up the names in items is the first fault of `names_are_known`, or Memory
 pub returns-in_err-items-clause-value : goal.returns-in_err-items-clause-value
@@ -53,7 +53,7 @@ unfolding names_are_known
 returns-in_err-items-clause-value c =
     let t = c.args.all.now in
     let e = c.in_err-items.field-0.0 in
-    exits _ _ _ _ _ c.from_residual-in_err-items.ensures.1 (stops_after e (rules t) (terrains t ++ (items t ++ (kinds t ++ regions t))) c.in_ok-rules.ensures.value.0 (stops_after e (terrains t) (items t ++ (kinds t ++ regions t)) (rw c.as_slice.ensures at c.in_ok-terrains.ensures.value.0) (stops_on e (items t) (kinds t ++ regions t) (rw c.as_slice-2.ensures at c.in_err-items.ensures.value))))
+    gives_error _ _ _ _ _ c.from_residual-in_err-items.ensures.1 (stops_after e (rules t) (terrains t ++ (items t ++ (kinds t ++ regions t))) c.in_ok-rules.ensures.value.0 (stops_after e (terrains t) (items t ++ (kinds t ++ regions t)) (rw c.as_slice.ensures at c.in_ok-terrains.ensures.value.0) (stops_on e (items t) (kinds t ++ regions t) (rw c.as_slice-2.ensures at c.in_err-items.ensures.value))))
 
 -- an error in looking up the names in kinds is the first fault of `names_are_known`, or Memory
 pub returns-in_err-kinds-clause-value : goal.returns-in_err-kinds-clause-value
@@ -61,7 +61,7 @@ unfolding names_are_known
 returns-in_err-kinds-clause-value c =
     let t = c.args.all.now in
     let e = c.in_err-kinds.field-0.0 in
-    exits _ _ _ _ _ c.from_residual-in_err-kinds.ensures.1 (stops_after e (rules t) (terrains t ++ (items t ++ (kinds t ++ regions t))) c.in_ok-rules.ensures.value.0 (stops_after e (terrains t) (items t ++ (kinds t ++ regions t)) (rw c.as_slice.ensures at c.in_ok-terrains.ensures.value.0) (stops_after e (items t) (kinds t ++ regions t) (rw c.as_slice-2.ensures at c.in_ok-items.ensures.value.0) (stops_on e (kinds t) (regions t) (rw c.as_slice-3.ensures at c.in_err-kinds.ensures.value)))))
+    gives_error _ _ _ _ _ c.from_residual-in_err-kinds.ensures.1 (stops_after e (rules t) (terrains t ++ (items t ++ (kinds t ++ regions t))) c.in_ok-rules.ensures.value.0 (stops_after e (terrains t) (items t ++ (kinds t ++ regions t)) (rw c.as_slice.ensures at c.in_ok-terrains.ensures.value.0) (stops_after e (items t) (kinds t ++ regions t) (rw c.as_slice-2.ensures at c.in_ok-items.ensures.value.0) (stops_on e (kinds t) (regions t) (rw c.as_slice-3.ensures at c.in_err-kinds.ensures.value)))))
 
 -- an error in looking up the names in regions is the first fault of `names_are_known`, or Memory
 pub returns-in_err-regions-clause-value : goal.returns-in_err-regions-clause-value
@@ -69,7 +69,7 @@ unfolding names_are_known
 returns-in_err-regions-clause-value c =
     let t = c.args.all.now in
     let e = c.in_err-regions.field-0.0 in
-    exits _ _ _ _ _ c.from_residual-in_err-regions.ensures.1 (stops_after e (rules t) (terrains t ++ (items t ++ (kinds t ++ regions t))) c.in_ok-rules.ensures.value.0 (stops_after e (terrains t) (items t ++ (kinds t ++ regions t)) (rw c.as_slice.ensures at c.in_ok-terrains.ensures.value.0) (stops_after e (items t) (kinds t ++ regions t) (rw c.as_slice-2.ensures at c.in_ok-items.ensures.value.0) (stops_after e (kinds t) (regions t) (rw c.as_slice-3.ensures at c.in_ok-kinds.ensures.value.0) (rw c.as_slice-4.ensures at c.in_err-regions.ensures.value)))))
+    gives_error _ _ _ _ _ c.from_residual-in_err-regions.ensures.1 (stops_after e (rules t) (terrains t ++ (items t ++ (kinds t ++ regions t))) c.in_ok-rules.ensures.value.0 (stops_after e (terrains t) (items t ++ (kinds t ++ regions t)) (rw c.as_slice.ensures at c.in_ok-terrains.ensures.value.0) (stops_after e (items t) (kinds t ++ regions t) (rw c.as_slice-2.ensures at c.in_ok-items.ensures.value.0) (stops_after e (kinds t) (regions t) (rw c.as_slice-3.ensures at c.in_ok-kinds.ensures.value.0) (rw c.as_slice-4.ensures at c.in_err-regions.ensures.value)))))
 
 -- if all names are found, no condition on them is broken, and the parts are those that `world_parts_of` gives
 pub returns-clause-value : goal.returns-clause-value

@@ -9,7 +9,7 @@ use Rattle.atl_tables.specs.RulesTable.{rules_conditions}
 use Rattle.atl_tables.specs.TerrainTable.{terrain_keys}
 use Rattle.atl_tables.specs.World.{optional_conditions, regions_conditions, keys_conditions, tables_of}
 use Rattle.atl_world.specs.declared.format.Format.{Format}
-use Rattle.atl_tables.proofs.FaultLaws.{exits, stops_on, stops_after, passes_both}
+use Rattle.atl_tables.proofs.FaultLaws.{gives_error, stops_on, stops_after, passes_both}
 use Rattle.atl_tables.proofs.reading.tables.Goals as goal
 
 -- the conditions on the table `[rules]` of the document and on its keys
@@ -34,7 +34,7 @@ unfolding keys_conditions
 returns-in_err-rules-clause-value c =
     let t = table_view c.args.document.now in
     let e = c.in_err-rules.field-0.0 in
-    exits _ _ _ _ _ c.from_residual.ensures.1 (stops_on e (rules t) (terrains t ++ (optional_tables t ++ regions c.args.format t)) c.in_err-rules.ensures.value)
+    gives_error _ _ _ _ _ c.from_residual.ensures.1 (stops_on e (rules t) (terrains t ++ (optional_tables t ++ regions c.args.format t)) c.in_err-rules.ensures.value)
 
 -- an error in reading terrains is the first fault of `keys_conditions`, or Memory
 pub returns-in_err-terrains-clause-value : goal.returns-in_err-terrains-clause-value
@@ -42,7 +42,7 @@ unfolding keys_conditions
 returns-in_err-terrains-clause-value c =
     let t = table_view c.args.document.now in
     let e = c.in_err-terrains.field-0.0 in
-    exits _ _ _ _ _ c.from_residual-in_err-terrains.ensures.1 (stops_after e (rules t) (terrains t ++ (optional_tables t ++ regions c.args.format t)) c.in_ok-rules.ensures.value.0 (stops_on e (terrains t) (optional_tables t ++ regions c.args.format t) c.in_err-terrains.ensures.value))
+    gives_error _ _ _ _ _ c.from_residual-in_err-terrains.ensures.1 (stops_after e (rules t) (terrains t ++ (optional_tables t ++ regions c.args.format t)) c.in_ok-rules.ensures.value.0 (stops_on e (terrains t) (optional_tables t ++ regions c.args.format t) c.in_err-terrains.ensures.value))
 
 -- an error in reading items, skills or kinds is the first fault of `keys_conditions`, or Memory
 pub returns-in_err-optional_tables-clause-value : goal.returns-in_err-optional_tables-clause-value
@@ -50,7 +50,7 @@ unfolding keys_conditions
 returns-in_err-optional_tables-clause-value c =
     let t = table_view c.args.document.now in
     let e = c.in_err-optional_tables.field-0.0 in
-    exits _ _ _ _ _ c.from_residual-in_err-optional_tables.ensures.1 (stops_after e (rules t) (terrains t ++ (optional_tables t ++ regions c.args.format t)) c.in_ok-rules.ensures.value.0 (stops_after e (terrains t) (optional_tables t ++ regions c.args.format t) c.in_ok-terrains.ensures.value.0 (stops_on e (optional_tables t) (regions c.args.format t) c.in_err-optional_tables.ensures.value)))
+    gives_error _ _ _ _ _ c.from_residual-in_err-optional_tables.ensures.1 (stops_after e (rules t) (terrains t ++ (optional_tables t ++ regions c.args.format t)) c.in_ok-rules.ensures.value.0 (stops_after e (terrains t) (optional_tables t ++ regions c.args.format t) c.in_ok-terrains.ensures.value.0 (stops_on e (optional_tables t) (regions c.args.format t) c.in_err-optional_tables.ensures.value)))
 
 -- an error in reading regions is the first fault of `keys_conditions`, or Memory
 pub returns-in_err-regions-clause-value : goal.returns-in_err-regions-clause-value
@@ -58,7 +58,7 @@ unfolding keys_conditions
 returns-in_err-regions-clause-value c =
     let t = table_view c.args.document.now in
     let e = c.in_err-regions.field-0.0 in
-    exits _ _ _ _ _ c.from_residual-in_err-regions.ensures.1 (stops_after e (rules t) (terrains t ++ (optional_tables t ++ regions c.args.format t)) c.in_ok-rules.ensures.value.0 (stops_after e (terrains t) (optional_tables t ++ regions c.args.format t) c.in_ok-terrains.ensures.value.0 (stops_after e (optional_tables t) (regions c.args.format t) c.in_ok-optional_tables.ensures.value.0 c.in_err-regions.ensures.value)))
+    gives_error _ _ _ _ _ c.from_residual-in_err-regions.ensures.1 (stops_after e (rules t) (terrains t ++ (optional_tables t ++ regions c.args.format t)) c.in_ok-rules.ensures.value.0 (stops_after e (terrains t) (optional_tables t ++ regions c.args.format t) c.in_ok-terrains.ensures.value.0 (stops_after e (optional_tables t) (regions c.args.format t) c.in_ok-optional_tables.ensures.value.0 c.in_err-regions.ensures.value)))
 
 -- if all tables are read, no condition on their keys is broken, and they are those that `tables_of` gives
 pub returns-clause-value : goal.returns-clause-value

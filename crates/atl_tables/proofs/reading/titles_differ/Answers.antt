@@ -3,7 +3,7 @@ use Rattle.atl_tables.specs.Faults.{Conditions}
 use Rattle.atl_tables.specs.Titles.{no_twins}
 use Rattle.atl_tables.specs.World.{titles_differ}
 use Rattle.atl_tables.specs.declared.world_draft.WorldDraft.{WorldDraft}
-use Rattle.atl_tables.proofs.FaultLaws.{exits, stops_on, stops_after, gives_after}
+use Rattle.atl_tables.proofs.FaultLaws.{gives_error, stops_on, stops_after, gives_after}
 use Rattle.atl_tables.proofs.reading.titles_differ.Goals as goal
 
 -- the conditions that no two terrains of the file have the same name
@@ -28,7 +28,7 @@ unfolding titles_differ
 returns-in_err-no_duplicate_names c =
     let t = c.args.all.now in
     let e = c.in_err-no_duplicate_names.field-0.0 in
-    exits _ _ _ _ _ c.from_residual.ensures.1 (stops_on e (terrains t) (items t ++ (skills t ++ kinds t)) (rw c.as_slice.ensures at c.in_err-no_duplicate_names.ensures))
+    gives_error _ _ _ _ _ c.from_residual.ensures.1 (stops_on e (terrains t) (items t ++ (skills t ++ kinds t)) (rw c.as_slice.ensures at c.in_err-no_duplicate_names.ensures))
 
 -- an error in comparing the names of items is the first fault of `titles_differ`, or Memory
 pub returns-in_err-no_duplicate_names-2 : goal.returns-in_err-no_duplicate_names-2
@@ -36,7 +36,7 @@ unfolding titles_differ
 returns-in_err-no_duplicate_names-2 c =
     let t = c.args.all.now in
     let e = c.in_err-no_duplicate_names-2.field-0.0 in
-    exits _ _ _ _ _ c.from_residual-in_err-no_duplicate_names-2.ensures.1 (stops_after e (terrains t) (items t ++ (skills t ++ kinds t)) (rw c.as_slice.ensures at c.in_ok-no_duplicate_names.ensures.0) (stops_on e (items t) (skills t ++ kinds t) (rw c.as_slice-2.ensures at c.in_err-no_duplicate_names-2.ensures)))
+    gives_error _ _ _ _ _ c.from_residual-in_err-no_duplicate_names-2.ensures.1 (stops_after e (terrains t) (items t ++ (skills t ++ kinds t)) (rw c.as_slice.ensures at c.in_ok-no_duplicate_names.ensures.0) (stops_on e (items t) (skills t ++ kinds t) (rw c.as_slice-2.ensures at c.in_err-no_duplicate_names-2.ensures)))
 
 -- an error in comparing the names of skills is the first fault of `titles_differ`, or Memory
 pub returns-in_err-no_duplicate_names-3 : goal.returns-in_err-no_duplicate_names-3
@@ -44,7 +44,7 @@ unfolding titles_differ
 returns-in_err-no_duplicate_names-3 c =
     let t = c.args.all.now in
     let e = c.in_err-no_duplicate_names-3.field-0.0 in
-    exits _ _ _ _ _ c.from_residual-in_err-no_duplicate_names-3.ensures.1 (stops_after e (terrains t) (items t ++ (skills t ++ kinds t)) (rw c.as_slice.ensures at c.in_ok-no_duplicate_names.ensures.0) (stops_after e (items t) (skills t ++ kinds t) (rw c.as_slice-2.ensures at c.in_ok-no_duplicate_names-2.ensures.0) (stops_on e (skills t) (kinds t) (rw c.as_slice-3.ensures at c.in_err-no_duplicate_names-3.ensures))))
+    gives_error _ _ _ _ _ c.from_residual-in_err-no_duplicate_names-3.ensures.1 (stops_after e (terrains t) (items t ++ (skills t ++ kinds t)) (rw c.as_slice.ensures at c.in_ok-no_duplicate_names.ensures.0) (stops_after e (items t) (skills t ++ kinds t) (rw c.as_slice-2.ensures at c.in_ok-no_duplicate_names-2.ensures.0) (stops_on e (skills t) (kinds t) (rw c.as_slice-3.ensures at c.in_err-no_duplicate_names-3.ensures))))
 
 -- if the names of terrains, items and skills differ, the check of the kinds' names, the last one, returns Ok or the
 -- first fault of `titles_differ`, or Memory

@@ -1,20 +1,20 @@
 use Rattle.std.proofs.Common.{refl}
 use Rattle.atl_tables.specs.ItemTable.{item_known, item_of}
-use Rattle.atl_tables.proofs.FaultLaws.{exits, stops_here}
+use Rattle.atl_tables.proofs.FaultLaws.{gives_error, stops_here}
 use Rattle.atl_tables.proofs.item_table.ItemDraftDraft.resolve.Goals as goal
 
 -- an error in looking up the item's skill is the first fault of its names (`item_known`), or Memory
 pub returns-in_err-skill-clause-value : goal.returns-in_err-skill-clause-value
 unfolding item_known item_of
 returns-in_err-skill-clause-value c =
-    exits _ _ _ _ _ c.from_residual-in_err-skill.ensures.1 (stops_here c.in_err-skill.field-0.0 _ _ (rw (c.as_str-at.ensures, c.in_ok-place.ensures, c.as_slice.ensures) at c.in_err-skill.ensures.value))
+    gives_error _ _ _ _ _ c.from_residual-in_err-skill.ensures.1 (stops_here c.in_err-skill.field-0.0 _ _ (rw (c.as_str-at.ensures, c.in_ok-place.ensures, c.as_slice.ensures) at c.in_err-skill.ensures.value))
 
 -- an error in looking up the raw item is the first fault of the item's names (`item_known`), or Memory
 pub returns-in_err-raw-clause-value : goal.returns-in_err-raw-clause-value
 unfolding item_known item_of
 returns-in_err-raw-clause-value c =
     let skill = rw (c.as_str-at.ensures, c.in_ok-place.ensures, c.as_slice.ensures) at c.in_ok-skill.ensures.value.0 in
-    rw skill (exits _ _ _ _ _ c.from_residual-in_err-raw.ensures.1 (stops_here c.in_err-raw.field-0.0 _ _ (rw (c.as_str-at.ensures, c.in_ok-place.ensures, c.as_slice-2.ensures) at c.in_err-raw.ensures.value)))
+    rw skill (gives_error _ _ _ _ _ c.from_residual-in_err-raw.ensures.1 (stops_here c.in_err-raw.field-0.0 _ _ (rw (c.as_str-at.ensures, c.in_ok-place.ensures, c.as_slice-2.ensures) at c.in_err-raw.ensures.value)))
 
 -- if all names are found, no condition on them is broken, and the item is the one that `item_of` gives
 pub returns-clause-value : goal.returns-clause-value

@@ -1,20 +1,20 @@
 use Rattle.std.proofs.Common.{refl}
 use Rattle.atl_tables.specs.KindTable.{kind_known, kind_of}
-use Rattle.atl_tables.proofs.FaultLaws.{exits, stops_here}
+use Rattle.atl_tables.proofs.FaultLaws.{gives_error, stops_here}
 use Rattle.atl_tables.proofs.kind_table.KindDraftDraft.resolve.Goals as goal
 
 -- an error in looking up the material is the first fault of the kind's names (`kind_known`), or Memory
 pub returns-in_err-material-clause-value : goal.returns-in_err-material-clause-value
 unfolding kind_known kind_of
 returns-in_err-material-clause-value c =
-    exits _ _ _ _ _ c.from_residual-in_err-material.ensures.1 (stops_here c.in_err-material.field-0.0 _ _ (rw (c.as_str-at.ensures, c.in_ok-place.ensures, c.as_slice.ensures) at c.in_err-material.ensures.value))
+    gives_error _ _ _ _ _ c.from_residual-in_err-material.ensures.1 (stops_here c.in_err-material.field-0.0 _ _ (rw (c.as_str-at.ensures, c.in_ok-place.ensures, c.as_slice.ensures) at c.in_err-material.ensures.value))
 
 -- an error in looking up the skill that builds is the first fault of the kind's names (`kind_known`), or Memory
 pub returns-in_err-skill-clause-value : goal.returns-in_err-skill-clause-value
 unfolding kind_known kind_of
 returns-in_err-skill-clause-value c =
     let material = rw (c.as_str-at.ensures, c.in_ok-place.ensures, c.as_slice.ensures) at c.in_ok-material.ensures.value.0 in
-    rw material (exits _ _ _ _ _ c.from_residual-in_err-skill.ensures.1 (stops_here c.in_err-skill.field-0.0 _ _ (rw (c.as_str-at.ensures, c.in_ok-place.ensures, c.as_slice-skills.ensures) at c.in_err-skill.ensures.value)))
+    rw material (gives_error _ _ _ _ _ c.from_residual-in_err-skill.ensures.1 (stops_here c.in_err-skill.field-0.0 _ _ (rw (c.as_str-at.ensures, c.in_ok-place.ensures, c.as_slice-skills.ensures) at c.in_err-skill.ensures.value)))
 
 -- an error in looking up the skill that is helped is the first fault of the kind's names (`kind_known`), or Memory
 pub returns-in_err-helps-clause-value : goal.returns-in_err-helps-clause-value
@@ -22,7 +22,7 @@ unfolding kind_known kind_of
 returns-in_err-helps-clause-value c =
     let material = rw (c.as_str-at.ensures, c.in_ok-place.ensures, c.as_slice.ensures) at c.in_ok-material.ensures.value.0 in
     let skill = rw (c.as_str-at.ensures, c.in_ok-place.ensures, c.as_slice-skills.ensures) at c.in_ok-skill.ensures.value.0 in
-    rw (material, skill) (exits _ _ _ _ _ c.from_residual-in_err-helps.ensures.1 (stops_here c.in_err-helps.field-0.0 _ _ (rw (c.as_str-at.ensures, c.in_ok-place.ensures, c.as_slice-skills.ensures) at c.in_err-helps.ensures.value)))
+    rw (material, skill) (gives_error _ _ _ _ _ c.from_residual-in_err-helps.ensures.1 (stops_here c.in_err-helps.field-0.0 _ _ (rw (c.as_str-at.ensures, c.in_ok-place.ensures, c.as_slice-skills.ensures) at c.in_err-helps.ensures.value)))
 
 -- if all names are found, no condition on them is broken, and the kind is the one that `kind_of` gives
 pub returns-clause-value : goal.returns-clause-value

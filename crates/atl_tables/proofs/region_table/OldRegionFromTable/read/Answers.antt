@@ -1,17 +1,17 @@
 use Rattle.std.proofs.Common.{refl}
 use Rattle.atl_tables.specs.RegionTable.{old_region_keys, old_region_from}
-use Rattle.atl_tables.proofs.FaultLaws.{exits, stops_here}
+use Rattle.atl_tables.proofs.FaultLaws.{gives_error, stops_here}
 use Rattle.atl_tables.proofs.region_table.OldRegionFromTable.read.Goals as goal
 
 -- an error in reading the basics is the first fault of the region's keys (`old_region_keys`), or Memory
 pub returns-in_err-basics-clause-value : goal.returns-in_err-basics-clause-value
 unfolding old_region_keys old_region_from
-returns-in_err-basics-clause-value c = exits _ _ _ _ _ c.from_residual.ensures.1 (stops_here c.in_err-basics.field-0.0 _ _ c.in_err-basics.ensures.value)
+returns-in_err-basics-clause-value c = gives_error _ _ _ _ _ c.from_residual.ensures.1 (stops_here c.in_err-basics.field-0.0 _ _ c.in_err-basics.ensures.value)
 
 -- an error in reading the sides is the first fault of the region's keys (`old_region_keys`), or Memory
 pub returns-in_err-sides-clause-value : goal.returns-in_err-sides-clause-value
 unfolding old_region_keys old_region_from
-returns-in_err-sides-clause-value c = rw c.in_ok-basics.ensures.value.0 (exits _ _ _ _ _ c.from_residual-in_err-sides.ensures.1 c.in_err-sides.ensures)
+returns-in_err-sides-clause-value c = rw c.in_ok-basics.ensures.value.0 (gives_error _ _ _ _ _ c.from_residual-in_err-sides.ensures.1 c.in_err-sides.ensures)
 
 -- if all keys are read, no condition on them is broken, and the region is the one that `old_region_from` gives
 pub returns-clause-value : goal.returns-clause-value

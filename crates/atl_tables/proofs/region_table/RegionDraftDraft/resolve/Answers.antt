@@ -5,7 +5,7 @@ use Rattle.atl_world.specs.Worlds.{IsMarket}
 use Rattle.atl_tables.specs.RegionTable.{region_known, region_of}
 use Rattle.atl_world.specs.Sums.{by_number}
 use Rattle.atl_world.specs.declared.world.Market.{Market}
-use Rattle.atl_tables.proofs.FaultLaws.{exits, stops_here}
+use Rattle.atl_tables.proofs.FaultLaws.{gives_error, stops_here}
 use Rattle.atl_tables.proofs.HasNumberLaws.{at_number}
 use Rattle.atl_tables.proofs.region_table.RegionDraftDraft.resolve.Goals as goal
 
@@ -13,14 +13,14 @@ use Rattle.atl_tables.proofs.region_table.RegionDraftDraft.resolve.Goals as goal
 pub returns-in_err-terrain-clause-value : goal.returns-in_err-terrain-clause-value
 unfolding region_known region_of
 returns-in_err-terrain-clause-value c =
-    exits _ _ _ _ _ c.from_residual-in_err-terrain.ensures.1 (stops_here c.in_err-terrain.field-0.0 _ _ (rw (c.as_str.ensures, c.in_ok-place.ensures, c.as_slice.ensures) at c.in_err-terrain.ensures.value))
+    gives_error _ _ _ _ _ c.from_residual-in_err-terrain.ensures.1 (stops_here c.in_err-terrain.field-0.0 _ _ (rw (c.as_str.ensures, c.in_ok-place.ensures, c.as_slice.ensures) at c.in_err-terrain.ensures.value))
 
 -- an error in looking up market items is the first fault of the region's names (`region_known`), or Memory
 pub returns-in_err-markets-clause-value : goal.returns-in_err-markets-clause-value
 unfolding region_known region_of
 returns-in_err-markets-clause-value c =
     let terrain = rw (c.as_str.ensures, c.in_ok-place.ensures, c.as_slice.ensures) at c.in_ok-terrain.ensures.value in
-    rw terrain.0 (exits _ _ _ _ _ c.from_residual-in_err-markets.ensures.1 (rw c.as_slice-2.ensures at c.in_err-markets.ensures.value))
+    rw terrain.0 (gives_error _ _ _ _ _ c.from_residual-in_err-markets.ensures.1 (rw c.as_slice-2.ensures at c.in_err-markets.ensures.value))
 
 -- if all names are found, no condition on them is broken, and the region is the one that `region_of` gives
 pub returns-clause-value : goal.returns-clause-value
