@@ -1,14 +1,17 @@
-//! Tests of `Text`, `Sequence` and `Numbered` (a map by number), call by call, and of the names of
-//! world faults.
+//! Tests of `Text`, `Sequence` and `Numbered` (a map by number), call by call.
 use super::asserts::{assert_number, assert_numbers, assert_text};
-use atl_tables::WorldFault;
 use atl_world::{Numbered, Sequence, Text};
 use std::alloc::Global;
 use std::process::Abort;
 use std::test::Fail;
 
 /// Asserts that a text and a copy of it have the wanted bytes.
-fn assert_text(rt: &impl Abort, alloc: Global, text: &Text, wanted: &str) -> Result<(), Fail> {
+fn assert_text_and_copy(
+    rt: &impl Abort,
+    alloc: Global,
+    text: &Text,
+    wanted: &str,
+) -> Result<(), Fail> {
     assert!(rt; text.as_bytes() == wanted.as_bytes());
     assert_text(rt, wanted, text.as_str(), wanted);
     assert_text(rt, wanted, text.copy(alloc)?.as_str(), wanted);
@@ -17,10 +20,10 @@ fn assert_text(rt: &impl Abort, alloc: Global, text: &Text, wanted: &str) -> Res
 
 /// Asserts that a `Text` made of `text` has its bytes, in whichever of the three ways it is made.
 fn made_in_each_way(rt: &impl Abort, alloc: Global, text: &str) -> Result<(), Fail> {
-    assert_text(rt, alloc, &Text::from_str(alloc, text)?, text)?;
+    assert_text_and_copy(rt, alloc, &Text::from_str(alloc, text)?, text)?;
     let string = String::from_str(alloc, text)?;
-    assert_text(rt, alloc, &Text::from_string(string), text)?;
-    assert_text(rt, alloc, &Text::from_utf8(alloc, text.as_bytes())?, text)
+    assert_text_and_copy(rt, alloc, &Text::from_string(string), text)?;
+    assert_text_and_copy(rt, alloc, &Text::from_utf8(alloc, text.as_bytes())?, text)
 }
 
 /// The texts of which each `Text` is made: empty, one letter, with a space, and beyond ASCII.
@@ -102,60 +105,4 @@ fn numbered(rt: HostRuntime) -> Result<(), Fail> {
     assert_map(&rt, rt.alloc(), &map, &[1, 1, 20, 2, 30, 3])?;
     changes_entries(&rt, &mut map);
     assert_map(&rt, rt.alloc(), &map, &[20, 9, 30, 3])
-}
-
-/// Each world fault: its number (0: it has none), its name, and its path (`none`: it has none).
-static FAULTS: [(u8, &str, &str); 9] = [
-    (0, "Memory", "none"),
-    (1, "NotToml", "none"),
-    (2, "Missing", "rules.growth"),
-    (3, "WrongType", "rules.growth"),
-    (4, "OutOfRange", "rules.growth"),
-    (5, "TwoNames", "rules.growth"),
-    (6, "UnknownName", "rules.growth"),
-    (7, "BadNeighbour", "rules.growth"),
-    (8, "NoLand", "none"),
-];
-
-/// The world fault with a number of docs/FORMATS.md, "Faults of a world file", at `path` if it has
-/// a path; `Memory` for any other number.
-fn fault_of(number: u8, path: Text) -> WorldFault {
-    match number {
-        1 => WorldFault::NotToml,
-        2 => WorldFault::Missing(path),
-        3 => WorldFault::WrongType(path),
-        4 => WorldFault::OutOfRange(path),
-        5 => WorldFault::TwoNames(path),
-        6 => WorldFault::UnknownName(path),
-        7 => WorldFault::BadNeighbour(path),
-        8 => WorldFault::NoLand,
-        _ => WorldFault::Memory,
-    }
-}
-
-/// The path of a world fault, or `none`.
-fn path_of(fault: &WorldFault) -> &str {
-    match fault.path() {
-        Some(path) => path.as_str(),
-        None => "none",
-    }
-}
-
-/// Asserts the number, the name and the path of the fault of a row.
-fn assert_fault(rt: &impl Abort, alloc: Global, row: &(u8, &str, &str)) -> Result<(), Fail> {
-    let (number, name, path) = *row;
-    let fault = fault_of(number, Text::from_str(alloc, "rules.growth")?);
-    assert_number(rt, fault.number().unwrap_or(0).into(), number.into());
-    assert_text(rt, name, fault.name(), name);
-    assert_text(rt, name, path_of(&fault), path);
-    Ok(())
-}
-
-/// Each world fault has its number, its name and its path.
-#[test]
-fn world_faults(rt: HostRuntime) -> Result<(), Fail> {
-    for row in FAULTS.iter() {
-        assert_fault(&rt, rt.alloc(), row)?;
-    }
-    Ok(())
 }

@@ -1,14 +1,15 @@
-//! Tests that a faulty world text gets the right first fault with its path (docs/FORMATS.md,
-//! "Faults of a world file").
-use super::asserts::assert_text;
+//! Tests that a faulty world text gets the right first fault with its path, and of the faults'
+//! numbers and names (docs/FORMATS.md, "Faults of a world file").
+use super::asserts::{assert_number, assert_text};
 use super::changes::{
     ARRAY_CHANGES, Change, EQUAL_MARKETS, HEAD_CHANGES, KEY_CHANGES, MARKET_CHANGES, NAME_CHANGES,
     NEIGHBOUR_CHANGES, OUTPUT_CHANGES, REFERENCE_CHANGES, RULES_CHANGES, SMALL_CHANGES,
     TITLE_CHANGES, TOO_MANY_MARKETS, TRUTH_CHANGES, TWIN_CHANGES, TWO_FAULTS,
 };
 use super::worlds::{ITEM_SKILL_KIND, changed, fault, small_with, with_markets};
+use atl_tables::WorldFault;
 use atl_test_worlds::SMALL;
-use atl_world::Format;
+use atl_world::{Format, Text};
 use std::alloc::Global;
 use std::process::Abort;
 use std::test::Fail;
@@ -372,4 +373,60 @@ fn regions_are(rt: &impl Abort, alloc: Global, count: u32, wanted: &str) -> Resu
 fn many_regions(rt: HostRuntime) -> Result<(), Fail> {
     regions_are(&rt, rt.alloc(), 10_000, "none")?;
     regions_are(&rt, rt.alloc(), 10_001, "4 OutOfRange region")
+}
+
+/// Each world fault: its number (0: it has none), its name, and its path (`none`: it has none).
+static FAULTS: [(u8, &str, &str); 9] = [
+    (0, "Memory", "none"),
+    (1, "NotToml", "none"),
+    (2, "Missing", "rules.growth"),
+    (3, "WrongType", "rules.growth"),
+    (4, "OutOfRange", "rules.growth"),
+    (5, "TwoNames", "rules.growth"),
+    (6, "UnknownName", "rules.growth"),
+    (7, "BadNeighbour", "rules.growth"),
+    (8, "NoLand", "none"),
+];
+
+/// The world fault with a number of docs/FORMATS.md, "Faults of a world file", at `path` if it has
+/// a path; `Memory` for any other number.
+fn fault_of(number: u8, path: Text) -> WorldFault {
+    match number {
+        1 => WorldFault::NotToml,
+        2 => WorldFault::Missing(path),
+        3 => WorldFault::WrongType(path),
+        4 => WorldFault::OutOfRange(path),
+        5 => WorldFault::TwoNames(path),
+        6 => WorldFault::UnknownName(path),
+        7 => WorldFault::BadNeighbour(path),
+        8 => WorldFault::NoLand,
+        _ => WorldFault::Memory,
+    }
+}
+
+/// The path of a world fault, or `none`.
+fn path_of(fault: &WorldFault) -> &str {
+    match fault.path() {
+        Some(path) => path.as_str(),
+        None => "none",
+    }
+}
+
+/// Asserts the number, the name and the path of the fault of a row.
+fn assert_fault(rt: &impl Abort, alloc: Global, row: &(u8, &str, &str)) -> Result<(), Fail> {
+    let (number, name, path) = *row;
+    let fault = fault_of(number, Text::from_str(alloc, "rules.growth")?);
+    assert_number(rt, fault.number().unwrap_or(0).into(), number.into());
+    assert_text(rt, name, fault.name(), name);
+    assert_text(rt, name, path_of(&fault), path);
+    Ok(())
+}
+
+/// Each world fault has its number, its name and its path.
+#[test]
+fn world_faults(rt: HostRuntime) -> Result<(), Fail> {
+    for row in FAULTS.iter() {
+        assert_fault(&rt, rt.alloc(), row)?;
+    }
+    Ok(())
 }
