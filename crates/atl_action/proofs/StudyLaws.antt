@@ -12,8 +12,8 @@ use Rattle.atl_orders.specs.Bounds.{AreOperandsOf}
 use Rattle.atl_orders.specs.declared.order.Operands.TheVariants as operands
 use Rattle.atl_orders.specs.Orders.{OperandsValue}
 use Rattle.atl_records.specs.Books.{amount_in, thing_index}
-use Rattle.atl_records.specs.declared.books.Entry.{Entry}
-use Rattle.atl_records.specs.declared.books.Entry.TheVariants.{Study}
+use Rattle.atl_records.specs.declared.books.BooksEntry.{BooksEntry}
+use Rattle.atl_records.specs.declared.books.BooksEntry.TheVariants.{Study}
 use Rattle.atl_records.specs.declared.books.Thing.{Thing}
 use Rattle.atl_records.specs.declared.books.Thing.TheVariants.{Item, Money, People}
 use Rattle.atl_records.specs.declared.event.EventFault.{EventFault}
@@ -114,7 +114,7 @@ module _ (w : WorldValue) (c : CampaignValue) (n : ℕ) (u : Unit) (s cost days 
       record { above = omega (arith, ints, all.above, less); below = omega (arith, ints, all.below, less) }
 
   -- the booking of the fee moves no amount further than the remaining bound of STUDY falls (`UsesBound`)
-  uses_bound : (e : Entry) (t : Thing) → UsesBound (study_reserve c e t) (study_reserve behind e t) (amount_in c.books e t) (amount_in behind.books e t)
+  uses_bound : (e : BooksEntry) (t : Thing) → UsesBound (study_reserve c e t) (study_reserve behind e t) (amount_in c.books e t) (amount_in behind.books e t)
   uses_bound e t =
       bound_used_near (moves_only cost Study Money e t) (study_reserve c e t) (study_reserve behind e t) (amount_in c.books e t) (amount_in behind.books e t)
       (let fallen = less in grind arith)
@@ -185,7 +185,7 @@ unchanged : IsUnaffectedRelation IsUnchanged
 unchanged = record { same = λ u. refl; transitive = λ u v x one two. two ∙ one; faction = λ u v same. ap (λ (x : Unit). x.faction) same }
 
 -- in a steady campaign all money of the units (`study_reserve`) is within the bound of the phase (`study_moves`)
-money_most : (w : WorldValue) (c : CampaignValue) → IsSteady w c → (e : Entry) (t : Thing) → study_reserve c e t ≤ study_moves e t
+money_most : (w : WorldValue) (c : CampaignValue) → IsSteady w c → (e : BooksEntry) (t : Thing) → study_reserve c e t ≤ study_moves e t
 money_most w c steady e t = let most = all_held_within w c steady Money in grind arith
 
 -- STUDY keeps a steady campaign steady and books the fee, and a unit without an own STUDY is unchanged (`IsOrderly`)

@@ -1,6 +1,6 @@
 -- For proofs alone: how far STUDY may still move the books.
 use Rattle.atl_world.specs.Sums.{sum_over}
-use Rattle.atl_records.specs.declared.books.Entry.TheVariants.{Study}
+use Rattle.atl_records.specs.declared.books.BooksEntry.TheVariants.{Study}
 use Rattle.atl_records.specs.declared.books.Thing.TheVariants.{Money}
 use Rattle.atl_phase.specs.Bounds.{RemainingBound}
 use Rattle.atl_phase.specs.Meaning.{moves_only}

@@ -3,7 +3,7 @@
 ghost use Rattle.std.specs.Prelude.{◌≡◌, ◌≤◌, ◌*◌, ◌<◌, IfOk, OnOk, Some, option_copied};
 ghost use Rattle.std.specs.FinMap as map;
 ghost use Rattle.atl_campaign.specs.Covers.{MarksChanges};
-ghost use Rattle.atl_records.specs.declared.books.Entry.TheVariants.{Study};
+ghost use Rattle.atl_records.specs.declared.books.BooksEntry.TheVariants.{Study};
 ghost use Rattle.atl_records.specs.declared.books.Thing.TheVariants.{Money};
 ghost use Rattle.atl_records.specs.declared.records.Unit.{Unit};
 ghost use Rattle.atl_campaign.specs.Good.{IsSteady};
@@ -21,7 +21,7 @@ use crate::learners::cost_of;
 use crate::limits::{HELPED_DAYS, MONTH_DAYS, TAUGHT_DAYS};
 use crate::teach::taught_at;
 use atl_campaign::{
-    Campaign, Entry, EventFault, Holding, MOST_DAYS, Outcome, Structure, Thing, Unit,
+    BooksEntry, Campaign, EventFault, Holding, MOST_DAYS, Outcome, Structure, Thing, Unit,
 };
 use atl_orders::{Operands, Verb};
 use atl_phase::{Month, OrderPhase, PhaseOrder, PhaseVerbs, book_taken, fault_outcome, own_unit};
@@ -114,7 +114,7 @@ fn put_study(
     ensures marks { OnOk result (MarksChanges campaign.old campaign.new) }
 {
     pay_and_set_days(campaign, unit, skill, cost, days)?;
-    book_taken(campaign, Entry::Study, Thing::Money, cost);
+    book_taken(campaign, BooksEntry::Study, Thing::Money, cost);
     Ok(())
 }
 

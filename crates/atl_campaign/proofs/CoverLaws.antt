@@ -12,7 +12,7 @@ use Rattle.atl_world.specs.Groups.{group_of}
 use Rattle.atl_world.specs.Sums.{changed, changed_at}
 use Rattle.atl_world.specs.Tracking.{marked_with}
 use Rattle.atl_world.proofs.GeneralLaws.{same_key}
-use Rattle.atl_records.specs.declared.books.Entry.{Entry}
+use Rattle.atl_records.specs.declared.books.BooksEntry.{BooksEntry}
 use Rattle.atl_records.specs.declared.books.Thing.{Thing}
 use Rattle.atl_records.specs.declared.records.Faction.{Faction}
 use Rattle.atl_records.specs.declared.records.Region.{Region}
@@ -223,7 +223,7 @@ abbrev pub LookupKey : MarkedPart → Type 0
 LookupKey Stocks = ℕ × ℕ
 LookupKey Items = ℕ × ℕ
 LookupKey Skills = ℕ × ℕ
-LookupKey Books = Entry × Thing
+LookupKey Books = BooksEntry × Thing
 LookupKey Row = Prim.Unit {0}
 LookupKey _ = ℕ
 
@@ -508,7 +508,7 @@ marks-unit c units n others =
     ])
 
 -- adding to an amount of the books, with that amount marked, marks all that changes (MarksChanges)
-pub marks-amount : (c : MarkedCampaign) (f : Entry) (u : Thing) (z : ℤ) → MarksChanges c (record { value = with_booking c.value f u z; marks = mark_amount c f u })
+pub marks-amount : (c : MarkedCampaign) (f : BooksEntry) (u : Thing) (z : ℤ) → MarksChanges c (record { value = with_booking c.value f u z; marks = mark_amount c f u })
 marks-amount c f u z =
     let next : MarkedCampaign = record { value = with_booking c.value f u z; marks = mark_amount c f u } in
     part_by_part c next

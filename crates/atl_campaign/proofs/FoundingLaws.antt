@@ -11,8 +11,8 @@ use Rattle.atl_world.specs.Worlds.{WorldValue, IsWorld, IsRegionPlan}
 use Rattle.atl_world.specs.Sums.{sum_over, mapped}
 use Rattle.atl_world.proofs.MappedLaws.{entries-mapped}
 use Rattle.atl_world.proofs.Maps.{entries-empty}
-use Rattle.atl_records.specs.declared.books.Entry.{Entry}
-use Rattle.atl_records.specs.declared.books.Entry.TheVariants.{Founding}
+use Rattle.atl_records.specs.declared.books.BooksEntry.{BooksEntry}
+use Rattle.atl_records.specs.declared.books.BooksEntry.TheVariants.{Founding}
 use Rattle.atl_records.specs.declared.books.Thing.{Thing}
 use Rattle.atl_records.specs.declared.books.Thing.TheVariants.{Money, People, Item}
 use Rattle.atl_campaign.specs.declared.lists.UnitLists.{UnitLists}
@@ -94,7 +94,7 @@ founded-balances w pass (Item i) =
     ∙ sym (founding_booked (things_of w) _ _ (Item i))
 
 -- each amount of empty books is 0
-none_within : (things : ℕ) (e : Entry) (t : Thing) → IsWithin 0 (amount_in (no_amounts things) e t)
+none_within : (things : ℕ) (e : BooksEntry) (t : Thing) → IsWithin 0 (amount_in (no_amounts things) e t)
 none_within things e t = rw (amount-no_amounts things e t) record { most = omega (arith, ints); least = omega (arith, ints) }
 
 -- the peasants, the money and the stocks of a region that is founded by a valid plan are in their ranges (IsRegion)

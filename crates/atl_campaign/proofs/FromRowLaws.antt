@@ -21,7 +21,7 @@ use Rattle.atl_campaign.specs.declared.parts.StoredHas.{StoredHas}
 use Rattle.atl_campaign.specs.declared.parts.StoredStructure.{StoredStructure}
 use Rattle.atl_campaign.specs.declared.parts.StoredBooks.{StoredBooks}
 use Rattle.atl_campaign.specs.declared.parts.StoredMarket.{StoredMarket}
-use Rattle.atl_records.specs.declared.books.Entry.{Entry}
+use Rattle.atl_records.specs.declared.books.BooksEntry.{BooksEntry}
 use Rattle.atl_records.specs.Books.{AreBooks, BooksValue, entry_numbered, no_amounts, thing_at, with_amount}
 use Rattle.atl_campaign.specs.Founding.{things_of}
 use Rattle.atl_campaign.specs.FromRows.{clamp, as_u32, as_u16, put_rows, by_number, faction_of, stocks_of, region_of, structure_of, unit_of, with_books_row, put_amounts, campaign_row_of, campaign_of}
@@ -97,7 +97,7 @@ from_le m n h = grind (arith, nat_tests)
 
 -- books of `things` things (AreBooks) are still such books once a row's amount is put in (b), or left out because the
 -- row's thing is none of theirs
-row_put : (things : ℕ) (books : BooksValue) (e : Entry) (r : StoredBooks) (b : Bool) → nat_lt (as_u32 r.thing) books.things ≡ b → AreBooks things books → AreBooks things (cond b (with_amount books e (thing_at (as_u32 r.thing)) r.amount) books)
+row_put : (things : ℕ) (books : BooksValue) (e : BooksEntry) (r : StoredBooks) (b : Bool) → nat_lt (as_u32 r.thing) books.things ≡ b → AreBooks things books → AreBooks things (cond b (with_amount books e (thing_at (as_u32 r.thing)) r.amount) books)
 row_put things books e r true inside are =
     let few : as_u32 r.thing < books.things = grind (arith, nat_tests) in
     let place = index_of_thing_at (as_u32 r.thing) in
@@ -107,14 +107,14 @@ row_put things books e r false inside are = are
 -- books of `things` things (AreBooks) are still books of `things` things once a row is read into them
 row_read : (things : ℕ) (books : BooksValue) (r : StoredBooks) → AreBooks things books → AreBooks things (with_books_row books r)
 row_read things books r are =
-    let put = λ (e : Entry). cond (nat_lt (as_u32 r.thing) books.things) (with_amount books e (thing_at (as_u32 r.thing)) r.amount) books in
+    let put = λ (e : BooksEntry). cond (nat_lt (as_u32 r.thing) books.things) (with_amount books e (thing_at (as_u32 r.thing)) r.amount) books in
     elim (entry_numbered (as_u32 r.entry)) as (λ o. AreBooks things (option_map_or put o books)) [ None ↦ are | Some e ↦ row_put things books e r (nat_lt (as_u32 r.thing) books.things) refl are ]
 
 -- reading a row whose thing is not one of the books' leaves the books unchanged
 pub row_unread : (books : BooksValue) (r : StoredBooks) → books.things ≤ as_u32 r.thing → with_books_row books r ≡ books
 row_unread books r past =
     let none : nat_lt (as_u32 r.thing) books.things ≡ false = grind (arith, nat_tests) in
-    let put = λ (e : Entry). with_amount books e (thing_at (as_u32 r.thing)) r.amount in
+    let put = λ (e : BooksEntry). with_amount books e (thing_at (as_u32 r.thing)) r.amount in
     elim (entry_numbered (as_u32 r.entry)) as (λ o. option_map_or (λ e. cond (nat_lt (as_u32 r.thing) books.things) (put e) books) o books ≡ books) [ None ↦ refl | Some e ↦ ap (λ b. cond b (put e) books) none ]
 
 -- books of `things` things (AreBooks) are still books of `things` things once rows are read into them

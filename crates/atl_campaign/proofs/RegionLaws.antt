@@ -9,7 +9,7 @@ use Rattle.atl_world.specs.Worlds.{WorldValue}
 use Rattle.atl_world.specs.Limits.{most_amount}
 use Rattle.atl_world.specs.Sums.{sum_over, changed, changed_at}
 use Rattle.atl_world.proofs.SumLaws.{sum_over-insert_known}
-use Rattle.atl_records.specs.declared.books.Entry.{Entry}
+use Rattle.atl_records.specs.declared.books.BooksEntry.{BooksEntry}
 use Rattle.atl_records.specs.declared.books.Thing.{Thing}
 use Rattle.atl_records.specs.declared.records.Region.{Region}
 use Rattle.atl_records.specs.declared.records.Unit.{Unit}
@@ -143,17 +143,17 @@ module _ (f : Region → Region) (c : CampaignValue) (n : ℕ) (r : Region) (is 
 -- ---- the books
 
 -- the campaign stays steady when an amount of one of the world's things is booked
-pub steady-amount : (w : WorldValue) (c : CampaignValue) (e : Entry) (t : Thing) (n : ℤ) → thing_index t < things_of w → IsSteady w c → IsSteady w (with_booking c e t n)
+pub steady-amount : (w : WorldValue) (c : CampaignValue) (e : BooksEntry) (t : Thing) (n : ℤ) → thing_index t < things_of w → IsSteady w c → IsSteady w (with_booking c e t n)
 steady-amount w c e t n there old =
     stocked-steady w c c.regions (after_booking c.books e t n) refl (λ k. (λ h. h, λ h. h)) old.numbers.regions old.known.markets (AreBooks-after_booking (things_of w) c.books e t n old.numbers.books there) old
 
 -- booking an amount doesn't change the total that regions and units have of any thing
-pub total-amount : (c : CampaignValue) (e : Entry) (u t : Thing) (n : ℤ) → total (with_booking c e u n) t ≡ total c t
+pub total-amount : (c : CampaignValue) (e : BooksEntry) (u t : Thing) (n : ℤ) → total (with_booking c e u n) t ≡ total c t
 unfolding total
 total-amount c e u t n = refl
 
 -- booking an amount changes no amount of the books that has another number (`amount_number`)
-pub amount-other : (books : BooksValue) (e f : Entry) (t u : Thing) (n : ℤ) → amount_number e t ≢ amount_number f u → amount_in (after_booking books f u n) e t ≡ amount_in books e t
+pub amount-other : (books : BooksValue) (e f : BooksEntry) (t u : Thing) (n : ℤ) → amount_number e t ≢ amount_number f u → amount_in (after_booking books f u n) e t ≡ amount_in books e t
 amount-other books e f t u n apart =
     elim (cases_account (e, t) (f, u)) [
       | inl same ↦ absurd (apart (ap (λ (a : Account). amount_number a.0 a.1) same))

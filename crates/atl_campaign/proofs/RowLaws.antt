@@ -5,7 +5,7 @@ use Rattle.std.specs.List.{flat_map}
 use Rattle.std.proofs.lemmas.List.{append-nil, append_assoc}
 use Rattle.std.proofs.lemmas.List.FromFn.{map-range_with_len_more}
 use Rattle.atl_campaign.specs.declared.parts.StoredBooks.{StoredBooks}
-use Rattle.atl_records.specs.declared.books.Entry.{Entry}
+use Rattle.atl_records.specs.declared.books.BooksEntry.{BooksEntry}
 use Rattle.atl_records.specs.Books.{Account, BooksValue, amount_in, is_zero, thing_at}
 use Rattle.atl_records.specs.Grids.{accounts_under, listed_of}
 use Rattle.atl_records.proofs.BookLaws.{zero_not}
@@ -45,25 +45,25 @@ rows_under_one : (books : BooksValue) (a : Account) → rows_under books (a ∷ 
 rows_under_one books a = elim (is_zero (amount_in books a.0 a.1)) as (λ b. amounts_rows (cond (not b) ((a, amount_in books a.0 a.1) ∷ []) []) ≡ cond (not b) (books_row a.0 a.1 (amount_in books a.0 a.1) ∷ []) []) [ true ↦ refl | false ↦ refl ]
 
 -- the rows of an entry of the books for n + 1 things are those for n things, and then those for thing n, one or none
-more_under : (books : BooksValue) (entry : Entry) (n : ℕ) → rows_under books (accounts_under (n + 1) entry) ≡ rows_under books (accounts_under n entry) ++ rows_under books ((entry, thing_at n) ∷ [])
+more_under : (books : BooksValue) (entry : BooksEntry) (n : ℕ) → rows_under books (accounts_under (n + 1) entry) ≡ rows_under books (accounts_under n entry) ++ rows_under books ((entry, thing_at n) ∷ [])
 more_under books entry n = ap (rows_under books) (map-range_with_len_more (λ i. (entry, thing_at i)) 0 n n (omega arith)) ∙ rows_under-append books (accounts_under n entry) ((entry, thing_at n) ∷ [])
 
 -- the rows of an entry of the books for n + 1 things are those for n things and thing n's row, if its amount is not 0
-pub rows_under-some : (books : BooksValue) (entry : Entry) (n : ℕ) → amount_in books entry (thing_at n) ≢ pos 0 → rows_under books (accounts_under (n + 1) entry) ≡ rows_under books (accounts_under n entry) ++ books_row entry (thing_at n) (amount_in books entry (thing_at n)) ∷ []
+pub rows_under-some : (books : BooksValue) (entry : BooksEntry) (n : ℕ) → amount_in books entry (thing_at n) ≢ pos 0 → rows_under books (accounts_under (n + 1) entry) ≡ rows_under books (accounts_under n entry) ++ books_row entry (thing_at n) (amount_in books entry (thing_at n)) ∷ []
 rows_under-some books entry n h =
     let z = amount_in books entry (thing_at n) in
     more_under books entry n ∙ ap (λ rows. rows_under books (accounts_under n entry) ++ rows) (rows_under_one books (entry, thing_at n) ∙ ap (λ b. cond (not b) (books_row entry (thing_at n) z ∷ []) []) (zero_not z h))
 
 -- the rows of an entry of the books for n + 1 things are those for n things, if the amount of thing n is 0
-pub rows_under-none : (books : BooksValue) (entry : Entry) (n : ℕ) → amount_in books entry (thing_at n) ≡ pos 0 → rows_under books (accounts_under (n + 1) entry) ≡ rows_under books (accounts_under n entry)
+pub rows_under-none : (books : BooksValue) (entry : BooksEntry) (n : ℕ) → amount_in books entry (thing_at n) ≡ pos 0 → rows_under books (accounts_under (n + 1) entry) ≡ rows_under books (accounts_under n entry)
 rows_under-none books entry n h =
     more_under books entry n ∙ ap (λ rows. rows_under books (accounts_under n entry) ++ rows) (rows_under_one books (entry, thing_at n) ∙ ap (λ z. cond (not (is_zero z)) (books_row entry (thing_at n) z ∷ []) []) h) ∙ append-nil (rows_under books (accounts_under n entry))
 
 -- if the rows of the books that are written and those of the entries to come are together `all`, they still are once
 -- the rows of the next entry are written
-pub entry_added : (books : BooksValue) (things : ℕ) (x : Entry) (now rest : List Entry) (before after all : List StoredBooks) → now ≡ x ∷ rest → after ≡ before ++ rows_under books (accounts_under things x)
+pub entry_added : (books : BooksValue) (things : ℕ) (x : BooksEntry) (now rest : List BooksEntry) (before after all : List StoredBooks) → now ≡ x ∷ rest → after ≡ before ++ rows_under books (accounts_under things x)
     → before ++ rows_under books (flat_map (accounts_under things) now) ≡ all → after ++ rows_under books (flat_map (accounts_under things) rest) ≡ all
 entry_added books things x now rest before after all next is so_far =
-    let of = λ (es : List Entry). rows_under books (flat_map (accounts_under things) es) in
+    let of = λ (es : List BooksEntry). rows_under books (flat_map (accounts_under things) es) in
     ap (λ rows. rows ++ of rest) is ∙ append_assoc before (rows_under books (accounts_under things x)) (of rest) ∙ ap (λ rows. before ++ rows) (sym (rows_under-append books (accounts_under things x) (flat_map (accounts_under things) rest)))
     ∙ ap (λ es. before ++ of es) (sym next) ∙ so_far

@@ -12,7 +12,7 @@ use Rattle.atl_records.specs.contracts.records.Faction as faction
 use Rattle.atl_records.specs.contracts.records.Region as region
 use Rattle.atl_records.specs.contracts.records.Structure as structure
 use Rattle.atl_records.specs.contracts.records.Unit as unit
-use Rattle.atl_records.specs.declared.books.Entry.{Entry}
+use Rattle.atl_records.specs.declared.books.BooksEntry.{BooksEntry}
 use Rattle.atl_records.specs.declared.books.Thing.{Thing}
 use Rattle.atl_records.specs.Books.{BooksValue, after_booking, books_code, no_amounts}
 use Rattle.atl_records.specs.Holdings.{with_amount_of}
@@ -203,7 +203,7 @@ abbrev pub with_month : CampaignValue → ℕ → CampaignValue
 with_month c n = record c { month = n }
 
 -- the campaign with an amount added to what is booked of a thing under an entry
-abbrev pub with_booking : CampaignValue → Entry → Thing → ℤ → CampaignValue
+abbrev pub with_booking : CampaignValue → BooksEntry → Thing → ℤ → CampaignValue
 with_booking c e t n = record c { books = after_booking c.books e t n }
 
 -- the campaign without mail

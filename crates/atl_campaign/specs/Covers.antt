@@ -3,7 +3,7 @@ use Rattle.std.specs.Prelude.{◌≡◌, ℕ, List, true, false, Option, Some, N
 use Rattle.std.specs.Ordering.{nat_cmp}
 use Rattle.std.specs.FinMap.{FinMap, get, empty}
 use Rattle.std.specs.FinSet.{FinSet, contains}
-use Rattle.atl_records.specs.declared.books.Entry.{Entry}
+use Rattle.atl_records.specs.declared.books.BooksEntry.{BooksEntry}
 use Rattle.atl_records.specs.declared.books.Thing.{Thing}
 use Rattle.atl_records.specs.declared.records.Region.{Region}
 use Rattle.atl_records.specs.declared.records.Unit.{Unit}
@@ -65,7 +65,7 @@ pub record Covers (m : Marks) (before after : CampaignValue) : Type 0 where
   -- neither
   pub days : SameThings m.goods m.skills days_under before.units after.units
   -- an amount of the books that is not marked is the same in the campaigns before and after
-  pub books : (e : Entry) (t : Thing) → contains m.books (amount_number e t) ≡ false → amount_in after.books e t ≡ amount_in before.books e t
+  pub books : (e : BooksEntry) (t : Thing) → contains m.books (amount_number e t) ≡ false → amount_in after.books e t ≡ amount_in before.books e t
   -- the month, the pass text and the next numbers are the same in the campaigns before and after if the campaign row is
   -- not marked
   pub row : m.row ≡ false → said_by_campaign_row after ≡ said_by_campaign_row before

@@ -11,7 +11,7 @@ use Rattle.atl_world.specs.Worlds.{WorldValue}
 use Rattle.atl_orders.specs.Limits.{last_faction}
 use Rattle.atl_orders.specs.Mailing.{IsMailingOf}
 use Rattle.atl_records.specs.Limits.{last_month, last_unit, most_days, most_in_joining, most_in_month, most_structures, most_units}
-use Rattle.atl_records.specs.declared.books.Entry.{Entry}
+use Rattle.atl_records.specs.declared.books.BooksEntry.{BooksEntry}
 use Rattle.atl_records.specs.declared.books.Thing.{Thing}
 use Rattle.atl_records.specs.declared.records.Faction.{Faction}
 use Rattle.atl_records.specs.declared.records.Region.{Region}
@@ -77,7 +77,7 @@ pub record AreInRange (w : WorldValue) (c : CampaignValue) : Type 0 where
 
 -- each amount of the books, without its sign, is at most `amount_bound`
 abbrev pub AreAmountsWithin : CampaignValue → Type 0
-AreAmountsWithin c = (e : Entry) (t : Thing) → IsWithin (amount_bound c) (amount_in c.books e t)
+AreAmountsWithin c = (e : BooksEntry) (t : Thing) → IsWithin (amount_bound c) (amount_in c.books e t)
 
 -- each unit has a man at least
 abbrev pub HaveMen : CampaignValue → Type 0

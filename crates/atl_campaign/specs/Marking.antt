@@ -4,9 +4,9 @@ use Rattle.std.specs.FinMap.{get, remove, keys}
 use Rattle.std.specs.FinSet.{FinSet, insert, union, from_list}
 use Rattle.std.specs.Ordering.{nat_cmp}
 use Rattle.atl_world.specs.Tracking.{marked_with}
-use Rattle.atl_records.specs.declared.books.Entry.TheVariants.{Joining}
+use Rattle.atl_records.specs.declared.books.BooksEntry.TheVariants.{Joining}
 use Rattle.atl_records.specs.declared.books.Thing.TheVariants.{Money, People}
-use Rattle.atl_records.specs.declared.books.Entry.{Entry}
+use Rattle.atl_records.specs.declared.books.BooksEntry.{BooksEntry}
 use Rattle.atl_records.specs.declared.books.Thing.{Thing}
 use Rattle.atl_records.specs.declared.records.Unit.{Unit}
 use Rattle.atl_campaign.specs.Marks.{Marks, amount_marked, thing_marked}
@@ -114,7 +114,7 @@ abbrev pub mark_structure_begun : MarkedCampaign → Marks
 mark_structure_begun c = record c.marks { structures = insert c.marks.structures c.value.next_structure; row = true }
 
 -- the marks after something was booked: the amount of that entry and thing is marked too
-abbrev pub mark_amount : MarkedCampaign → Entry → Thing → Marks
+abbrev pub mark_amount : MarkedCampaign → BooksEntry → Thing → Marks
 mark_amount c e t = record c.marks { books = amount_marked c.marks.books e t }
 
 -- the marks after all mail was removed: the mail of each faction that had some is marked too

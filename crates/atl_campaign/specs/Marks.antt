@@ -7,7 +7,7 @@ use Rattle.std.specs.FinSet.{FinSet, code, contains, empty, insert, len}
 use Rattle.atl_world.specs.Groups.{group_of}
 use base.Stored.{coded_unit}
 use Rattle.atl_records.specs.Limits.{entry_count}
-use Rattle.atl_records.specs.declared.books.Entry.{Entry}
+use Rattle.atl_records.specs.declared.books.BooksEntry.{BooksEntry}
 use Rattle.atl_records.specs.declared.books.Thing.{Thing}
 use Rattle.atl_records.specs.Books.{amount_number}
 
@@ -141,7 +141,7 @@ abbrev pub marks_in : Marks → ℕ
 marks_in m = len m.factions + len m.regions + len m.markets + len m.units + len m.structures + len m.mail + len m.reports + len m.books + (if m.row then 1 else 0)
 
 -- the dirty set of the books with the amount of an entry and a thing added
-abbrev pub amount_marked : FinSet nat_cmp → Entry → Thing → FinSet nat_cmp
+abbrev pub amount_marked : FinSet nat_cmp → BooksEntry → Thing → FinSet nat_cmp
 amount_marked marks e t = insert marks (amount_number e t)
 
 -- only amounts of the first `things` things are marked in the given dirty set of the books

@@ -26,7 +26,7 @@ use Rattle.atl_campaign.specs.Campaign.{CampaignValue}
 pub use Rattle.atl_records.specs.Books.{is_zero}
 use Rattle.atl_records.specs.Books.{Account, BooksValue, amount_in, entry_index, thing_index}
 use Rattle.atl_records.specs.Grids.{listed_of}
-use Rattle.atl_records.specs.declared.books.Entry.{Entry}
+use Rattle.atl_records.specs.declared.books.BooksEntry.{BooksEntry}
 use Rattle.atl_records.specs.declared.books.Thing.{Thing}
 
 -- a flag as the number of a row: 1 where it is set, else 0
@@ -69,7 +69,7 @@ abbrev pub has_row : ℕ → ℕ → ℕ → ℕ → StoredHas
 has_row n sort thing amount = record { unit = pos n; sort = pos sort; thing = pos thing; amount = pos amount }
 
 -- the row of `books` for an entry and a thing; entries are counted from 1
-abbrev pub books_row : Entry → Thing → ℤ → StoredBooks
+abbrev pub books_row : BooksEntry → Thing → ℤ → StoredBooks
 books_row entry thing amount = record { entry = pos (entry_index entry + 1); thing = pos (thing_index thing); amount = amount }
 
 -- the row of `market` for a region, an item, and how much of it the region has in stock

@@ -25,7 +25,7 @@ use crate::regions::Regions;
 use crate::totals::{regions_total, units_total};
 use crate::units::Units;
 pub use assembling::assemble;
-use atl_records::{Books, Entry, Faction, Holding, Region, Structure, Thing, Unit};
+use atl_records::{Books, BooksEntry, Faction, Holding, Region, Structure, Thing, Unit};
 use atl_world::{Entries, MarkedMap, Marks, Sequence, Text, let_go};
 pub use founding::founded;
 use std::alloc::{AllocError, Global};
@@ -293,7 +293,7 @@ impl Campaign {
 
     /// The amount booked of a thing under an entry: what came in less what went. It counts money,
     /// men and peasants, or pieces of an item. The thing has to be one of the books' things.
-    pub fn booked(&self, entry: Entry, thing: Thing) -> i64
+    pub fn booked(&self, entry: BooksEntry, thing: Thing) -> i64
         requires { thing_index thing < self.now.value.books.things }
         ensures { result ≡ amount_in self.now.value.books entry thing }
     {

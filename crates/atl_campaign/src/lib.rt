@@ -18,9 +18,10 @@ mod units;
 
 pub use arena::SlotEntries;
 pub use atl_records::{
-    Books, ENTRY_COUNT, Entry, Event, EventFault, EventVerb, FIRST_ITEM, Faction, HOLDING_LIMIT,
-    Holding, JoinFault, LAST_MONTH, LAST_UNIT, MEN_LIMIT, MOST_DAYS, MOST_STRUCTURES, MOST_UNITS,
-    Outcome, Region, Structure, Thing, Unit, carry, goods, level, level_in, level_in_any, load,
+    Books, BooksEntry, ENTRY_COUNT, Event, EventFault, EventVerb, FIRST_ITEM, Faction,
+    HOLDING_LIMIT, Holding, JoinFault, LAST_MONTH, LAST_UNIT, MEN_LIMIT, MOST_DAYS,
+    MOST_STRUCTURES, MOST_UNITS, Outcome, Region, Structure, Thing, Unit, carry, goods, level,
+    level_in, level_in_any, load,
 };
 pub use campaign::{Campaign, assemble, founded};
 pub use early::good_campaigns_are_early;

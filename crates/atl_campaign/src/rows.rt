@@ -12,7 +12,7 @@ use crate::parts::{
     Parts, StoredBooks, StoredCampaignRow, StoredFaction, StoredHas, StoredMail, StoredMarket,
     StoredRegion, StoredReport, StoredStructure, StoredUnit,
 };
-use atl_records::{Books, Entry, Faction, Holding, Structure, Thing, Unit};
+use atl_records::{Books, BooksEntry, Faction, Holding, Structure, Thing, Unit};
 use atl_world::{Entries, Format, Sequence, Text};
 use std::alloc::{AllocError, Global};
 
@@ -312,7 +312,7 @@ fn market_rows(
 }
 
 /// The row of `books` for the amount that is booked of a thing under an entry.
-fn books_row(entry: Entry, thing: Thing, amount: i64) -> StoredBooks
+fn books_row(entry: BooksEntry, thing: Thing, amount: i64) -> StoredBooks
     ensures { result ≡ books_row entry thing amount }
 {
     StoredBooks {
@@ -328,7 +328,7 @@ fn add_entry(
     rows: &mut Sequence<StoredBooks>,
     books: &Books,
     things: usize,
-    entry: Entry,
+    entry: BooksEntry,
 ) -> Result<(), AllocError>
     requires things { things ≡ books.now.things }
     requires few { things ≤ possible_things }
@@ -351,7 +351,7 @@ fn add_entries(
     rows: &mut Sequence<StoredBooks>,
     books: &Books,
     things: usize,
-    entries: &[Entry],
+    entries: &[BooksEntry],
 ) -> Result<(), AllocError>
     requires things { things ≡ books.now.things }
     requires few { things ≤ possible_things }
@@ -370,7 +370,7 @@ fn books_rows(alloc: Global, books: &Books) -> Result<Sequence<StoredBooks>, All
 {
     let things = books.len();
     let mut rows = Sequence::new(alloc);
-    add_entries(&mut rows, books, things, &Entry::ALL)?;
+    add_entries(&mut rows, books, things, &BooksEntry::ALL)?;
     Ok(rows)
 }
 

@@ -17,8 +17,8 @@ use Rattle.atl_orders.specs.Orders.{OperandsValue}
 use Rattle.atl_records.specs.Books.{BooksValue, amount_in, booked, entry_index, thing_index, amount_number}
 use Rattle.atl_campaign.specs.Covers.{MarksChanges}
 use Rattle.atl_campaign.specs.Marking.{mark_amount}
-use Rattle.atl_records.specs.declared.books.Entry.{Entry}
-use Rattle.atl_records.specs.declared.books.Entry.TheVariants.{Left, Lost}
+use Rattle.atl_records.specs.declared.books.BooksEntry.{BooksEntry}
+use Rattle.atl_records.specs.declared.books.BooksEntry.TheVariants.{Left, Lost}
 use Rattle.atl_records.specs.declared.books.Thing.{Thing}
 use Rattle.atl_records.specs.declared.books.Thing.TheVariants.{Item, Money, People}
 use Rattle.atl_records.specs.declared.event.EventFault.{EventFault}
@@ -68,7 +68,7 @@ abbrev pub part_of : Thing → Thing → ℕ → ℕ
 part_of s t amount = cond (thing_index s == thing_index t) amount 0
 
 -- the given amount if the entry is the one under which the loss of the thing is booked, and 0 otherwise
-abbrev loss_bound : Entry → Thing → ℕ → ℕ
+abbrev loss_bound : BooksEntry → Thing → ℕ → ℕ
 loss_bound e t n = if entry_index e == entry_index (loss_entry t) then n else 0
 
 -- things with the same number (`thing_index`) are the same thing
@@ -85,7 +85,7 @@ same_thing (Item i) (Item j) e = let same : i ≡ j = omega (arith, e) in ap Ite
 
 -- to book an amount of thing t as gone moves thing s under entry e by at most that amount, if s is t and e the entry of
 -- its loss, and by 0 otherwise (`loss_bound`)
-one_moves : (amount : ℕ) (t : Thing) (e : Entry) (s : Thing) → moves_only amount (loss_entry t) t e s ≤ loss_bound e s (part_of s t amount)
+one_moves : (amount : ℕ) (t : Thing) (e : BooksEntry) (s : Thing) → moves_only amount (loss_entry t) t e s ≤ loss_bound e s (part_of s t amount)
 one_moves amount t e s = by_number (amount_number e s == amount_number (loss_entry t) t) refl
   where
     -- for `by_number`: where both tests are true, of the entry (b) and of the thing (d), `amount` is within
@@ -110,7 +110,7 @@ one_moves amount t e s = by_number (amount_number e s == amount_number (loss_ent
 
 -- if x and y are within their bounds under entry e (`loss_bound`: m and n under the entry of the thing's loss, 0
 -- under any other), their sum is within the sum of the bounds
-under_sum : (e : Entry) (s : Thing) (x y m n : ℕ) → x ≤ loss_bound e s m → y ≤ loss_bound e s n → x + y ≤ loss_bound e s (m + n)
+under_sum : (e : BooksEntry) (s : Thing) (x y m n : ℕ) → x ≤ loss_bound e s m → y ≤ loss_bound e s n → x + y ≤ loss_bound e s (m + n)
 under_sum e s x y m n = by_test (entry_index e == entry_index (loss_entry s))
   where
     -- for `under_sum`: x + y is within the sum of the bounds, whether e is the entry of the thing's loss (`b`) or not
@@ -127,7 +127,7 @@ held_in_items (e ∷ es) s = part_of s (Item e.0) e.1 + held_in_items es s
 
 -- to book a list of items as lost moves a thing under the entry of its loss by at most what the list has of it, and
 -- under any other entry by 0 (`loss_bound`)
-items_within : (es : List (ℕ × ℕ)) (e : Entry) (s : Thing) → moving_items es e s ≤ loss_bound e s (held_in_items es s)
+items_within : (es : List (ℕ × ℕ)) (e : BooksEntry) (s : Thing) → moving_items es e s ≤ loss_bound e s (held_in_items es s)
 items_within [] e s = omega arith
 items_within (x ∷ xs) e s = under_sum e s (moves_only x.1 Lost (Item x.0) e s) (moving_items xs e s) (part_of s (Item x.0) x.1) (held_in_items xs s) (one_moves x.1 (Item x.0) e s) (items_within xs e s)
 
@@ -202,7 +202,7 @@ held_is_unit_amount h (Item j) =
 
 -- to book all that a unit holds as gone moves each thing by at most what the unit holds of it under the entry of its
 -- loss, and by 0 under any other (`loss_under`)
-pub moves_what_leaves : (h : HoldingValue) (e : Entry) (s : Thing) → held_moves h e s ≤ loss_under e s h
+pub moves_what_leaves : (h : HoldingValue) (e : BooksEntry) (s : Thing) → held_moves h e s ≤ loss_under e s h
 moves_what_leaves h e s =
     subst (λ n. held_moves h e s ≤ loss_bound e s n) (held_is_unit_amount h s)
     (under_sum e s (moves_only h.men Left People e s) (moves_only h.money Lost Money e s + moving_items (entries h.items) e s) (part_of s People h.men) (part_of s Money h.money + held_in_items (entries h.items) s) (one_moves h.men People e s)
@@ -218,7 +218,7 @@ pub record BooksAsGone (w : WorldValue) (gone : Thing → ℕ) (moving : BookBou
   -- the sum of each thing over all entries of the books is less by `gone` in d than in c
   pub sum_falls : (s : Thing) → booked c.books s ≡ booked d.books s +ℤ pos (gone s)
   -- no amount of the books moves further from c to d than `moving` says
-  pub near : (e : Entry) (s : Thing) → IsNear (moving e s) (amount_in c.books e s) (amount_in d.books e s)
+  pub near : (e : BooksEntry) (s : Thing) → IsNear (moving e s) (amount_in c.books e s) (amount_in d.books e s)
   -- campaign d is c but for the books
   pub same : d ≡ record c { books = d.books }
 
@@ -374,7 +374,7 @@ module _ (w : WorldValue) (c : CampaignValue) (n : ℕ) (u : Unit) (is : get c.u
       rest a h b d o z y e f g k l = omega (arith, ints, e, f, g, k, l)
 
   -- no amount of the books moves further than its remaining bound falls as the unit leaves
-  uses_bound : (e : Entry) (t : Thing) → UsesBound (quit_reserve c e t) (quit_reserve after_leave e t) (amount_in c.books e t) (amount_in after_leave.books e t)
+  uses_bound : (e : BooksEntry) (t : Thing) → UsesBound (quit_reserve c e t) (quit_reserve after_leave e t) (amount_in c.books e t) (amount_in after_leave.books e t)
   uses_bound e t =
       let only = only_reduced w booked_off n u there in
       let reserves : quit_reserve after_leave e t + loss_under e t u.holding ≡ quit_reserve c e t =
@@ -484,7 +484,7 @@ quit_stays c number u k x here other =
 -- ---- the phase
 
 -- in a steady campaign all that QUIT may still book (`quit_reserve`) is within the bound of the phase (`quit_moves`)
-reserve_within : (w : WorldValue) (c : CampaignValue) → IsSteady w c → (e : Entry) (t : Thing) → quit_reserve c e t ≤ quit_moves e t
+reserve_within : (w : WorldValue) (c : CampaignValue) → IsSteady w c → (e : BooksEntry) (t : Thing) → quit_reserve c e t ≤ quit_moves e t
 reserve_within w c steady e t = by_test (entry_index e == entry_index (loss_entry t))
   where
     -- for `reserve_within`: under other entries than that of the loss n units may lose 0 each, so s, their sum, is 0

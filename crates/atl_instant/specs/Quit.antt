@@ -7,8 +7,8 @@ use Rattle.atl_orders.specs.declared.verb.Verb.{Verb}
 use Rattle.atl_orders.specs.declared.verb.Verb.TheVariants as verbs
 use Rattle.atl_orders.specs.Orders.{OperandsValue}
 use Rattle.atl_records.specs.Books.{entry_index}
-use Rattle.atl_records.specs.declared.books.Entry.{Entry}
-use Rattle.atl_records.specs.declared.books.Entry.TheVariants.{Left, Lost}
+use Rattle.atl_records.specs.declared.books.BooksEntry.{BooksEntry}
+use Rattle.atl_records.specs.declared.books.BooksEntry.TheVariants.{Left, Lost}
 use Rattle.atl_records.specs.declared.books.Thing.{Thing}
 use Rattle.atl_records.specs.declared.books.Thing.TheVariants.{Item, Money, People}
 use Rattle.atl_records.specs.declared.event.EventFault.{EventFault}
@@ -35,7 +35,7 @@ is_quitting verb = false
 -- ---- a unit that leaves
 
 -- the entry under which what a leaving unit has is booked: left for men, lost for money and items
-abbrev pub loss_entry : Thing → Entry
+abbrev pub loss_entry : Thing → BooksEntry
 loss_entry People = Left
 loss_entry thing = Lost
 
@@ -113,7 +113,7 @@ abbrev pub quit_moves : BookBound
 quit_moves e t = if entry_index e == entry_index (loss_entry t) then most_moved else 0
 
 -- how much of a thing is booked under an entry when a unit leaves with all that it holds
-abbrev pub loss_under : Entry → Thing → HoldingValue → ℕ
+abbrev pub loss_under : BooksEntry → Thing → HoldingValue → ℕ
 loss_under e t h = if entry_index e == entry_index (loss_entry t) then unit_amount t h else 0
 
 -- by how much QUIT may still move the books: what all units together hold of a thing, under the entry for its loss

@@ -6,14 +6,14 @@ ghost use Rattle.atl_records.specs.Every.{EachEntry};
 ghost use Rattle.atl_campaign.specs.Founding.{things_of};
 ghost use Rattle.atl_campaign.specs.Good.{IsSteady};
 ghost use Rattle.atl_campaign.specs.Marking.{mark_amount};
-ghost use Rattle.atl_records.specs.declared.books.Entry.TheVariants.{Left, Lost};
+ghost use Rattle.atl_records.specs.declared.books.BooksEntry.TheVariants.{Left, Lost};
 ghost use Rattle.atl_records.specs.declared.books.Thing.TheVariants.{Money, People};
 ghost use Rattle.atl_phase.specs.Meaning.{both_move, moves_only};
 ghost use Rattle.atl_phase.specs.Bounds.{HasRoom, HaveRoom, moving_items};
 ghost use Rattle.atl_phase.specs.OrderEffects.{faction_effect};
 ghost use Rattle.atl_instant.specs.Quit.{after_leaving, is_quitting, loss_entry, quit, quit_concerns, quit_keeps, quit_meaning, quit_moves, quit_reserve, quit_step, with_item_loss, with_loss};
 
-use atl_campaign::{Campaign, Entry, EventFault, Outcome, Thing};
+use atl_campaign::{BooksEntry, Campaign, EventFault, Outcome, Thing};
 use atl_orders::{Operands, Verb};
 use atl_phase::{
     Month, OrderPhase, Phase, PhaseOrder, PhaseResult, PhaseVerbs, book_taken, carry_out_orders,
@@ -28,12 +28,12 @@ use std::alloc::{AllocError, Global};
 pub struct QuitPhase;
 
 /// The entry under which what a leaving unit has is booked: left for men, lost for money and items.
-fn loss_entry(thing: Thing) -> Entry
+fn loss_entry(thing: Thing) -> BooksEntry
     ensures { result ≡ loss_entry thing }
 {
     match thing {
-        Thing::People => Entry::Left,
-        Thing::Money | Thing::Item(_) => Entry::Lost,
+        Thing::People => BooksEntry::Left,
+        Thing::Money | Thing::Item(_) => BooksEntry::Lost,
     }
 }
 

@@ -8,7 +8,7 @@ use Rattle.std.proofs.lemmas.Bool.{cases_eq}
 use Rattle.atl_world.specs.Sums.{changed}
 use Rattle.atl_world.specs.Worlds.{IsWorld, WorldValue}
 use Rattle.atl_world.specs.declared.world.Market.{Market}
-use Rattle.atl_records.specs.declared.books.Entry.{Entry}
+use Rattle.atl_records.specs.declared.books.BooksEntry.{BooksEntry}
 use Rattle.atl_records.specs.declared.records.Region.{Region}
 use Rattle.atl_records.specs.declared.records.Unit.{Unit}
 use Rattle.atl_records.specs.Every.{Every}
@@ -59,7 +59,7 @@ traded_twice : (trade : Trade) (stock s t : ℕ) → stock_after trade (stock_af
 traded_twice Sell stock s t = omega arith
 traded_twice Buy stock s t = omega arith
 
-module _ (d : CampaignValue) (n : ℕ) (u : Unit) (i : ℕ) (entry : Entry) (deal : TradeResult) (is : get d.units n ≡ Some u) where
+module _ (d : CampaignValue) (n : ℕ) (u : Unit) (i : ℕ) (entry : BooksEntry) (deal : TradeResult) (is : get d.units n ≡ Some u) where
   -- the units after the result of a trade is set: unit `n` with its new holding, the others as they were
   dealt_units : (with_result d n u i entry deal).units ≡ insert d.units n (record u { holding = with_trade_result u.holding i deal })
   dealt_units = ap (λ o. (with_holding_at d n (with_trade_result u.holding i deal) o).units) is

@@ -20,8 +20,8 @@ use Rattle.atl_records.specs.declared.event.EventFault.{EventFault}
 use Rattle.atl_records.specs.declared.event.EventFault.TheVariants.{AtSea, Complete, NoMaterial, NoMen, NoSkill, NotInside, StructureLimit}
 use Rattle.atl_records.specs.declared.event.Outcome.{Outcome}
 use Rattle.atl_records.specs.declared.event.Outcome.TheVariants.{Done}
-use Rattle.atl_records.specs.declared.books.Entry.{Entry}
-use Rattle.atl_records.specs.declared.books.Entry.TheVariants.{Used}
+use Rattle.atl_records.specs.declared.books.BooksEntry.{BooksEntry}
+use Rattle.atl_records.specs.declared.books.BooksEntry.TheVariants.{Used}
 use Rattle.atl_records.specs.declared.books.Thing.{Thing}
 use Rattle.atl_records.specs.declared.books.Thing.TheVariants.{Item, Money, People}
 use Rattle.atl_records.specs.declared.records.Structure.{Structure}
@@ -350,7 +350,7 @@ module _ (w : WorldValue) (c : CampaignValue) (n : ℕ) (u : Unit) (is : get c.u
 -- ---- what BUILD may still book
 
 -- what BUILD may still book is within the bound of the whole phase: less than 10^14 used of each item (`build_moves`)
-reserve_within : (w : WorldValue) (c : CampaignValue) → CanBuild w c → (e : Entry) (t : Thing) → build_reserve c e t ≤ build_moves e t
+reserve_within : (w : WorldValue) (c : CampaignValue) → CanBuild w c → (e : BooksEntry) (t : Thing) → build_reserve c e t ≤ build_moves e t
 reserve_within w c can e t = by_thing t
   where
     -- what is at most `most` for each holding is, over all units, at most `most` times the count of units

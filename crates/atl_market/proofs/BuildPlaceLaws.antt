@@ -4,7 +4,7 @@ use Rattle.std.specs.FinMap.{get}
 use Rattle.atl_world.specs.Worlds.{WorldValue}
 use Rattle.atl_world.proofs.SumLaws.{sum_over-insert_known}
 use Rattle.atl_world.specs.ByNumber.{is_land_at}
-use Rattle.atl_records.specs.declared.books.Entry.{Entry}
+use Rattle.atl_records.specs.declared.books.BooksEntry.{BooksEntry}
 use Rattle.atl_records.specs.declared.books.Thing.{Thing}
 use Rattle.atl_records.specs.declared.records.Structure.{Structure}
 use Rattle.atl_records.specs.declared.records.Unit.{Unit}
@@ -27,7 +27,7 @@ module _ (w : WorldValue) (c : CampaignValue) (n : ℕ) (u : Unit) (s : ℕ) (is
   placed = behind w c n u s is can.steady apart
 
   -- moving unit `n` into structure `s` keeps what BUILD may still book
-  reserve_stays : (e : Entry) (t : Thing) → build_reserve placed e t ≡ build_reserve c e t
+  reserve_stays : (e : BooksEntry) (t : Thing) → build_reserve placed e t ≡ build_reserve c e t
   reserve_stays e t =
       let f = λ (x : Unit). still_bookable e t x.holding in
       let moved : Unit = record u { structure = s } in

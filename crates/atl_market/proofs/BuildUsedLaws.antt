@@ -9,8 +9,8 @@ use Rattle.std.specs.FinMap.{get, remove}
 use Rattle.atl_world.specs.Worlds.{WorldValue}
 use Rattle.atl_world.specs.Sums.{sum_over}
 use Rattle.atl_world.proofs.SumLaws.{sum_over-insert_known}
-use Rattle.atl_records.specs.declared.books.Entry.{Entry}
-use Rattle.atl_records.specs.declared.books.Entry.TheVariants.{Used}
+use Rattle.atl_records.specs.declared.books.BooksEntry.{BooksEntry}
+use Rattle.atl_records.specs.declared.books.BooksEntry.TheVariants.{Used}
 use Rattle.atl_records.specs.declared.books.Thing.{Thing}
 use Rattle.atl_records.specs.declared.books.Thing.TheVariants.{Item, Money, People}
 use Rattle.atl_records.specs.declared.records.Unit.{Unit}
@@ -54,12 +54,12 @@ item_less h item amount j enough =
     by_test false is = omega arith
 
 -- how much of an item's use is booked under an entry, of a thing: all of it under Used and the item, else 0
-abbrev used_of : (item amount : ℕ) → Entry → Thing → ℕ
+abbrev used_of : (item amount : ℕ) → BooksEntry → Thing → ℕ
 used_of item amount e (Item j) = if entry_index e == entry_index Used then cond (eq_by_cmp nat_cmp j item) amount 0 else 0
 used_of item amount e t = 0
 
 -- using `amount` of an item lowers what BUILD may still book for the holding (`still_bookable`) by it, under Used
-usable_less : (h : HoldingValue) (item amount : ℕ) → amount ≤ amount_of h.items item → (e : Entry) (t : Thing) → still_bookable e t h ≡ still_bookable e t (with_less h item amount) + used_of item amount e t
+usable_less : (h : HoldingValue) (item amount : ℕ) → amount ≤ amount_of h.items item → (e : BooksEntry) (t : Thing) → still_bookable e t h ≡ still_bookable e t (with_less h item amount) + used_of item amount e t
 usable_less h item amount enough e Money = refl
 usable_less h item amount enough e People = refl
 usable_less h item amount enough e (Item j) = by_entry (entry_index e == entry_index Used)
@@ -70,7 +70,7 @@ usable_less h item amount enough e (Item j) = by_entry (entry_index e == entry_i
     by_entry false = refl
 
 -- the bound on using `amount` of an item is at most `used_of`: `amount` under Used for that item, else 0
-only_used : (item amount : ℕ) (e : Entry) (t : Thing) → moves_only amount Used (Item item) e t ≤ used_of item amount e t
+only_used : (item amount : ℕ) (e : BooksEntry) (t : Thing) → moves_only amount Used (Item item) e t ≤ used_of item amount e t
 only_used item amount e t = by_number (amount_number e t == amount_number Used (Item item)) refl
   where
     -- for `only_used`: `used_of` gives at least `amount` where both of its tests hold, for the entry and for the item
@@ -129,7 +129,7 @@ module _ (w : WorldValue) (c : CampaignValue) (n item amount : ℕ) (u : Unit) (
     well = subst (LeavesWell IsSteady (moves_only amount Used (Item item)) w c) (used_is w c n item amount u is) (used_up_to w c n item amount amount (omega arith) u is known enough can.steady)
 
     -- using the item lowers what BUILD may still book by at least as much as it moves the books (`UsesBound`)
-    uses_bound : (e : Entry) (t : Thing) → UsesBound (build_reserve c e t) (build_reserve used e t) (amount_in c.books e t) (amount_in used.books e t)
+    uses_bound : (e : BooksEntry) (t : Thing) → UsesBound (build_reserve c e t) (build_reserve used e t) (amount_in c.books e t) (amount_in used.books e t)
     uses_bound e t =
         let f = λ (x : Unit). still_bookable e t x.holding in
         bound_used_near (used_of item amount e t) (build_reserve c e t) (build_reserve used e t) (amount_in c.books e t) (amount_in used.books e t)

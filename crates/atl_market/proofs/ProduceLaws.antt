@@ -11,8 +11,8 @@ use Rattle.std.proofs.lemmas.Option.{slice_get_within}
 use Rattle.std.proofs.Math.Nat.{mul-div-le, mul-le-mul_right, mul_comm}
 use Rattle.atl_world.specs.Worlds.{IsWorld, WorldValue}
 use Rattle.atl_world.specs.declared.world.Item.{Item}
-use Rattle.atl_records.specs.declared.books.Entry.{Entry}
-use Rattle.atl_records.specs.declared.books.Entry.TheVariants as booked
+use Rattle.atl_records.specs.declared.books.BooksEntry.{BooksEntry}
+use Rattle.atl_records.specs.declared.books.BooksEntry.TheVariants as booked
 use Rattle.atl_records.specs.declared.books.Thing.{Thing}
 use Rattle.atl_records.specs.declared.books.Thing.TheVariants as things
 use Rattle.atl_records.specs.declared.event.EventFault.TheVariants.{NoMen, NoSkill}
@@ -70,7 +70,7 @@ made_less i booked.Used (things.Item j) = on (amount_number booked.Used (things.
 made_less i e t = off (amount_number e t) (amount_number booked.Made (things.Item i)) (omega arith)
 
 -- `steps` steps within PRODUCE's bound for `one` are within its bound for `all`, if `steps * one` is at most `all`
-scaled : (steps one all : ℕ) → steps * one ≤ all → (e : Entry) (t : Thing) → steps * produce_moves one e t ≤ produce_moves all e t
+scaled : (steps one all : ℕ) → steps * one ≤ all → (e : BooksEntry) (t : Thing) → steps * produce_moves one e t ≤ produce_moves all e t
 scaled steps one all few booked.Made (things.Item i) = few
 scaled steps one all few booked.Used (things.Item i) = few
 scaled steps one all few e t = omega arith
@@ -90,7 +90,7 @@ both_less r i booked.Used (things.Item j) = omega (arith, used_less r booked.Use
 both_less r i e t = omega (arith, used_less r e t, made_less i e t)
 
 -- an amount with room for what `moves_only holding_limit` may move of it has room for a holding's limit
-pub only_room : (e : Entry) (t : Thing) (z : ℤ) → HasRoom (moves_only holding_limit e t e t) z → HasRoom holding_limit z
+pub only_room : (e : BooksEntry) (t : Thing) (z : ℤ) → HasRoom (moves_only holding_limit e t e t) z → HasRoom holding_limit z
 only_room e t z room = subst (λ b. HasRoom (if b then holding_limit else 0) z) (same_number (amount_number e t)) room
 
 -- ---- one step

@@ -16,7 +16,7 @@ use Rattle.atl_world.specs.Limits.{most_amount}
 use Rattle.atl_world.specs.Worlds.{IsMarket, IsWorld, WorldValue}
 use Rattle.atl_world.specs.declared.world.Market.{Market}
 use Rattle.atl_world.specs.declared.world.RegionPlan.{RegionPlan}
-use Rattle.atl_records.specs.declared.books.Entry.{Entry}
+use Rattle.atl_records.specs.declared.books.BooksEntry.{BooksEntry}
 use Rattle.atl_records.specs.declared.books.Thing.{Thing}
 use Rattle.atl_records.specs.declared.books.Thing.TheVariants.{Money}
 use Rattle.atl_records.specs.declared.event.EventFault.TheVariants.{NoMarket}
@@ -87,10 +87,10 @@ abbrev pub supplied : CampaignValue → ℕ → Unit → ℕ → TradeResult →
 supplied c n u i d = record c { units = insert c.units n (record u { holding = with_trade_result u.holding i d }) }
 
 -- a campaign after a trade: the unit, the stock of its region and the books are as the result `d` says
-abbrev pub dealt_to : CampaignValue → ℕ → Unit → ℕ → Entry → TradeResult → CampaignValue
+abbrev pub dealt_to : CampaignValue → ℕ → Unit → ℕ → BooksEntry → TradeResult → CampaignValue
 dealt_to c n u i entry d = with_booking (region_changed (λ r. restocked r i d.stock) (supplied c n u i d) u.region) entry Money d.booked
 
-module _ (w : WorldValue) (c : CampaignValue) (n : ℕ) (u : Unit) (q : Region) (i : ℕ) (entry : Entry) (d : TradeResult) (is : get c.units n ≡ Some u) (around : get c.regions u.region ≡ Some q) where
+module _ (w : WorldValue) (c : CampaignValue) (n : ℕ) (u : Unit) (q : Region) (i : ℕ) (entry : BooksEntry) (d : TradeResult) (is : get c.units n ≡ Some u) (around : get c.regions u.region ≡ Some q) where
   -- the campaign after unit `n` traded with the result `d`
   abbrev after : CampaignValue
   after = dealt_to c n u i entry d
@@ -518,7 +518,7 @@ module _ (trade : Trade) (w : WorldValue) (world : IsWorld w) (c : CampaignValue
   few = omega (arith, few_given (trade_pots trade) w c (trades_give trade w c) os, early.steady.numbers.few_units)
 
   -- the trades of all units that have a share move each amount of the books by less than 10^14 together
-  little : (e : Entry) (t : Thing) → moved_times (length shares) moves e t ≤ trade_moves trade most_moved e t
+  little : (e : BooksEntry) (t : Thing) → moved_times (length shares) moves e t ≤ trade_moves trade most_moved e t
   little e t = few_holdings (length shares) few (trade_entry trade) Money e t
 
   -- all shares of SELL or BUY can be traded in turn, in an early campaign whose books have room for the phase
@@ -543,7 +543,7 @@ module _ (trade : Trade) (w : WorldValue) (world : IsWorld w) (c : CampaignValue
 
 -- a trade that a unit can make has a result that can be booked
 pub can_book_result : (trade : Trade) (items : FinMap nat_cmp ℕ) (w : WorldValue) (c : CampaignValue) (n share : ℕ) → CanTrade trade items w c (n, share)
-    → (u : Unit) (m : Market) (stock : ℕ) (entry : Entry) (d : TradeResult) → get c.units n ≡ Some u → market_for w u (get items n) ≡ Some m → stock ≡ stock_of c u.region m.item
+    → (u : Unit) (m : Market) (stock : ℕ) (entry : BooksEntry) (d : TradeResult) → get c.units n ≡ Some u → market_for w u (get items n) ≡ Some m → stock ≡ stock_of c u.region m.item
     → entry ≡ trade_entry trade → d ≡ trade_result_of trade u.holding stock share m → CanBookTrade c n entry d
 can_book_result trade items w c n share can u m stock entry d there at stock_at entry_at d_at =
     let e : ℕ × ℕ = (n, share) in

@@ -11,8 +11,8 @@ use Rattle.std.proofs.Math.Nat.{div-add-mod, mul-le-mul_left, mul_comm}
 use Rattle.atl_world.specs.Worlds.{WorldValue}
 use Rattle.atl_world.specs.declared.world.Terrain.{Terrain}
 use Rattle.atl_world.specs.ByNumber.{terrain_of}
-use Rattle.atl_records.specs.declared.books.Entry.{Entry}
-use Rattle.atl_records.specs.declared.books.Entry.TheVariants.{Wages}
+use Rattle.atl_records.specs.declared.books.BooksEntry.{BooksEntry}
+use Rattle.atl_records.specs.declared.books.BooksEntry.TheVariants.{Wages}
 use Rattle.atl_records.specs.declared.books.Thing.{Thing}
 use Rattle.atl_records.specs.declared.books.Thing.TheVariants.{Money, People, Item}
 use Rattle.atl_records.specs.declared.records.Unit.{Unit}
@@ -192,7 +192,7 @@ module _ (w : WorldValue) where
     few = omega (arith, few_given work_pots w c (λ items. pots_give (places_at w) c) os, steady.numbers.few_units)
 
     -- the wages of all units that get work places move each amount of the books by less than 10^14 together
-    little : (e : Entry) (t : Thing) → moved_times (length shares) step_moves e t ≤ work_moves most_moved e t
+    little : (e : BooksEntry) (t : Thing) → moved_times (length shares) step_moves e t ≤ work_moves most_moved e t
     little e t = few_holdings (length shares) few Wages Money e t
 
     -- all shares of WORK can be paid in turn, in a steady campaign whose books have room for the phase

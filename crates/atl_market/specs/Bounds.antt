@@ -6,8 +6,8 @@ use Rattle.atl_world.specs.Worlds.{IsKind, WorldValue}
 use Rattle.atl_world.specs.Sums.{sum_over}
 use Rattle.atl_world.specs.declared.world.Kind.{Kind}
 use Rattle.atl_records.specs.Books.{entry_index}
-use Rattle.atl_records.specs.declared.books.Entry.{Entry}
-use Rattle.atl_records.specs.declared.books.Entry.TheVariants.{Used}
+use Rattle.atl_records.specs.declared.books.BooksEntry.{BooksEntry}
+use Rattle.atl_records.specs.declared.books.BooksEntry.TheVariants.{Used}
 use Rattle.atl_records.specs.declared.books.Thing.{Thing}
 use Rattle.atl_records.specs.declared.books.Thing.TheVariants.{Item}
 use Rattle.atl_records.specs.Holdings.{HoldingValue, amount_of}
@@ -28,7 +28,7 @@ pub record CanBuild (w : WorldValue) (c : CampaignValue) : Type 0 where
   pub kinds : (i : ℕ) (k : Kind) → slice_get w.kinds i ≡ Some k → IsKind (length w.items) (length w.skills) k
 
 -- how much of a thing BUILD may still book for a holding under an entry: under Used all that it has of an item, else 0
-abbrev pub still_bookable : Entry → Thing → HoldingValue → ℕ
+abbrev pub still_bookable : BooksEntry → Thing → HoldingValue → ℕ
 still_bookable e (Item i) h = if entry_index e == entry_index Used then amount_of h.items i else 0
 still_bookable e t h = 0
 

@@ -1,6 +1,6 @@
 -- A campaign after a unit used or made an amount of an item, which is booked: the steps of BUILD and PRODUCE.
 use Rattle.std.specs.Prelude.{◌+◌, ◌-◌, ℕ, pos, neg_ℤ}
-use Rattle.atl_records.specs.declared.books.Entry.TheVariants.{Made, Used}
+use Rattle.atl_records.specs.declared.books.BooksEntry.TheVariants.{Made, Used}
 use Rattle.atl_records.specs.declared.books.Thing.TheVariants.{Item}
 use Rattle.atl_records.specs.Holdings.{amount_of}
 use Rattle.atl_campaign.specs.Campaign.{CampaignValue, with_booking, with_item}

@@ -10,7 +10,7 @@ use Rattle.atl_world.specs.declared.world.Item.{Item}
 use Rattle.atl_world.specs.ByNumber.{terrain_of}
 use Rattle.atl_orders.specs.declared.verb.Verb.{Verb}
 use Rattle.atl_orders.specs.declared.verb.Verb.TheVariants as verbs
-use Rattle.atl_records.specs.declared.books.Entry.TheVariants.{Made, Used}
+use Rattle.atl_records.specs.declared.books.BooksEntry.TheVariants.{Made, Used}
 use Rattle.atl_records.specs.declared.books.Thing.TheVariants as things
 use Rattle.atl_records.specs.declared.event.EventFault.{EventFault}
 use Rattle.atl_records.specs.declared.event.EventFault.TheVariants.{NoMaterial, NoMen, NoSkill}

@@ -8,8 +8,8 @@ use Rattle.atl_world.specs.Worlds.{WorldValue}
 use Rattle.atl_world.specs.declared.world.Market.{Market}
 use Rattle.atl_orders.specs.declared.verb.Verb.{Verb}
 use Rattle.atl_orders.specs.declared.verb.Verb.TheVariants as verbs
-use Rattle.atl_records.specs.declared.books.Entry.{Entry}
-use Rattle.atl_records.specs.declared.books.Entry.TheVariants.{Bought, Sold}
+use Rattle.atl_records.specs.declared.books.BooksEntry.{BooksEntry}
+use Rattle.atl_records.specs.declared.books.BooksEntry.TheVariants.{Bought, Sold}
 use Rattle.atl_records.specs.declared.books.Thing.TheVariants.{Money}
 use Rattle.atl_records.specs.declared.event.EventFault.{EventFault}
 use Rattle.atl_records.specs.declared.event.EventFault.TheVariants.{NoMarket, NotEnough}
@@ -101,7 +101,7 @@ trade_result_of Buy h stock share m = record {
 }
 
 -- the entry of the books for the money of a trade: Sold or Bought
-abbrev pub trade_entry : Trade → Entry
+abbrev pub trade_entry : Trade → BooksEntry
 trade_entry Sell = Sold
 trade_entry Buy = Bought
 
@@ -110,7 +110,7 @@ abbrev pub with_trade_result : HoldingValue → (item : ℕ) → TradeResult →
 with_trade_result h item d = record h { money = d.money; items = with_amount_of h.items item d.amount }
 
 -- a campaign with unit `n`, the stock of its region and the books as the result of a trade leaves them
-abbrev pub with_result : CampaignValue → ℕ → Unit → (item : ℕ) → Entry → TradeResult → CampaignValue
+abbrev pub with_result : CampaignValue → ℕ → Unit → (item : ℕ) → BooksEntry → TradeResult → CampaignValue
 with_result c n u item entry d =
     let paid = with_holding c n (with_trade_result u.holding item d) in
     with_booking (with_stock paid u.region item d.stock) entry Money d.booked

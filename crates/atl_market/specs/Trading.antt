@@ -5,7 +5,7 @@ use Rattle.std.specs.FinMap.{FinMap, get}
 use Rattle.atl_world.specs.Limits.{most_amount}
 use Rattle.atl_world.specs.Worlds.{IsWorld, WorldValue}
 use Rattle.atl_world.specs.declared.world.Market.{Market}
-use Rattle.atl_records.specs.declared.books.Entry.{Entry}
+use Rattle.atl_records.specs.declared.books.BooksEntry.{BooksEntry}
 use Rattle.atl_records.specs.declared.books.Thing.TheVariants.{Money}
 use Rattle.atl_records.specs.declared.records.Unit.{Unit}
 use Rattle.atl_records.specs.Books.{IsWithin, amount_in}
@@ -59,7 +59,7 @@ pub record CanTrade (trade : Trade) (items : FinMap nat_cmp ℕ) (w : WorldValue
   pub room : HaveRoom (trade_moves trade holding_limit) c
 
 -- the result of a trade is within the limits of unit `n`, which is there, and the books have room for it
-pub record CanBookTrade (c : CampaignValue) (n : ℕ) (entry : Entry) (d : TradeResult) : Type 0 where
+pub record CanBookTrade (c : CampaignValue) (n : ℕ) (entry : BooksEntry) (d : TradeResult) : Type 0 where
   -- the unit under the number `n`
   pub unit : Unit
   -- the unit is in the campaign, under the number `n`

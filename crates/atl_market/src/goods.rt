@@ -7,7 +7,7 @@ ghost use Rattle.atl_records.specs.declared.records.Unit.{Unit};
 ghost use Rattle.atl_market.specs.Goods.{with_made, with_used};
 ghost use Rattle.atl_market.specs.Making.{CanMake, CanUse};
 
-use atl_campaign::{Campaign, Entry, Thing};
+use atl_campaign::{BooksEntry, Campaign, Thing};
 use atl_phase::book_taken;
 use atl_world::World;
 use std::alloc::AllocError;
@@ -38,7 +38,7 @@ pub(crate) fn use_item(
 {
     let left = held_of(campaign, number, item) - amount;
     campaign.set_item(number, u32::from(item), left)?;
-    book_taken(campaign, Entry::Used, Thing::Item(item), amount);
+    book_taken(campaign, BooksEntry::Used, Thing::Item(item), amount);
     Ok(())
 }
 
@@ -57,6 +57,6 @@ pub(crate) fn make_item(
 {
     let more = held_of(campaign, number, item) + amount;
     campaign.set_item(number, u32::from(item), more)?;
-    campaign.book(Entry::Made, Thing::Item(item), i64::from(amount));
+    campaign.book(BooksEntry::Made, Thing::Item(item), i64::from(amount));
     Ok(())
 }

@@ -7,7 +7,7 @@ ghost use Rattle.atl_market.specs.AfterPots.{RecruitsAtOnce};
 
 use crate::pot_phase::{PotPhase, named_count, share_out};
 use crate::pots::{Pots, pot_shares};
-use atl_campaign::{Campaign, Entry, EventFault, MEN_LIMIT, Thing, Unit};
+use atl_campaign::{BooksEntry, Campaign, EventFault, MEN_LIMIT, Thing, Unit};
 use atl_orders::Verb;
 use atl_phase::{
     Arrangement, Month, Phase, PhaseOrder, PhaseResult, PhaseVerbs, add_events, book_taken,
@@ -116,7 +116,7 @@ impl PotPhase for RecruitPhase {
         campaign.set_men(number, men);
         campaign.set_money(number, money);
         campaign.set_peasants(region, peasants);
-        book_taken(campaign, Entry::Recruiting, Thing::Money, cost);
+        book_taken(campaign, BooksEntry::Recruiting, Thing::Money, cost);
         Ok(())
     }
 }

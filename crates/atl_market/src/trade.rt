@@ -15,7 +15,7 @@ ghost use Rattle.atl_market.specs.AfterPots.{TradesAtOnce};
 use crate::item_pots::{ItemPots, item_shares};
 use crate::pot_phase::{PotPhase, named_count, named_item, share_out};
 use crate::produce::world_is_well_formed;
-use atl_campaign::{Campaign, Entry, EventFault, HOLDING_LIMIT, Holding, Thing, Unit};
+use atl_campaign::{BooksEntry, Campaign, EventFault, HOLDING_LIMIT, Holding, Thing, Unit};
 use atl_orders::Verb;
 use atl_phase::{Arrangement, Month, Phase, PhaseOrder, PhaseResult, PhaseVerbs, add_events};
 use atl_world::{Market, Numbered, World};
@@ -54,12 +54,12 @@ pub(crate) struct TradeResult {
 /// Under which entry of the books a trade is booked.
 impl Trade {
     /// The entry of the books under which the money of a trade is booked.
-    fn entry(self) -> Entry
+    fn entry(self) -> BooksEntry
         ensures { result ≡ trade_entry self }
     {
         match self {
-            Trade::Sell => Entry::Sold,
-            Trade::Buy => Entry::Bought,
+            Trade::Sell => BooksEntry::Sold,
+            Trade::Buy => BooksEntry::Bought,
         }
     }
 }
@@ -154,7 +154,7 @@ fn book_trade(
     number: u32,
     region: u32,
     item: u32,
-    entry: Entry,
+    entry: BooksEntry,
     deal: TradeResult,
 ) -> Result<(), AllocError>
     requires { CanBookTrade campaign.old.value number entry deal }

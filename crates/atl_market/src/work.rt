@@ -19,7 +19,7 @@ ghost use Rattle.atl_market.specs.Payable.{CanWork};
 
 use crate::pot_phase::{PotPhase, share_out};
 use crate::pots::{Pots, pot_shares};
-use atl_campaign::{Campaign, Entry, EventFault, HOLDING_LIMIT, Thing, Unit};
+use atl_campaign::{BooksEntry, Campaign, EventFault, HOLDING_LIMIT, Thing, Unit};
 use atl_orders::{Mailing, Operands, Order, Verb};
 use atl_phase::{
     Arrangement, Month, MonthLongVerbs, Phase, PhaseOrder, PhaseResult, add_events, is_of_faction,
@@ -239,7 +239,7 @@ impl PotPhase for WorkPhase {
         let held = unit.holding.money();
         let money = wages_for(world, unit.region, share) as u32;
         campaign.set_money(number, held + money);
-        campaign.book(Entry::Wages, Thing::Money, i64::from(money));
+        campaign.book(BooksEntry::Wages, Thing::Money, i64::from(money));
         Ok(())
     }
 }

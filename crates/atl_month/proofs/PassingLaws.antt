@@ -10,8 +10,8 @@ use Rattle.std.specs.Ordering.{nat_cmp}
 use Rattle.std.specs.FinMap.{FinMap, get, insert}
 use Rattle.atl_world.specs.Worlds.{WorldValue}
 use Rattle.atl_records.specs.Books.{amount_in, booked, thing_index}
-use Rattle.atl_records.specs.declared.books.Entry.{Entry}
-use Rattle.atl_records.specs.declared.books.Entry.TheVariants.{Lost}
+use Rattle.atl_records.specs.declared.books.BooksEntry.{BooksEntry}
+use Rattle.atl_records.specs.declared.books.BooksEntry.TheVariants.{Lost}
 use Rattle.atl_records.specs.declared.books.Thing.{Thing}
 use Rattle.atl_records.specs.declared.books.Thing.TheVariants.{Item, Money, People}
 use Rattle.atl_records.specs.declared.records.Unit.{Unit}
@@ -74,7 +74,7 @@ pub record PassesOn (w : WorldValue) (n : ℕ) (owing : Thing → ℕ) (moving :
   -- of each thing the total is above the books by `owing` more than before
   pub owes : (s : Thing) (x : ℕ) → Owes c s x → Owes d s (x + owing s)
   -- each amount of the books moves by at most its bound in `moving`
-  pub near : (e : Entry) (s : Thing) → IsNear (moving e s) (amount_in c.books e s) (amount_in d.books e s)
+  pub near : (e : BooksEntry) (s : Thing) → IsNear (moving e s) (amount_in c.books e s) (amount_in d.books e s)
   -- the number of the month last closed, the reports and the set of factions stay
   pub same : IsSameMonth c d
   -- unit `n`, whose money or items are passed on, is itself unchanged

@@ -3,8 +3,8 @@
 use Rattle.std.proofs.Common.{◌≤◌, [], ◌∷◌, arith}
 use Rattle.std.specs.Prelude.{if◌then◌else◌}
 use Rattle.std.proofs.lemmas.Bool.Decides.{nat_tests}
-use Rattle.atl_records.specs.declared.books.Entry.{Entry}
-use Rattle.atl_records.specs.declared.books.Entry.TheVariants as entries
+use Rattle.atl_records.specs.declared.books.BooksEntry.{BooksEntry}
+use Rattle.atl_records.specs.declared.books.BooksEntry.TheVariants as entries
 use Rattle.atl_records.specs.declared.books.Thing.{Thing}
 use Rattle.atl_records.specs.declared.books.Thing.TheVariants.{Item, Money, People}
 use Rattle.atl_records.proofs.EveryEntryLaws.{entry_small}
@@ -43,7 +43,7 @@ use Rattle.atl_month.proofs.UnmailedEndLaws.{season_leaves, sweep_leaves, upkeep
 
 -- the bound `moving` is at most 10^14 - 1 under the entries that a phase lists for each thing, and 0 elsewhere
 abbrev MovesAlone : BookBound → MovedEntries → Type 0
-MovesAlone moving moved = (e : Entry) (t : Thing) → moving e t ≤ (if may_move moved e t then most_moved else 0)
+MovesAlone moving moved = (e : BooksEntry) (t : Thing) → moving e t ≤ (if may_move moved e t then most_moved else 0)
 
 -- a phase that moves nothing moves only the entries that it lists (`MovesAlone`), whichever these are
 moves_nothing_alone : (moved : MovedEntries) → MovesAlone moves_nothing moved
@@ -51,21 +51,21 @@ moves_nothing_alone moved e t = omega arith
 
 -- A phase that moves money under entry `k` alone moves only the entries that it lists (`MovesAlone`), if these are `k`
 -- for money.
-money_alone : (k : Entry) → MovesAlone (moves_only most_moved k Money) (record { money = k ∷ []; people = []; items = [] })
+money_alone : (k : BooksEntry) → MovesAlone (moves_only most_moved k Money) (record { money = k ∷ []; people = []; items = [] })
 money_alone k e Money = grind (arith, nat_tests)
 money_alone k e People = grind (arith, nat_tests, entry_small k)
 money_alone k e (Item i) = grind (arith, nat_tests, entry_small k)
 
 -- A phase that moves people under entry `k` alone moves only the entries that it lists (`MovesAlone`), if these are `k`
 -- for people.
-people_alone : (k : Entry) → MovesAlone (moves_only most_moved k People) (record { money = []; people = k ∷ []; items = [] })
+people_alone : (k : BooksEntry) → MovesAlone (moves_only most_moved k People) (record { money = []; people = k ∷ []; items = [] })
 people_alone k e Money = grind (arith, nat_tests, entry_small e)
 people_alone k e People = grind (arith, nat_tests)
 people_alone k e (Item i) = grind (arith, nat_tests, entry_small k)
 
 -- A phase that moves money under `k` and people under `j` moves only the entries that it lists (`MovesAlone`), if it
 -- lists `k` for money and `j` for people.
-money_and_people : (k j : Entry) → MovesAlone (both_move (moves_only most_moved k Money) (moves_only most_moved j People)) (record { money = k ∷ []; people = j ∷ []; items = [] })
+money_and_people : (k j : BooksEntry) → MovesAlone (both_move (moves_only most_moved k Money) (moves_only most_moved j People)) (record { money = k ∷ []; people = j ∷ []; items = [] })
 money_and_people k j e Money = omega (arith, money_alone k e Money, people_alone j e Money)
 money_and_people k j e People = omega (arith, money_alone k e People, people_alone j e People)
 money_and_people k j e (Item i) = omega (arith, money_alone k e (Item i), people_alone j e (Item i))

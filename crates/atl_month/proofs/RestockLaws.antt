@@ -14,8 +14,8 @@ use Rattle.atl_world.specs.declared.world.Market.{Market}
 use Rattle.atl_world.specs.declared.world.RegionPlan.{RegionPlan}
 use Rattle.atl_world.specs.ByNumber.{market_of}
 use Rattle.atl_world.proofs.Maps.{entries-empty}
-use Rattle.atl_records.specs.declared.books.Entry.{Entry}
-use Rattle.atl_records.specs.declared.books.Entry.TheVariants.{Stocked}
+use Rattle.atl_records.specs.declared.books.BooksEntry.{BooksEntry}
+use Rattle.atl_records.specs.declared.books.BooksEntry.TheVariants.{Stocked}
 use Rattle.atl_records.specs.declared.books.Thing.{Thing}
 use Rattle.atl_records.specs.declared.books.Thing.TheVariants.{Money, People, Item}
 use Rattle.atl_records.specs.declared.records.Region.{Region}
@@ -52,17 +52,17 @@ stocking [] e t = 0
 stocking (x ∷ xs) e t = moves_only most_amount Stocked (Item x.0) e t + stocking xs e t
 
 -- the bound on the new goods of one item is within the bound of restocking (`stocks_by`)
-one_stocked : (k : ℕ) (e : Entry) (t : Thing) → moves_only most_amount Stocked (Item k) e t ≤ stocks_by most_amount e t
+one_stocked : (k : ℕ) (e : BooksEntry) (t : Thing) → moves_only most_amount Stocked (Item k) e t ≤ stocks_by most_amount e t
 one_stocked k e Money = grind (arith, nat_tests, entry_small e)
 one_stocked k e People = grind (arith, nat_tests, entry_small e)
 one_stocked k e (Item i) = grind (arith, nat_tests, entry_small e)
 
 -- new goods of an item move no amount of another thing
-other_item : (k : ℕ) (e : Entry) (t : Thing) → thing_index t ≢ 2 + k → moves_only most_amount Stocked (Item k) e t ≡ 0
+other_item : (k : ℕ) (e : BooksEntry) (t : Thing) → thing_index t ≢ 2 + k → moves_only most_amount Stocked (Item k) e t ≡ 0
 other_item k e t apart = grind (arith, nat_tests, entry_small e)
 
 -- the new goods of markets whose items are all above `k` move nothing of item `k`
-none_above : (k : ℕ) (xs : List (ℕ × Market)) (e : Entry) (t : Thing) → thing_index t ≡ 2 + k → below_all nat_cmp k xs ≡ true → stocking xs e t ≡ 0
+none_above : (k : ℕ) (xs : List (ℕ × Market)) (e : BooksEntry) (t : Thing) → thing_index t ≡ 2 + k → below_all nat_cmp k xs ≡ true → stocking xs e t ≡ 0
 none_above k [] e t at above = refl
 none_above k (x ∷ xs) e t at above =
     let both = and_parts (is_lt (nat_cmp k x.0)) (below_all nat_cmp k xs) above in
@@ -70,7 +70,7 @@ none_above k (x ∷ xs) e t at above =
     omega (arith, other_item x.0 e t (λ same. omega (arith, at, same, less)), none_above k xs e t at both.1)
 
 -- the new goods of markets with different items move Stocked of each item by at most 999,999,999, and nothing else
-pub stocks_little : (xs : List (ℕ × Market)) → is_sorted nat_cmp xs ≡ true → (e : Entry) (t : Thing) → stocking xs e t ≤ stocks_by most_amount e t
+pub stocks_little : (xs : List (ℕ × Market)) → is_sorted nat_cmp xs ≡ true → (e : BooksEntry) (t : Thing) → stocking xs e t ≤ stocks_by most_amount e t
 stocks_little [] rising e t = omega arith
 stocks_little (x ∷ xs) rising e t =
     let both = and_parts (below_all nat_cmp x.0 xs) (is_sorted nat_cmp xs) rising in

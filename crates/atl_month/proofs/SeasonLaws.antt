@@ -13,8 +13,8 @@ use Rattle.atl_world.specs.Limits.{most_amount, most_regions}
 use Rattle.atl_world.specs.declared.world.Terrain.{Terrain}
 use Rattle.atl_world.specs.declared.world.RegionPlan.{RegionPlan}
 use Rattle.atl_world.specs.ByNumber.{terrain_of}
-use Rattle.atl_records.specs.declared.books.Entry.{Entry}
-use Rattle.atl_records.specs.declared.books.Entry.TheVariants.{Births, Income}
+use Rattle.atl_records.specs.declared.books.BooksEntry.{BooksEntry}
+use Rattle.atl_records.specs.declared.books.BooksEntry.TheVariants.{Births, Income}
 use Rattle.atl_records.specs.declared.books.Thing.{Thing}
 use Rattle.atl_records.specs.declared.books.Thing.TheVariants.{Money, People, Item}
 use Rattle.atl_records.specs.declared.records.Region.{Region}
@@ -114,7 +114,7 @@ module _ (w : WorldValue) (c : CampaignValue) (n : ℕ) (r : Region) (born earne
 
   -- Births and income of at most 999,999,999 each move Births of people and Income of money by at most that, and
   -- nothing else.
-  growth_near : born ≤ most_amount → earned ≤ most_amount → (e : Entry) (t : Thing) → IsNear (grows_by most_amount e t) (amount_in c.books e t) (amount_in (with_growth c n r.peasants r.money born earned).books e t)
+  growth_near : born ≤ most_amount → earned ≤ most_amount → (e : BooksEntry) (t : Thing) → IsNear (grows_by most_amount e t) (amount_in c.books e t) (amount_in (with_growth c n r.peasants r.money born earned).books e t)
   growth_near b m e t =
       let people = moves_only most_amount Births People e t in
       let money = moves_only most_amount Income Money e t in
@@ -205,7 +205,7 @@ season_at_leaves_well w world c (n, word) steady = by_terrain (terrain_of w n) r
     by_terrain (Some t) is = by_region t is (get c.regions n) refl
 
 -- the season of as many regions as there may be moves each amount by less than 10^14
-pub season_little : (k : ℕ) → k ≤ most_regions → (e : Entry) (t : Thing) → moved_times k (season_moves most_amount) e t ≤ season_moves most_moved e t
+pub season_little : (k : ℕ) → k ≤ most_regions → (e : BooksEntry) (t : Thing) → moved_times k (season_moves most_amount) e t ≤ season_moves most_moved e t
 season_little k few e t = grind (arith, few)
 
 -- The season of all regions keeps a steady campaign steady and its books balanced, and moves each amount by less than

@@ -12,7 +12,7 @@ use Rattle.atl_world.specs.Worlds.{WorldValue}
 use Rattle.atl_world.specs.Limits.{most_amount}
 use Rattle.atl_world.proofs.GeneralLaws.{is_equal, is_unequal}
 use Rattle.atl_records.specs.Books.{amount_in}
-use Rattle.atl_records.specs.declared.books.Entry.{Entry}
+use Rattle.atl_records.specs.declared.books.BooksEntry.{BooksEntry}
 use Rattle.atl_records.specs.declared.books.Thing.{Thing}
 use Rattle.atl_records.specs.declared.records.Faction.{Faction}
 use Rattle.atl_records.specs.declared.records.Unit.{Unit}
@@ -187,7 +187,7 @@ units_stay (n ∷ ns) c = units_stay ns (after_sweeping_faction c n) ∙ gone_at
 -- ---- the phase
 
 -- what at most `most_units` units lose, each at most `most_amount` of a thing, is within the bound of the sweep
-pub loses_little : (k : ℕ) → k ≤ most_units → (e : Entry) (t : Thing) → moved_times k (loses_by most_amount) e t ≤ loses_by most_moved e t
+pub loses_little : (k : ℕ) → k ≤ most_units → (e : BooksEntry) (t : Thing) → moved_times k (loses_by most_amount) e t ≤ loses_by most_moved e t
 loses_little k few e t = grind arith
 
 -- a steady campaign has at most `most_units` units without men

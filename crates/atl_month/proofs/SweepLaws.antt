@@ -11,8 +11,8 @@ use Rattle.atl_world.specs.Worlds.{WorldValue}
 use Rattle.atl_world.specs.Limits.{most_amount}
 use Rattle.atl_world.specs.Sums.{numbers_where}
 use Rattle.atl_records.specs.Books.{BooksValue, amount_in, booked}
-use Rattle.atl_records.specs.declared.books.Entry.{Entry}
-use Rattle.atl_records.specs.declared.books.Entry.TheVariants.{Lost, Left}
+use Rattle.atl_records.specs.declared.books.BooksEntry.{BooksEntry}
+use Rattle.atl_records.specs.declared.books.BooksEntry.TheVariants.{Lost, Left}
 use Rattle.atl_records.specs.declared.books.Thing.{Thing}
 use Rattle.atl_records.specs.declared.books.Thing.TheVariants.{Item, Money, People}
 use Rattle.atl_records.specs.declared.records.Faction.{Faction}
@@ -60,7 +60,7 @@ all_owed h none (Item j) =
 
 -- What a unit without men has of a thing, under the entry for losses of that thing, is within the sweep's bound for one
 -- unit.
-little_lost : (h : HoldingValue) → h.men ≡ 0 → h.money ≤ holding_limit → ((i : ℕ) → amount_of h.items i ≤ holding_limit) → (e : Entry) (s : Thing)
+little_lost : (h : HoldingValue) → h.men ≡ 0 → h.money ≤ holding_limit → ((i : ℕ) → amount_of h.items i ≤ holding_limit) → (e : BooksEntry) (s : Thing)
     → loss_under e s h ≤ loses_by most_amount e s
 little_lost h none money items e Money = grind arith
 little_lost h none money items e People = grind arith
@@ -137,7 +137,7 @@ module _ (w : WorldValue) (c : CampaignValue) (n : ℕ) (u : Unit) (is : get c.u
       rest a h b o z e f g = omega (arith, ints, e, f, g)
 
   -- passing on what the unit has moves the books within the sweep's bound for one unit
-  pub moves_little : (e : Entry) (s : Thing) → moving_all u.holding e s ≤ loses_by most_amount e s
+  pub moves_little : (e : BooksEntry) (s : Thing) → moving_all u.holding e s ≤ loses_by most_amount e s
   moves_little e s =
       within (moves_only u.holding.men Left People e s) (moving_all u.holding e s) (loss_under e s u.holding) (loses_by most_amount e s) (moves_what_leaves u.holding e s)
       (little_lost u.holding none (steady.numbers.units n u is).1.money (λ i. amount_within u.holding i (steady.numbers.units n u is).1) e s)
@@ -195,7 +195,7 @@ passed_item_is c to item amount v is = rw is refl
 
 -- the books of `d`, moved within bound `j` from those of `c`, have room under bound `k`, if those of `c` had room under
 -- `j` and `k` together
-pub near_leaves_room : (j k : BookBound) (c d : CampaignValue) → ((e : Entry) (t : Thing) → IsNear (j e t) (amount_in c.books e t) (amount_in d.books e t))
+pub near_leaves_room : (j k : BookBound) (c d : CampaignValue) → ((e : BooksEntry) (t : Thing) → IsNear (j e t) (amount_in c.books e t) (amount_in d.books e t))
     → HaveRoom (both_move j k) c → HaveRoom k d
 near_leaves_room j k c d near room e t = near_room (j e t) (k e t) (amount_in c.books e t) (amount_in d.books e t) (near e t) (room e t)
 

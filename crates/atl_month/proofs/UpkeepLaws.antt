@@ -16,8 +16,8 @@ use Rattle.atl_world.specs.Worlds.{WorldValue}
 use Rattle.atl_world.specs.Limits.{most_amount}
 use Rattle.atl_world.specs.Names.{name_ok}
 use Rattle.atl_world.proofs.SumLaws.{put_same}
-use Rattle.atl_records.specs.declared.books.Entry.{Entry}
-use Rattle.atl_records.specs.declared.books.Entry.TheVariants.{Starved, Upkeep}
+use Rattle.atl_records.specs.declared.books.BooksEntry.{BooksEntry}
+use Rattle.atl_records.specs.declared.books.BooksEntry.TheVariants.{Starved, Upkeep}
 use Rattle.atl_records.specs.declared.books.Thing.{Thing}
 use Rattle.atl_records.specs.declared.books.Thing.TheVariants.{Money, People, Item}
 use Rattle.atl_records.specs.declared.records.Unit.{Unit}
@@ -223,7 +223,7 @@ module _ (w : WorldValue) (c : CampaignValue) (s : UpkeepResult) (u : Unit) (is 
   few_starved = omega (arith, spare.starved, (steady.numbers.units s.unit u is).1.men)
 
   -- the unit's upkeep moves the books within the bound of upkeep for one unit
-  upkeep_near : (e : Entry) (t : Thing) → IsNear (takes_up_to most_amount e t) (amount_in c.books e t) (amount_in after.books e t)
+  upkeep_near : (e : BooksEntry) (t : Thing) → IsNear (takes_up_to most_amount e t) (amount_in c.books e t) (amount_in after.books e t)
   upkeep_near e t =
       near_twice (moves_only most_amount Upkeep Money e t) (moves_only most_amount Starved People e t) _ _ _
       (booked-near c.books Upkeep Money (neg_ℤ (pos s.paid)) most_amount

@@ -7,7 +7,7 @@ use Rattle.std.specs.FinMap.{FinMap, empty}
 use Rattle.atl_world.specs.Worlds.{WorldValue}
 use Rattle.atl_orders.specs.Mailing.{Reading, reading_of}
 use Rattle.atl_orders.specs.declared.mailing.Mailing.{Mailing}
-use Rattle.atl_records.specs.declared.books.Entry.{Entry}
+use Rattle.atl_records.specs.declared.books.BooksEntry.{BooksEntry}
 use Rattle.atl_records.specs.declared.books.Thing.{Thing}
 use Rattle.atl_records.specs.declared.event.Event.{Event}
 use Rattle.atl_records.specs.Books.{amount_in}
@@ -81,12 +81,12 @@ abbrev pub PhasesMoveLittle : Type 0
 PhasesMoveLittle = EachPhase MovesItsOwn early_phases × EachPhase MovesItsOwn later_phases × EachPhase MovesItsOwn last_phases
 
 -- how many phases of a month may move the amount under an entry and of a thing
-abbrev pub moving_phases : Entry → Thing → ℕ
+abbrev pub moving_phases : BooksEntry → Thing → ℕ
 moving_phases e t = moving_phases_of early_phases e t + moving_phases_of later_phases e t + moving_phases_of last_phases e t
 
 -- the law that at most two phases of a month may move an amount of the books
 abbrev pub TwoMoveAtMost : Type 0
-TwoMoveAtMost = (e : Entry) (t : Thing) → moving_phases e t ≤ 2
+TwoMoveAtMost = (e : BooksEntry) (t : Thing) → moving_phases e t ≤ 2
 
 -- the bound on how far the phases from FORM to PRODUCE together may move each amount of the books
 abbrev pub orders_moving : BookBound
@@ -102,7 +102,7 @@ month_moves e t = moving_phases e t * most_moved
 
 -- each amount of the books of campaign `after` differs from that of campaign `before` by at most its bound in `moving`
 abbrev pub BooksAreNear : BookBound → (before after : CampaignValue) → Type 0
-BooksAreNear moving before after = (e : Entry) (t : Thing) → IsNear (moving e t) (amount_in before.books e t) (amount_in after.books e t)
+BooksAreNear moving before after = (e : BooksEntry) (t : Thing) → IsNear (moving e t) (amount_in before.books e t) (amount_in after.books e t)
 
 -- ---- the mailings
 

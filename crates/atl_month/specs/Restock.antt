@@ -6,7 +6,7 @@ use Rattle.std.specs.FinMap.{FinMap, empty, get}
 use Rattle.std.specs.Option.{option_map_or}
 use Rattle.atl_world.specs.Worlds.{WorldValue}
 use Rattle.atl_world.specs.declared.world.Market.{Market}
-use Rattle.atl_records.specs.declared.books.Entry.TheVariants.{Stocked}
+use Rattle.atl_records.specs.declared.books.BooksEntry.TheVariants.{Stocked}
 use Rattle.atl_records.specs.declared.books.Thing.{Thing}
 use Rattle.atl_records.specs.declared.books.Thing.TheVariants.{Item, Money, People}
 use Rattle.atl_records.specs.Books.{entry_index}

@@ -5,7 +5,7 @@ use Rattle.std.specs.Option.{option_map_or}
 use Rattle.atl_world.specs.Worlds.{WorldValue}
 use Rattle.atl_world.specs.declared.world.Terrain.{Terrain}
 use Rattle.atl_world.specs.ByNumber.{terrain_of}
-use Rattle.atl_records.specs.declared.books.Entry.TheVariants.{Births, Income, Stocked}
+use Rattle.atl_records.specs.declared.books.BooksEntry.TheVariants.{Births, Income, Stocked}
 use Rattle.atl_records.specs.declared.books.Thing.TheVariants.{Money, People}
 use Rattle.atl_records.specs.declared.records.Region.{Region}
 use Rattle.atl_campaign.specs.Campaign.{CampaignValue, with_booking, with_peasants, with_region_money}

@@ -3,7 +3,7 @@
 use Rattle.std.specs.Prelude.{◌≡◌, ℕ, pos, neg_ℤ, ◌-◌, ◌==◌, not, ◌++◌, Bool, List, map, filter, fold, Some, if◌then◌else◌}
 use Rattle.std.specs.FinMap.{entries, get, keys}
 use Rattle.atl_world.specs.Worlds.{WorldValue}
-use Rattle.atl_records.specs.declared.books.Entry.TheVariants.{Starved, Upkeep}
+use Rattle.atl_records.specs.declared.books.BooksEntry.TheVariants.{Starved, Upkeep}
 use Rattle.atl_records.specs.declared.books.Thing.TheVariants.{Money, People}
 use Rattle.atl_records.specs.declared.event.Event.{Event}
 use Rattle.atl_records.specs.declared.event.EventVerb.TheVariants as verb

@@ -7,13 +7,13 @@ ghost use Rattle.atl_world.specs.Worlds.{IsMarket, IsWorld};
 ghost use Rattle.atl_campaign.specs.Covers.{MarksChanges};
 ghost use Rattle.atl_records.specs.Every.{HasValue};
 ghost use Rattle.atl_campaign.specs.Good.{IsSteady};
-ghost use Rattle.atl_records.specs.declared.books.Entry.TheVariants.{Stocked};
+ghost use Rattle.atl_records.specs.declared.books.BooksEntry.TheVariants.{Stocked};
 ghost use Rattle.atl_records.specs.declared.books.Thing.TheVariants.{Item};
 ghost use Rattle.atl_phase.specs.Meaning.{moves_only};
 ghost use Rattle.atl_phase.specs.Bounds.{HaveRoom};
 ghost use Rattle.atl_month.specs.Restock.{after_market_restock, after_restock, markets_of, restock, stocks_by};
 
-use atl_campaign::{Campaign, Entry, Thing};
+use atl_campaign::{BooksEntry, Campaign, Thing};
 use atl_world::{Market, World};
 use std::alloc::AllocError;
 
@@ -45,7 +45,11 @@ fn restock_market(
     let stock = campaign.stock(region, item);
     let more = restock(market, stock);
     campaign.set_stock(region, item, stock + more)?;
-    campaign.book(Entry::Stocked, Thing::Item(market.item), i64::from(more));
+    campaign.book(
+        BooksEntry::Stocked,
+        Thing::Item(market.item),
+        i64::from(more),
+    );
     Ok(())
 }
 

@@ -10,7 +10,7 @@ ghost use Rattle.atl_month.specs.Season.{births, grows_by, income, season, seaso
 
 use crate::limits::PER_HUNDRED;
 use crate::restock::restock_region;
-use atl_campaign::{Campaign, Entry, Thing};
+use atl_campaign::{BooksEntry, Campaign, Thing};
 use atl_phase::{Month, Phase, PhaseResult};
 use atl_world::World;
 use std::alloc::{AllocError, Global};
@@ -60,8 +60,8 @@ fn add_births_and_income(
 {
     campaign.set_peasants(number, peasants + born);
     campaign.set_region_money(number, money + earned);
-    campaign.book(Entry::Births, Thing::People, i64::from(born));
-    campaign.book(Entry::Income, Thing::Money, i64::from(earned));
+    campaign.book(BooksEntry::Births, Thing::People, i64::from(born));
+    campaign.book(BooksEntry::Income, Thing::Money, i64::from(earned));
 }
 
 /// Gives one region its births, its income and the new goods of its markets; nothing where the

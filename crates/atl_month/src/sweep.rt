@@ -6,7 +6,7 @@ ghost use Rattle.atl_records.specs.Books.{amount_in};
 ghost use Rattle.atl_campaign.specs.Covers.{MarksChanges};
 ghost use Rattle.atl_records.specs.Every.{EachEntry};
 ghost use Rattle.atl_campaign.specs.Good.{IsSteady};
-ghost use Rattle.atl_records.specs.declared.books.Entry.TheVariants.{Lost};
+ghost use Rattle.atl_records.specs.declared.books.BooksEntry.TheVariants.{Lost};
 ghost use Rattle.atl_records.specs.declared.books.Thing.TheVariants.{Item, Money};
 ghost use Rattle.atl_phase.specs.Meaning.{most_moved};
 ghost use Rattle.atl_phase.specs.Bounds.{HasRoom, HaveRoom, moved_times, moving_items};
@@ -14,7 +14,7 @@ ghost use Rattle.atl_month.specs.Sweep.{IsSwept, accepted_of, after_passing_item
 ghost use Rattle.atl_month.specs.Receivers.{AreReceivers};
 
 use crate::receivers::{Receivers, receiver_in, receivers_of};
-use atl_campaign::{Campaign, Entry, HOLDING_LIMIT, Thing};
+use atl_campaign::{BooksEntry, Campaign, HOLDING_LIMIT, Thing};
 use atl_phase::{Month, Phase, PhaseResult, book_taken, items_of};
 use atl_world::World;
 use std::alloc::{AllocError, Global};
@@ -46,9 +46,9 @@ fn pass_money(campaign: &mut Campaign, to: u32, amount: u32)
             let money = unit.holding.money();
             let taken = accepted_of(amount, money);
             campaign.set_money(to, money + taken);
-            book_taken(campaign, Entry::Lost, Thing::Money, amount - taken);
+            book_taken(campaign, BooksEntry::Lost, Thing::Money, amount - taken);
         }
-        None => book_taken(campaign, Entry::Lost, Thing::Money, amount),
+        None => book_taken(campaign, BooksEntry::Lost, Thing::Money, amount),
     }
 }
 
@@ -74,9 +74,14 @@ fn pass_item(
             let have = unit.holding.amount(number);
             let taken = accepted_of(amount, have);
             campaign.set_item(to, number, have + taken)?;
-            book_taken(campaign, Entry::Lost, Thing::Item(item), amount - taken);
+            book_taken(
+                campaign,
+                BooksEntry::Lost,
+                Thing::Item(item),
+                amount - taken,
+            );
         }
-        None => book_taken(campaign, Entry::Lost, Thing::Item(item), amount),
+        None => book_taken(campaign, BooksEntry::Lost, Thing::Item(item), amount),
     }
     Ok(())
 }

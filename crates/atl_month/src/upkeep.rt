@@ -10,7 +10,7 @@ ghost use Rattle.atl_month.specs.UpkeepTaken.{CanPayUpkeep, IsAfterUpkeep, stayi
 ghost use Rattle.atl_month.specs.Upkeep.{starved_event, starves, takes_up_to, upkeep, upkeep_at, upkeep_inputs_of, upkeep_keeps, upkeep_meaning};
 
 use crate::upkeep_sharing::{UpkeepInput, UpkeepResult, upkeep_payments};
-use atl_campaign::{Campaign, Entry, Event, EventVerb, Holding, Outcome, Thing};
+use atl_campaign::{BooksEntry, Campaign, Event, EventVerb, Holding, Outcome, Thing};
 use atl_phase::{Month, Phase, PhaseResult, book_taken, set_people};
 use atl_world::World;
 use std::alloc::{AllocError, Global};
@@ -115,8 +115,13 @@ fn charge_upkeep(
         (settled.now.starved ≡ 0 → MarksNoGoods campaign.old.marks campaign.new.marks) }
 {
     take_upkeep(alloc, campaign, settled)?;
-    book_taken(campaign, Entry::Upkeep, Thing::Money, settled.paid);
-    book_taken(campaign, Entry::Starved, Thing::People, settled.starved);
+    book_taken(campaign, BooksEntry::Upkeep, Thing::Money, settled.paid);
+    book_taken(
+        campaign,
+        BooksEntry::Starved,
+        Thing::People,
+        settled.starved,
+    );
     Ok(())
 }
 

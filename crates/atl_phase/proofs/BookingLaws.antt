@@ -5,7 +5,7 @@ use Rattle.std.specs.Int.{w64}
 use Rattle.std.specs.Int.RustNames.{FitsSigned}
 use Rattle.std.proofs.lemmas.Int.{ints}
 use Rattle.atl_world.proofs.GeneralLaws.{is_unequal}
-use Rattle.atl_records.specs.declared.books.Entry.{Entry}
+use Rattle.atl_records.specs.declared.books.BooksEntry.{BooksEntry}
 use Rattle.atl_records.specs.declared.books.Thing.{Thing}
 use Rattle.atl_records.specs.Books.{BooksValue, IsWithin, amount_in, after_booking, amount_number}
 use Rattle.atl_records.proofs.BookLaws.{amount-after_booking}
@@ -25,9 +25,9 @@ near_by x y z n small h = elim h [
 near_same : (x y : ℤ) → y ≡ x → IsNear 0 x y
 near_same x y is = record { above = omega (arith, ints, is); below = omega (arith, ints, is) }
 
-module _ (books : BooksValue) (e : Entry) (t : Thing) (z : ℤ) (n : ℕ) (small : IsWithin n z) where
+module _ (books : BooksValue) (e : BooksEntry) (t : Thing) (z : ℤ) (n : ℕ) (small : IsWithin n z) where
   -- a booking of at most n in size moves the amount of entry e and thing t by at most n, and no other amount
-  pub booked-near : (f : Entry) (u : Thing) → IsNear (moves_only n e t f u) (amount_in books f u) (amount_in (after_booking books e t z) f u)
+  pub booked-near : (f : BooksEntry) (u : Thing) → IsNear (moves_only n e t f u) (amount_in books f u) (amount_in (after_booking books e t z) f u)
   booked-near f u = by_number (amount_number f u == amount_number e t) refl
     where
       -- the amount of entry f and thing u moves by at most n if test `b` finds that it is the booked amount, and else
@@ -37,7 +37,7 @@ module _ (books : BooksValue) (e : Entry) (t : Thing) (z : ℤ) (n : ℕ) (small
       by_number false is = near_same _ _ (amount-other books f e u t z (is_unequal _ _ is))
 
   -- books with room for n and for the bound `next` have room for `next` after a booking of at most n in size
-  pub booked-room : (next : BookBound) → ((f : Entry) (u : Thing) → HasRoom (moves_only n e t f u + next f u) (amount_in books f u)) → (f : Entry) (u : Thing) → HasRoom (next f u) (amount_in (after_booking books e t z) f u)
+  pub booked-room : (next : BookBound) → ((f : BooksEntry) (u : Thing) → HasRoom (moves_only n e t f u + next f u) (amount_in books f u)) → (f : BooksEntry) (u : Thing) → HasRoom (next f u) (amount_in (after_booking books e t z) f u)
   booked-room next room f u = near_room (moves_only n e t f u) (next f u) _ _ (booked-near f u) (room f u)
 
 -- for `booking_fits`: a number z within `amount_limit` in size, be it negative or not, can be stored in 64 signed bits

@@ -3,7 +3,7 @@ use Rattle.std.proofs.Common.{◌≡◌, ◌==◌, ℕ, Bool, true, false, Optio
 use Rattle.std.specs.Prelude.{ℤ, Result, Ok, Err, OnOk, if◌then◌else◌}
 use Rattle.std.specs.FinMap.{get}
 use Rattle.atl_campaign.specs.Covers.{MarksChanges}
-use Rattle.atl_records.specs.declared.books.Entry.{Entry}
+use Rattle.atl_records.specs.declared.books.BooksEntry.{BooksEntry}
 use Rattle.atl_records.specs.declared.books.Thing.{Thing}
 use Rattle.atl_records.specs.declared.records.Unit.{Unit}
 use Rattle.atl_campaign.specs.Marking.{handed_marked, mark_amount, place_marked, place_marked_at, put_marked}
@@ -19,7 +19,7 @@ pub marks_by : (a b m : MarkedCampaign) → b.value ≡ m.value → b.marks ≡ 
 marks_by a b m what marks h = rw (what, marks) (record { stay = h.stay; covers = h.covers })
 
 -- a change that marks all that it changes, and then a booking that marks its amount, mark together all that they change
-pub booked_marks : (a b d : MarkedCampaign) (e : Entry) (t : Thing) (z : ℤ) → MarksChanges a b → d.value ≡ with_booking b.value e t z → d.marks ≡ mark_amount b e t → MarksChanges a d
+pub booked_marks : (a b d : MarkedCampaign) (e : BooksEntry) (t : Thing) (z : ℤ) → MarksChanges a b → d.value ≡ with_booking b.value e t z → d.marks ≡ mark_amount b e t → MarksChanges a d
 booked_marks a b d e t z before what marks =
     marks-trans a b d before (marks_by b d (record { value = with_booking b.value e t z; marks = mark_amount b e t }) what marks (marks-amount b e t z))
 

@@ -7,7 +7,7 @@ use Rattle.std.proofs.lemmas.Int.{ints}
 use Rattle.std.proofs.Math.Nat.{suc-mul}
 use Rattle.atl_world.specs.Worlds.{WorldValue}
 use Rattle.atl_campaign.specs.Campaign.{CampaignValue}
-use Rattle.atl_records.specs.declared.books.Entry.{Entry}
+use Rattle.atl_records.specs.declared.books.BooksEntry.{BooksEntry}
 use Rattle.atl_records.specs.declared.books.Thing.{Thing}
 use Rattle.atl_records.specs.Books.{IsWithin, amount_in}
 use Rattle.atl_records.specs.declared.records.Faction.{Faction}
@@ -39,7 +39,7 @@ less_room j k a l room = record { above = omega (arith, ints, room.above); below
 
 -- the first bound is at most the second for each amount
 abbrev pub IsBoundWithin : BookBound → BookBound → Type 0
-IsBoundWithin less more = (e : Entry) (t : Thing) → less e t ≤ more e t
+IsBoundWithin less more = (e : BooksEntry) (t : Thing) → less e t ≤ more e t
 
 -- books with room for a bound have room for another, if that is at most as great for each amount
 pub room_less : (j k : BookBound) (c : CampaignValue) → IsBoundWithin j k → HaveRoom k c → HaveRoom j c

@@ -12,7 +12,7 @@ use Rattle.atl_world.proofs.GeneralLaws.{is_equal}
 use Rattle.atl_orders.specs.declared.verb.Verb.{Verb}
 use Rattle.atl_orders.specs.Bounds.{IsEntry, IsOrderOf, IsReading}
 use Rattle.atl_orders.specs.Mailing.{EntryValue, Reading}
-use Rattle.atl_records.specs.declared.books.Entry.{Entry}
+use Rattle.atl_records.specs.declared.books.BooksEntry.{BooksEntry}
 use Rattle.atl_records.specs.declared.books.Thing.{Thing}
 use Rattle.atl_records.specs.declared.event.Outcome.{Outcome}
 use Rattle.atl_records.specs.declared.event.Outcome.TheVariants.{Fault}
@@ -79,7 +79,7 @@ pub room_left : {holds : Condition} {reserve : RemainingBound} (w : WorldValue) 
 room_left {holds} {reserve} w a b well room e t = room_after_use (reserve a e t) (reserve b e t) (amount_in a.books e t) (amount_in b.books e t) (well.uses_bound e t) (room e t)
 
 -- a step within a remaining bound (`StepsWell`) is within a bound of the phase that is at least as large (`LeavesWell`)
-pub leaves_well : {holds : Condition} {reserve : RemainingBound} {moving : BookBound} (w : WorldValue) (a b : CampaignValue) → ((e : Entry) (t : Thing) → reserve a e t ≤ moving e t) → StepsWell holds reserve w a b → LeavesWell holds moving w a b
+pub leaves_well : {holds : Condition} {reserve : RemainingBound} {moving : BookBound} (w : WorldValue) (a b : CampaignValue) → ((e : BooksEntry) (t : Thing) → reserve a e t ≤ moving e t) → StepsWell holds reserve w a b → LeavesWell holds moving w a b
 leaves_well {holds} {reserve} {moving} w a b l h = record {
   leaves_it = h.holds_still;
   same_month = h.same_month;

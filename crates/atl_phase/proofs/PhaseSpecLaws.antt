@@ -1,7 +1,7 @@
 -- Laws of several phases in turn: what holds of all together, if it holds of each.
 use Rattle.std.proofs.Common.{◌≡◌, ◌-◌, ◌+◌, ◌*◌, ◌≤◌, ℕ, Bool, true, false, List, [], ◌∷◌, refl, arith}
 use Rattle.std.specs.Prelude.{if◌then◌else◌}
-use Rattle.atl_records.specs.declared.books.Entry.{Entry}
+use Rattle.atl_records.specs.declared.books.BooksEntry.{BooksEntry}
 use Rattle.atl_records.specs.declared.books.Thing.{Thing}
 use Rattle.atl_phase.specs.Meaning.{most_moved}
 use Rattle.atl_phase.specs.PhaseSpecs.{EachPhase, MovesItsOwn, PhaseSpec, keeps_of, may_move, meaning_of, moving_of, moving_phases_of}
@@ -22,7 +22,7 @@ counted true rest moved most one others = omega (arith, one, others)
 counted false rest moved most one others = omega (arith, one, others)
 
 -- phases in turn move an amount by at most `most_moved` times the number of them that may move it
-pub moved_within : (phases : List PhaseSpec) → EachPhase MovesItsOwn phases → (e : Entry) (t : Thing) → moving_of phases e t ≤ moving_phases_of phases e t * most_moved
+pub moved_within : (phases : List PhaseSpec) → EachPhase MovesItsOwn phases → (e : BooksEntry) (t : Thing) → moving_of phases e t ≤ moving_phases_of phases e t * most_moved
 moved_within [] each e t = omega arith
 moved_within (phase ∷ []) each e t = alone (may_move phase.moved e t) (each.0 e t)
   where

@@ -4,8 +4,8 @@ use Rattle.std.specs.Prelude.{ℕ, ℤ, pos, ◌≡◌, ◌≤◌, ◌+◌, ◌*
 use Rattle.std.specs.FinMap.{get}
 use Rattle.atl_world.specs.Worlds.{WorldValue}
 use Rattle.atl_orders.specs.Bounds.{IsOrderOf}
-use Rattle.atl_records.specs.declared.books.Entry.{Entry}
-use Rattle.atl_records.specs.declared.books.Entry.TheVariants.{Lost}
+use Rattle.atl_records.specs.declared.books.BooksEntry.{BooksEntry}
+use Rattle.atl_records.specs.declared.books.BooksEntry.TheVariants.{Lost}
 use Rattle.atl_records.specs.declared.books.Thing.{Thing}
 use Rattle.atl_records.specs.declared.books.Thing.TheVariants.{Item}
 use Rattle.atl_records.specs.declared.records.Unit.{Unit}
@@ -37,7 +37,7 @@ pub record HasRoom (most : ℕ) (amount : ℤ) : Type 0 where
 
 -- each amount of the books can move as far as its bound says without passing `amount_limit` in size
 abbrev pub HaveRoom : BookBound → CampaignValue → Type 0
-HaveRoom moving c = (e : Entry) (t : Thing) → HasRoom (moving e t) (amount_in c.books e t)
+HaveRoom moving c = (e : BooksEntry) (t : Thing) → HasRoom (moving e t) (amount_in c.books e t)
 
 -- by how much each amount of the books may still be moved, as a function of the campaign so far
 abbrev pub RemainingBound : Type 0
@@ -62,7 +62,7 @@ pub record StepsWell (holds : Condition) (reserve : RemainingBound) (w : WorldVa
   -- the books balance after the step if they did before
   pub balances : Balances before → Balances after
   -- each amount of the books moves by at most what its remaining bound falls
-  pub uses_bound : (e : Entry) (t : Thing) → UsesBound (reserve before e t) (reserve after e t) (amount_in before.books e t) (amount_in after.books e t)
+  pub uses_bound : (e : BooksEntry) (t : Thing) → UsesBound (reserve before e t) (reserve after e t) (amount_in before.books e t) (amount_in after.books e t)
 
 -- `spares` is reflexive and transitive, and relates only units of the same faction
 pub record IsUnaffectedRelation (spares : Unaffected) : Type 0 where
@@ -95,7 +95,7 @@ pub record IsOrderly (step : OrderMeaning) (holds : Condition) (reserve : Remain
   pub spared : (w : WorldValue) (a : Aliases) (c : CampaignValue) (t : Task) (x : Unit) → holds w c → IsUnitOf c t x →
       (n : ℕ) (u : Unit) → get c.units n ≡ Some u → (concerns t n u.faction → ⊥) → IfSome (step w a t) (λ deed. IsUnaffected spares (deed c x).0 n u)
   -- for no amount of the books is the remaining bound above the bound of the phase
-  pub bounded : (w : WorldValue) (c : CampaignValue) → holds w c → (e : Entry) (t : Thing) → reserve c e t ≤ moving e t
+  pub bounded : (w : WorldValue) (c : CampaignValue) → holds w c → (e : BooksEntry) (t : Thing) → reserve c e t ≤ moving e t
 
 -- ---- what is left of the bounds of single phases
 

@@ -2,7 +2,7 @@
 use Rattle.std.specs.Prelude.{◌≡◌, ℕ, ℤ, pos, ◌+ℤ◌, ◌≤ℤ◌, ◌+◌, ◌==◌, if◌then◌else◌}
 use Rattle.std.specs.FinMap.{len}
 use Rattle.atl_world.specs.Worlds.{WorldValue}
-use Rattle.atl_records.specs.declared.books.Entry.{Entry}
+use Rattle.atl_records.specs.declared.books.BooksEntry.{BooksEntry}
 use Rattle.atl_records.specs.declared.books.Thing.{Thing}
 use Rattle.atl_records.specs.Books.{amount_in, amount_number}
 use Rattle.atl_records.specs.Every.{HasValue}
@@ -50,14 +50,14 @@ both_keep first early late w m before after =
 
 -- by how much each amount of the books may move at most, up or down; an amount with bound 0 stays
 abbrev pub BookBound : Type 0
-BookBound = Entry → Thing → ℕ
+BookBound = BooksEntry → Thing → ℕ
 
 -- the bound on the books of two phases in turn: the sum of their bounds
 abbrev pub both_move : BookBound → BookBound → BookBound
 both_move first second e t = first e t + second e t
 
 -- the bound on the books of a phase that moves the amount of this entry and thing alone, by at most this much
-abbrev pub moves_only : ℕ → Entry → Thing → BookBound
+abbrev pub moves_only : ℕ → BooksEntry → Thing → BookBound
 moves_only most e t f u = if amount_number f u == amount_number e t then most else 0
 
 -- by how much one phase moves an amount of the books at most: 10^14 - 1
@@ -93,4 +93,4 @@ pub record LeavesWell (leaves : Condition) (moving : BookBound) (w : WorldValue)
   -- the books balance after the phase if they did before
   pub balances : Balances before → Balances after
   -- no amount of the books moves further than its bound
-  pub near : (e : Entry) (t : Thing) → IsNear (moving e t) (amount_in before.books e t) (amount_in after.books e t)
+  pub near : (e : BooksEntry) (t : Thing) → IsNear (moving e t) (amount_in before.books e t) (amount_in after.books e t)

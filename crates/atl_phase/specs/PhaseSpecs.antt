@@ -2,7 +2,7 @@
 -- docs/RULES.md, "Closing a month".
 use Rattle.std.specs.Prelude.{⊤, ℕ, ◌+◌, ◌≤◌, ◌==◌, ◌||◌, Bool, false, List, [], ◌∷◌, if◌then◌else◌}
 use Rattle.atl_orders.specs.declared.verb.Verb.{Verb}
-use Rattle.atl_records.specs.declared.books.Entry.{Entry}
+use Rattle.atl_records.specs.declared.books.BooksEntry.{BooksEntry}
 use Rattle.atl_records.specs.declared.books.Thing.{Thing}
 use Rattle.atl_records.specs.declared.books.Thing.TheVariants.{Item, Money, People}
 use Rattle.atl_records.specs.Books.{entry_index}
@@ -15,29 +15,29 @@ use Rattle.atl_phase.specs.Unbooked.{moves_nothing}
 -- the entries of the books that a phase may move: those of money, of people and of items
 pub record MovedEntries : Type 0 where
   -- the entries under which the phase may move money
-  pub money : List Entry
+  pub money : List BooksEntry
   -- the entries under which the phase may move people
-  pub people : List Entry
+  pub people : List BooksEntry
   -- the entries under which the phase may move items
-  pub items : List Entry
+  pub items : List BooksEntry
 
 -- no entries, for a phase that moves no amount of the books
 abbrev pub no_moved_entries : MovedEntries
 no_moved_entries = record { money = []; people = []; items = [] }
 
 -- the entries under which a phase may move this thing
-abbrev pub entries_of : MovedEntries → Thing → List Entry
+abbrev pub entries_of : MovedEntries → Thing → List BooksEntry
 entries_of moved Money = moved.money
 entries_of moved People = moved.people
 entries_of moved (Item i) = moved.items
 
 -- whether an entry of the books is in a list of entries
-abbrev pub is_among : Entry → List Entry → Bool
+abbrev pub is_among : BooksEntry → List BooksEntry → Bool
 is_among e [] = false
 is_among e (k ∷ ks) = is_among e ks || (entry_index e == entry_index k)
 
 -- whether a phase may move the amount of this entry and this thing
-abbrev pub may_move : MovedEntries → Entry → Thing → Bool
+abbrev pub may_move : MovedEntries → BooksEntry → Thing → Bool
 may_move moved e t = is_among e (entries_of moved t)
 
 -- ---- a phase
@@ -55,7 +55,7 @@ pub record PhaseSpec : Type 1 where
 
 -- A phase moves the amounts of its own entries alone, and each by less than 10^14.
 abbrev pub MovesItsOwn : PhaseSpec → Type 0
-MovesItsOwn phase = (e : Entry) (t : Thing) → phase.moving e t ≤ (if may_move phase.moved e t then most_moved else 0)
+MovesItsOwn phase = (e : BooksEntry) (t : Thing) → phase.moving e t ≤ (if may_move phase.moved e t then most_moved else 0)
 
 -- the specification of a phase with this effect, which moves no amount of the books and keeps what the frame says
 abbrev pub spec_without_books : Meaning → Frame → PhaseSpec
@@ -67,7 +67,7 @@ abbrev pub goes_by_orders : OrderMeaning → (Verb → Bool) → Affects → Una
 goes_by_orders step is_of concerns spares = spec_without_books (meaning_by_orders step is_of) (spares_others concerns spares is_of)
 
 -- the specification of a phase that moves the money of one entry of the books, and no other amount
-abbrev pub books_money : Entry → Meaning → Frame → PhaseSpec
+abbrev pub books_money : BooksEntry → Meaning → Frame → PhaseSpec
 books_money entry meaning keeps = record {
   meaning = meaning;
   moving = moves_only most_moved entry Money;
@@ -77,7 +77,7 @@ books_money entry meaning keeps = record {
 
 -- the specification of a phase that moves the money of one entry of the books and the people of another,
 -- and no other amount
-abbrev pub books_money_and_people : (money people : Entry) → Meaning → Frame → PhaseSpec
+abbrev pub books_money_and_people : (money people : BooksEntry) → Meaning → Frame → PhaseSpec
 books_money_and_people money people meaning keeps = record {
   meaning = meaning;
   moving = both_move (moves_only most_moved money Money) (moves_only most_moved people People);
@@ -107,7 +107,7 @@ keeps_of (phase ∷ []) = phase.keeps
 keeps_of (phase ∷ next ∷ rest) = both_keep phase.meaning phase.keeps (keeps_of (next ∷ rest))
 
 -- how many of these phases may move the amount of this entry and this thing
-abbrev pub moving_phases_of : List PhaseSpec → Entry → Thing → ℕ
+abbrev pub moving_phases_of : List PhaseSpec → BooksEntry → Thing → ℕ
 moving_phases_of [] e t = 0
 moving_phases_of (phase ∷ rest) e t = (if may_move phase.moved e t then 1 else 0) + moving_phases_of rest e t
 

@@ -1,6 +1,6 @@
 -- When the books have room for one phase: it can move none of their amounts past `amount_limit`.
 use Rattle.std.specs.Prelude.{ℕ, ◌-◌, ◌≤◌}
-use Rattle.atl_records.specs.declared.books.Entry.{Entry}
+use Rattle.atl_records.specs.declared.books.BooksEntry.{BooksEntry}
 use Rattle.atl_records.specs.declared.books.Thing.{Thing}
 use Rattle.atl_records.specs.Books.{IsWithin, amount_in}
 use Rattle.atl_campaign.specs.Campaign.{CampaignValue}
@@ -13,9 +13,9 @@ roomy_amount = amount_limit - most_moved
 
 -- no amount of the books passes 9*10^18 in size
 abbrev pub AreRoomy : CampaignValue → Type 0
-AreRoomy c = (e : Entry) (t : Thing) → IsWithin roomy_amount (amount_in c.books e t)
+AreRoomy c = (e : BooksEntry) (t : Thing) → IsWithin roomy_amount (amount_in c.books e t)
 
 -- A law: where no amount passes 9*10^18, the books have room for one phase that moves each by less than 10^14.
 -- Two phases may move an amount further.
 abbrev pub OnePhaseHasRoom : Type 0
-OnePhaseHasRoom = (moving : BookBound) (c : CampaignValue) → ((e : Entry) (t : Thing) → moving e t ≤ most_moved) → AreRoomy c → HaveRoom moving c
+OnePhaseHasRoom = (moving : BookBound) (c : CampaignValue) → ((e : BooksEntry) (t : Thing) → moving e t ≤ most_moved) → AreRoomy c → HaveRoom moving c

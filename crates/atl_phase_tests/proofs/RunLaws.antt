@@ -2,7 +2,7 @@
 use Rattle.std.proofs.Common.{◌≡◌, ◌≤◌, ℕ, Bool, true, false, sym, subst, arith}
 use Rattle.std.specs.Prelude.{if◌then◌else◌}
 use Rattle.atl_world.specs.Worlds.{WorldValue}
-use Rattle.atl_records.specs.declared.books.Entry.{Entry}
+use Rattle.atl_records.specs.declared.books.BooksEntry.{BooksEntry}
 use Rattle.atl_records.specs.declared.books.Thing.{Thing}
 use Rattle.atl_records.specs.Books.{amount_in}
 use Rattle.atl_campaign.specs.Good.{IsGood}
@@ -27,7 +27,7 @@ roomy_when_good w c d good books e t = subst (λ b. HasRoom much (amount_in b e 
 
 -- Roomy books (`IsRoomy`) have room for whatever `moving` allows (`HaveRoom`), if it moves each amount by at most
 -- `much`.
-pub room_for : (c : CampaignValue) (moving : BookBound) → ((e : Entry) (t : Thing) → moving e t ≤ much) → IsRoomy c → HaveRoom moving c
+pub room_for : (c : CampaignValue) (moving : BookBound) → ((e : BooksEntry) (t : Thing) → moving e t ≤ much) → IsRoomy c → HaveRoom moving c
 room_for c moving little room = room_less moving (λ e t. much) c little room
 
 -- Roomy books (`IsRoomy`) have room for all that the phases from FORM to PRODUCE may book together.
@@ -41,7 +41,7 @@ cut false moved l = omega (arith, l)
 
 -- A phase that moves only its own entries (`MovesItsOwn`) moves each amount, that of thing `t` under entry `e`, by at
 -- most `most_moved`.
-moves_little : (phase : PhaseSpec) → MovesItsOwn phase → (e : Entry) (t : Thing) → phase.moving e t ≤ most_moved
+moves_little : (phase : PhaseSpec) → MovesItsOwn phase → (e : BooksEntry) (t : Thing) → phase.moving e t ≤ most_moved
 moves_little phase own e t = cut (may_move phase.moved e t) (phase.moving e t) (own e t)
 
 -- Roomy books (`IsRoomy`) have room for all that a phase may book which moves only its own entries (`MovesItsOwn`).

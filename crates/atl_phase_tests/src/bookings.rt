@@ -4,7 +4,7 @@ ghost use Rattle.std.specs.Prelude.{◌≡◌};
 ghost use Rattle.atl_records.specs.Books.{thing_index};
 
 use crate::lines::number;
-use atl_campaign::{Campaign, ENTRY_COUNT, Entry, Thing};
+use atl_campaign::{BooksEntry, Campaign, ENTRY_COUNT, Thing};
 use atl_world::World;
 use std::alloc::{AllocError, Global};
 
@@ -18,28 +18,28 @@ const PEOPLE: usize = 1;
 const FIRST_ITEM: usize = 2;
 
 /// All entries of the books with their names in files of cases.
-static ENTRIES: [(&str, Entry); ENTRY_COUNT] = [
-    ("founding", Entry::Founding),
-    ("joining", Entry::Joining),
-    ("income", Entry::Income),
-    ("wages", Entry::Wages),
-    ("recruiting", Entry::Recruiting),
-    ("study", Entry::Study),
-    ("upkeep", Entry::Upkeep),
-    ("lost", Entry::Lost),
-    ("births", Entry::Births),
-    ("starved", Entry::Starved),
-    ("left", Entry::Left),
-    ("made", Entry::Made),
-    ("used", Entry::Used),
-    ("bought", Entry::Bought),
-    ("sold", Entry::Sold),
-    ("stocked", Entry::Stocked),
+static ENTRIES: [(&str, BooksEntry); ENTRY_COUNT] = [
+    ("founding", BooksEntry::Founding),
+    ("joining", BooksEntry::Joining),
+    ("income", BooksEntry::Income),
+    ("wages", BooksEntry::Wages),
+    ("recruiting", BooksEntry::Recruiting),
+    ("study", BooksEntry::Study),
+    ("upkeep", BooksEntry::Upkeep),
+    ("lost", BooksEntry::Lost),
+    ("births", BooksEntry::Births),
+    ("starved", BooksEntry::Starved),
+    ("left", BooksEntry::Left),
+    ("made", BooksEntry::Made),
+    ("used", BooksEntry::Used),
+    ("bought", BooksEntry::Bought),
+    ("sold", BooksEntry::Sold),
+    ("stocked", BooksEntry::Stocked),
 ];
 
 /// The amount booked of a thing under an entry, or 0 if the books have no such thing. `place` is
 /// the thing's index.
-fn booked(campaign: &Campaign, entry: Entry, place: usize, thing: Thing) -> i64
+fn booked(campaign: &Campaign, entry: BooksEntry, place: usize, thing: Thing) -> i64
     requires { thing_index thing ≡ place }
 {
     if place < campaign.things() {

@@ -5,7 +5,7 @@ use Rattle.std.specs.declared.cmp.Ordering.TheVariants.{Less, Equal, Greater}
 use Rattle.std.specs.Ordering.{eq_by_cmp, is_eq, nat_cmp, ordering_then}
 use Rattle.std.specs.Cmp.{IsTotalOrder, nat_cmp_total, on_total, then_total, tied_itself}
 use Rattle.std.specs.FinMap.{IsAntisymmetric, nat_cmp-IsAntisymmetric}
-use Rattle.atl_records.specs.declared.books.Entry.{Entry}
+use Rattle.atl_records.specs.declared.books.BooksEntry.{BooksEntry}
 use Rattle.atl_records.specs.declared.books.Thing.{Thing}
 use Rattle.atl_records.specs.declared.books.Thing.TheVariants.{Money, People, Item}
 use Rattle.atl_records.specs.Books.{Account, account_cmp, all_entries, entry_index, thing_at, thing_index}
@@ -34,15 +34,15 @@ pub same_thing : (t u : Thing) → thing_index t ≡ thing_index u → t ≡ u
 same_thing t u h = sym (thing_at_index t) ∙ ap thing_at h ∙ thing_at_index u
 
 -- if Some d is Some e, the entries d and e are equal
-inside : (d e : Entry) → Some d ≡ Some e → d ≡ e
+inside : (d e : BooksEntry) → Some d ≡ Some e → d ≡ e
 inside d e h = cc
 
 -- entries with the same index are equal
-pub same_entry : (d e : Entry) → entry_index d ≡ entry_index e → d ≡ e
+pub same_entry : (d e : BooksEntry) → entry_index d ≡ entry_index e → d ≡ e
 same_entry d e h = inside d e (sym (entry_there d) ∙ ap (slice_get all_entries) h ∙ entry_there e)
 
 -- accounts whose entries have the same index, and whose things the same number, are equal
-pub same_account : (e f : Entry) (t u : Thing) → entry_index e ≡ entry_index f → thing_index t ≡ thing_index u → ◌≡◌ {A = Account} (e, t) (f, u)
+pub same_account : (e f : BooksEntry) (t u : Thing) → entry_index e ≡ entry_index f → thing_index t ≡ thing_index u → ◌≡◌ {A = Account} (e, t) (f, u)
 same_account e f t u entries things i = (same_entry e f entries i, same_thing t u things i)
 
 -- ---- the order of accounts

@@ -9,7 +9,7 @@ use Rattle.std.specs.FinMap.{FinMap, empty, entries, entries_sorted, find, get, 
 use Rattle.std.specs.FinMap.Entries.{below_all, same_entries}
 use Rattle.std.proofs.lemmas.Bool.{and_parts, cases_lt, false≢true}
 use Rattle.std.proofs.lemmas.Bool.Decides.{nat_tests}
-use Rattle.atl_records.specs.declared.books.Entry.{Entry}
+use Rattle.atl_records.specs.declared.books.BooksEntry.{BooksEntry}
 use Rattle.atl_records.specs.Books.{Account, BooksValue, account_cmp, all_entries, amount_in, AreBooks, entry_index, is_zero, thing_at, thing_index}
 use Rattle.atl_records.specs.Grids.{accounts, accounts_under, listed_of}
 use Rattle.atl_records.proofs.AccountLaws.{account_itself, account_same, account_total, cases_account, index_of_thing_at}
@@ -33,7 +33,7 @@ less_entry : (a b : Account) → entry_index a.0 < entry_index b.0 → account_c
 less_entry a b h = ap (λ o. ordering_then o (nat_cmp (thing_index a.1) (thing_index b.1))) (sym (nat_cmp_is (entry_index a.0) (entry_index b.0) Less h))
 
 -- of two accounts of one entry, the one whose thing has the lower number is less by account_cmp
-less_thing : (e : Entry) (i k : ℕ) → i < k → account_cmp (e, thing_at i) (e, thing_at k) ≡ Less
+less_thing : (e : BooksEntry) (i k : ℕ) → i < k → account_cmp (e, thing_at i) (e, thing_at k) ≡ Less
 less_thing e i k h =
     ap (λ o. ordering_then o (nat_cmp (thing_index (thing_at i)) (thing_index (thing_at k)))) (tied_itself nat_cmp_total (entry_index e)) ∙ (λ j. nat_cmp (index_of_thing_at i j) (index_of_thing_at k j)) ∙ sym (nat_cmp_is i k Less h)
 
@@ -48,28 +48,28 @@ rise_append [] ys h k all = k
 rise_append (x ∷ xs) ys h k all = (all_append (λ c. account_cmp x c ≡ Less) xs ys h.0 all.0, rise_append xs ys h.1 k all.1)
 
 -- if P holds of an entry's account with every thing, it holds of all accounts of this entry with the things of a list
-all_under : (P : Account → Type 0) (e : Entry) (numbers : List ℕ) → ((i : ℕ) → P (e, thing_at i)) → AllByRecursion P (map (λ i. (e, thing_at i)) numbers)
+all_under : (P : Account → Type 0) (e : BooksEntry) (numbers : List ℕ) → ((i : ℕ) → P (e, thing_at i)) → AllByRecursion P (map (λ i. (e, thing_at i)) numbers)
 all_under P e [] h = tt
 all_under P e (i ∷ numbers) h = (h i, all_under P e numbers h)
 
 -- an entry's account with thing i is less than its accounts with the n things from number a on, if i is below a
-behind_under : (e : Entry) (i a n : ℕ) → i < a → Behind (e, thing_at i) (map (λ k. (e, thing_at k)) (range_with_len a n))
+behind_under : (e : BooksEntry) (i a n : ℕ) → i < a → Behind (e, thing_at i) (map (λ k. (e, thing_at k)) (range_with_len a n))
 behind_under e i a zero h = tt
 behind_under e i a (suc n) h = (less_thing e i a h, behind_under e i (a + 1) n (omega arith))
 
 -- the accounts of an entry with the n things from number a on are sorted
-under_rise : (e : Entry) (a n : ℕ) → Rise (map (λ i. (e, thing_at i)) (range_with_len a n))
+under_rise : (e : BooksEntry) (a n : ℕ) → Rise (map (λ i. (e, thing_at i)) (range_with_len a n))
 under_rise e a zero = tt
 under_rise e a (suc n) = (behind_under e a (a + 1) n (omega arith), under_rise e (a + 1) n)
 
 -- whether the entries of a list are strictly sorted by index
-are_rising : List Entry → Bool
+are_rising : List BooksEntry → Bool
 are_rising [] = true
 are_rising (e ∷ es) = list_all (λ d. nat_lt (entry_index e) (entry_index d)) es && are_rising es
 
 module _ (things : ℕ) where
   -- an account is less than all accounts of entries with higher indices than its own
-  behind_flat : (a : Account) (es : List Entry) → list_all (λ d. nat_lt (entry_index a.0) (entry_index d)) es ≡ true → Behind a (flat_map (accounts_under things) es)
+  behind_flat : (a : Account) (es : List BooksEntry) → list_all (λ d. nat_lt (entry_index a.0) (entry_index d)) es ≡ true → Behind a (flat_map (accounts_under things) es)
   behind_flat a [] h = tt
   behind_flat a (d ∷ es) h =
       let parts = and_parts (nat_lt (entry_index a.0) (entry_index d)) (list_all (λ d. nat_lt (entry_index a.0) (entry_index d)) es) h in
@@ -78,7 +78,7 @@ module _ (things : ℕ) where
       (behind_flat a es parts.1)
 
   -- the accounts of entries in ascending order, one entry after the other, are sorted
-  flat_rise : (es : List Entry) → are_rising es ≡ true → Rise (flat_map (accounts_under things) es)
+  flat_rise : (es : List BooksEntry) → are_rising es ≡ true → Rise (flat_map (accounts_under things) es)
   unfolding are_rising
   flat_rise [] h = tt
   flat_rise (e ∷ es) h =

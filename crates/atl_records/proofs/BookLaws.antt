@@ -6,8 +6,8 @@ use Rattle.std.specs.FinMap.{get, get-empty, get-insert, get-remove, insert, rem
 use Rattle.std.proofs.lemmas.Int.{ints}
 use Rattle.std.proofs.lemmas.Bool.{cases_eq, false≢true}
 use Rattle.std.proofs.lemmas.Bool.Decides.{nat_tests}
-use Rattle.atl_records.specs.declared.books.Entry.{Entry}
-use Rattle.atl_records.specs.declared.books.Entry.TheVariants.{Founding}
+use Rattle.atl_records.specs.declared.books.BooksEntry.{BooksEntry}
+use Rattle.atl_records.specs.declared.books.BooksEntry.TheVariants.{Founding}
 use Rattle.atl_records.specs.declared.books.Thing.{Thing}
 use Rattle.atl_records.specs.Books.{Account, BooksValue, account_cmp, all_entries, entry_index, is_zero, thing_index, amount_in, with_amount, after_booking, sum_of, booked, no_amounts, AreBooks, IsWithin, LeavesRoomForJoining}
 use Rattle.atl_records.proofs.AccountLaws.{account_total, account_same, account_itself, cases_account, apart_entries, apart_things, same_account}
@@ -47,7 +47,7 @@ listed_some z x is =
 
 -- ---- an amount set
 
-module _ (books : BooksValue) (e : Entry) (t : Thing) (z : ℤ) where
+module _ (books : BooksValue) (e : BooksEntry) (t : Thing) (z : ℤ) where
   -- once an amount is set, the books list it under its entry and thing, if it isn't 0, and all other accounts as before
   pub get-with_amount : (a : Account) → get (with_amount books e t z).amounts a ≡ cond (eq_by_cmp account_cmp a (e, t)) (listed z) (get books.amounts a)
   get-with_amount a =
@@ -57,7 +57,7 @@ module _ (books : BooksValue) (e : Entry) (t : Thing) (z : ℤ) where
       ]
 
   -- once an amount is set under an entry and a thing, it is read there, and each other amount is as before
-  pub amount-with_amount : (f : Entry) (u : Thing) → amount_in (with_amount books e t z) f u ≡ cond (eq_by_cmp account_cmp (f, u) (e, t)) z (amount_in books f u)
+  pub amount-with_amount : (f : BooksEntry) (u : Thing) → amount_in (with_amount books e t z) f u ≡ cond (eq_by_cmp account_cmp (f, u) (e, t)) z (amount_in books f u)
   amount-with_amount f u =
       ap (λ o. unwrap_or o (pos 0)) (get-with_amount (f, u)) ∙ elim (eq_by_cmp account_cmp (f, u) (e, t)) as (λ b. unwrap_or (cond b (listed z) (get books.amounts (f, u))) (pos 0) ≡ cond b z (amount_in books f u)) [
         | true ↦ amount_listed z
@@ -69,7 +69,7 @@ module _ (books : BooksValue) (e : Entry) (t : Thing) (z : ℤ) where
   its_amount = amount-with_amount e t ∙ ap (λ b. cond b z (amount_in books e t)) (account_itself (e, t))
 
   -- once an amount is set under an entry and a thing, each amount under another entry or thing is as before
-  pub other_amount : (f : Entry) (u : Thing) → eq_by_cmp account_cmp (f, u) (e, t) ≡ false → amount_in (with_amount books e t z) f u ≡ amount_in books f u
+  pub other_amount : (f : BooksEntry) (u : Thing) → eq_by_cmp account_cmp (f, u) (e, t) ≡ false → amount_in (with_amount books e t z) f u ≡ amount_in books f u
   other_amount f u apart = amount-with_amount f u ∙ ap (λ b. cond b z (amount_in books f u)) apart
 
   -- books of `things` things are still such books (`AreBooks`) after an amount of one of these things is set
@@ -87,7 +87,7 @@ module _ (books : BooksValue) (e : Entry) (t : Thing) (z : ℤ) where
       }
 
 -- books of `things` things are still such books (`AreBooks`) after an amount of one of these things is booked
-pub AreBooks-after_booking : (things : ℕ) (books : BooksValue) (e : Entry) (t : Thing) (n : ℤ) → AreBooks things books → thing_index t < things → AreBooks things (after_booking books e t n)
+pub AreBooks-after_booking : (things : ℕ) (books : BooksValue) (e : BooksEntry) (t : Thing) (n : ℤ) → AreBooks things books → thing_index t < things → AreBooks things (after_booking books e t n)
 AreBooks-after_booking things books e t n old there = AreBooks-with_amount books e t (amount_in books e t +ℤ n) things old there
 
 -- ---- what is booked of a thing
@@ -97,7 +97,7 @@ abbrev pub booked_for : Thing → Thing → ℤ → ℤ
 booked_for t u n = cond (thing_index t == thing_index u) n (pos 0)
 
 -- what a booking of n under entry e adds to the amount under entry f: n where f is e, else 0
-abbrev added_under : Entry → ℤ → Entry → ℤ
+abbrev added_under : BooksEntry → ℤ → BooksEntry → ℤ
 added_under e n f = cond (entry_index f == entry_index e) n (pos 0)
 
 -- an amount plus 0 is the amount: for amounts to which a booking adds nothing
@@ -109,18 +109,18 @@ regroup : (x y z w : ℤ) → (x +ℤ y) +ℤ (z +ℤ w) ≡ (x +ℤ z) +ℤ (y 
 regroup x y z w = omega (arith, ints)
 
 -- the sum of a e + b e over a list of entries e is the sum of a e plus the sum of b e
-sum_of-raised : (a b : Entry → ℤ) (es : List Entry) → sum_of (map (λ e. a e +ℤ b e) es) ≡ sum_of (map a es) +ℤ sum_of (map b es)
+sum_of-raised : (a b : BooksEntry → ℤ) (es : List BooksEntry) → sum_of (map (λ e. a e +ℤ b e) es) ≡ sum_of (map a es) +ℤ sum_of (map b es)
 sum_of-raised a b [] = nothing (pos 0)
 sum_of-raised a b (e ∷ es) = ap (λ z. (a e +ℤ b e) +ℤ z) (sum_of-raised a b es) ∙ regroup (a e) (b e) (sum_of (map a es)) (sum_of (map b es))
 
 -- what a booking of n under entry e adds to the amounts under all entries (`added_under`), summed over them, is n
-sum_of_one_booking : (e : Entry) (n : ℤ) → sum_of (map (added_under e n) all_entries) ≡ n
+sum_of_one_booking : (e : BooksEntry) (n : ℤ) → sum_of (map (added_under e n) all_entries) ≡ n
 sum_of_one_booking Founding n = omega (arith, ints)
 sum_of_one_booking _ n = omega (arith, ints)
 
-module _ (books : BooksValue) (e : Entry) (u : Thing) (n : ℤ) where
+module _ (books : BooksValue) (e : BooksEntry) (u : Thing) (n : ℤ) where
   -- a booking of n adds n to the thing's amount under its entry, and nothing under any other (`added_under`)
-  raised : (f : Entry) → amount_in (after_booking books e u n) f u ≡ amount_in books f u +ℤ added_under e n f
+  raised : (f : BooksEntry) → amount_in (after_booking books e u n) f u ≡ amount_in books f u +ℤ added_under e n f
   raised f =
       elim (cases_eq (entry_index f) (entry_index e)) [
         | inl same ↦
@@ -138,7 +138,7 @@ module _ (books : BooksValue) (e : Entry) (u : Thing) (n : ℤ) where
   raised_sum : booked (after_booking books e u n) u ≡ booked books u +ℤ n
   unfolding booked
   raised_sum =
-      let each : (f : Entry) → amount_in (after_booking books e u n) f u ≡ amount_in books f u +ℤ added_under e n f = raised in
+      let each : (f : BooksEntry) → amount_in (after_booking books e u n) f u ≡ amount_in books f u +ℤ added_under e n f = raised in
       (λ i. sum_of (map (λ f. each f i) all_entries)) ∙ sum_of-raised (λ f. amount_in books f u) (added_under e n) all_entries ∙ ap (λ z. booked books u +ℤ z) (sum_of_one_booking e n)
 
   -- a booking of n for thing u raises the sum of thing t's amounts by n if t is u, and else by 0 (`booked_for`)
@@ -152,12 +152,12 @@ module _ (books : BooksValue) (e : Entry) (u : Thing) (n : ℤ) where
             ap (λ (a : Account). booked (after_booking books e u n) a.1) at ∙ raised_sum ∙ ap (λ (a : Account). booked books a.1 +ℤ n) (sym at) ∙ ap (λ b. booked books t +ℤ cond b n (pos 0)) (sym tested)
         | inr apart ↦
             let tested : (thing_index t == thing_index u) ≡ false = grind (arith, nat_tests) in
-            let each : (f : Entry) → amount_in (after_booking books e u n) f t ≡ amount_in books f t = λ f. other_amount books e u (amount_in books e u +ℤ n) f t (apart_things (f, t) (e, u) apart) in
+            let each : (f : BooksEntry) → amount_in (after_booking books e u n) f t ≡ amount_in books f t = λ f. other_amount books e u (amount_in books e u +ℤ n) f t (apart_things (f, t) (e, u) apart) in
             (λ i. sum_of (map (λ f. each f i) all_entries)) ∙ nothing (booked books t) ∙ ap (λ b. booked books t +ℤ cond b n (pos 0)) (sym tested)
       ]
 
   -- a booking of n changes each amount of the books by n, or not at all
-  pub amount-after_booking : (f : Entry) (t : Thing) → (amount_in (after_booking books e u n) f t ≡ amount_in books f t +ℤ n) ⊎ (amount_in (after_booking books e u n) f t ≡ amount_in books f t)
+  pub amount-after_booking : (f : BooksEntry) (t : Thing) → (amount_in (after_booking books e u n) f t ≡ amount_in books f t +ℤ n) ⊎ (amount_in (after_booking books e u n) f t ≡ amount_in books f t)
   amount-after_booking f t =
       elim (cases_account (f, t) (e, u)) [
         | inl same ↦
@@ -168,11 +168,11 @@ module _ (books : BooksValue) (e : Entry) (u : Thing) (n : ℤ) where
 -- ---- books with nothing in them
 
 -- every amount of books that were just made (`no_amounts`) is 0
-pub amount-no_amounts : (things : ℕ) (e : Entry) (t : Thing) → amount_in (no_amounts things) e t ≡ pos 0
+pub amount-no_amounts : (things : ℕ) (e : BooksEntry) (t : Thing) → amount_in (no_amounts things) e t ≡ pos 0
 amount-no_amounts things e t = ap (λ o. unwrap_or o (pos 0)) (get-empty {X = ℤ} account_cmp (e, t))
 
 -- the sum of a thing's amounts, if all are 0, is 0
-none_booked : (books : BooksValue) (t : Thing) → ((e : Entry) → amount_in books e t ≡ pos 0) → booked books t ≡ pos 0
+none_booked : (books : BooksValue) (t : Thing) → ((e : BooksEntry) → amount_in books e t ≡ pos 0) → booked books t ≡ pos 0
 unfolding booked
 none_booked books t none i = sum_of (map (λ e. none e i) all_entries)
 
@@ -188,7 +188,7 @@ AreBooks-no_amounts things = record { count = refl; listed = λ e t amount is. n
 
 module _ (things : ℕ) (books : BooksValue) (are : AreBooks things books) where
   -- the books list each amount that is not 0, and no other
-  pub get-listed : (e : Entry) (t : Thing) → get books.amounts (e, t) ≡ listed (amount_in books e t)
+  pub get-listed : (e : BooksEntry) (t : Thing) → get books.amounts (e, t) ≡ listed (amount_in books e t)
   get-listed e t =
       elim (get books.amounts (e, t)) as (λ o. get books.amounts (e, t) ≡ o → o ≡ listed (unwrap_or o (pos 0))) [
         | None ↦ λ _. refl
@@ -196,7 +196,7 @@ module _ (things : ℕ) (books : BooksValue) (are : AreBooks things books) where
       ] refl
 
   -- books of `things` things have an amount of 0 under each entry for a thing whose number is `things` or more
-  pub none_past : (e : Entry) (t : Thing) → things ≤ thing_index t → amount_in books e t ≡ pos 0
+  pub none_past : (e : BooksEntry) (t : Thing) → things ≤ thing_index t → amount_in books e t ≡ pos 0
   none_past e t past =
       elim (get books.amounts (e, t)) as (λ o. get books.amounts (e, t) ≡ o → unwrap_or o (pos 0) ≡ pos 0) [
         | None ↦ λ _. refl
@@ -212,7 +212,7 @@ pub same_value : (a b : BooksValue) → a.things ≡ b.things → a.amounts ≡ 
 same_value a b things amounts i = record { things = things i; amounts = amounts i }
 
 -- two books of equally many things, with the same amount of each thing under each entry, are equal
-pub same_books : (things : ℕ) (a b : BooksValue) → AreBooks things a → AreBooks things b → ((e : Entry) (t : Thing) → amount_in a e t ≡ amount_in b e t) → a ≡ b
+pub same_books : (things : ℕ) (a b : BooksValue) → AreBooks things a → AreBooks things b → ((e : BooksEntry) (t : Thing) → amount_in a e t ≡ amount_in b e t) → a ≡ b
 same_books things a b are also same =
     same_value a b (are.count ∙ sym also.count) (same_map account_total account_same a.amounts b.amounts (λ c.
     get-listed things a are c.0 c.1 ∙ ap listed (same c.0 c.1) ∙ sym (get-listed things b also c.0 c.1)))
@@ -230,7 +230,7 @@ stays : (z y : ℤ) (bound n more : ℕ) → y ≡ z → IsWithin bound z → bo
 stays z y bound n more e h l = record { most = omega (arith, ints, h.most); least = omega (arith, ints, h.least) }
 
 -- if all amounts are from -bound to bound (`IsWithin`), all are within each bound from bound + n on once n is booked
-pub IsWithin-after_booking : (books : BooksValue) (e : Entry) (u : Thing) (n bound more : ℕ) → ((f : Entry) (t : Thing) → IsWithin bound (amount_in books f t)) → bound + n ≤ more → (f : Entry) (t : Thing)
+pub IsWithin-after_booking : (books : BooksValue) (e : BooksEntry) (u : Thing) (n bound more : ℕ) → ((f : BooksEntry) (t : Thing) → IsWithin bound (amount_in books f t)) → bound + n ≤ more → (f : BooksEntry) (t : Thing)
     → IsWithin more (amount_in (after_booking books e u (pos n)) f t)
 IsWithin-after_booking books e u n bound more old l f t =
     elim (amount-after_booking books e u (pos n) f t) [

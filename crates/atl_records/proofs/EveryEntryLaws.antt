@@ -9,21 +9,21 @@ use Rattle.std.proofs.lemmas.List.FromFn.{get_or-range_with_len}
 use Rattle.std.proofs.lemmas.Option.{get_or_from_slice_get, slice_get_within}
 use Rattle.atl_records.specs.Books.{all_entries, entry_index, entry_numbered}
 use Rattle.atl_records.specs.Limits.{entry_count}
-use Rattle.atl_records.specs.declared.books.Entry.{Entry}
-use Rattle.atl_records.specs.declared.books.Entry.TheVariants.{Founding}
+use Rattle.atl_records.specs.declared.books.BooksEntry.{BooksEntry}
+use Rattle.atl_records.specs.declared.books.BooksEntry.TheVariants.{Founding}
 
 -- an entry is in all_entries at its index
-pub entry_there : (e : Entry) → slice_get all_entries (entry_index e) ≡ Some e
+pub entry_there : (e : BooksEntry) → slice_get all_entries (entry_index e) ≡ Some e
 entry_there Founding = refl
 entry_there _ = refl
 
 -- entry_numbered gives for the number of an entry e, which is its index plus 1, the entry e
-pub numbered_entry : (e : Entry) → entry_numbered (entry_index e + 1) ≡ Some e
+pub numbered_entry : (e : BooksEntry) → entry_numbered (entry_index e + 1) ≡ Some e
 numbered_entry Founding = refl
 numbered_entry _ = refl
 
 -- the index of an entry is below entry_count
-pub entry_small : (e : Entry) → entry_index e < entry_count
+pub entry_small : (e : BooksEntry) → entry_index e < entry_count
 entry_small e = slice_get_within all_entries (entry_index e) e (entry_there e)
 
 -- the entry at index n of all_entries has index n
@@ -33,11 +33,11 @@ entry_in_place n l =
     omega (arith, place)
 
 -- each index below entry_count is that of an entry
-pub entry_at : (n : ℕ) → n < entry_count → (e : Entry) × (entry_index e ≡ n)
+pub entry_at : (n : ℕ) → n < entry_count → (e : BooksEntry) × (entry_index e ≡ n)
 entry_at n l = (get_or all_entries n Founding, entry_in_place n l)
 
 -- a test that every element of the list all_entries passes is passed by each entry
-pub each_entry : (test : Entry → Bool) → list_all test all_entries ≡ true → (e : Entry) → test e ≡ true
+pub each_entry : (test : BooksEntry → Bool) → list_all test all_entries ≡ true → (e : BooksEntry) → test e ≡ true
 each_entry test all e = elim (cases_Bool (test e)) [
   | inl is ↦ is
   | inr not ↦ absurd (true≢false (sym all ∙ list_all_at test all_entries (entry_index e) e (entry_small e) (ap test (get_or_from_slice_get all_entries (entry_index e) e e (entry_there e)) ∙ not)))

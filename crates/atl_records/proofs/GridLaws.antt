@@ -8,8 +8,8 @@ use Rattle.std.proofs.lemmas.List.{ext_get_or, get_or-map, get_or-set_same, get_
 use Rattle.std.proofs.lemmas.Bool.{cases_eq, cases_lt, false≢true}
 use Rattle.std.proofs.lemmas.Bool.Decides.{nat_tests}
 use Rattle.atl_records.specs.Limits.{entry_count}
-use Rattle.atl_records.specs.declared.books.Entry.{Entry}
-use Rattle.atl_records.specs.declared.books.Entry.TheVariants.{Founding}
+use Rattle.atl_records.specs.declared.books.BooksEntry.{BooksEntry}
+use Rattle.atl_records.specs.declared.books.BooksEntry.TheVariants.{Founding}
 use Rattle.atl_records.specs.declared.books.Thing.{Thing}
 use Rattle.atl_records.specs.Books.{Account, BooksValue, account_cmp, all_entries, amount_in, AreBooks, booked, entry_index, no_amounts, sum_of, thing_at, thing_index, with_amount}
 use Rattle.atl_records.specs.Grids.{IsGrid, row_of, cell, with_cell, accounts_under, accounts, filled, as_books}
@@ -38,7 +38,7 @@ module _ {A : Type 0} (p : A → Bool) where
 
   -- if e is among the entries es, and some element of the list f e passes a test, so does some element of the lists
   -- that f gives for es, joined
-  any_flat : (f : Entry → List A) (e : Entry) (es : List Entry) → list_any (λ d. entry_index d == entry_index e) es ≡ true → list_any p (f e) ≡ true → list_any p (flat_map f es) ≡ true
+  any_flat : (f : BooksEntry → List A) (e : BooksEntry) (es : List BooksEntry) → list_any (λ d. entry_index d == entry_index e) es ≡ true → list_any p (f e) ≡ true → list_any p (flat_map f es) ≡ true
   any_flat f e [] h its = absurd (false≢true h)
   any_flat f e (d ∷ es) h its =
       elim (cases_eq (entry_index d) (entry_index e)) [
@@ -49,12 +49,12 @@ module _ {A : Type 0} (p : A → Bool) where
       ]
 
 -- each entry is in all_entries
-each_listed : (e : Entry) → list_any (λ d. entry_index d == entry_index e) all_entries ≡ true
+each_listed : (e : BooksEntry) → list_any (λ d. entry_index d == entry_index e) all_entries ≡ true
 each_listed Founding = refl
 each_listed _ = refl
 
 -- an account is among those of its entry with the n things from number a on, if its thing is one of these
-any_under : (e : Entry) (t : Thing) (a n : ℕ) → a ≤ thing_index t → thing_index t < a + n → list_any (eq_by_cmp account_cmp (e, t)) (map (λ i. (e, thing_at i)) (range_with_len a n)) ≡ true
+any_under : (e : BooksEntry) (t : Thing) (a n : ℕ) → a ≤ thing_index t → thing_index t < a + n → list_any (eq_by_cmp account_cmp (e, t)) (map (λ i. (e, thing_at i)) (range_with_len a n)) ≡ true
 any_under e t a zero l h = absurd (omega arith)
 any_under e t a (suc n) l h =
     let others = list_any (eq_by_cmp account_cmp (e, t)) (map (λ i. (e, thing_at i)) (range_with_len (a + 1) n)) in
@@ -64,7 +64,7 @@ any_under e t a (suc n) l h =
     ]
 
 -- an account is among the accounts of all entries with the things below `things`, if its thing is one of these
-pub any_accounts : (things : ℕ) (e : Entry) (t : Thing) → thing_index t < things → list_any (eq_by_cmp account_cmp (e, t)) (accounts things) ≡ true
+pub any_accounts : (things : ℕ) (e : BooksEntry) (t : Thing) → thing_index t < things → list_any (eq_by_cmp account_cmp (e, t)) (accounts things) ≡ true
 any_accounts things e t h = any_flat (eq_by_cmp account_cmp (e, t)) (accounts_under things) e all_entries (each_listed e) (any_under e t 0 things (omega arith) (omega arith))
 
 -- ---- the books that rows stand for
@@ -108,7 +108,7 @@ get-as_books rows a =
     ]
 
 -- each amount of the books that the code's rows stand for (`as_books`) is that in its cell
-pub amount-as_books : (rows : List (List ℤ)) (e : Entry) (t : Thing) → amount_in (as_books rows) e t ≡ cell rows (e, t)
+pub amount-as_books : (rows : List (List ℤ)) (e : BooksEntry) (t : Thing) → amount_in (as_books rows) e t ≡ cell rows (e, t)
 amount-as_books rows e t = ap (λ o. unwrap_or o (pos 0)) (get-as_books rows (e, t)) ∙ amount_listed (cell rows (e, t))
 
 -- the books that the code's rows stand for are books of as many things as there are rows (`AreBooks`)
@@ -151,7 +151,7 @@ as_books-replicate things =
 
 -- ---- another amount in a cell
 
-module _ (rows : List (List ℤ)) (grid : IsGrid rows) (e : Entry) (t : Thing) (z : ℤ) (there : thing_index t < length rows) where
+module _ (rows : List (List ℤ)) (grid : IsGrid rows) (e : BooksEntry) (t : Thing) (z : ℤ) (there : thing_index t < length rows) where
   -- the row of thing t with z as the amount in the column of entry e
   abbrev new : List ℤ
   new = set (row_of rows t) (entry_index e) z
@@ -213,7 +213,7 @@ row_listed row size =
 booked-as_books : (rows : List (List ℤ)) (t : Thing) → IsGrid rows → thing_index t < length rows → booked (as_books rows) t ≡ sum_of (row_of rows t)
 unfolding booked
 booked-as_books rows t grid there =
-    let each : (e : Entry) → amount_in (as_books rows) e t ≡ cell rows (e, t) = λ e. amount-as_books rows e t in
+    let each : (e : BooksEntry) → amount_in (as_books rows) e t ≡ cell rows (e, t) = λ e. amount-as_books rows e t in
     (λ i. sum_of (map (λ e. each e i) all_entries)) ∙ ap sum_of (row_listed (row_of rows t) (grid.wide (thing_index t) [] there))
 
 -- ---- for the code of Books
@@ -227,11 +227,11 @@ row_read : (rows : List (List ℤ)) (t : Thing) (place : ℕ) (row : List ℤ) �
 row_read rows t place row is at there = is ∙ ap (λ k. get_or rows k row) at ∙ get_or_default rows (thing_index t) row [] there
 
 -- the amount read at the indices of an account's row and column is the account's cell
-pub cell_read : (rows : List (List ℤ)) (e : Entry) (t : Thing) (place k : ℕ) (row : List ℤ) → row ≡ get_or rows place row → place ≡ thing_index t → k ≡ entry_index e → thing_index t < length rows → get_or row k (pos 0) ≡ cell rows (e, t)
+pub cell_read : (rows : List (List ℤ)) (e : BooksEntry) (t : Thing) (place k : ℕ) (row : List ℤ) → row ≡ get_or rows place row → place ≡ thing_index t → k ≡ entry_index e → thing_index t < length rows → get_or row k (pos 0) ≡ cell rows (e, t)
 cell_read rows e t place k row is at entry there = let its = row_read rows t place row is at there in λ i. get_or (its i) (entry i) (pos 0)
 
 -- rows in which z is written at the indices of an account's row and column are those with z in its cell (`with_cell`)
-pub cell_written : (rows : List (List ℤ)) (e : Entry) (t : Thing) (place k : ℕ) (row : List ℤ) (x z : ℤ) → row ≡ get_or rows place row → place ≡ thing_index t → k ≡ entry_index e → x ≡ z → thing_index t < length rows → set rows place (set row k x) ≡ with_cell rows e t z
+pub cell_written : (rows : List (List ℤ)) (e : BooksEntry) (t : Thing) (place k : ℕ) (row : List ℤ) (x z : ℤ) → row ≡ get_or rows place row → place ≡ thing_index t → k ≡ entry_index e → x ≡ z → thing_index t < length rows → set rows place (set row k x) ≡ with_cell rows e t z
 cell_written rows e t place k row x z is at entry value there = let its = row_read rows t place row is at there in λ i. set rows (at i) (set (its i) (entry i) (value i))
 
 -- the sum of the row read at the index of a thing's row is the sum booked of the thing

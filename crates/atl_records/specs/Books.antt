@@ -5,15 +5,15 @@ use Rattle.std.specs.Ordering.{nat_cmp, ordering_then}
 use Rattle.std.specs.Coded.{Coded, code_by, coded×, coded_ℕ, coded_ℤ}
 use Rattle.std.specs.FinMap.{FinMap, code, empty, get, insert, remove}
 use Rattle.atl_records.specs.Limits.{entry_count}
-use Rattle.atl_records.specs.contracts.books.Entry as entry
+use Rattle.atl_records.specs.contracts.books.BooksEntry as entry
 use Rattle.atl_records.specs.contracts.books.Thing as thing
-use Rattle.atl_records.specs.declared.books.Entry.{Entry}
-use Rattle.atl_records.specs.declared.books.Entry.TheVariants.{Founding, Joining, Income, Wages, Recruiting, Study, Upkeep, Lost, Births, Starved, Left, Made, Used, Bought, Sold, Stocked}
+use Rattle.atl_records.specs.declared.books.BooksEntry.{BooksEntry}
+use Rattle.atl_records.specs.declared.books.BooksEntry.TheVariants.{Founding, Joining, Income, Wages, Recruiting, Study, Upkeep, Lost, Births, Starved, Left, Made, Used, Bought, Sold, Stocked}
 use Rattle.atl_records.specs.declared.books.Thing.{Thing}
 use Rattle.atl_records.specs.declared.books.Thing.TheVariants.{Money, People, Item}
 
 -- the index of an entry, from 0 to 15; the entry's number is one more
-abbrev pub entry_index : Entry → ℕ
+abbrev pub entry_index : BooksEntry → ℕ
 entry_index Founding = 0
 entry_index Joining = 1
 entry_index Income = 2
@@ -32,11 +32,11 @@ entry_index Sold = 14
 entry_index Stocked = 15
 
 -- all 16 entries, in the order of their indices
-abbrev pub all_entries : List Entry
+abbrev pub all_entries : List BooksEntry
 all_entries = Founding ∷ Joining ∷ Income ∷ Wages ∷ Recruiting ∷ Study ∷ Upkeep ∷ Lost ∷ Births ∷ Starved ∷ Left ∷ Made ∷ Used ∷ Bought ∷ Sold ∷ Stocked ∷ []
 
 -- the entry with a number from 1 to 16, None for any other number
-abbrev pub entry_numbered : ℕ → Option Entry
+abbrev pub entry_numbered : ℕ → Option BooksEntry
 entry_numbered n = find (λ e. entry_index e + 1 == n) all_entries
 
 -- the number of a thing: 0 for money, 1 for people, 2 + i for the item with index i in the world
@@ -55,7 +55,7 @@ thing_at (suc (suc i)) = Item i
 
 -- an account, to which amounts are booked: an entry and a thing
 abbrev pub Account : Type 0
-Account = Entry × Thing
+Account = BooksEntry × Thing
 
 -- the order of accounts: by the entry's index, then by the thing's number
 abbrev pub account_cmp : Account → Account → Ordering
@@ -77,7 +77,7 @@ books_code =
     (λ _. refl)
 
 -- the amount of a thing under an entry of the books, 0 where none is listed
-abbrev pub amount_in : BooksValue → Entry → Thing → ℤ
+abbrev pub amount_in : BooksValue → BooksEntry → Thing → ℤ
 amount_in books e t = unwrap_or (get books.amounts (e, t)) (pos 0)
 
 -- whether an amount is 0
@@ -86,11 +86,11 @@ is_zero (pos n) = n == 0
 is_zero (negsuc n) = false
 
 -- the books with another amount of a thing under an entry; an amount of 0 is not listed
-abbrev pub with_amount : BooksValue → Entry → Thing → ℤ → BooksValue
+abbrev pub with_amount : BooksValue → BooksEntry → Thing → ℤ → BooksValue
 with_amount books e t amount = record books { amounts = if is_zero amount then remove books.amounts (e, t) else insert books.amounts (e, t) amount }
 
 -- the books after n, of either sign, is added to the amount of a thing under an entry
-abbrev pub after_booking : BooksValue → Entry → Thing → ℤ → BooksValue
+abbrev pub after_booking : BooksValue → BooksEntry → Thing → ℤ → BooksValue
 after_booking books e t n = with_amount books e t (amount_in books e t +ℤ n)
 
 -- the books of as many things as `things`, with every amount 0
@@ -111,7 +111,7 @@ pub record AreBooks (things : ℕ) (books : BooksValue) : Type 0 where
   -- the books have as many things as `things`
   pub count : books.things ≡ things
   -- each listed amount is of a thing whose number is below `things`, and is not 0
-  pub listed : (e : Entry) (t : Thing) (amount : ℤ) → get books.amounts (e, t) ≡ Some amount → (thing_index t < things) × (amount ≢ pos 0)
+  pub listed : (e : BooksEntry) (t : Thing) (amount : ℤ) → get books.amounts (e, t) ≡ Some amount → (thing_index t < things) × (amount ≢ pos 0)
 
 -- an amount from -2^62 - 1 to 2^62, to which the money or people of a joining can be added within 64 bits
 abbrev pub LeavesRoomForJoining : ℤ → Type 0
@@ -125,5 +125,5 @@ pub record IsWithin (bound : ℕ) (amount : ℤ) : Type 0 where
   pub least : pos 0 ≤ℤ (amount +ℤ pos bound)
 
 -- the number of an account in the dirty set of the books: 16 * (the thing's number) + the entry's index
-abbrev pub amount_number : Entry → Thing → ℕ
+abbrev pub amount_number : BooksEntry → Thing → ℕ
 amount_number e t = entry_count * thing_index t + entry_index e

@@ -3,7 +3,7 @@ use Rattle.std.specs.Prelude.{◌≡◌, ◌≤◌, not, length, All, ℕ, ℤ, 
 use Rattle.std.specs.List.{flat_map, range_with_len}
 use Rattle.atl_records.specs.Limits.{entry_count, possible_things}
 use Rattle.atl_records.specs.Books.{Account, BooksValue, all_entries, entry_index, is_zero, no_amounts, thing_at, thing_index, with_amount}
-use Rattle.atl_records.specs.declared.books.Entry.{Entry}
+use Rattle.atl_records.specs.declared.books.BooksEntry.{BooksEntry}
 use Rattle.atl_records.specs.declared.books.Thing.{Thing}
 
 -- the rows are a grid: at most possible_things of them, each of entry_count amounts
@@ -22,11 +22,11 @@ abbrev pub cell : List (List ℤ) → Account → ℤ
 cell rows a = slice_index_or (row_of rows a.1) (entry_index a.0) (pos 0)
 
 -- the rows with another amount in the row and column of an account (its thing and its entry)
-abbrev pub with_cell : List (List ℤ) → Entry → Thing → ℤ → List (List ℤ)
+abbrev pub with_cell : List (List ℤ) → BooksEntry → Thing → ℤ → List (List ℤ)
 with_cell rows e t amount = slice_set rows (thing_index t) (slice_set (row_of rows t) (entry_index e) amount)
 
 -- the accounts of an entry with each thing whose number is below `things`, in the order of these numbers
-abbrev pub accounts_under : ℕ → Entry → List Account
+abbrev pub accounts_under : ℕ → BooksEntry → List Account
 accounts_under things e = map (λ i. (e, thing_at i)) (range_with_len 0 things)
 
 -- the accounts of every entry with each thing whose number is below `things`, in the order of account_cmp

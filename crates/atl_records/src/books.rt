@@ -13,7 +13,7 @@ use std::marker::Model;
 /// An entry of the books: why an amount of a thing came in or went.
 /// A move between holders has no entry. See docs/RULES.md, "Books".
 #[derive(Drop, Clone, Copy, Debug, PartialEq, Eq)]
-pub enum Entry {
+pub enum BooksEntry {
     /// The money and the peasants that the regions begin with.
     Founding = 1,
     /// The money and the man that a faction begins with.
@@ -60,10 +60,10 @@ pub enum Thing {
 }
 
 /// Converts between entries, their numbers and their indices in a row of the books.
-impl Entry {
+impl BooksEntry {
     /// All entries, in the order of their numbers.
-    pub const ALL: [Entry; 16] = variants!(
-        Entry: Founding Joining Income Wages Recruiting Study Upkeep Lost Births Starved Left
+    pub const ALL: [BooksEntry; 16] = variants!(
+        BooksEntry: Founding Joining Income Wages Recruiting Study Upkeep Lost Births Starved Left
         Made Used Bought Sold Stocked
     );
 
@@ -76,10 +76,10 @@ impl Entry {
     }
 
     /// The entry with a given number from 1 to 16; None for any other number.
-    pub fn of_number(number: u32) -> Option<Entry>
+    pub fn of_number(number: u32) -> Option<BooksEntry>
         ensures { result ≡ entry_numbered number }
     {
-        Entry::ALL
+        BooksEntry::ALL
             .iter()
             .copied()
             .find(|entry| entry.number() == number)
@@ -131,7 +131,7 @@ impl Thing {
 
 /// The number of an account (an entry with a thing) in the dirty set of the books: 16 times the
 /// thing's number, plus the entry's number, less 1.
-pub fn amount_number(entry: Entry, thing: Thing) -> u32
+pub fn amount_number(entry: BooksEntry, thing: Thing) -> u32
     ensures { result ≡ amount_number entry thing }
 {
     ENTRY_COUNT as u32 * thing.number() + entry.number() - 1
@@ -206,7 +206,7 @@ impl Books {
 
     /// What came in of a thing under an entry so far, less what went: money, men and peasants, or
     /// pieces of an item. The books must have the thing.
-    pub fn amount(&self, entry: Entry, thing: Thing) -> i64
+    pub fn amount(&self, entry: BooksEntry, thing: Thing) -> i64
         requires { thing_index thing < self.now.things }
         ensures { result ≡ amount_in self.now entry thing }
     {
@@ -215,7 +215,7 @@ impl Books {
 
     /// Sets the amount of a thing under an entry. The books must have the thing. It takes no
     /// memory.
-    pub fn put(&mut self, entry: Entry, thing: Thing, amount: i64)
+    pub fn put(&mut self, entry: BooksEntry, thing: Thing, amount: i64)
         requires { thing_index thing < self.old.things }
         ensures { self.new ≡ with_amount self.old entry thing amount }
     {
@@ -234,7 +234,7 @@ impl Books {
 
     /// Adds `amount`, of either sign, to what the books have of a thing under an entry. The books
     /// must have the thing, and the sum must fit 64 bits. It takes no memory.
-    pub fn book(&mut self, entry: Entry, thing: Thing, amount: i64)
+    pub fn book(&mut self, entry: BooksEntry, thing: Thing, amount: i64)
         requires there { thing_index thing < self.old.things }
         requires fits { FitsSigned w64 (amount_in self.old entry thing +ℤ amount) }
         ensures { self.new ≡ after_booking self.old entry thing amount }

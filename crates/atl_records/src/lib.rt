@@ -11,7 +11,7 @@ mod limits;
 mod records;
 
 pub use amounts::{region_amount, unit_amount};
-pub use books::{Books, Entry, Thing, amount_number};
+pub use books::{Books, BooksEntry, Thing, amount_number};
 pub use event::{Event, EventFault, EventVerb, Outcome};
 pub use holding::{Holding, amount_under, put_amount};
 pub use levels::{carry, goods, level, level_in, level_in_any, load};

@@ -1,6 +1,6 @@
 //! The limits of a campaign. See docs/RULES.md, "Limits".
 
-use crate::books::Entry;
+use crate::books::BooksEntry;
 use atl_world::limits::MOST_AMOUNT;
 
 /// The most units at one time.
@@ -13,7 +13,7 @@ pub const LAST_UNIT: u32 = 999_999_999;
 pub const MOST_STRUCTURES: u32 = 10_000;
 
 /// How many entries the books have: 16.
-pub const ENTRY_COUNT: usize = Entry::ALL.len();
+pub const ENTRY_COUNT: usize = BooksEntry::ALL.len();
 
 /// How many entries the books have in the first format: all but those of markets.
 pub const FIRST_ENTRY_COUNT: usize = 13;

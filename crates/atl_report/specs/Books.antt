@@ -7,8 +7,8 @@ use Rattle.std.specs.Ordering.{int_eq}
 use Rattle.atl_world.specs.Texts.{◌▸◌}
 use Rattle.atl_world.specs.Worlds.{WorldValue}
 use Rattle.atl_world.specs.declared.world.Item.{Item as ItemPlan}
-use Rattle.atl_records.specs.declared.books.Entry.{Entry}
-use Rattle.atl_records.specs.declared.books.Entry.TheVariants.{Founding, Joining, Income, Wages, Recruiting, Study, Upkeep, Lost, Births, Starved, Left, Made, Used, Bought, Sold, Stocked}
+use Rattle.atl_records.specs.declared.books.BooksEntry.{BooksEntry}
+use Rattle.atl_records.specs.declared.books.BooksEntry.TheVariants.{Founding, Joining, Income, Wages, Recruiting, Study, Upkeep, Lost, Births, Starved, Left, Made, Used, Bought, Sold, Stocked}
 use Rattle.atl_records.specs.declared.books.Thing.{Thing}
 use Rattle.atl_records.specs.declared.books.Thing.TheVariants.{Money, People, Item}
 use Rattle.atl_records.specs.Books.{BooksValue, all_entries, amount_in, thing_index}
@@ -17,7 +17,7 @@ use Rattle.atl_campaign.specs.Totals.{total}
 use Rattle.atl_report.specs.Each.{each_text}
 
 -- the name of an entry, as the text of the books prints it
-abbrev pub entry_name : Entry → List ℕ
+abbrev pub entry_name : BooksEntry → List ℕ
 entry_name Founding = codes "founding"
 entry_name Joining = codes "joining"
 entry_name Income = codes "income"
@@ -48,15 +48,15 @@ thing_name w (Item i) = item_name (slice_get w.items i)
 -- ---- a thing
 
 -- the end of an entry's line, after the thing: the entry's name and its amount, with `-` if it is negative
-abbrev pub amount_text : Entry → ℤ → List ℕ
+abbrev pub amount_text : BooksEntry → ℤ → List ℕ
 amount_text e amount = codes " " ▸ entry_name e ▸ codes " " ▸ signed_decimal amount ▸ codes "\n"
 
 -- the line of a thing under an entry; empty where the amount is 0
-unfoldable pub amount_line : WorldValue → Thing → Entry → ℤ → List ℕ
+unfoldable pub amount_line : WorldValue → Thing → BooksEntry → ℤ → List ℕ
 amount_line w t e amount = if int_eq amount (pos 0) then [] else thing_name w t ▸ amount_text e amount
 
 -- the lines of a thing under the entries of a list, without those whose amount is 0
-abbrev pub amount_lines : WorldValue → BooksValue → Thing → List Entry → List ℕ
+abbrev pub amount_lines : WorldValue → BooksValue → Thing → List BooksEntry → List ℕ
 amount_lines w books t = each_text (λ e. amount_line w t e (amount_in books e t))
 
 -- the line with how much of a thing all units and regions hold

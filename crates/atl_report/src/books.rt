@@ -5,17 +5,17 @@ ghost use Rattle.atl_campaign.specs.Founding.{things_of};
 ghost use Rattle.atl_campaign.specs.Totals.{IsCountable};
 ghost use Rattle.atl_report.specs.Books.{IsThing, entry_name, item_name, thing_name, amount_text, amount_line, amount_lines, total_line, thing_part, item_parts, books_of};
 
-use atl_campaign::{Campaign, Entry, Thing};
+use atl_campaign::{BooksEntry, Campaign, Thing};
 use atl_world::{World, text_of};
 use std::alloc::{AllocError, Global};
 use std::fmt::Write;
 
 /// The name of an entry, as the text of the books prints it.
-fn entry_name(entry: Entry) -> &'static str
+fn entry_name(entry: BooksEntry) -> &'static str
     ensures { result.now ≡ entry_name entry }
 {
     text_of!(
-        entry, Entry: Founding "founding" Joining "joining" Income "income" Wages "wages"
+        entry, BooksEntry: Founding "founding" Joining "joining" Income "income" Wages "wages"
         Recruiting "recruiting" Study "study" Upkeep "upkeep" Lost "lost" Births "births"
         Starved "starved" Left "left" Made "made" Used "used" Bought "bought" Sold "sold"
         Stocked "stocked"
@@ -49,7 +49,7 @@ fn write_item(out: &mut String, world: &World, item: u16) -> Result<(), AllocErr
 }
 
 /// Writes the end of an entry's line: the entry's name and its amount, with `-` if it is negative.
-fn write_amount(out: &mut String, entry: Entry, amount: i64) -> Result<(), AllocError>
+fn write_amount(out: &mut String, entry: BooksEntry, amount: i64) -> Result<(), AllocError>
     ensures { OnOk result (string_bytes out.new
         ≡ string_bytes out.old ++ amount_text entry amount) }
 {
@@ -63,7 +63,7 @@ fn write_entry(
     out: &mut String,
     world: &World,
     thing: Thing,
-    entry: Entry,
+    entry: BooksEntry,
     amount: i64,
 ) -> Result<(), AllocError>
     ensures { OnOk result (string_bytes out.new
@@ -83,7 +83,7 @@ fn write_entries(
     world: &World,
     campaign: &Campaign,
     thing: Thing,
-    entries: &[Entry],
+    entries: &[BooksEntry],
 ) -> Result<(), AllocError>
     requires { IsThing campaign.now.value thing }
     ensures { OnOk result (string_bytes out.new
@@ -128,7 +128,7 @@ fn write_part(
     ensures { OnOk result (string_bytes out.new
         ≡ string_bytes out.old ++ thing_part world.now campaign.now.value thing) }
 {
-    write_entries(out, world, campaign, thing, &Entry::ALL)?;
+    write_entries(out, world, campaign, thing, &BooksEntry::ALL)?;
     write_total(out, world, campaign, thing)?;
     Ok(())
 }

@@ -8,7 +8,7 @@ use Rattle.atl_campaign.specs.Campaign.{CampaignValue}
 use Rattle.atl_campaign.specs.Covers.{items_under, days_under}
 use Rattle.atl_records.specs.Holdings.{HoldingValue, amount_of}
 use Rattle.atl_records.specs.Books.{BooksValue, amount_in, entry_index, thing_index}
-use Rattle.atl_records.specs.declared.books.Entry.{Entry}
+use Rattle.atl_records.specs.declared.books.BooksEntry.{BooksEntry}
 use Rattle.atl_records.specs.declared.books.Thing.{Thing}
 use Rattle.atl_records.specs.declared.records.Faction.{Faction}
 use Rattle.atl_records.specs.declared.records.Region.{Region}
@@ -76,7 +76,7 @@ HasRowsOf units r =
 
 -- the rows of `books`: one for each entry and thing, if the amount is not 0
 abbrev pub BooksRowsOf : BooksValue → Row → Type 0
-BooksRowsOf books r = (e : Entry) × (t : Thing) × (amount_in books e t ≢ pos 0) × (r ≡ books_row (entry_index e + 1) (thing_index t) (amount_in books e t))
+BooksRowsOf books r = (e : BooksEntry) × (t : Thing) × (amount_in books e t ≢ pos 0) × (r ≡ books_row (entry_index e + 1) (thing_index t) (amount_in books e t))
 
 -- the rows of `market`: one for each region and item, if the stock is not 0
 abbrev pub MarketRowsOf : FinMap nat_cmp Region → Row → Type 0

@@ -10,7 +10,7 @@ use Rattle.std.specs.FinMap.Entries.{below_all}
 use Rattle.std.proofs.lemmas.Bool.{and_parts, false≢true}
 use Rattle.std.proofs.lemmas.List.Sorted.{IsPermutation-sym, IsPermutation-trans}
 use Rattle.atl_campaign.specs.declared.parts.StoredBooks.{StoredBooks}
-use Rattle.atl_records.specs.declared.books.Entry.{Entry}
+use Rattle.atl_records.specs.declared.books.BooksEntry.{BooksEntry}
 use Rattle.atl_records.specs.declared.books.Thing.{Thing}
 use Rattle.atl_records.specs.Books.{Account, BooksValue, account_cmp, amount_in, AreBooks, entry_index, entry_numbered, no_amounts, thing_at, thing_index}
 use Rattle.atl_campaign.specs.FromRows.{put_amounts}
@@ -39,22 +39,22 @@ each_row P (x ∷ es) h = (h.0, each_row P es h.1)
 
 module _ (books : BooksValue) where
   -- if P holds for the row of every listed amount of the books, it holds for each row of the books
-  pub lines_each : (P : StoredBooks → Type 0) → ((e : Entry) (t : Thing) (z : ℤ) → get books.amounts (e, t) ≡ Some z → P (books_row e t z)) → AllByRecursion P (books_rows books)
+  pub lines_each : (P : StoredBooks → Type 0) → ((e : BooksEntry) (t : Thing) (z : ℤ) → get books.amounts (e, t) ≡ Some z → P (books_row e t z)) → AllByRecursion P (books_rows books)
   lines_each P h = rows_each P (entries books.amounts) (each_amount (λ a z. P (books_row a.0 a.1 z)) books.amounts (λ a z is. h a.0 a.1 z is))
 
   -- if P holds for each row of the books, it holds for the row of every listed amount
-  pub line_at : (P : StoredBooks → Type 0) → AllByRecursion P (books_rows books) → (e : Entry) (t : Thing) (z : ℤ) → get books.amounts (e, t) ≡ Some z → P (books_row e t z)
+  pub line_at : (P : StoredBooks → Type 0) → AllByRecursion P (books_rows books) → (e : BooksEntry) (t : Thing) (z : ℤ) → get books.amounts (e, t) ≡ Some z → P (books_row e t z)
   line_at P h e t z is = amount_of_each (λ a y. P (books_row a.0 a.1 y)) books.amounts (each_row P (entries books.amounts) h) (e, t) z is
 
 -- ---- books whose rows are the same are the same
 
 -- an amount that books list for an entry and a thing is the books' amount of this entry and thing (`amount_in`)
-pub amount_is : (books : BooksValue) (e : Entry) (t : Thing) (z : ℤ) → get books.amounts (e, t) ≡ Some z → amount_in books e t ≡ z
+pub amount_is : (books : BooksValue) (e : BooksEntry) (t : Thing) (z : ℤ) → get books.amounts (e, t) ≡ Some z → amount_in books e t ≡ z
 amount_is books e t z is = ap (λ o. unwrap_or o (pos 0)) is
 
 -- the books have the amount of a row under the row's entry and thing
 abbrev Says : BooksValue → StoredBooks → Type 0
-Says books r = (e : Entry) (t : Thing) → r.entry ≡ pos (entry_index e + 1) → r.thing ≡ pos (thing_index t) → amount_in books e t ≡ r.amount
+Says books r = (e : BooksEntry) (t : Thing) → r.entry ≡ pos (entry_index e + 1) → r.thing ≡ pos (thing_index t) → amount_in books e t ≡ r.amount
 
 -- books have the amount of each of their own rows
 says_itself : (books : BooksValue) → AllByRecursion (Says books) (books_rows books)
@@ -65,11 +65,11 @@ says_itself books =
     sym (ap (λ (a : Account). amount_in books a.0 a.1) one) ∙ amount_is books e t z is)
 
 -- if books a and b have the same rows, in any order, each amount listed in a is also what b has for its entry and thing
-some_said : (a b : BooksValue) → IsPermutation (books_rows a) (books_rows b) → (e : Entry) (t : Thing) (z : ℤ) → get a.amounts (e, t) ≡ Some z → amount_in b e t ≡ z
+some_said : (a b : BooksValue) → IsPermutation (books_rows a) (books_rows b) → (e : BooksEntry) (t : Thing) (z : ℤ) → get a.amounts (e, t) ≡ Some z → amount_in b e t ≡ z
 some_said a b h e t z is = line_at a (Says b) (each_back (Says b) (books_rows a) (books_rows b) h (says_itself b)) e t z is e t refl refl
 
 -- if two books have the same rows, in any order, they have the same amount for each entry and thing
-same_amounts : (a b : BooksValue) → IsPermutation (books_rows a) (books_rows b) → (e : Entry) (t : Thing) → amount_in a e t ≡ amount_in b e t
+same_amounts : (a b : BooksValue) → IsPermutation (books_rows a) (books_rows b) → (e : BooksEntry) (t : Thing) → amount_in a e t ≡ amount_in b e t
 same_amounts a b h e t =
     elim (get a.amounts (e, t)) as (λ o. get a.amounts (e, t) ≡ o → unwrap_or o (pos 0) ≡ amount_in b e t) [
       | Some z ↦ λ is. sym (some_said a b h e t z is)

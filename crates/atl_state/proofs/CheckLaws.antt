@@ -10,7 +10,7 @@ use Rattle.atl_world.specs.Worlds.{WorldValue, IsWorld}
 use Rattle.atl_state.specs.declared.checking.Rule.{Rule}
 use Rattle.atl_state.specs.declared.checking.Rule.TheVariants.{OneRow, Ranges, Names, Known, Next, Days, Gone, Owners, Water, Guards, Books, Mail}
 use Rattle.atl_campaign.specs.declared.parts.Parts.{Parts}
-use Rattle.atl_records.specs.declared.books.Entry.{Entry}
+use Rattle.atl_records.specs.declared.books.BooksEntry.{BooksEntry}
 use Rattle.atl_records.specs.declared.books.Thing.{Thing}
 use Rattle.atl_campaign.specs.declared.parts.StoredBooks.{StoredBooks}
 use Rattle.atl_campaign.specs.declared.parts.StoredCampaignRow.{StoredCampaignRow}
@@ -66,7 +66,7 @@ late_entry n l small h =
     absurd (omega (arith, read, most))
 
 -- books whose rows all have entries of the first format have the amount 0 under each entry of markets
-no_amount : (books : BooksValue) → AllByRecursion (λ (r : StoredBooks). is_entry_in First (as_u32 r.entry) ≡ true) (books_rows books) → (e : Entry) (t : Thing) → first_entry_count ≤ entry_index e → amount_in books e t ≡ pos 0
+no_amount : (books : BooksValue) → AllByRecursion (λ (r : StoredBooks). is_entry_in First (as_u32 r.entry) ≡ true) (books_rows books) → (e : BooksEntry) (t : Thing) → first_entry_count ≤ entry_index e → amount_in books e t ≡ pos 0
 no_amount books listed e t l =
     elim (get books.amounts (e, t)) as (λ o. get books.amounts (e, t) ≡ o → unwrap_or o (pos 0) ≡ pos 0) [
       | None ↦ λ _. refl
@@ -119,7 +119,7 @@ module _ (f : Format) (w : WorldValue) (p : Parts) where
       by_number-every (λ r. as_u32 r.number) (region_of p.markets) (λ n r. r.stocks ≡ empty) region_in_range (λ r good. ap (stocks_of (as_u32 r.number)) (none_in_first f w p rows is)) p.regions (ranges f w p rows).regions
 
   -- books read from rows of the first format that keep the rules on rows (RowsKeep) have 0 under entries of markets
-  first_entries : f ≡ First → RowsKeep f w p → (e : Entry) (t : Thing) → first_entry_count ≤ entry_index e → amount_in (campaign_of w p).books e t ≡ pos 0
+  first_entries : f ≡ First → RowsKeep f w p → (e : BooksEntry) (t : Thing) → first_entry_count ≤ entry_index e → amount_in (campaign_of w p).books e t ≡ pos 0
   unfolding campaign_of
   first_entries is rows =
       no_amount (put_amounts p.books (no_amounts (things_of w))) (each_back (λ r. is_entry_in First (as_u32 r.entry) ≡ true) (books_rows (put_amounts p.books (no_amounts (things_of w)))) p.books (books_said f w p rows)

@@ -41,7 +41,7 @@ use Rattle.atl_campaign.specs.Rows.{flag, rows_by, campaign_row, faction_row, re
 use Rattle.atl_campaign.specs.Stocks.{stock_limit}
 use Rattle.atl_campaign.specs.Campaign.{CampaignValue, MarkedCampaign}
 use Rattle.atl_campaign.specs.Totals.{Balances}
-use Rattle.atl_records.specs.declared.books.Entry.{Entry}
+use Rattle.atl_records.specs.declared.books.BooksEntry.{BooksEntry}
 use Rattle.atl_records.specs.declared.books.Thing.{Thing}
 use Rattle.atl_records.proofs.BookLaws.{zero_not}
 use Rattle.atl_records.proofs.EveryEntryLaws.{entry_small}
@@ -280,7 +280,7 @@ module _ (f : Format) (w : WorldValue) (world : IsWorld w) (c : CampaignValue) (
       ap (λ k. is_some (market_of w k (as_u32 (pos i)))) (read_whole n (small.numbers n r there)) ∙ ap (λ k. is_some (market_of w n k)) (read_whole i (small.stocks n r there i a is).0) ∙ good.sound.steady.known.markets n r there i a is))
 
   -- an entry with an amount that is not 0 in a good campaign that the format can hold is one of the format
-  entry_few : (e : Entry) (t : Thing) → amount_in c.books e t ≢ pos 0 → entry_index e < entries_in f
+  entry_few : (e : BooksEntry) (t : Thing) → amount_in c.books e t ≢ pos 0 → entry_index e < entries_in f
   entry_few e t some = elim f as (λ g. Fits g c → entry_index e < entries_in g) [ First ↦ λ bare. early bare | Second ↦ λ _. entry_small e ] fits
     where
       -- in a campaign without stocks and amounts of markets, an entry with an amount not 0 is one of the first format

@@ -18,7 +18,7 @@ use Rattle.atl_campaign.specs.declared.parts.StoredUnit.{StoredUnit}
 use Rattle.atl_campaign.specs.declared.parts.StoredStructure.{StoredStructure}
 use Rattle.atl_campaign.specs.declared.parts.StoredBooks.{StoredBooks}
 use Rattle.atl_records.specs.declared.records.Faction.{Faction}
-use Rattle.atl_records.specs.declared.books.Entry.{Entry}
+use Rattle.atl_records.specs.declared.books.BooksEntry.{BooksEntry}
 use Rattle.atl_records.specs.declared.books.Thing.{Thing}
 use Rattle.atl_records.specs.Books.{account_cmp, amount_in, AreBooks, BooksValue, IsWithin, no_amounts, with_amount}
 use Rattle.atl_campaign.specs.Founding.{things_of}
@@ -89,10 +89,10 @@ is_in bound (negsuc n) h = let most : suc n ≤ bound = from_le (suc n) bound h 
 
 -- each amount of the books is from -bound to bound (IsWithin)
 abbrev AreBelow : ℕ → BooksValue → Type 0
-AreBelow bound books = (e : Entry) (t : Thing) → IsWithin bound (amount_in books e t)
+AreBelow bound books = (e : BooksEntry) (t : Thing) → IsWithin bound (amount_in books e t)
 
 -- if the amounts of books and an amount z are from -bound to bound, so are those of the books once z is set
-below-with : (bound : ℕ) (books : BooksValue) (e : Entry) (t : Thing) (z : ℤ) → IsWithin bound z → AreBelow bound books → AreBelow bound (with_amount books e t z)
+below-with : (bound : ℕ) (books : BooksValue) (e : BooksEntry) (t : Thing) (z : ℤ) → IsWithin bound z → AreBelow bound books → AreBelow bound (with_amount books e t z)
 below-with bound books e t z here old f u =
     subst (IsWithin bound) (sym (amount-with_amount books e t z f u)) (elim (eq_by_cmp account_cmp (f, u) (e, t)) as (λ b. IsWithin bound (cond b z (amount_in books f u))) [ true ↦ here | false ↦ old f u ])
 

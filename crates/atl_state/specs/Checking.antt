@@ -4,7 +4,7 @@ use Rattle.std.specs.List.{list_all}
 use Rattle.atl_world.specs.Worlds.{WorldValue}
 use Rattle.atl_world.specs.declared.format.Format.{Format}
 use Rattle.atl_world.specs.declared.format.Format.TheVariants.{First, Second}
-use Rattle.atl_records.specs.declared.books.Entry.{Entry}
+use Rattle.atl_records.specs.declared.books.BooksEntry.{BooksEntry}
 use Rattle.atl_records.specs.declared.books.Thing.{Thing}
 use Rattle.atl_state.specs.declared.checking.CheckFault.{CheckFault}
 use Rattle.atl_state.specs.declared.checking.CheckFault.TheVariants.{Damaged, Memory}
@@ -67,7 +67,7 @@ pub record IsWithoutMarkets (c : CampaignValue) : Type 0 where
   -- no region has anything in stock
   pub stocks : HasNoStocks c
   -- no amount is booked under the entries of markets
-  pub entries : (e : Entry) (t : Thing) → first_entry_count ≤ entry_index e → amount_in c.books e t ≡ pos 0
+  pub entries : (e : BooksEntry) (t : Thing) → first_entry_count ≤ entry_index e → amount_in c.books e t ≡ pos 0
 
 -- the tables of the format can hold the campaign: the first format if it is `IsWithoutMarkets`, the second always
 abbrev pub Fits : Format → CampaignValue → Type 0

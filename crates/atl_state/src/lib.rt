@@ -6,7 +6,7 @@ mod row_rules;
 mod rules;
 
 pub use atl_campaign::{
-    Books, Campaign, ENTRY_COUNT, Entry, Event, EventFault, EventVerb, FIRST_ITEM, Faction,
+    Books, BooksEntry, Campaign, ENTRY_COUNT, Event, EventFault, EventVerb, FIRST_ITEM, Faction,
     HOLDING_LIMIT, Holding, JoinFault, LAST_MONTH, LAST_UNIT, MEN_LIMIT, MOST_DAYS,
     MOST_STRUCTURES, MOST_UNITS, Outcome, Parts, Region, SlotEntries, Structure, Thing, Unit,
     campaign, carry, founded, good_campaigns_are_early, goods, level, level_in, level_in_any, load,

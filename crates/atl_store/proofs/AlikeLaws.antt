@@ -12,7 +12,7 @@ use Rattle.atl_campaign.specs.Founding as founding
 use Rattle.atl_records.specs.Every.{Every}
 use Rattle.atl_campaign.specs.Good.{IsGood}
 use Rattle.atl_campaign.specs.Campaign.{CampaignValue}
-use Rattle.atl_records.specs.declared.books.Entry.{Entry}
+use Rattle.atl_records.specs.declared.books.BooksEntry.{BooksEntry}
 use Rattle.atl_records.specs.declared.books.Thing.{Thing}
 use Rattle.atl_records.specs.declared.records.Faction.{Faction}
 use Rattle.atl_records.specs.declared.records.Region.{Region}
@@ -189,7 +189,7 @@ none_or_some (negsuc n) = inr (λ is. cc)
 
 module _ (rows : List Row) (m k : BooksValue) (a : HasExactly rows (BooksRowsOf m)) (b : HasExactly rows (BooksRowsOf k)) where
   -- an amount that is not 0 in books `m` is the same in books `k`, if one table `books` has exactly the rows of each
-  amount_there : (e : Entry) (t : Thing) → amount_in m e t ≢ pos 0 → amount_in m e t ≡ amount_in k e t
+  amount_there : (e : BooksEntry) (t : Thing) → amount_in m e t ≢ pos 0 → amount_in m e t ≡ amount_in k e t
   amount_there e t some =
       let (f, u, apart, same) = (b (books_row (entry_index e + 1) (thing_index t) (amount_in m e t))).0 ((a _).1 (e, t, some, refl)) in
       let next : entry_index e + 1 ≡ entry_index f + 1 = cc in
@@ -201,7 +201,7 @@ module _ (rows : List Row) (m k : BooksValue) (a : HasExactly rows (BooksRowsOf 
 
 module _ (things : ℕ) (rows : List Row) (m k : BooksValue) (g : AreBooks things m) (h : AreBooks things k) (a : HasExactly rows (BooksRowsOf m)) (b : HasExactly rows (BooksRowsOf k)) where
   -- each amount is the same in books `m` and in books `k`, if one table `books` has exactly the rows of each
-  same_amount : (e : Entry) (t : Thing) → amount_in m e t ≡ amount_in k e t
+  same_amount : (e : BooksEntry) (t : Thing) → amount_in m e t ≡ amount_in k e t
   same_amount e t =
       elim (none_or_some (amount_in m e t)) [
         | inr some ↦ amount_there rows m k a b e t some

@@ -11,7 +11,7 @@ use Rattle.sqlite.specs.Effect.{Database}
 use Rattle.sqlite_rules.specs.Lists.{Has}
 use Rattle.atl_campaign.specs.Campaign.{CampaignValue}
 use Rattle.atl_records.specs.Books.{Account, BooksValue, amount_in, entry_index, thing_index}
-use Rattle.atl_records.specs.declared.books.Entry.{Entry}
+use Rattle.atl_records.specs.declared.books.BooksEntry.{BooksEntry}
 use Rattle.atl_records.specs.declared.books.Thing.{Thing}
 use Rattle.atl_records.specs.declared.records.Unit.{Unit}
 use Rattle.atl_records.proofs.AccountLaws.{same_account}
@@ -94,14 +94,14 @@ no_goods rows units n u fresh bare was r = (
 
 -- ---- one amount of the books
 
-module _ (c : CampaignValue) (e : Entry) (t : Thing) where
+module _ (c : CampaignValue) (e : BooksEntry) (t : Thing) where
   -- the row of `books` with the campaign's amount of entry `e` and thing `t`
   abbrev row : Row
   row = books_row (entry_index e + 1) (thing_index t) (amount_in c.books e t)
 
   -- writing the campaign's amount turns the rows of books `A` into those of `B`, if `B` is `A` with this amount in it
   pub settled_rows : (A B : BooksValue) (S : Set) → amount_in B e t ≡ amount_in c.books e t
-      → ((f : Entry) (u : Thing) → (entry_index f ≢ entry_index e) ⊎ (thing_index u ≢ thing_index t) → amount_in B f u ≡ amount_in A f u)
+      → ((f : BooksEntry) (u : Thing) → (entry_index f ≢ entry_index e) ⊎ (thing_index u ≢ thing_index t) → amount_in B f u ≡ amount_in A f u)
       → ((r : Row) → S r ↔ BooksRowsOf A r) → (r : Row) → settled c e t S r ↔ BooksRowsOf B r
   settled_rows A B S here beside was r = (
     λ there. elim there [
@@ -126,7 +126,7 @@ module _ (c : CampaignValue) (e : Entry) (t : Thing) where
   )
     where
       -- for `settled_rows`: two amounts of the books with different keys differ in their entry or in their thing
-      apart : (f : Entry) (u : Thing) → ◌≢◌ {A = Row} (books_key (entry_index f + 1) (thing_index u)) (books_key (entry_index e + 1) (thing_index t)) → (entry_index f ≢ entry_index e) ⊎ (thing_index u ≢ thing_index t)
+      apart : (f : BooksEntry) (u : Thing) → ◌≢◌ {A = Row} (books_key (entry_index f + 1) (thing_index u)) (books_key (entry_index e + 1) (thing_index t)) → (entry_index f ≢ entry_index e) ⊎ (thing_index u ≢ thing_index t)
       apart f u differs = elim (cases_eq (entry_index f) (entry_index e)) [
         | inl entries ↦ inr (λ things. differs (ap (λ k. books_key (k + 1) (thing_index u)) entries ∙ ap (books_key (entry_index e + 1)) things))
         | inr entries ↦ inl entries
@@ -134,7 +134,7 @@ module _ (c : CampaignValue) (e : Entry) (t : Thing) where
 
       -- for `settled_rows`: a row of `B` of another entry or thing than `e` and `t` was among the rows `S` of `A`, and
       -- has another key
-      kept_row : (f : Entry) (u : Thing) → amount_in B f u ≢ pos 0 → r ≡ books_row (entry_index f + 1) (thing_index u) (amount_in B f u) → (entry_index f ≢ entry_index e) ⊎ (thing_index u ≢ thing_index t)
+      kept_row : (f : BooksEntry) (u : Thing) → amount_in B f u ≢ pos 0 → r ≡ books_row (entry_index f + 1) (thing_index u) (amount_in B f u) → (entry_index f ≢ entry_index e) ⊎ (thing_index u ≢ thing_index t)
           → S r × (take 2 r ≢ books_key (entry_index e + 1) (thing_index t))
       kept_row f u some is far = (
         (was r).1 (f, u, λ none. some (beside f u far ∙ none), is ∙ ap (books_row (entry_index f + 1) (thing_index u)) (beside f u far)),
@@ -144,7 +144,7 @@ module _ (c : CampaignValue) (e : Entry) (t : Thing) where
       )
 
 -- the statements that write an amount of the books (`OfAmount`)
-module _ (c : CampaignValue) (e : Entry) (t : Thing) (n k : ℕ) (entry : n ≡ entry_index e + 1) (thing : k ≡ thing_index t) where
+module _ (c : CampaignValue) (e : BooksEntry) (t : Thing) (n k : ℕ) (entry : n ≡ entry_index e + 1) (thing : k ≡ thing_index t) where
   -- the upsert of the row of a booked amount other than 0 is the statement that writes the amount (`OfAmount`)
   pub amount_put : (z : ℤ) → z ≡ amount_in c.books e t → z ≢ pos 0 → OfAmount c e t (upsert books_table 2) (books_row n k z)
   amount_put z amount some = rw (entry, thing, amount) (puts_amount (λ zero. some (amount ∙ zero)))
@@ -154,7 +154,7 @@ module _ (c : CampaignValue) (e : Entry) (t : Thing) (n k : ℕ) (entry : n ≡ 
   amount_taken zero = rw (entry, thing) (drops_amount zero)
 
 -- the statements that write an amount of the books (`OfAmount`) are among those of a change (`OfChange`)
-pub amount_changes : (c : CampaignValue) (e : Entry) (t : Thing) (sql : List ℕ) (params : Row) → OfAmount c e t sql params → OfChange c sql params
+pub amount_changes : (c : CampaignValue) (e : BooksEntry) (t : Thing) (sql : List ℕ) (params : Row) → OfAmount c e t sql params → OfChange c sql params
 amount_changes c e t sql params (puts_amount some) = changes_row (puts_row Books (λ own. (e, t, some, refl)))
 amount_changes c e t sql params (drops_amount zero) = drops_row Books (
   refl,
@@ -165,7 +165,7 @@ amount_changes c e t sql params (drops_amount zero) = drops_row Books (
 )
 
 -- an amount is written: its row is put, or deleted if the amount is 0
-module _ (c : CampaignValue) (e : Entry) (t : Thing) (n k : ℕ) (entry : n ≡ entry_index e + 1) (thing : k ≡ thing_index t) (old new : Database) where
+module _ (c : CampaignValue) (e : BooksEntry) (t : Thing) (n k : ℕ) (entry : n ≡ entry_index e + 1) (thing : k ≡ thing_index t) (old new : Database) where
   -- putting the row of an amount of the books that is not 0 writes the amount (`WritesAmount`)
   pub settles_by_put : (z : ℤ) → z ≡ amount_in c.books e t → z ≢ pos 0 → Puts books_table 2 (books_row n k z) old new → WritesAmount c e t old new
   settles_by_put z amount some did =

@@ -15,7 +15,7 @@ use Rattle.atl_records.specs.Limits.{entry_count}
 use Rattle.atl_records.specs.Books.{Account, all_entries, amount_in, entry_index, thing_index, amount_number}
 use Rattle.atl_campaign.specs.Marks.{AreOfThings}
 use Rattle.atl_campaign.specs.Campaign.{MarkedCampaign}
-use Rattle.atl_records.specs.declared.books.Entry.{Entry}
+use Rattle.atl_records.specs.declared.books.BooksEntry.{BooksEntry}
 use Rattle.atl_records.specs.declared.books.Thing.{Thing}
 use Rattle.atl_records.proofs.AccountLaws.{same_account}
 use Rattle.atl_sql.specs.Tables.{books_table}
@@ -145,7 +145,7 @@ module _ (marks : FinSet nat_cmp) where
 
 -- ---- one amount
 
-module _ (c : MarkedCampaign) (e : Entry) (t : Thing) where
+module _ (c : MarkedCampaign) (e : BooksEntry) (t : Thing) where
   -- whether a row of `books` is of entry `e` and thing `t`, and their amount is marked
   abbrev is_here : Row → Bool
   is_here r = of_amounts c.marks.books (is_number (entry_index e)) (is_number (thing_index t)) r
@@ -155,7 +155,7 @@ module _ (c : MarkedCampaign) (e : Entry) (t : Thing) where
   row = books_row (entry_index e + 1) (thing_index t) (amount_in c.value.books e t)
 
   -- the row of an amount other than 0 whose entry and thing have the indexes of `e` and `t` is the row of `e` and `t`
-  same_place : (f : Entry) (u : Thing) → amount_in c.value.books f u ≢ pos 0 → entry_index f ≡ entry_index e → thing_index u ≡ thing_index t
+  same_place : (f : BooksEntry) (u : Thing) → amount_in c.value.books f u ≢ pos 0 → entry_index f ≡ entry_index e → thing_index u ≡ thing_index t
       → (r : Row) → r ≡ books_row (entry_index f + 1) (thing_index u) (amount_in c.value.books f u) → Has (amount_lines c.value e t) r
   same_place f u some entries things r is =
       let books = c.value.books in
@@ -218,18 +218,18 @@ module _ (c : MarkedCampaign) where
 
   -- Of the entries `all`, `rest` are left to rewrite: once their marked amounts are rewritten, those of all are
   -- (`Remaining`).
-  abbrev pub NearingEntries : (ℕ → Bool) → List Entry → List Entry → Database → Database → Type 0
+  abbrev pub NearingEntries : (ℕ → Bool) → List BooksEntry → List BooksEntry → Database → Database → Type 0
   NearingEntries things rest all old new = Remaining books_table wanted (λ r. of_amounts c.marks.books (is_among (map entry_index rest)) things r) (λ r. of_amounts c.marks.books (is_among (map entry_index all)) things r) old new
 
   -- once the marked amounts of the first entry left to rewrite are rewritten, only the entries `rest` after it are left
-  pub entry_nearer : (things : ℕ → Bool) (x : Entry) (now rest all : List Entry) → now ≡ x ∷ rest → (old mid new : State)
+  pub entry_nearer : (things : ℕ → Bool) (x : BooksEntry) (now rest all : List BooksEntry) → now ≡ x ∷ rest → (old mid new : State)
       → Inside HasTables (NearingEntries things now all) old mid → Inside HasTables (RewritesAmounts c (is_number (entry_index x)) things) mid new
       → Inside HasTables (NearingEntries things rest all) old new
   entry_nearer things x now rest all is = one_less_remaining books_table wanted (λ r. of_amounts c.marks.books (is_number (entry_index x)) things r) (λ r. of_amounts c.marks.books (is_among (map entry_index now)) things r) (λ r. of_amounts c.marks.books (is_among (map entry_index rest)) things r) (λ r. of_amounts c.marks.books (is_among (map entry_index all)) things r)
       (λ r. ap (λ es. of_amounts c.marks.books (is_among (map entry_index es)) things r) is ∙ next_entry c.marks.books (entry_index x) (map entry_index rest) things r)
 
   -- when no entry is left to rewrite, the marked amounts of all entries of `all` are rewritten
-  pub entries_rewritten : (things : ℕ → Bool) (rest all : List Entry) → rest ≡ [] → (old new : State)
+  pub entries_rewritten : (things : ℕ → Bool) (rest all : List BooksEntry) → rest ≡ [] → (old new : State)
       → Inside HasTables (NearingEntries things rest all) old new
       → Inside HasTables (RewritesAmounts c (is_among (map entry_index all)) things) old new
   entries_rewritten things rest all none = all_rewritten books_table wanted (λ r. of_amounts c.marks.books (is_among (map entry_index rest)) things r) (λ r. of_amounts c.marks.books (is_among (map entry_index all)) things r) (λ r. of_amounts c.marks.books (is_among (map entry_index all)) things r)

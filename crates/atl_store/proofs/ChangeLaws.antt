@@ -15,7 +15,7 @@ use Rattle.atl_records.specs.Books.{BooksValue, amount_in, entry_index, thing_in
 use Rattle.atl_campaign.specs.Marks.{Marks, is_thing_marked}
 use Rattle.atl_campaign.specs.Campaign.{CampaignValue, MarkedCampaign}
 use Rattle.atl_campaign.specs.Stocks.{stock_in}
-use Rattle.atl_records.specs.declared.books.Entry.{Entry}
+use Rattle.atl_records.specs.declared.books.BooksEntry.{BooksEntry}
 use Rattle.atl_records.specs.Limits.{entry_count}
 use Rattle.atl_records.proofs.EveryEntryLaws.{entry_small}
 use Rattle.atl_records.specs.declared.books.Thing.{Thing}
@@ -132,7 +132,7 @@ stocks_follow one other marks r same not_marked of =
 -- ---- amounts
 
 -- the row of an entry and a thing in `books` is marked exactly if their amount is
-amount_heads : (marks : FinSet nat_cmp) (e : Entry) (t : Thing) (amount : ℤ) → amount_marked marks (books_row (entry_index e + 1) (thing_index t) amount) ≡ contains marks (amount_number e t)
+amount_heads : (marks : FinSet nat_cmp) (e : BooksEntry) (t : Thing) (amount : ℤ) → amount_marked marks (books_row (entry_index e + 1) (thing_index t) amount) ≡ contains marks (amount_number e t)
 amount_heads marks e t amount =
     ap (λ number. amount_marked marks (books_row number (thing_index t) amount)) (next (entry_index e)) ∙ ap (λ (b : Bool). b && contains marks (amount_number e t)) (there (entry_index e) (entry_small e))
   where
@@ -145,7 +145,7 @@ amount_heads marks e t amount =
     there n small = grind (arith, nat_tests, small)
 
 -- an unmarked row of `books` of one campaign is one of the other, if the two differ only in marked amounts
-amounts_follow : (one other : BooksValue) (marks : FinSet nat_cmp) (r : Row) → ((e : Entry) (t : Thing) → contains marks (amount_number e t) ≡ false → amount_in other e t ≡ amount_in one e t) → amount_marked marks r ≡ false → BooksRowsOf one r → BooksRowsOf other r
+amounts_follow : (one other : BooksValue) (marks : FinSet nat_cmp) (r : Row) → ((e : BooksEntry) (t : Thing) → contains marks (amount_number e t) ≡ false → amount_in other e t ≡ amount_in one e t) → amount_marked marks r ≡ false → BooksRowsOf one r → BooksRowsOf other r
 amounts_follow one other marks r same not_marked of =
     let is = same of.0 of.1 (sym (amount_heads marks of.0 of.1 (amount_in one of.0 of.1)) ∙ ap (amount_marked marks) (sym of.3) ∙ not_marked) in
     (of.0, of.1, λ none. of.2 (sym is ∙ none), of.3 ∙ ap (books_row (entry_index of.0 + 1) (thing_index of.1)) (sym is))

@@ -14,8 +14,8 @@ use Rattle.atl_records.specs.Books.{BooksValue, amount_in, after_booking, entry_
 use Rattle.atl_records.proofs.AccountLaws.{apart_entries, apart_things}
 use Rattle.atl_records.proofs.BookLaws.{other_amount}
 use Rattle.atl_campaign.specs.Joining.{joined, new_faction, first_unit}
-use Rattle.atl_records.specs.declared.books.Entry.{Entry}
-use Rattle.atl_records.specs.declared.books.Entry.TheVariants.{Joining}
+use Rattle.atl_records.specs.declared.books.BooksEntry.{BooksEntry}
+use Rattle.atl_records.specs.declared.books.BooksEntry.TheVariants.{Joining}
 use Rattle.atl_records.specs.declared.books.Thing.{Thing}
 use Rattle.atl_records.specs.declared.books.Thing.TheVariants.{Money, People}
 use Rattle.atl_records.specs.declared.records.Faction.{Faction}
@@ -38,7 +38,7 @@ use Rattle.atl_store.proofs.WholeLaws.{inside_then, inside_weaker}
 -- ---- one booking changes one amount
 
 -- booking an amount leaves the amount of each other entry or thing as it is
-beside_booked : (books : BooksValue) (e : Entry) (t : Thing) (n : ℤ) (f : Entry) (u : Thing) → (entry_index f ≢ entry_index e) ⊎ (thing_index u ≢ thing_index t) → amount_in (after_booking books e t n) f u ≡ amount_in books f u
+beside_booked : (books : BooksValue) (e : BooksEntry) (t : Thing) (n : ℤ) (f : BooksEntry) (u : Thing) → (entry_index f ≢ entry_index e) ⊎ (thing_index u ≢ thing_index t) → amount_in (after_booking books e t n) f u ≡ amount_in books f u
 beside_booked books e t n f u far = other_amount books e t (amount_in books e t +ℤ n) f u (elim far [ inl entries ↦ apart_entries (f, u) (e, t) entries | inr things ↦ apart_things (f, u) (e, t) things ])
 
 -- ---- how the campaign after a joining differs
@@ -60,9 +60,9 @@ record IsArrival (n : ℕ) (f : Faction) (m : ℕ) (u : Unit) (report : List ℕ
   -- the amount of money under joining is in `half` what it is after the join
   money : amount_in half Joining Money ≡ amount_in after.books Joining Money
   -- every amount but that of money under joining is in `half` what it was before the join
-  first : (e : Entry) (t : Thing) → (entry_index e ≢ 1) ⊎ (thing_index t ≢ 0) → amount_in half e t ≡ amount_in before.books e t
+  first : (e : BooksEntry) (t : Thing) → (entry_index e ≢ 1) ⊎ (thing_index t ≢ 0) → amount_in half e t ≡ amount_in before.books e t
   -- every amount but that of people under joining is after the join what it is in `half`
-  second : (e : Entry) (t : Thing) → (entry_index e ≢ 1) ⊎ (thing_index t ≢ 1) → amount_in after.books e t ≡ amount_in half e t
+  second : (e : BooksEntry) (t : Thing) → (entry_index e ≢ 1) ⊎ (thing_index t ≢ 1) → amount_in after.books e t ≡ amount_in half e t
 
 -- what a map has under the inserted number is what was inserted
 found_is : {V : Type 0} (m after : FinMap nat_cmp V) (n k : ℕ) (v w : V) → after ≡ insert m n v → k ≡ n → get after k ≡ Some w → v ≡ w
@@ -128,7 +128,7 @@ rows_moved : (t : Table) (F : List Row → Set) (a b c d : Database) → b.trees
 rows_moved t F a b c d first last is = subst (λ rows. HasExactly rows (F (rows_in t a.trees))) (sym (ap (map (visible t)) last)) (subst (λ rows. HasExactly (rows_in t c.trees) (F rows)) (ap (map (visible t)) first) is)
 
 -- if a table has the rows `S`, writing an amount into it makes them the rows `S` with this amount (`settled`)
-settled_on : (c : CampaignValue) (e : Entry) (t : Thing) (rows news : List Row) (S : Set) → HasExactly rows S → HasExactly news (settled c e t (Has rows)) → HasExactly news (settled c e t S)
+settled_on : (c : CampaignValue) (e : BooksEntry) (t : Thing) (rows news : List Row) (S : Set) → HasExactly rows S → HasExactly news (settled c e t (Has rows)) → HasExactly news (settled c e t S)
 settled_on c e t rows news S was is r = (
   λ there. elim ((is r).0 there) [ inl new ↦ inl new | inr kept ↦ inr ((was r).0 kept.0, kept.1) ],
   λ h. (is r).1 (elim h [ inl new ↦ inl new | inr kept ↦ inr ((was r).1 kept.0, kept.1) ]),

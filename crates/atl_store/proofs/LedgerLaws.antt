@@ -11,7 +11,7 @@ use Rattle.sqlite_rules.specs.Lists.{Has}
 use Rattle.sqlite_rules.proofs.ListLemmas.{test_has}
 use Rattle.atl_campaign.specs.Campaign.{CampaignValue}
 use Rattle.atl_records.specs.Books.{AreBooks, BooksValue, all_entries, amount_in, entry_index, thing_at, thing_index}
-use Rattle.atl_records.specs.declared.books.Entry.{Entry}
+use Rattle.atl_records.specs.declared.books.BooksEntry.{BooksEntry}
 use Rattle.atl_records.specs.declared.books.Thing.{Thing}
 use Rattle.atl_records.proofs.AccountLaws.{index_of_thing_at, thing_at_index}
 use Rattle.atl_records.proofs.BookLaws.{none_past}
@@ -32,11 +32,11 @@ has_at (y ∷ ys) zero x is = inl (sym (same_Some y x is))
 has_at (y ∷ ys) (suc k) x is = inr (has_at ys k x is)
 
 -- each entry is in the list of all entries
-pub every_entry : (e : Entry) → Has all_entries e
+pub every_entry : (e : BooksEntry) → Has all_entries e
 every_entry e = has_at all_entries (entry_index e) e (entry_there e)
 
 -- whether each entry of a list has a greater index than the one before it
-abbrev are_sorted : List Entry → Bool
+abbrev are_sorted : List BooksEntry → Bool
 are_sorted [] = true
 are_sorted (e ∷ es) = list_all (λ f. nat_lt (entry_index e) (entry_index f)) es && are_sorted es
 
@@ -51,7 +51,7 @@ pub is_differing : (z : ℤ) → z ≢ pos 0 → int_eq z (pos 0) ≡ false
 is_differing z apart = elim (cases_Bool (int_eq z (pos 0))) [ inl same ↦ absurd (apart (grind (ints, arith))) | inr differs ↦ differs ]
 
 -- if an amount of the books is not 0, its rows (`amount_lines`) are just the row with its numbers `e` and `t`
-pub amount_is : (c : CampaignValue) (entry : Entry) (thing : Thing) (e t : ℕ) (z : ℤ) → e ≡ entry_index entry + 1 → t ≡ thing_index thing → z ≡ amount_in c.books entry thing → z ≢ pos 0 → amount_lines c entry thing ≡ books_row e t z ∷ []
+pub amount_is : (c : CampaignValue) (entry : BooksEntry) (thing : Thing) (e t : ℕ) (z : ℤ) → e ≡ entry_index entry + 1 → t ≡ thing_index thing → z ≡ amount_in c.books entry thing → z ≢ pos 0 → amount_lines c entry thing ≡ books_row e t z ∷ []
 amount_is c entry thing e t z entry_is thing_is amount some =
     let place = entry_index entry + 1 in
     let value = amount_in c.books entry thing in
@@ -79,7 +79,7 @@ has_range from (suc count) i least most = elim (cases_lt from i) [
 ]
 
 -- an amount that is not 0 is of a thing that the books have
-within : (books : BooksValue) → AreBooks books.things books → (e : Entry) (t : Thing) → amount_in books e t ≢ pos 0 → thing_index t < books.things
+within : (books : BooksValue) → AreBooks books.things books → (e : BooksEntry) (t : Thing) → amount_in books e t ≢ pos 0 → thing_index t < books.things
 within books are e t some = elim (cases_lt (thing_index t) books.things) [
   | inl inside ↦ inside
   | inr past ↦ absurd (some (none_past books.things books are e t past))
@@ -89,22 +89,22 @@ within books are e t some = elim (cases_lt (thing_index t) books.things) [
 
 module _ (c : CampaignValue) where
   -- the row of `books` with the campaign's amount of an entry and a thing
-  abbrev row_at : Entry → Thing → Row
+  abbrev row_at : BooksEntry → Thing → Row
   row_at e t = books_row (entry_index e + 1) (thing_index t) (amount_in c.books e t)
 
   -- each row made for a thing and a list of entries is of one of these entries, with an amount that is not 0
-  entries_has : (t : Thing) (es : List Entry) (r : Row) → Has (entries_lines c t es) r → (e : Entry) × Has es e × (amount_in c.books e t ≢ pos 0) × (r ≡ row_at e t)
+  entries_has : (t : Thing) (es : List BooksEntry) (r : Row) → Has (entries_lines c t es) r → (e : BooksEntry) × Has es e × (amount_in c.books e t ≢ pos 0) × (r ≡ row_at e t)
   entries_has t es r there =
       let found = flat_has (λ e. amount_lines c e t) es r there in
       let row = optional_has (int_eq (amount_in c.books found.0 t) (pos 0)) (row_at found.0 t) r found.2 in
       (found.0, found.1, differs_zero (amount_in c.books found.0 t) row.0, row.1)
 
   -- a thing has a row for each entry of the list `es` under which its amount is not 0
-  has_entries : (t : Thing) (es : List Entry) (e : Entry) → Has es e → amount_in c.books e t ≢ pos 0 → Has (entries_lines c t es) (row_at e t)
+  has_entries : (t : Thing) (es : List BooksEntry) (e : BooksEntry) → Has es e → amount_in c.books e t ≢ pos 0 → Has (entries_lines c t es) (row_at e t)
   has_entries t es e there some = has_flat (λ e. amount_lines c e t) es e (row_at e t) there (has_optional (int_eq (amount_in c.books e t) (pos 0)) (row_at e t) (is_differing (amount_in c.books e t) some))
 
   -- the rows made for one thing have different keys, if the entries are sorted by index
-  entries_apart : (t : Thing) (es : List Entry) → are_sorted es ≡ true → DifferInKey 2 (entries_lines c t es)
+  entries_apart : (t : Thing) (es : List BooksEntry) → are_sorted es ≡ true → DifferInKey 2 (entries_lines c t es)
   entries_apart t [] rising = tt
   entries_apart t (e ∷ es) rising =
       apart_append 2 (amount_lines c e t) (entries_lines c t es) (optional_apart 2 (int_eq (amount_in c.books e t) (pos 0)) (row_at e t)) (entries_apart t es (and_parts _ _ rising).1)

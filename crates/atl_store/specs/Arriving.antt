@@ -7,8 +7,8 @@ use Rattle.sqlite.specs.Table.{Table}
 use Rattle.sqlite_rules.specs.Lists.{Has}
 use Rattle.atl_campaign.specs.Campaign.{CampaignValue}
 use Rattle.atl_records.specs.Books.{entry_index, thing_index}
-use Rattle.atl_records.specs.declared.books.Entry.{Entry}
-use Rattle.atl_records.specs.declared.books.Entry.TheVariants.{Joining}
+use Rattle.atl_records.specs.declared.books.BooksEntry.{BooksEntry}
+use Rattle.atl_records.specs.declared.books.BooksEntry.TheVariants.{Joining}
 use Rattle.atl_records.specs.declared.books.Thing.{Thing}
 use Rattle.atl_records.specs.declared.books.Thing.TheVariants.{Money, People}
 use Rattle.atl_records.specs.declared.records.Faction.{Faction}
@@ -49,11 +49,11 @@ pub record IsFound (c : CampaignValue) (number : ℕ) (faction : Faction) (place
   pub things : 2 ≤ c.books.things
 
 -- the rows of `books` once one amount is written: its row, or none if it is 0, and the other rows of the set `S`
-abbrev pub settled : CampaignValue → Entry → Thing → Set → Set
+abbrev pub settled : CampaignValue → BooksEntry → Thing → Set → Set
 settled c entry thing S r = Has (amount_lines c entry thing) r ⊎ (S r × (take 2 r ≢ books_key (entry_index entry + 1) (thing_index thing)))
 
 -- one amount of the books is written: it has its row, or none if it is 0; all other rows and tables are as they were
-abbrev pub WritesAmount : CampaignValue → Entry → Thing → Database → Database → Type 0
+abbrev pub WritesAmount : CampaignValue → BooksEntry → Thing → Database → Database → Type 0
 WritesAmount c entry thing old new = Alters books_table (settled c entry thing (Has (rows_in books_table old.trees))) old new
 
 -- the row is put into the table: it replaces the row with its number, or is added; every other row is as it was

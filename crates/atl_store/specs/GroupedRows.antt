@@ -8,7 +8,7 @@ use Rattle.sqlite_rules.specs.Lists.{Has}
 use Rattle.atl_campaign.specs.Campaign.{CampaignValue}
 use Rattle.atl_records.specs.Holdings.{HoldingValue}
 use Rattle.atl_records.specs.Books.{all_entries, amount_in, entry_index, thing_at, thing_index}
-use Rattle.atl_records.specs.declared.books.Entry.{Entry}
+use Rattle.atl_records.specs.declared.books.BooksEntry.{BooksEntry}
 use Rattle.atl_records.specs.declared.books.Thing.{Thing}
 use Rattle.atl_records.specs.declared.records.Region.{Region}
 use Rattle.atl_records.specs.declared.records.Unit.{Unit}
@@ -82,11 +82,11 @@ all_stocks_lines regions = groups_of region_lines regions
 -- ---- the books
 
 -- the row of `books` for one entry and thing, or none if the amount is 0
-abbrev pub amount_lines : CampaignValue → Entry → Thing → List Row
+abbrev pub amount_lines : CampaignValue → BooksEntry → Thing → List Row
 amount_lines c entry thing = if int_eq (amount_in c.books entry thing) (pos 0) then [] else books_row (entry_index entry + 1) (thing_index thing) (amount_in c.books entry thing) ∷ []
 
 -- the rows of `books` for the amounts of one thing under the listed entries, one for each amount that isn't 0
-abbrev pub entries_lines : CampaignValue → Thing → List Entry → List Row
+abbrev pub entries_lines : CampaignValue → Thing → List BooksEntry → List Row
 entries_lines c thing entries = flat_map (λ entry. amount_lines c entry thing) entries
 
 -- the rows of `books` for the amounts of the things with the listed numbers, under all entries, that aren't 0

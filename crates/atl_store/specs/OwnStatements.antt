@@ -4,8 +4,8 @@ use Rattle.std.specs.FinMap.{get}
 use Rattle.sqlite.specs.Order.{Row}
 use Rattle.atl_campaign.specs.Campaign.{CampaignValue}
 use Rattle.atl_records.specs.Books.{amount_in, entry_index, thing_index}
-use Rattle.atl_records.specs.declared.books.Entry.{Entry}
-use Rattle.atl_records.specs.declared.books.Entry.TheVariants.{Joining}
+use Rattle.atl_records.specs.declared.books.BooksEntry.{BooksEntry}
+use Rattle.atl_records.specs.declared.books.BooksEntry.TheVariants.{Joining}
 use Rattle.atl_records.specs.declared.books.Thing.{Thing}
 use Rattle.atl_records.specs.declared.books.Thing.TheVariants.{Money, People}
 use Rattle.atl_records.specs.declared.records.Faction.{Faction}
@@ -16,7 +16,7 @@ use Rattle.atl_sql.specs.Statements.{Statements, Only, Creations, campaign_upser
 use Rattle.atl_sql.specs.Tables.{Part, Markets, books_table, creation_of, faction_table, IsGroupedPart, key_of, mail_table, report_table, table_of, unit_table}
 
 -- the statement that writes an amount of the books: puts the amount's row, or deletes the row if the amount is 0
-pub data OfAmount (c : CampaignValue) (entry : Entry) (thing : Thing) : List ℕ → Row → Type 0 where
+pub data OfAmount (c : CampaignValue) (entry : BooksEntry) (thing : Thing) : List ℕ → Row → Type 0 where
   -- an amount other than 0: its row is put
   puts_amount : amount_in c.books entry thing ≢ pos 0 → OfAmount c entry thing (upsert books_table 2) (books_row (entry_index entry + 1) (thing_index thing) (amount_in c.books entry thing))
   -- an amount of 0: the row with its key is deleted

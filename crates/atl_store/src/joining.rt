@@ -3,7 +3,7 @@ ghost use Rattle.std.specs.Prelude.{◌≡◌, [], false, List, ℕ, IfErr, OnOk
 ghost use Rattle.sqlite.specs.Held.{state};
 ghost use Rattle.sqlite.specs.State.{HasCleanDisk};
 ghost use Rattle.atl_campaign.specs.Campaign.{CampaignValue};
-ghost use Rattle.atl_records.specs.declared.books.Entry.TheVariants.{Joining};
+ghost use Rattle.atl_records.specs.declared.books.BooksEntry.TheVariants.{Joining};
 ghost use Rattle.atl_records.specs.declared.books.Thing.TheVariants.{Money, People};
 ghost use Rattle.atl_sql.specs.Tables.{faction_table, unit_table, report_table};
 ghost use Rattle.atl_sql.specs.Shown.{report_row};
@@ -20,7 +20,7 @@ ghost use Rattle.atl_store.specs.Keeps.{Keeps, LeavesAfterFault, IsLater, Leaves
 use crate::campaign_row::put_campaign_row;
 use crate::fault::WriteFault;
 use crate::ledger::settle_amount;
-use atl_campaign::{Campaign, Entry, Faction, Thing, Unit};
+use atl_campaign::{BooksEntry, Campaign, Faction, Thing, Unit};
 use atl_sql::numbered_rows::NumberedRow;
 use atl_world::Text;
 use sqlite::{Alter, Connection, Error, Transaction};
@@ -87,8 +87,8 @@ fn put_report_and_amounts<S: Alter>(
         (WritesAmount campaign.now.value Joining People)))) result tx.old.conn tx.new.conn }
 {
     arrival.report.put(tx, arrival.number)?;
-    settle_amount(tx, campaign, Entry::Joining, Thing::Money)?;
-    settle_amount(tx, campaign, Entry::Joining, Thing::People)
+    settle_amount(tx, campaign, BooksEntry::Joining, Thing::Money)?;
+    settle_amount(tx, campaign, BooksEntry::Joining, Thing::People)
 }
 
 /// Puts all rows that a faction's joining adds or changes, inside a transaction.

@@ -11,7 +11,7 @@ ghost use Rattle.atl_sql.specs.Inside.{Inside, HasTables};
 ghost use Rattle.atl_store.specs.Arriving.{WritesAmount};
 ghost use Rattle.atl_store.specs.Rewriting.{RewritesAmounts, RewritesBooks, is_number, is_among};
 
-use atl_campaign::{Campaign, Entry, Thing};
+use atl_campaign::{BooksEntry, Campaign, Thing};
 use atl_sql::rows::books::{BooksRow, drop_books, put_books};
 use sqlite::{Alter, Error, Transaction};
 
@@ -19,7 +19,7 @@ use sqlite::{Alter, Error, Transaction};
 fn put_amount<S: Alter>(
     tx: &mut Transaction<'_, S>,
     campaign: &Campaign,
-    entry: Entry,
+    entry: BooksEntry,
     thing: Thing,
 ) -> Result<(), Error>
     requires { thing_index thing < campaign.now.value.books.things }
@@ -42,7 +42,7 @@ fn put_amount<S: Alter>(
 pub(crate) fn settle_amount<S: Alter>(
     tx: &mut Transaction<'_, S>,
     campaign: &Campaign,
-    entry: Entry,
+    entry: BooksEntry,
     thing: Thing,
 ) -> Result<(), Error>
     requires { thing_index thing < campaign.now.value.books.things }
@@ -66,7 +66,7 @@ fn put_entries<S: Alter>(
     tx: &mut Transaction<'_, S>,
     campaign: &Campaign,
     thing: Thing,
-    entries: &[Entry],
+    entries: &[BooksEntry],
 ) -> Result<(), Error>
     requires { thing_index thing < campaign.now.value.books.things }
     ensures { WritesRows S.Store books_table 2 (entries_lines campaign.now.value thing entries.now)
@@ -90,7 +90,7 @@ pub(crate) fn put_all_books<S: Alter>(
     ensures books { AreBooks campaign.now.value.books.things campaign.now.value.books }
 {
     for number in 0..campaign.things() {
-        put_entries(tx, campaign, Thing::of_number(number), &Entry::ALL)?;
+        put_entries(tx, campaign, Thing::of_number(number), &BooksEntry::ALL)?;
     }
     Ok(())
 }
@@ -99,7 +99,7 @@ pub(crate) fn put_all_books<S: Alter>(
 fn rewrite_amount<S: Alter>(
     tx: &mut Transaction<'_, S>,
     campaign: &Campaign,
-    entry: Entry,
+    entry: BooksEntry,
     thing: Thing,
 ) -> Result<(), Error>
     requires { thing_index thing < campaign.now.value.books.things }
@@ -119,7 +119,7 @@ fn rewrite_entries<S: Alter>(
     tx: &mut Transaction<'_, S>,
     campaign: &Campaign,
     thing: Thing,
-    entries: &[Entry],
+    entries: &[BooksEntry],
 ) -> Result<(), Error>
     requires { thing_index thing < campaign.now.value.books.things }
     ensures { Writes S.Store (OfChange campaign.now.value)
@@ -142,7 +142,7 @@ pub(crate) fn rewrite_books<S: Alter>(
         (Inside HasTables (RewritesBooks campaign.now)) result tx.old.conn tx.new.conn }
 {
     for number in 0..campaign.things() {
-        rewrite_entries(tx, campaign, Thing::of_number(number), &Entry::ALL)?;
+        rewrite_entries(tx, campaign, Thing::of_number(number), &BooksEntry::ALL)?;
     }
     Ok(())
 }

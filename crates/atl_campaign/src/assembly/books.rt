@@ -6,14 +6,14 @@ ghost use Rattle.atl_records.specs.Books.{no_amounts};
 
 use crate::parts::StoredBooks;
 use crate::row_values::as_u32;
-use atl_records::{Books, Entry, Thing};
+use atl_records::{Books, BooksEntry, Thing};
 use std::alloc::{AllocError, Global};
 
 /// Puts the amount of a row of `books` into the books, if they have the row's entry and thing.
 fn put_row(books: &mut Books, row: &StoredBooks)
     ensures { books.new ≡ with_books_row books.old row.now }
 {
-    let Some(entry) = Entry::of_number(as_u32(row.entry)) else {
+    let Some(entry) = BooksEntry::of_number(as_u32(row.entry)) else {
         return;
     };
     let thing = as_u32(row.thing) as usize;

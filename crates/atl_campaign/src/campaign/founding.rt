@@ -4,7 +4,7 @@ ghost use Rattle.std.specs.FinMap as map;
 ghost use Rattle.atl_world.specs.Limits.{most_regions};
 ghost use Rattle.atl_world.specs.Names.{pass_ok};
 ghost use Rattle.atl_world.specs.Sums.{sum_over, mapped};
-ghost use Rattle.atl_records.specs.declared.books.Entry.TheVariants.{Founding};
+ghost use Rattle.atl_records.specs.declared.books.BooksEntry.TheVariants.{Founding};
 ghost use Rattle.atl_records.specs.declared.books.Thing.TheVariants.{Money, People};
 ghost use Rattle.atl_records.specs.Limits.{most_things, possible_things, most_founded};
 ghost use Rattle.atl_records.specs.Books.{after_booking, no_amounts};
@@ -17,7 +17,7 @@ ghost use Rattle.atl_campaign.specs.Regions.{unmarked_regions};
 use super::Campaign;
 use crate::regions::Regions;
 use crate::totals::regions_total;
-use atl_records::{Books, ENTRY_COUNT, Entry, FIRST_ITEM, Region, Thing};
+use atl_records::{Books, BooksEntry, ENTRY_COUNT, FIRST_ITEM, Region, Thing};
 use atl_world::{Marks, Numbered, RegionPlan, Text, World};
 use std::alloc::{AllocError, Global};
 
@@ -58,8 +58,8 @@ fn founding_books(alloc: Global, things: usize, regions: &Regions) -> Result<Boo
     let mut books = Books::new(alloc, things)?;
     let money = regions_total(regions, Thing::Money);
     let people = regions_total(regions, Thing::People);
-    books.book(Entry::Founding, Thing::Money, money as i64);
-    books.book(Entry::Founding, Thing::People, people as i64);
+    books.book(BooksEntry::Founding, Thing::Money, money as i64);
+    books.book(BooksEntry::Founding, Thing::People, people as i64);
     Ok(books)
 }
 

@@ -7,7 +7,7 @@ ghost use Rattle.std.specs.List.{list_any};
 ghost use Rattle.std.specs.Str.{IsUtf8};
 ghost use Rattle.atl_world.specs.Names.{name_ok, pass_ok};
 ghost use Rattle.atl_world.specs.Worlds.{IsWorld};
-ghost use Rattle.atl_records.specs.declared.books.Entry.TheVariants.{Joining};
+ghost use Rattle.atl_records.specs.declared.books.BooksEntry.TheVariants.{Joining};
 ghost use Rattle.atl_records.specs.declared.books.Thing.TheVariants.{Money, People};
 ghost use Rattle.atl_records.specs.Books.{amount_in, after_booking, LeavesRoomForJoining};
 ghost use Rattle.atl_campaign.specs.Good.{IsGood, IsSound};
@@ -18,7 +18,8 @@ ghost use Rattle.atl_campaign.specs.Marking.{mark_join};
 use super::Campaign;
 use atl_orders::LAST_FACTION;
 use atl_records::{
-    Books, Entry, Faction, Holding, JoinFault, LAST_UNIT, MOST_UNITS, Thing, Unit, amount_number,
+    Books, BooksEntry, Faction, Holding, JoinFault, LAST_UNIT, MOST_UNITS, Thing, Unit,
+    amount_number,
 };
 use atl_world::{MarkedMap, Numbered, Text, World};
 use std::alloc::{AllocError, Global};
@@ -103,8 +104,8 @@ fn book_joining(books: &mut Books, money: u32)
     ensures { books.new ≡ after_booking (after_booking books.old Joining Money (pos money)) Joining
         People (pos 1) }
 {
-    books.book(Entry::Joining, Thing::Money, i64::from(money));
-    books.book(Entry::Joining, Thing::People, 1);
+    books.book(BooksEntry::Joining, Thing::Money, i64::from(money));
+    books.book(BooksEntry::Joining, Thing::People, 1);
 }
 
 /// Adds a faction with its first unit, or says why it cannot join.
@@ -199,9 +200,9 @@ impl Campaign {
         self.next_faction = faction + 1;
         book_joining(&mut self.books, money);
         self.amounts_marked
-            .add(amount_number(Entry::Joining, Thing::Money));
+            .add(amount_number(BooksEntry::Joining, Thing::Money));
         self.amounts_marked
-            .add(amount_number(Entry::Joining, Thing::People));
+            .add(amount_number(BooksEntry::Joining, Thing::People));
         Ok((faction, number))
     }
 }

@@ -7,7 +7,7 @@ ghost use Rattle.atl_records.specs.Books.{thing_index, amount_number};
 ghost use Rattle.atl_campaign.specs.Marks.{AreStocksWithin, AreWithin, no_marks, marks_in};
 
 use super::Campaign;
-use atl_records::{Entry, Thing, amount_number};
+use atl_records::{BooksEntry, Thing, amount_number};
 use atl_world::{Entries, MarkedNumbers, Numbered};
 
 /// Counts, lists and clears what is marked as to be written.
@@ -122,7 +122,7 @@ impl Campaign {
 
     /// Whether the amount of a thing under an entry of the books is marked. The thing has to be one
     /// of the books' things.
-    pub fn is_amount_marked(&self, entry: Entry, thing: Thing) -> bool
+    pub fn is_amount_marked(&self, entry: BooksEntry, thing: Thing) -> bool
         requires { thing_index thing < self.now.value.books.things }
         ensures { result ≡ set.contains self.now.marks.books (amount_number entry thing) }
     {

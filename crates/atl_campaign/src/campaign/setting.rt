@@ -9,7 +9,7 @@ ghost use Rattle.atl_campaign.specs.Marking.{MarksStock, mark_campaign_row, mark
 ghost use Rattle.atl_campaign.specs.Campaign.{with_month, with_faction_name, with_gone, with_peasants, with_region_money, with_stock, with_unit_name, with_men, with_money, with_item, with_skill, with_guard, with_done, with_structure_name, with_structure_region, with_owner, with_booking, without_mail};
 
 use super::Campaign;
-use atl_records::{Entry, Thing, amount_number};
+use atl_records::{BooksEntry, Thing, amount_number};
 use atl_world::Text;
 use std::alloc::AllocError;
 
@@ -182,7 +182,7 @@ impl Campaign {
     /// Adds an amount to what is booked of a thing under an entry, and marks that amount. It counts
     /// money, men and peasants, or pieces of an item, and may be negative. The thing has to be one
     /// of the books' things, and the sum has to fit i64. See docs/RULES.md, "Books".
-    pub fn book(&mut self, entry: Entry, thing: Thing, amount: i64)
+    pub fn book(&mut self, entry: BooksEntry, thing: Thing, amount: i64)
         requires there { thing_index thing < self.old.value.books.things }
         requires fits { FitsSigned w64 (amount_in self.old.value.books entry thing +ℤ amount) }
         ensures what { self.new.value ≡ with_booking self.old.value entry thing amount }

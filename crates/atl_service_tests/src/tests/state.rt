@@ -5,7 +5,7 @@ ghost use Rattle.atl_campaign.specs.Good.{IsGood};
 
 use super::commands::FIRST_REPORT;
 use super::compare::{assert_count, assert_number, assert_numbers, assert_text, assert_total};
-use atl_campaign::{Campaign, Entry, MOST_UNITS, Thing, founded};
+use atl_campaign::{BooksEntry, Campaign, MOST_UNITS, Thing, founded};
 use atl_report::{report_text, view};
 use atl_tables::read_world;
 use atl_test_worlds::SMALL;
@@ -74,10 +74,14 @@ fn founding(rt: HostRuntime) -> Result<(), Fail> {
 fn has_entries(rt: &impl Abort, campaign: &Campaign) {
     assert_count(rt, campaign.things(), 2);
     if campaign.things() >= 2 {
-        assert_number(rt, campaign.booked(Entry::Founding, Thing::Money), 500);
-        assert_number(rt, campaign.booked(Entry::Founding, Thing::People), 1000);
-        assert_number(rt, campaign.booked(Entry::Joining, Thing::Money), 1000);
-        assert_number(rt, campaign.booked(Entry::Joining, Thing::People), 1);
+        assert_number(rt, campaign.booked(BooksEntry::Founding, Thing::Money), 500);
+        assert_number(
+            rt,
+            campaign.booked(BooksEntry::Founding, Thing::People),
+            1000,
+        );
+        assert_number(rt, campaign.booked(BooksEntry::Joining, Thing::Money), 1000);
+        assert_number(rt, campaign.booked(BooksEntry::Joining, Thing::People), 1);
     }
 }
 

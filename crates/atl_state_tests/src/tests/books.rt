@@ -1,7 +1,7 @@
 //! Tests of `Books` alone, and of the books of a campaign (docs/RULES.md, "Books").
 use super::compare::{assert_count, assert_number};
 use super::making::founded_by;
-use atl_campaign::{Books, Campaign, Entry, Thing};
+use atl_campaign::{Books, BooksEntry, Campaign, Thing};
 use atl_test_worlds::ISLE;
 use std::process::Abort;
 use std::test::Fail;
@@ -11,10 +11,10 @@ const THINGS: usize = 4;
 
 /// Books -7 money as wages in empty books of `THINGS` things.
 fn books_some(books: &mut Books) -> Result<(), Fail> {
-    if books.len() != THINGS || books.amount(Entry::Wages, Thing::Money) != 0 {
+    if books.len() != THINGS || books.amount(BooksEntry::Wages, Thing::Money) != 0 {
         return Err(Fail::new("empty books"));
     }
-    books.book(Entry::Wages, Thing::Money, -7);
+    books.book(BooksEntry::Wages, Thing::Money, -7);
     Ok(())
 }
 
@@ -23,10 +23,10 @@ fn has_some(rt: &impl Abort, books: &Books) -> Result<(), Fail> {
     if books.len() != THINGS {
         return Err(Fail::new("four things"));
     }
-    assert_number(rt, books.amount(Entry::Wages, Thing::Money), -7);
-    assert_number(rt, books.amount(Entry::Study, Thing::Money), 0);
-    assert_number(rt, books.amount(Entry::Wages, Thing::People), 0);
-    assert_number(rt, books.amount(Entry::Wages, Thing::Item(1)), 0);
+    assert_number(rt, books.amount(BooksEntry::Wages, Thing::Money), -7);
+    assert_number(rt, books.amount(BooksEntry::Study, Thing::Money), 0);
+    assert_number(rt, books.amount(BooksEntry::Wages, Thing::People), 0);
+    assert_number(rt, books.amount(BooksEntry::Wages, Thing::Item(1)), 0);
     Ok(())
 }
 
@@ -40,17 +40,17 @@ fn books_of_four_things(rt: HostRuntime) -> Result<(), Fail> {
 
 /// The amounts of carts that are booked, and their entries. Income comes twice, so its amounts are
 /// added up.
-static BOOKED: [(Entry, i64); 6] = [
-    (Entry::Income, 5),
-    (Entry::Income, 6),
-    (Entry::Lost, -8),
-    (Entry::Left, -9),
-    (Entry::Made, 10),
-    (Entry::Used, -11),
+static BOOKED: [(BooksEntry, i64); 6] = [
+    (BooksEntry::Income, 5),
+    (BooksEntry::Income, 6),
+    (BooksEntry::Lost, -8),
+    (BooksEntry::Left, -9),
+    (BooksEntry::Made, 10),
+    (BooksEntry::Used, -11),
 ];
 
 /// Books an amount of carts in a campaign.
-fn books_carts(campaign: &mut Campaign, entry: Entry, amount: i64) -> Result<(), Fail> {
+fn books_carts(campaign: &mut Campaign, entry: BooksEntry, amount: i64) -> Result<(), Fail> {
     if campaign.things() != THINGS {
         return Err(Fail::new("four things"));
     }
@@ -76,12 +76,16 @@ fn has_all(rt: &impl Abort, campaign: &Campaign) -> Result<(), Fail> {
     if campaign.things() != THINGS {
         return Err(Fail::new("four things"));
     }
-    assert_number(rt, campaign.booked(Entry::Income, Thing::Item(1)), 11);
-    assert_number(rt, campaign.booked(Entry::Lost, Thing::Item(1)), -8);
-    assert_number(rt, campaign.booked(Entry::Used, Thing::Item(1)), -11);
-    assert_number(rt, campaign.booked(Entry::Income, Thing::Item(0)), 0);
-    assert_number(rt, campaign.booked(Entry::Founding, Thing::Money), 650);
-    assert_number(rt, campaign.booked(Entry::Founding, Thing::People), 1300);
+    assert_number(rt, campaign.booked(BooksEntry::Income, Thing::Item(1)), 11);
+    assert_number(rt, campaign.booked(BooksEntry::Lost, Thing::Item(1)), -8);
+    assert_number(rt, campaign.booked(BooksEntry::Used, Thing::Item(1)), -11);
+    assert_number(rt, campaign.booked(BooksEntry::Income, Thing::Item(0)), 0);
+    assert_number(rt, campaign.booked(BooksEntry::Founding, Thing::Money), 650);
+    assert_number(
+        rt,
+        campaign.booked(BooksEntry::Founding, Thing::People),
+        1300,
+    );
     assert_count(rt, campaign.marks(), 5);
     Ok(())
 }

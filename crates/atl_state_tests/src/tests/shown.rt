@@ -1,7 +1,7 @@
 //! Prints parts of a campaign and its marks as text, and runs tables of steps with both.
 use super::compare::assert_row_text;
 use super::steps::{Step, does};
-use atl_campaign::{Campaign, Entry, MOST_UNITS, Thing};
+use atl_campaign::{BooksEntry, Campaign, MOST_UNITS, Thing};
 use atl_world::limits::MOST_REGIONS;
 use atl_world::{Entries, MarkedNumbers, Numbered};
 use std::alloc::Global;
@@ -302,10 +302,10 @@ fn add_own(text: &mut String, campaign: &Campaign) -> Result<(), Fail> {
     if campaign.things() < 2 {
         return Err(Fail::new("money and people"));
     }
-    if campaign.is_amount_marked(Entry::Joining, Thing::Money) {
+    if campaign.is_amount_marked(BooksEntry::Joining, Thing::Money) {
         text.push_str(", joining money")?;
     }
-    if campaign.is_amount_marked(Entry::Joining, Thing::People) {
+    if campaign.is_amount_marked(BooksEntry::Joining, Thing::People) {
         text.push_str(", joining people")?;
     }
     Ok(())

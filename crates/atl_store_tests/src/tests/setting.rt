@@ -1,5 +1,5 @@
 //! Steps that change the campaign in memory, a function for each.
-use atl_campaign::{Campaign, Entry, HOLDING_LIMIT, Holding, Structure, Thing};
+use atl_campaign::{BooksEntry, Campaign, HOLDING_LIMIT, Holding, Structure, Thing};
 use atl_world::Text;
 use std::alloc::Global;
 use std::test::Fail;
@@ -118,10 +118,10 @@ pub(crate) fn book(campaign: &mut Campaign, text: &str) -> Result<(), Fail> {
     if campaign.things() < 2 {
         return Err(Fail::new("money"));
     }
-    let booked = campaign.booked(Entry::Income, Thing::Money);
+    let booked = campaign.booked(BooksEntry::Income, Thing::Money);
     if booked.checked_add(amount).is_none() {
         return Err(Fail::new("an amount that fits"));
     }
-    campaign.book(Entry::Income, Thing::Money, amount);
+    campaign.book(BooksEntry::Income, Thing::Money, amount);
     Ok(())
 }

@@ -2,7 +2,7 @@ use Rattle.std.proofs.Common.{◌≡◌, sym, ap, ◌∙◌, ◌+◌, arith, rul
 use Rattle.std.proofs.lemmas.Int.{to_z-of_z}
 use Rattle.atl_records.specs.Books.{amount_in}
 use Rattle.atl_campaign.specs.Campaign.{CampaignValue, with_booking, with_item}
-use Rattle.atl_records.specs.declared.books.Entry.TheVariants.{Made}
+use Rattle.atl_records.specs.declared.books.BooksEntry.TheVariants.{Made}
 use Rattle.atl_records.specs.declared.books.Thing.TheVariants.{Item}
 use Rattle.atl_phase.proofs.BookingLaws.{booking_fits, within-pos}
 use Rattle.atl_phase.proofs.ChangeLaws.{item_changes}

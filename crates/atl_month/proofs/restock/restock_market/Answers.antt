@@ -1,7 +1,7 @@
 use Rattle.std.proofs.Common.{◌≡◌, rules, pos, to_z, of_z, w64}
 use Rattle.std.proofs.lemmas.Int.{to_z-of_z}
 use Rattle.atl_world.specs.Limits.{most_amount}
-use Rattle.atl_records.specs.declared.books.Entry.TheVariants.{Stocked}
+use Rattle.atl_records.specs.declared.books.BooksEntry.TheVariants.{Stocked}
 use Rattle.atl_records.specs.declared.books.Thing.TheVariants.{Item}
 use Rattle.atl_records.specs.Books.{amount_in}
 use Rattle.atl_phase.proofs.BookingLaws.{booking_fits, within-pos}

@@ -1,6 +1,6 @@
 use Rattle.std.proofs.Common.{◌≡◌, ◌+◌, arith, rules, pos, to_z, of_z, w64}
 use Rattle.std.proofs.lemmas.Int.{to_z-of_z}
-use Rattle.atl_records.specs.declared.books.Entry.TheVariants.{Births, Income}
+use Rattle.atl_records.specs.declared.books.BooksEntry.TheVariants.{Births, Income}
 use Rattle.atl_records.specs.declared.books.Thing.TheVariants.{People, Money}
 use Rattle.atl_records.specs.Books.{amount_in}
 use Rattle.atl_world.specs.Limits.{most_amount}

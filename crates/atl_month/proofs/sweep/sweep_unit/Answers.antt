@@ -1,7 +1,7 @@
 use Rattle.std.proofs.Common.{rules, ◌≡◌, sym, arith}
 use Rattle.std.specs.FinMap.{entries}
 use Rattle.atl_world.specs.Limits.{most_amount}
-use Rattle.atl_records.specs.declared.books.Entry.TheVariants.{Lost}
+use Rattle.atl_records.specs.declared.books.BooksEntry.TheVariants.{Lost}
 use Rattle.atl_records.specs.declared.books.Thing.TheVariants.{Money}
 use Rattle.atl_records.specs.Books.{amount_in}
 use Rattle.atl_campaign.proofs.CoverLaws.{marks-trans}

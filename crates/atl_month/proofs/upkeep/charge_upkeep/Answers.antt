@@ -2,7 +2,7 @@ use Rattle.std.proofs.Common.{ap, sym, arith}
 use Rattle.std.specs.Prelude.{neg_ℤ, pos}
 use Rattle.atl_world.specs.Limits.{most_amount}
 use Rattle.atl_records.specs.Books.{after_booking, amount_in}
-use Rattle.atl_records.specs.declared.books.Entry.TheVariants.{Starved, Upkeep}
+use Rattle.atl_records.specs.declared.books.BooksEntry.TheVariants.{Starved, Upkeep}
 use Rattle.atl_records.specs.declared.books.Thing.TheVariants.{Money, People}
 use Rattle.atl_campaign.specs.Campaign.{CampaignValue}
 use Rattle.atl_phase.specs.Meaning.{moves_only}

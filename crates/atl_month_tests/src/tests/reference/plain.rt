@@ -1,6 +1,6 @@
 //! The campaign of the reference calculation: lists of plain numbers for units, goods, regions,
 //! stocks and books.
-use atl_campaign::{Campaign, Entry, Event, Region, Thing, Unit};
+use atl_campaign::{BooksEntry, Campaign, Event, Region, Thing, Unit};
 use atl_world::let_go;
 use std::alloc::{AllocError, Global};
 
@@ -291,7 +291,7 @@ impl Plain {
     /// Books the change of an amount of a thing from `before` to `after` under an entry.
     pub fn book(
         &mut self,
-        entry: Entry,
+        entry: BooksEntry,
         thing: Thing,
         before: u64,
         after: u64,

@@ -3,7 +3,7 @@
 use super::plain::{Good, Plain, PlainUnit};
 use super::pots::{Claim, Given, Pot, own};
 use super::tax::MOST_MONEY;
-use atl_campaign::{Entry, EventFault, Thing};
+use atl_campaign::{BooksEntry, EventFault, Thing};
 use atl_orders::Operands;
 use atl_phase::PhaseOrder;
 use atl_world::{Item, World};
@@ -128,7 +128,7 @@ fn set_item(
     unit: u32,
     item: u16,
     amount: u64,
-    entry: Entry,
+    entry: BooksEntry,
 ) -> Result<(), AllocError> {
     let thing = u32::from(item);
     let held = plain.amount(unit, false, thing);
@@ -150,7 +150,13 @@ pub(crate) fn pay(world: &World, plain: &mut Plain, given: Given) -> Result<(), 
     if let Some(raw) = item.raw {
         let used = given.amount.wrapping_mul(u64::from(item.raw_count));
         let held = plain.amount(given.unit, false, u32::from(raw));
-        set_item(plain, given.unit, raw, held.wrapping_sub(used), Entry::Used)?;
+        set_item(
+            plain,
+            given.unit,
+            raw,
+            held.wrapping_sub(used),
+            BooksEntry::Used,
+        )?;
     }
     let made = u16::try_from(given.thing).unwrap_or(0);
     let held = plain.amount(given.unit, false, given.thing);
@@ -159,6 +165,6 @@ pub(crate) fn pay(world: &World, plain: &mut Plain, given: Given) -> Result<(), 
         given.unit,
         made,
         held.wrapping_add(given.amount),
-        Entry::Made,
+        BooksEntry::Made,
     )
 }

@@ -2,7 +2,7 @@
 //! each.
 use super::plain::{Land, Plain, PlainUnit};
 use super::pots::{Claim, Given, Pot, own};
-use atl_campaign::{Entry, EventFault, Thing};
+use atl_campaign::{BooksEntry, EventFault, Thing};
 use atl_orders::Operands;
 use atl_phase::PhaseOrder;
 use atl_world::World;
@@ -69,5 +69,5 @@ pub(crate) fn pay(world: &World, plain: &mut Plain, given: Given) -> Result<(), 
         let left = land.peasants.wrapping_sub(given.amount);
         plain.set_land(land.number, left, land.money);
     }
-    plain.book(Entry::Recruiting, Thing::Money, person.money, money)
+    plain.book(BooksEntry::Recruiting, Thing::Money, person.money, money)
 }

@@ -3,7 +3,7 @@
 use super::plain::{Good, Plain, PlainUnit, Stock};
 use super::pots::{Claim, Given, Pot, own};
 use super::tax::MOST_MONEY;
-use atl_campaign::{Entry, EventFault, Thing};
+use atl_campaign::{BooksEntry, EventFault, Thing};
 use atl_orders::Operands;
 use atl_phase::PhaseOrder;
 use atl_world::{Market, World};
@@ -130,10 +130,10 @@ fn money_behind(trade: PlainTrade, person: PlainUnit, market: &Market, pieces: u
 }
 
 /// The entry of the books under which the money of SELL or BUY is booked.
-fn entry_of(trade: PlainTrade) -> Entry {
+fn entry_of(trade: PlainTrade) -> BooksEntry {
     match trade {
-        PlainTrade::Sell => Entry::Sold,
-        PlainTrade::Buy => Entry::Bought,
+        PlainTrade::Sell => BooksEntry::Sold,
+        PlainTrade::Buy => BooksEntry::Bought,
     }
 }
 

@@ -1,7 +1,7 @@
 //! Upkeep in the reference calculation (docs/RULES.md, "Upkeep"); for each unit it looks at all
 //! units.
 use super::plain::{Plain, PlainUnit};
-use atl_campaign::{Entry, Event, EventVerb, Outcome, Thing};
+use atl_campaign::{BooksEntry, Event, EventVerb, Outcome, Thing};
 use atl_world::World;
 use std::alloc::{AllocError, Global};
 
@@ -119,8 +119,8 @@ fn take(plain: &mut Plain, one: Taken) -> Result<(), AllocError> {
     let money = person.money.wrapping_sub(one.paid);
     keep_days(plain, one);
     plain.set_person(person.number, men, money);
-    plain.book(Entry::Upkeep, Thing::Money, person.money, money)?;
-    plain.book(Entry::Starved, Thing::People, person.men, men)
+    plain.book(BooksEntry::Upkeep, Thing::Money, person.money, money)?;
+    plain.book(BooksEntry::Starved, Thing::People, person.men, men)
 }
 
 /// Takes the upkeep of each unit, removes the men who starve, and books the money and the men.

@@ -2,7 +2,7 @@
 use super::plain::{Plain, PlainUnit};
 use super::pots::{Claim, Given, Pot, given_to, own};
 use super::tax::MOST_MONEY;
-use atl_campaign::{Entry, EventFault, Thing};
+use atl_campaign::{BooksEntry, EventFault, Thing};
 use atl_orders::Verb;
 use atl_phase::PhaseOrder;
 use atl_world::World;
@@ -123,5 +123,5 @@ pub(crate) fn pay(world: &World, plain: &mut Plain, given: Given) -> Result<(), 
     let more = given.amount.wrapping_mul(wage(world, person.region));
     let money = person.money.wrapping_add(more);
     plain.set_person(given.unit, person.men, money);
-    plain.book(Entry::Wages, Thing::Money, person.money, money)
+    plain.book(BooksEntry::Wages, Thing::Money, person.money, money)
 }

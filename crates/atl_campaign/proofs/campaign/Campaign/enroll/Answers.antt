@@ -1,7 +1,7 @@
 use Rattle.std.proofs.Common.{◌≡◌, ◌+◌, None, ap, ◌∙◌, refl, arith}
 use Rattle.std.specs.FinMap.{get}
 use Rattle.atl_records.specs.Books.{BooksValue}
-use Rattle.atl_records.specs.declared.books.Entry.TheVariants.{Joining}
+use Rattle.atl_records.specs.declared.books.BooksEntry.TheVariants.{Joining}
 use Rattle.atl_records.specs.declared.books.Thing.TheVariants.{Money, People}
 use Rattle.atl_campaign.specs.Marks.{amount_marked}
 use Rattle.atl_campaign.proofs.AmountMarkLaws.{fits_amount, more_marked}

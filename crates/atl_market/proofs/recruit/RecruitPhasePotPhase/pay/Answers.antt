@@ -1,7 +1,7 @@
 use Rattle.std.proofs.Common.{◌≡◌, ◌≤◌, ◌-◌, ◌*◌, ◌∙◌, ℕ, Some, refl, sym, ap, arith, rules}
 use Rattle.std.specs.Prelude.{neg_ℤ, pos}
 use Rattle.std.specs.FinMap.{get}
-use Rattle.atl_records.specs.declared.books.Entry.TheVariants.{Recruiting}
+use Rattle.atl_records.specs.declared.books.BooksEntry.TheVariants.{Recruiting}
 use Rattle.atl_records.specs.declared.books.Thing.TheVariants.{Money}
 use Rattle.atl_records.specs.Books.{amount_in}
 use Rattle.atl_records.specs.Limits.{holding_limit}

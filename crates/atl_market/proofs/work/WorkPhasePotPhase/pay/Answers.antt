@@ -3,7 +3,7 @@ use Rattle.std.proofs.lemmas.Int.{to_z-of_z}
 use Rattle.std.proofs.lemmas.Option.{same_Some}
 use Rattle.atl_records.specs.Books.{amount_in}
 use Rattle.atl_records.specs.Limits.{holding_limit}
-use Rattle.atl_records.specs.declared.books.Entry.TheVariants.{Wages}
+use Rattle.atl_records.specs.declared.books.BooksEntry.TheVariants.{Wages}
 use Rattle.atl_records.specs.declared.books.Thing.TheVariants.{Money}
 use Rattle.atl_records.specs.declared.records.Unit.{Unit}
 use Rattle.atl_phase.proofs.BookingLaws.{booking_fits, within-pos}
