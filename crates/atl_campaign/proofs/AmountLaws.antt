@@ -49,7 +49,8 @@ module _ (w : WorldValue) (c : CampaignValue) (world : IsWorld w) (are : AreBook
       let regions = none_weighed (λ (r : Region). region_amount (Item i) r) (entries c.regions) (none_kept i l) in
       ap (λ n. n + sum_over (λ (r : Region). region_amount (Item i) r) c.regions) units ∙ ap (λ n. 0 + n) regions
 
-  -- the sum booked of an item not in the world is 0, if the books are of the world's things (AreBooks)
+  -- the sum booked of an item not in the world is 0, if the books have the world's things, and list only amounts of
+  -- these, none of them 0 (AreBooks)
   unknown_booked : (i : ℕ) → length w.items ≤ i → booked c.books (Item i) ≡ pos 0
   unknown_booked i l = booked_past (things_of w) c.books are (Item i) (omega arith)
 

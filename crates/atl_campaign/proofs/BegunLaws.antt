@@ -1,4 +1,5 @@
 -- Laws of beginning a structure and building on it: the campaign stays steady, totals are kept, and changes are marked.
+-- To build on a structure sets how much of it is done, to as much as before or more, up to its kind's size.
 use Rattle.std.proofs.Common.{◌≡◌, ◌≢◌, ℕ, ◌+◌, ◌≤◌, ◌<◌, true, false, cond, length, Some, None, refl, sym, ap, subst, ◌∙◌, inl, inr, arith, true≢false}
 use Rattle.std.specs.Prelude.{IsTrue, is_some}
 use Rattle.std.proofs.lemmas.Bool.{cases_eq}
@@ -23,7 +24,8 @@ use Rattle.atl_campaign.proofs.RegionLaws.{changed-known, get-insert_same, same_
 
 -- ---- a structure is begun
 
--- a structure that can be begun: on land, of a kind of the world, without owner, and 1 to its kind's size done
+-- a structure that can be begun: validly named, without owner, of a kind of the world, in a land region of the
+-- campaign, and with 1 to the kind's size done
 pub record IsFresh (w : WorldValue) (c : CampaignValue) (s : Structure) : Type 0 where
   -- the structure's kind exists in the world
   pub kind : s.kind < length w.kinds
@@ -65,8 +67,8 @@ module _ (w : WorldValue) (c : CampaignValue) (s : Structure) (fresh : IsFresh w
   one_more : len structures ≡ len c.structures + 1
   one_more = len-insert nat_cmp_total c.structures next s ∙ ap (λ o. cond (is_some o) (len c.structures) (len c.structures + 1)) free
 
-  -- once a structure is begun, the campaign's counts and numbers are still in their ranges (AreInRange), if its number
-  -- is at most most_structures
+  -- once a structure is begun, the campaign's counts and numbers are still in their ranges (AreInRange), if the
+  -- structure's number is at most most_structures
   numbers_kept : AreInRange w raised
   numbers_kept = record {
     month = old.numbers.month;
@@ -121,7 +123,7 @@ module _ (w : WorldValue) (c : CampaignValue) (s : Structure) (fresh : IsFresh w
       let (y, at, region) = (old.known.units m v there).structure (λ none. omega (arith, none, here, old.next.structures.count)) in
       none_some y (sym free ∙ ap (get c.structures) (sym here) ∙ at)
 
-  -- once a structure is begun, structures are still owned by units inside them, or by nobody where none is
+  -- once a structure is begun, structures are still owned by units inside them, or by nobody where no unit is inside
   owners_kept : AreOwned raised
   owners_kept =
       every-insert (λ k x. IsOwned raised k x) c.structures next s (record { owned = λ some. nobody some; ownerless = λ none. nobody_inside })
@@ -250,7 +252,8 @@ module _ (w : WorldValue) (c : CampaignValue) (k : ℕ) (s : Structure) (done : 
       units = was.next.units;
     }
 
-    -- after building on a structure, structures are still owned by units inside them, or by nobody where none is
+    -- after building on a structure, structures are still owned by units inside them, or by nobody where no unit is
+    -- inside
     owners_built : AreOwned built
     owners_built =
         every-insert (λ j x. IsOwned built j x) c.structures k further (let o = was.owners k s is in record { owned = o.owned; ownerless = o.ownerless })

@@ -57,7 +57,8 @@ stay-trans one two = record {
   row = λ h. two.row (one.row h);
 }
 
--- if m marks all that changes from a to b, and n, with m's marks too, all from b to c, n marks all from a to c (Covers)
+-- if the marks m have all that changes from campaign a to b, and n, with m's marks too, all from b to c, n have all
+-- from a to c (Covers)
 pub covers-trans : {m n : Marks} (a b c : CampaignValue) → StayMarked m n → Covers m a b → Covers n b c → Covers n a c
 covers-trans {m} {n} a b c stay one two = record {
   factions = λ k free. two.factions k free ∙ one.factions k (was_unmarked m.factions n.factions stay.factions k free);
@@ -159,7 +160,8 @@ module _ (goods : FinSet nat_cmp) (things : MarkedThings) (n thing : ℕ) where
 
 -- ---- the parts of a campaign, which are marked each for itself
 
--- the 14 parts of a campaign that have marks of their own: more than its ten tables, as units, goods and stocks have several
+-- the 14 parts of a campaign that have marks of their own: more than the ten tables, as units, goods and stocks have
+-- several
 pub data MarkedPart : Type 0 where
   -- the factions, marked by their numbers
   Factions : MarkedPart
@@ -334,7 +336,8 @@ marks-faction f c n =
     (λ p. elim p as (Stays c.marks next.marks) [ Factions ↦ put_stays c.marks.factions n | _ ↦ λ k h. h ])
     (λ p. elim p as (KeepsUnmarked next.marks c.value next.value) [ Factions ↦ λ k free. get-insert_other c.value.factions n k (f v) (apart_by c.marks.factions n k free) | _ ↦ λ k free. refl ]))
 
--- replacing n's value v by w changes what `shows` gives of no number's value, if `shows` gives the same of w as of v
+-- `shows` gives the same of each number's value as before n's value v was replaced by w, if it gives the same of w as
+-- of v
 pub shown_still : {V X : Type 0} (shows : Option V → X) (values : FinMap nat_cmp V) (n k : ℕ) (v w : V) → get values n ≡ Some v → (k ≡ n → shows (Some w) ≡ shows (Some v)) → shows (get (map.insert values n w) k) ≡ shows (get values k)
 shown_still shows values n k v w is same = ap shows (get-insert nat_cmp_total values n w k) ∙ by_number (eq_by_cmp nat_cmp k n) refl
   where
@@ -375,7 +378,7 @@ module _ (c : MarkedCampaign) (n item amount : ℕ) where
   abbrev there_after : Region → CampaignValue
   there_after v = with_regions (map.insert c.value.regions n (stocked v))
 
-  -- setting the stock of the item in region n changes no region but for its stocks
+  -- each region, without its stocks, is the same before and after the stock of the item in region n is set
   unstocked_stays : (v : Region) → get c.value.regions n ≡ Some v → (k : ℕ) → option_map unstocked (get (there_after v).regions k) ≡ option_map unstocked (get c.value.regions k)
   unstocked_stays v is k = shown_still (option_map unstocked) c.value.regions n k v (stocked v) is (λ _. refl)
 
@@ -454,7 +457,8 @@ module _ (c : MarkedCampaign) (n item amount : ℕ) where
   abbrev to_restock : Bool → Option Region
   to_restock b = if b then None else get c.value.regions n
 
-  -- setting a stock, with the marks that MarksStock allows, marks all that changes (MarksChanges)
+  -- setting a stock, with a mark on it alone or on all stocks of its region if the amount changes (MarksStock), marks
+  -- all that changes (MarksChanges)
   pub marks-stock : (m : Marks) → MarksStock c n item amount m → MarksChanges c (record { value = with_stock c.value n item amount; marks = m })
   marks-stock m how = by_amount (stock_of c.value n item == amount) refl
     where

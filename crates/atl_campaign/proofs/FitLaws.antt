@@ -11,8 +11,8 @@ by_sign : (z : ℤ) → z ≤ℤ pos 9000000000000000000 → pos 0 ≤ℤ (z +�
 by_sign (pos n) most less = record { sfits = omega (arith, ints, most) }
 by_sign (negsuc n) most less = record { sfits = omega (arith, ints, less) }
 
--- an amount with room for a joining (`LeavesRoomForJoining`) plus at most 4 * 10^18 is in the range of signed 64-bit
--- numbers
+-- an amount from -2^62 - 1 to 2^62 (`LeavesRoomForJoining`), with at most 4 * 10^18 added, is in the range of signed
+-- 64-bit numbers
 pub more_fits : (z : ℤ) (n : ℕ) → LeavesRoomForJoining z → n ≤ 4000000000000000000 → FitsSigned w64 (z +ℤ pos n)
 more_fits z n small few = by_sign (z +ℤ pos n) (omega (arith, ints, small.0, few)) (omega (arith, ints, small.1))
 

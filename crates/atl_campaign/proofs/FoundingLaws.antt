@@ -41,11 +41,14 @@ use Rattle.atl_campaign.proofs.AmountLaws.{none_weighed}
 use Rattle.atl_campaign.proofs.AmountMarkLaws.{none_marked}
 use Rattle.atl_records.proofs.BookLaws.{booked-after_booking, booked-no_amounts, amount-no_amounts, AreBooks-no_amounts, AreBooks-after_booking, IsWithin-after_booking, booked_for}
 
--- the campaign's invariant AreKept holds of the lists of its units and an empty dirty set with room for all amounts
+-- AreKept holds if the lists are those of the units, and the dirty set of the books is empty, with room for all
+-- amounts. AreKept says that the lists are those of the units, and that only amounts of the first `things` things are
+-- marked, with room for all of these.
 pub AreKept-without_marks : (things : ℕ) (units : FinMap nat_cmp Unit) (lists : UnitLists) → AreUnitLists units lists → AreKept units lists things (record { numbers = set.empty; room = entry_count * things })
 AreKept-without_marks things units lists listed = record { unit_lists = listed; amounts = none_marked things (entry_count * things) (omega arith) }
 
--- books of at least two things (money and people) are books of as many things after both bookings of founding
+-- once founding has booked money and people, books of `things` things, at least two, list only amounts of these, none
+-- of them 0 (AreBooks)
 AreBooks-founding : (things money people : ℕ) → 2 ≤ things → AreBooks things (after_booking (after_booking (no_amounts things) Founding Money (pos money)) Founding People (pos people))
 AreBooks-founding things money people l =
     AreBooks-after_booking things (after_booking (no_amounts things) Founding Money (pos money)) Founding People (pos people) (AreBooks-after_booking things (no_amounts things) Founding Money (pos money) (AreBooks-no_amounts things) (omega arith)) (omega arith)
@@ -176,7 +179,8 @@ module _ (w : WorldValue) (pass : List ℕ) (world : IsWorld w) where
     guarded = every-empty (λ n u. Every (λ m v. guards u ≡ true → guards v ≡ true → u.region ≡ v.region → u.faction ≡ v.faction) empty);
   }
 
-  -- the amounts of a founded campaign's books are within amount_bound, if its money and its people are at most 10^14
+  -- the amounts of a founded campaign's books are within their bound (amount_bound), if its money and its people are at
+  -- most 10^14
   founded-amounts : money ≤ 100000000000000 → people ≤ 100000000000000 → AreAmountsWithin (founded_of w pass)
   unfolding founded_of
   founded-amounts few_money few_people =

@@ -1,4 +1,5 @@
 -- Laws of the campaign assembled from rows: if the rows are in range, the campaign's numbers are, and units have men.
+-- Books of n things (AreBooks) have n things, and list only amounts of these, none of them 0.
 use Rattle.std.proofs.Common.{◌≡◌, ◌==◌, ℕ, ◌≤◌, ◌<◌, ◌+◌, ◌&&◌, List, [], ◌∷◌, Bool, true, false, cond, filter, length, nat_le, refl, ap, subst, arith}
 use Rattle.std.specs.Prelude.{ℤ, pos, negsuc, min, nat_lt, Some, None}
 use Rattle.std.specs.List.{list_all}

@@ -1,4 +1,4 @@
--- Laws of a gap vector: which list comes after its free slots once an element is inserted or removed.
+-- Laws of a gap vector, which has free slots and then a list: what the list is once an element is inserted or removed.
 use Rattle.std.proofs.Common.{◌≡◌, ℕ, suc, ◌+◌, ◌-◌, ◌<◌, ◌≤◌, List, ◌∷◌, ◌++◌, length, take, drop, set, get_or, sym, ap, ◌∙◌, append_assoc, length-drop, arith}
 use Rattle.std.proofs.lemmas.List.{drop_at, drop-drop, drop-take, drop-append-le, drop-set-add, drop_more, length-take-le, set_at}
 use Rattle.std.specs.List.{insert, remove, copy_within}
@@ -24,7 +24,8 @@ module _ {A : Type 0} (xs : List A) (free place : ℕ) where
       let behind : free + 1 + place ≡ free + suc place = omega arith in
       rw (copied xs free (free + place) (free + 1) (omega arith), count, behind) (ap (λ ys. take place (drop free xs) ++ ys) (sym (drop-drop (suc place) free xs)))
 
-  -- moving the elements before an index down by one, and putting x into the gap, inserts x into the list at that index
+  -- where a slot is free, moving the elements before an index down by one, and putting x into the gap, inserts x into
+  -- the list at that index
   pub opened : (x : A) → 0 < free → free + place ≤ length xs → drop (free - 1) (set (copy_within xs free (free + place) (free - 1)) (free - 1 + place) x) ≡ insert (drop free xs) place x
   opened x some l =
       let behind : free - 1 + place + 1 ≡ free + place = omega arith in

@@ -27,12 +27,12 @@ map_twice : {V : Type 0} (f g : V → V) (o : Option V) → option_map f (option
 map_twice f g None = refl
 map_twice f g (Some v) = refl
 
--- after `changed_at` by f, number k has f of its old value o, or none where it had none
+-- once f is applied to the value of number k (`changed_at`), k has f of its old value o, or none where it had none
 at_same : {V : Type 0} (f : V → V) (m : FinMap nat_cmp V) (k : ℕ) (o : Option V) → get m k ≡ o → get (changed_at f m k o) k ≡ option_map f o
 at_same f m k None e = e
 at_same f m k (Some v) e = get_same m k (f v)
 
--- after `changed_at` of number k, another number n has the value that it had
+-- applying f to the value of number k (`changed_at`) changes nothing under another number n
 at_other : {V : Type 0} (f : V → V) (m : FinMap nat_cmp V) (k n : ℕ) (o : Option V) → n ≢ k → get (changed_at f m k o) n ≡ get m n
 at_other f m k n None apart = refl
 at_other f m k n (Some v) apart = get_other m k n (f v) apart
@@ -84,8 +84,8 @@ module _ {R V : Type 0} (owner : R → ℕ) (more : R → V → V) where
     put_each [] m l all = all
     put_each (t ∷ ts) m l all = put_each ts (insert m (number t) (before t)) (insert l (number t) (after t)) (put_one t m l all)
 
-    -- adding all rows to the map that ts make by `before`, each value without its rows, gives the map by `after`, each
-    -- with them
+    -- if `after` gives each of ts its value by `before` with the rows added, adding all rows to the map of ts by
+    -- `before` gives the map by `after`
     pub give_all : (ts : List T) → with_rows_added owner more rows (by_number number before ts) ≡ by_number number after ts
     give_all ts =
         let none : Becomes empty empty = λ n. ap (option_map (value_with_rows n rows)) (get-empty nat_cmp n) ∙ sym (get-empty nat_cmp n) in
@@ -114,7 +114,7 @@ picked r items items' days days' true false false h = refl
 no_skill : (s : ℕ) → (s == 0) ≡ true → (s == 1) ≡ false
 no_skill s h = ap (λ k. k == 1) (is_same s 0 h)
 
--- a unit, once the rows of `has` of number n are added to it, has also the items and days that these name
+-- once the rows of `has` of unit n are added to a unit, the unit has also the items and days that these rows name
 unit_given : (r : StoredUnit) (n : ℕ) (has : List StoredHas) (items days : FinMap nat_cmp ℕ)
     → value_with_rows (λ h. as_u32 h.unit) with_has_row n has (unit_with r items days) ≡ unit_with r (put_rows thing_of amount_of (filter (is_of_unit_and_sort n 0) has) items) (put_rows thing_of amount_of (filter (is_of_unit_and_sort n 1) has) days)
 unit_given r n [] items days = refl
@@ -146,7 +146,7 @@ stocked : (r : StoredRegion) (stocks stocks' : FinMap nat_cmp ℕ) (mine : Bool)
 stocked r stocks stocks' true = refl
 stocked r stocks stocks' false = refl
 
--- a region, once the rows of `market` of number n are added to it, has also the stocks that these name
+-- once the rows of `market` of region n are added to a region, the region has also the stocks that these rows name
 region_given : (r : StoredRegion) (n : ℕ) (markets : List StoredMarket) (stocks : FinMap nat_cmp ℕ)
     → value_with_rows (λ m. as_u32 m.region) with_market_row n markets (region_with r stocks) ≡ region_with r (put_rows item_of stock_of (filter (λ m. as_u32 m.region == n) markets) stocks)
 region_given r n [] stocks = refl
@@ -157,7 +157,8 @@ region_given r n (m ∷ markets) stocks =
     ∙ region_given r n markets (cond mine stocks' stocks)
     ∙ ap (region_with r) (sym (taken_or_not item_of stock_of (λ m. as_u32 m.region == n) m markets mine stocks refl))
 
--- regions without stocks (bare_region), once all rows of `market` are added, are those assembled with them (region_of)
+-- regions without stocks (bare_region), once all rows of `market` are added, are the regions assembled with these rows
+-- (region_of)
 pub regions_given : (markets : List StoredMarket) (rows : List StoredRegion)
     → with_rows_added (λ m. as_u32 m.region) with_market_row markets (by_number (λ r. as_u32 r.number) bare_region rows) ≡ by_number (λ r. as_u32 r.number) (region_of markets) rows
 regions_given markets rows = give_all (λ (m : StoredMarket). as_u32 m.region) with_market_row (λ (r : StoredRegion). as_u32 r.number) bare_region (region_of markets) markets (λ r. region_given r (as_u32 r.number) markets empty) rows

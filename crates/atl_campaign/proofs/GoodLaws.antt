@@ -105,7 +105,8 @@ IsGood-with_report w c faction text there good = record {
   reported = λ n f is. there-insert c.reports faction n text (good.reported n f is);
 }
 
--- storing a mailing of a faction that is not gone (IsMailingOf, IsActive) keeps a campaign good
+-- storing, for a faction that is there and not gone (IsActive), a text that is short enough and has the faction's
+-- number in its header (IsMailingOf) keeps a campaign good
 pub IsGood-with_mail : (w : WorldValue) (c : CampaignValue) (faction : ℕ) (text : List ℕ) → IsMailingOf faction text → IsActive c faction → IsGood w c → IsGood w (with_mail c faction text)
 IsGood-with_mail w c faction text sent active good =
     let posts = good.sound.steady.known.posts in

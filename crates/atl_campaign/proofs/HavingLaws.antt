@@ -15,7 +15,8 @@ use Rattle.atl_campaign.specs.Campaign.{CampaignValue}
 use Rattle.atl_records.proofs.EveryLaws.{every-insert}
 use Rattle.atl_campaign.proofs.HoldingLaws.{known_kept, next_kept, numbers_kept, of_one_faction_kept, owners_kept}
 
--- a holding that a unit may have: within the limits, and of the world's items and skills
+-- a holding that a unit may have: with a valid name, men, money, items and days within their limits, and only items and
+-- skills of the world
 pub record MayHave (w : WorldValue) (h : HoldingValue) : Type 0 where
   -- the men, the money and each item of the holding are within their limits
   pub limits : IsHolding h

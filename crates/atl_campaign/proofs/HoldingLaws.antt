@@ -29,7 +29,8 @@ use Rattle.atl_records.proofs.EveryLaws.{every-insert, get-insert_other, none_so
 use Rattle.atl_records.proofs.HoldingLaws.{get-set_other, set_again}
 use Rattle.atl_campaign.proofs.RegionLaws.{get-insert_same, same_len}
 
--- a holding that a unit may get: within the limits, of the world's items and skills, and guarding only if the unit did
+-- a holding that a unit may get: validly named, with men, money, items and days within limits, only items and skills of
+-- the world, and guarding only if the unit did
 pub record MayHaveWithoutNewGuard (w : WorldValue) (u : Unit) (h : HoldingValue) : Type 0 where
   -- the men, the money and each item of the holding are within their limits
   pub limits : IsHolding h
@@ -131,7 +132,8 @@ module _ (w : WorldValue) (c : CampaignValue) (n : ℕ) (u : Unit) (h : HoldingV
         | Greater ↦ λ o. (x, get-insert_other c.units n k new_unit (λ same. let l = ranked k n Greater (sym o) in absurd (omega arith)) ∙ there, inside)
       ] refl
 
-  -- structures are still owned by units inside them when unit n gets the holding h
+  -- structures are still owned by units inside them, or by nobody where no unit is inside, when unit n gets the holding
+  -- h
   pub owners_kept : AreOwned c → AreOwned with_new_holding
   owners_kept old m s there =
       let o = old m s there in
@@ -140,7 +142,8 @@ module _ (w : WorldValue) (c : CampaignValue) (n : ℕ) (u : Unit) (h : HoldingV
         ownerless = λ none. every-insert (λ k x. x.structure ≢ m) c.units n new_unit (o.ownerless none n u is) (o.ownerless none);
       }
 
-  -- units and structures on water are still afloat (AreAfloat) when unit n gets the holding h
+  -- units on water are still inside ships, and structures there complete ships (AreAfloat), when unit n gets the
+  -- holding h
   water_kept : AreAfloat w c → AreAfloat w with_new_holding
   water_kept old = record {
     units = every-insert _ c.units n new_unit (old.units n u is) old.units;
@@ -241,7 +244,8 @@ module _ (c : MarkedCampaign) (n item amount : ℕ) where
   pub marks-item : MarksChanges c (record { value = with_item c.value n item amount; marks = mark_item c n item amount })
   marks-item = changed_there (λ units o. MarksChanges c (after_item units (unless_has item amount o))) with_other c.value.units n (marks-refl c) (λ u is. by_amount u is (has_amount u.holding.items item amount) refl)
     where
-      -- the same for unit u, which is n, whether it has the amount already (b) or not
+      -- for marks-item: setting the item of unit u, which is n, marks all that changes (MarksChanges), whether u has
+      -- the amount already (b) or not
       by_amount : (u : Unit) → get c.value.units n ≡ Some u → (b : Bool) → has_amount u.holding.items item amount ≡ b → MarksChanges c (after_item (insert c.value.units n (with_other u)) (if b then None else Some u))
       by_amount u is true has =
           let same : with_other u ≡ u = ap (λ items. record u { holding = record u.holding { items = items } }) (set_again u.holding.items item amount has) in

@@ -252,7 +252,7 @@ module _ (w : WorldValue) (name pass : List ℕ) (word : ℕ) (c : CampaignValue
     unfolding joined
     joined-none old = every-insert (λ n f. numbers_of n units ≡ [] → f.gone ≡ true) c.factions c.next_faction member own_unit (λ n f is none. old n f is (sym (same_units n f is) ∙ none))
 
-    -- structures are still owned by units inside them when a faction joins
+    -- structures are still owned by units inside them, or by nobody where no unit is inside, when a faction joins
     joined-owners : AreOwned c → AreOwned (joined w name pass word c)
     unfolding joined
     joined-owners old n s is = let o = old n s is in record {
@@ -260,7 +260,8 @@ module _ (w : WorldValue) (name pass : List ℕ) (word : ℕ) (c : CampaignValue
       ownerless = λ none. every-insert (λ m u. u.structure ≢ n) c.units c.next_unit unit (λ same. none_some s (sym next.structures.first ∙ ap (get c.structures) same ∙ is)) (o.ownerless none);
     }
 
-    -- each mailing is still one of a faction that is there and not gone (IsMail) when a faction joins
+    -- when a faction joins, each mail is still of a faction that is there and not gone, short enough, and with the
+    -- faction's number in its header (IsMail)
     joined-mail : IsMail c → IsMail (joined w name pass word c)
     unfolding joined
     joined-mail old n text is = let (own, active) = old n text is in let (f, there, stays) = active in (own, (f, still_there c.factions c.next_faction n member f free_faction there, stays))
@@ -297,7 +298,7 @@ module _ (w : WorldValue) (name pass : List ℕ) (word : ℕ) (c : CampaignValue
       (IsWithin-after_booking c.books Joining Money w.rules.start_money (amount_bound c) (amount_bound c + w.rules.start_money) old (omega arith)) (omega (arith, more, world.rules.start_money))
 
   module _ (full : is_full c ≡ false) (free : name_taken c name ≡ false) (named : IsTrue (name_ok name)) (passes : IsTrue (pass_ok pass)) (world : IsWorld w) where
-    -- a campaign stays steady when a faction joins, if the join is not refused
+    -- a campaign stays steady when a faction joins, if the join is not refused, and name and pass text keep their rules
     joined-steady : IsSteady w c → IsSteady w (joined w name pass word c)
     joined-steady old = record {
       numbers = joined-numbers full world old.next old.numbers;
@@ -311,7 +312,8 @@ module _ (w : WorldValue) (name pass : List ℕ) (word : ℕ) (c : CampaignValue
       guarded = joined-guarded old.guarded;
     }
 
-    -- a sound campaign that a faction joins stays sound, if the join is not refused
+    -- a sound campaign that a faction joins stays sound, if the join is not refused, and name and pass text keep their
+    -- rules
     pub joined-sound : IsSound w c → IsSound w (joined w name pass word c)
     joined-sound old = let next = old.steady.next in record {
       steady = joined-steady old.steady;

@@ -44,7 +44,8 @@ module _ (w : WorldValue) (c : CampaignValue) (n : ℕ) (u : Unit) (is : get c.u
   abbrev reduced : FinMap nat_cmp Structure → CampaignValue
   reduced structures = record c { units = left; structures = structures }
 
-  -- structures that differ from the campaign's at most in owners, who are among the units left
+  -- structures that differ from the campaign's at most in owners: each is owned by a unit left inside, or by nobody
+  -- where no unit is left inside
   pub record AreReowned (structures : FinMap nat_cmp Structure) : Type 0 where
     -- there are as many of the given structures as the campaign has
     pub count : len structures ≡ len c.structures
@@ -217,7 +218,7 @@ module _ (w : WorldValue) (c : CampaignValue) (n : ℕ) (u : Unit) (is : get c.u
 
     -- for a unit that owns the structure that it is inside
     module _ (mine : Structure) (here : get c.structures u.structure ≡ Some mine) (some_place : u.structure ≢ 0) where
-      -- the next owner of unit n's structure: the first other unit inside, or 0
+      -- the next owner of unit n's structure: the first other unit inside, or 0 (nobody) where there is none
       abbrev next : ℕ
       next = heir c u.structure n
 
@@ -400,7 +401,8 @@ marks_gone : (c : MarkedCampaign) (n : ℕ) (o : Option Unit) → MarksChanges c
 marks_gone c n None = marks-refl c
 marks_gone c n (Some u) = marks-trans c (taken_marked c n) (gone_marked_at c n (Some u)) (marks-taken c n) (marks-after_handover (taken_marked c n) u.structure n (heir c.value u.structure n))
 
--- if d is c without a unit, with the marks of gone_marked, all that changes is marked (MarksChanges)
+-- if d is c without unit n, with the unit, its goods and a structure that got another owner marked as in gone_marked,
+-- all that changes is marked (MarksChanges)
 pub marks-without : (c d : MarkedCampaign) (n : ℕ) → d.value ≡ without_unit c.value n → d.marks ≡ (gone_marked c n).marks → MarksChanges c d
 unfolding gone_marked
 marks-without c d n what marks =

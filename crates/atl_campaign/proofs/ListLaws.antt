@@ -1,5 +1,5 @@
 -- Laws of the lists of units by region, faction and structure: they have just the units of each as units come, change
--- and go.
+-- and go. A unit's key is the number of its region, faction or structure, which says in whose list the unit is.
 use Rattle.std.proofs.Common.{◌≡◌, ◌≢◌, ◌==◌, ℕ, true, false, cond, Option, Some, None, List, [], map, filter, refl, sym, ap, subst, ◌∙◌, arith, inl, inr}
 use Rattle.std.specs.declared.cmp.Ordering.TheVariants.{Less, Equal, Greater}
 use Rattle.std.specs.Prelude.{Result, Ok, Err, OnOk, OnErr, unwrap_or}
@@ -293,7 +293,8 @@ AreInsideLists-relisted units old new n from to u v is own goes same lists =
 pub AreUnitLists-changed : (f : Unit → Unit) → ((u : Unit) → list_keys_of u ≡ list_keys_of (f u)) → (units : FinMap nat_cmp Unit) (lists : UnitLists) (n : ℕ) → AreUnitLists units lists → AreUnitLists (changed f units n) lists
 AreUnitLists-changed f stays units lists n is = by_unit (get units n) refl
   where
-    -- the lists still have just the units of each region, faction and structure, whether unit n is there or not
+    -- for AreUnitLists-changed: the lists still have just the units of each region, faction and structure once unit n,
+    -- if it is there (o), changes, but none of these three
     by_unit : (o : Option Unit) → get units n ≡ o → AreUnitLists (changed_at f units n o) lists
     by_unit None e = is
     by_unit (Some u) e = AreUnitLists-kept units lists n u (f u) e (stays u) is

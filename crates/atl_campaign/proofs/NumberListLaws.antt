@@ -1,4 +1,5 @@
--- Laws of lists of numbers: which numbers are on them, and the first that passes a test.
+-- Laws of lists of numbers: which numbers are on them, and the first that passes a test. The list numbers_where has the
+-- numbers whose values in a map pass a test.
 use Rattle.std.proofs.Common.{◌≡◌, ◌≢◌, ℕ, suc, ◌<◌, ◌≤◌, Bool, true, false, cond, List, [], ◌∷◌, length, get_or, filter, map, Some, refl, sym, ap, subst, ◌∙◌, inl, inr, ◌⊎◌, arith}
 use Rattle.std.specs.Ordering.{nat_cmp}
 use Rattle.std.specs.FinMap.{FinMap, entries, get}

@@ -81,7 +81,8 @@ campaign_code =
 abbrev pub marked_code : Coded MarkedCampaign
 marked_code = code_by (CampaignValue × Marks) (coded× campaign_code marks_code) (λ m. (m.value, m.marks)) (λ p. record { value = p.0; marks = p.1 }) (λ _. refl)
 
--- a campaign without anything: no regions, no factions, and books of no things
+-- a campaign without anything: month 0, an empty pass text, next numbers 1, no factions, regions, units, structures,
+-- mail or reports, and books of no things
 abbrev pub empty_campaign : CampaignValue
 empty_campaign = record {
   month = 0;

@@ -100,33 +100,36 @@ pub record AreNamed (c : CampaignValue) : Type 0 where
 
 -- ---- of what is named by its number: all of it exists
 
--- a unit's faction, region, items and skills exist; its structure, unless 0, exists and is in the unit's region
+-- a unit's faction, region, items and skills exist; its structure, unless that is 0 (none), exists and is in the unit's
+-- region
 pub record IsPlacedAmong (w : WorldValue) (factions : FinMap nat_cmp Faction) (regions : FinMap nat_cmp Region) (structures : FinMap nat_cmp Structure) (u : Unit) : Type 0 where
   -- the unit's faction exists
   pub faction : HasValue factions u.faction
   -- the unit's region exists
   pub region : HasValue regions u.region
-  -- the structure that the unit is inside, unless 0, exists and is in the unit's region
+  -- the structure that the unit is inside, unless 0 (none), exists and is in the unit's region
   pub structure : u.structure ≢ 0 → (s : Structure) × (get structures u.structure ≡ Some s) × (s.region ≡ u.region)
   -- each item that is listed of the unit exists in the world
   pub items : Every (λ i amount. i < length w.items) u.holding.items
   -- each skill that is listed of the unit exists in the world
   pub skills : Every (λ s days. s < length w.skills) u.holding.days
 
--- a unit's faction, region, items and skills exist in a campaign; its structure, unless 0, is in the unit's region
+-- a unit's faction and region exist in the campaign, and its items and skills in the world; its structure, unless that
+-- is 0 (none), exists and is in the unit's region
 abbrev pub IsPlaced : WorldValue → CampaignValue → Unit → Type 0
 IsPlaced w c u = IsPlacedAmong w c.factions c.regions c.structures u
 
--- a structure's kind and region exist, and so does its owner, unless that is 0
+-- a structure's kind and region exist, and so does its owner, unless that is 0 (nobody)
 pub record IsBuiltAmong (w : WorldValue) (regions : FinMap nat_cmp Region) (units : FinMap nat_cmp Unit) (s : Structure) : Type 0 where
   -- the structure's kind exists in the world
   pub kind : s.kind < length w.kinds
   -- the structure's region exists
   pub region : HasValue regions s.region
-  -- the structure's owner, unless 0, is a unit that exists
+  -- the structure's owner, unless 0 (nobody), is a unit that exists
   pub owner : s.owner ≢ 0 → HasValue units s.owner
 
--- a structure's kind and region exist in a campaign, and so does its owner, unless that is 0
+-- a structure's kind exists in the world, and its region in the campaign; its owner, unless that is 0 (nobody), is a
+-- unit of the campaign
 abbrev pub IsBuilt : WorldValue → CampaignValue → Structure → Type 0
 IsBuilt w c s = IsBuiltAmong w c.regions c.units s
 
@@ -151,9 +154,10 @@ pub record AreKnown (w : WorldValue) (c : CampaignValue) : Type 0 where
   pub regions : (n : ℕ) → HasValue c.regions n ↔ HasValue w.regions n
   -- each stock that is listed of a region is of an item that has a market there in the world
   pub markets : Every (λ n r. AreOfMarkets w n r.stocks) c.regions
-  -- the faction, region, items and skills of each unit exist, and its structure, unless 0, is in the unit's region
+  -- the faction, region, items and skills of each unit exist; its structure, unless that is 0 (none), exists and is in
+  -- the unit's region
   pub units : Every (λ n u. IsPlaced w c u) c.units
-  -- the kind and the region of each structure exist, and so does its owner, unless that is 0
+  -- the kind and the region of each structure exist, and so does its owner, unless that is 0 (nobody)
   pub structures : Every (λ n s. IsBuilt w c s) c.structures
   -- all mail and all reports are of factions that exist
   pub posts : ArePosted c
@@ -196,14 +200,14 @@ UnitlessAreGone c = Every (λ n f. numbers_of n c.units ≡ [] → f.gone ≡ tr
 
 -- ---- of owners
 
--- the owner of structure n is a unit inside it; it is 0 where no unit is inside
+-- the owner of structure n is a unit inside the structure, or 0 (nobody) where no unit is inside
 pub record IsOwnedAmong (units : FinMap nat_cmp Unit) (n : ℕ) (s : Structure) : Type 0 where
   -- if the structure has an owner, this is a unit that exists and is inside the structure
   pub owned : s.owner ≢ 0 → (u : Unit) × (get units s.owner ≡ Some u) × (u.structure ≡ n)
   -- if the structure has no owner, no unit is inside it
   pub ownerless : s.owner ≡ 0 → Every (λ m u. u.structure ≢ n) units
 
--- the owner of structure n is one of the campaign's units inside it; it is 0 where no unit is inside
+-- the owner of structure n is one of the campaign's units inside the structure, or 0 (nobody) where no unit is inside
 abbrev pub IsOwned : CampaignValue → ℕ → Structure → Type 0
 IsOwned c n s = IsOwnedAmong c.units n s
 

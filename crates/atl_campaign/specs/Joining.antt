@@ -34,7 +34,9 @@ home_of w word = slice_index (land_of w) (word % length (land_of w))
 abbrev pub new_faction : ℕ → List ℕ → List ℕ → Faction
 new_faction number name pass = record { number = number; joined_as = name; name = name; pass = pass; gone = false }
 
--- the unit of a faction that joins: one man with the start money, in the region picked by `word`, a word of the dice
+-- the unit of a faction that joins: one man with the start money, no goods, and the name `Unit` with the unit's number.
+-- The unit is in the land region picked by `word`, a word of the dice, inside no structure, and its guard flag is
+-- clear.
 abbrev pub first_unit : WorldValue → ℕ → CampaignValue → Unit
 first_unit w word c = record {
   faction = c.next_faction;
@@ -62,8 +64,8 @@ join_of w name pass word c =
     else (if is_full c then Err Full
     else Ok (joined w name pass word c, (c.next_faction, c.next_unit)))
 
--- what `join`, with a name, a pass text and a word of the dice, may answer for a campaign, and which campaign it
--- leaves: after a fault the old one
+-- what `join`, with a name, a pass text and a word of the dice, may answer: what the definition `join_of` gives, or the
+-- fault Memory. After a fault the campaign `new` that is left is the old one.
 abbrev pub Joins : WorldValue → List ℕ → List ℕ → ℕ → CampaignValue → Result (ℕ × ℕ) JoinFault → CampaignValue → Type 0
 Joins w name pass word old (Ok numbers) new = join_of w name pass word old ≡ Ok (new, numbers)
 Joins w name pass word old (Err NameTaken) new = (join_of w name pass word old ≡ Err NameTaken) × (new ≡ old)

@@ -1,4 +1,5 @@
--- For proofs alone: the lists of units by region, faction and structure that a campaign keeps, and room for marks.
+-- For proofs alone: the lists of units by region, faction and structure that a campaign keeps, and room for marks. A
+-- unit's keys are the numbers of its faction, region and structure.
 use Rattle.std.specs.Prelude.{◌≡◌, ◌==◌, ◌≤◌, ◌*◌, ℕ, List, [], unwrap_or, Some, None, if◌then◌else◌}
 use Rattle.std.specs.Ordering.{nat_cmp}
 use Rattle.std.specs.FinMap.{FinMap, get, insert, remove}

@@ -97,7 +97,8 @@ mark_all_stocks c n item amount =
     let region = region_to_restock c.value.regions n item amount in
     record c.marks { markets = marked_with c.marks.markets n region; stocks = marked_with c.marks.stocks n region }
 
--- the last argument is the marks after a stock was set: `mark_stock`, or `mark_all_stocks` without memory for that mark
+-- the last argument is the marks after a stock was set: if its amount changed, that stock alone is marked too
+-- (`mark_stock`), or all stocks of its region (`mark_all_stocks`)
 abbrev pub MarksStock : MarkedCampaign → (region item : ℕ) → ℕ → Marks → Type 0
 MarksStock c n item amount m = (m ≡ mark_stock c n item amount) ⊎ (m ≡ mark_all_stocks c n item amount)
 
@@ -127,7 +128,8 @@ mark_all_mail c = record c.marks { mail = union c.marks.mail (from_list (keys c.
 abbrev pub handed_marked : MarkedCampaign → ℕ → ℕ → ℕ → MarkedCampaign
 handed_marked c s from to = if is_owned_by (get c.value.structures s) from then record { value = with_owner c.value s to; marks = mark_structure c s } else c
 
--- the campaign with unit n put in region r and structure s, and its row marked; no owner changes
+-- the campaign with unit n, if it is there, put in region r and structure s, and the unit and its row marked; no owner
+-- changes
 abbrev pub put_marked : MarkedCampaign → ℕ → ℕ → ℕ → MarkedCampaign
 put_marked c n r s = record { value = placed c.value n r s; marks = mark_unit_row c n }
 
@@ -137,7 +139,8 @@ abbrev pub place_marked_at : MarkedCampaign → ℕ → ℕ → ℕ → Option U
 place_marked_at c n r s None = c
 place_marked_at c n r s (Some u) = if u.structure == s then put_marked c n r s else handed_marked (handed_marked (put_marked c n r s) u.structure n (heir c.value u.structure n)) s 0 n
 
--- the campaign with unit n put in region r and structure s; its row and structures that get another owner are marked
+-- the campaign with unit n, if it is there, put in region r and structure s; the unit, its row, and structures that get
+-- another owner are marked
 unfoldable pub place_marked : MarkedCampaign → ℕ → ℕ → ℕ → MarkedCampaign
 place_marked c n r s = place_marked_at c n r s (get c.value.units n)
 
@@ -151,7 +154,8 @@ abbrev pub gone_marked_at : MarkedCampaign → ℕ → Option Unit → MarkedCam
 gone_marked_at c n None = c
 gone_marked_at c n (Some u) = handed_marked (taken_marked c n) u.structure n (heir c.value u.structure n)
 
--- the campaign without unit n: it, its row and goods are marked, and its structure where that gets another owner
+-- the campaign without unit n; if the unit was there, it, its row and goods are marked, and its structure where that
+-- gets another owner
 unfoldable pub gone_marked : MarkedCampaign → ℕ → MarkedCampaign
 gone_marked c n = gone_marked_at c n (get c.value.units n)
 

@@ -14,7 +14,8 @@ first_or_zero (n ∷ ns) = n
 abbrev pub first_other : List ℕ → ℕ → ℕ
 first_other ns leaving = first_or_zero (filter (λ n. not (n == leaving)) ns)
 
--- the next owner of structure s when its owner `leaving` leaves: the lowest-numbered other unit inside, or 0
+-- the next owner of structure s when its owner `leaving` leaves: the lowest-numbered other unit inside, or 0 (nobody)
+-- where there is none
 abbrev pub heir : CampaignValue → ℕ → ℕ → ℕ
 heir c s leaving = first_other (numbers_inside s c.units) leaving
 
@@ -46,8 +47,8 @@ abbrev pub with_place_at : CampaignValue → ℕ → ℕ → ℕ → Option Unit
 with_place_at c n r s None = c
 with_place_at c n r s (Some u) = if u.structure == s then placed c n r s else after_handover (after_handover (placed c n r s) u.structure n (heir c u.structure n)) s 0 n
 
--- the campaign with unit n put in region r and structure s, or in no structure where s is 0.
--- A structure that it owned and leaves gets its next owner. Where it enters one without an owner, it owns that.
+-- the campaign with unit n, if it is there, put in region r and structure s, or in no structure where s is 0. A
+-- structure that n owned and leaves gets its next owner. Where n enters a structure without an owner, n owns that.
 unfoldable pub with_place : CampaignValue → ℕ → ℕ → ℕ → CampaignValue
 with_place c n r s = with_place_at c n r s (get c.units n)
 

@@ -41,8 +41,9 @@ fn make_room<T: Copy + Drop>(items: &mut Vec<T>) -> Result<usize, AllocError>
     Ok(free)
 }
 
-/// Inserts `thing` at index `place` of the list behind `free` unused elements. Moves the elements
-/// before it one place to the front, into the last unused place.
+/// Inserts `thing` at index `place` of the list behind `free` unused elements, of which there is at
+/// least one. Moves the elements before the index one place to the front, into the last unused
+/// place.
 fn put_before<T: Copy + Drop>(items: &mut Vec<T>, free: usize, place: usize, thing: T)
     requires some { 0 < free }
     requires within { free + place ≤ length items.old.items }
@@ -55,9 +56,9 @@ fn put_before<T: Copy + Drop>(items: &mut Vec<T>, free: usize, place: usize, thi
     items[first + place] = thing;
 }
 
-/// Inserts `thing` at index `place` of the list behind `free` unused elements, and returns how many
-/// are unused then. The elements on the nearer side move, or all if room is made. Without memory
-/// nothing changes.
+/// Inserts `thing` at index `place` of the list behind `free` unused elements, at most half of all,
+/// and returns how many are unused then. The elements on the nearer side move, or all if room is
+/// made. Without memory nothing changes.
 fn open<T: Copy + Drop>(
     items: &mut Vec<T>,
     free: usize,

@@ -95,8 +95,8 @@ impl UnitLists {
         unlist_apart(&mut self.by_structure, number, listing.structure, 0);
     }
 
-    /// Moves a unit into the lists of another region and structure. Without memory for it nothing
-    /// changes.
+    /// Moves a unit into the lists of another region and structure; the faction has to stay the
+    /// same. Without memory for it nothing changes.
     pub(crate) fn relist(
         &mut self,
         alloc: Global,

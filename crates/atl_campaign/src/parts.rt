@@ -68,7 +68,7 @@ impl Drop for StoredCampaignRow {
 pub struct StoredFaction {
     /// The faction's number, from 1 to atl_orders' LAST_FACTION.
     pub number: i64,
-    /// The name that the faction joined under, which no other faction has.
+    /// The name that the faction joined under; no other faction joined under the same name.
     pub joined_as: Sequence<u8>,
     /// The name that the faction shows.
     pub name: Sequence<u8>,
@@ -108,7 +108,7 @@ pub struct StoredUnit {
     pub name: Sequence<u8>,
     /// The number of the region where the unit is.
     pub region: i64,
-    /// The number of the structure that it is inside, or 0 where it is inside none.
+    /// The number of the structure that the unit is inside, or 0 where it is inside none.
     pub structure: i64,
     /// How many men the unit has, from 1 to MEN_LIMIT.
     pub men: i64,

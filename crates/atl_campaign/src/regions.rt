@@ -1,4 +1,5 @@
-//! The regions of a campaign by number, with dirty marks on their rows and their stocks.
+//! The regions of a campaign by number, with dirty marks on their rows and their stocks. A call
+//! that changes or marks a region does nothing where no region has the number given.
 ghost use Rattle.std.specs.Prelude.{◌≡◌, ◌≤◌, ◌+◌, ◌*◌, ◌⊎◌, IfOk, IsOk, OnOk, OnErr, option_copied};
 ghost use Rattle.std.specs.FinMap as map;
 ghost use Rattle.std.specs.FinSet as set;

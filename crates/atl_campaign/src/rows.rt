@@ -1,4 +1,5 @@
-//! Makes the rows of a campaign in each table of a format. See docs/FORMATS.md, "Tables".
+//! Makes the rows of a campaign in each table of a format. Where memory runs out, the answer is
+//! AllocError. See docs/FORMATS.md, "Tables".
 ghost use Rattle.std.specs.Prelude.{◌≡◌, ◌≤◌, ◌<◌, ◌++◌, ◌∷◌, [], IfOk, OnOk};
 ghost use Rattle.std.specs.FinMap as map;
 ghost use Rattle.std.specs.List.{flat_map};
@@ -322,7 +323,7 @@ fn books_row(entry: BooksEntry, thing: Thing, amount: i64) -> StoredBooks
     }
 }
 
-/// Adds a row of `books` for each amount under an entry that is not 0. `things` is how many things
+/// Adds a row of `books` for each amount, other than 0, under an entry. `things` is how many things
 /// the books have.
 fn add_entry(
     rows: &mut Sequence<StoredBooks>,
@@ -345,8 +346,8 @@ fn add_entry(
     Ok(())
 }
 
-/// Adds a row of `books` for each amount under the given entries that is not 0, one entry after
-/// another.
+/// Adds a row of `books` for each amount, other than 0, under the given entries, one entry after
+/// another. `things` is how many things the books have.
 fn add_entries(
     rows: &mut Sequence<StoredBooks>,
     books: &Books,
@@ -376,16 +377,16 @@ fn books_rows(alloc: Global, books: &Books) -> Result<Sequence<StoredBooks>, All
 
 /// Writes the whole campaign as rows of its tables.
 impl Campaign {
-    /// The rows of the campaign in the second format, in the order of their keys. See
-    /// docs/FORMATS.md, "Tables".
+    /// The rows of the campaign in the second format, in the order of their keys. AllocError
+    /// without memory. See docs/FORMATS.md, "Tables".
     pub fn parts(&self) -> Result<Parts, AllocError>
         ensures { IfOk result (λ parts. parts ≡ rows_of Second self.now.value) }
     {
         self.parts_as(Format::Second)
     }
 
-    /// The rows of the campaign in a format, in the order of their keys. See docs/FORMATS.md,
-    /// "Tables".
+    /// The rows of the campaign in a format, in the order of their keys. AllocError without memory.
+    /// See docs/FORMATS.md, "Tables".
     #[tactic(auto, unfolding(crate::specs::Rows::rows_of))]
     pub fn parts_as(&self, format: Format) -> Result<Parts, AllocError>
         ensures { IfOk result (λ parts. parts ≡ rows_of format self.now.value) }

@@ -1,4 +1,5 @@
-//! Puts the rows of items, days of study and stocks into their units and regions.
+//! Puts the rows of items, days of study and stocks into their units and regions. Where memory runs
+//! out, the answer is AllocError.
 ghost use Rattle.std.specs.Prelude.{◌≡◌, OnOk, true};
 ghost use Rattle.std.specs.List.{list_all};
 ghost use Rattle.atl_world.specs.Sums.{changed};

@@ -1,4 +1,5 @@
-//! Builds the maps of factions, regions, structures, mail and reports from their rows.
+//! Builds the maps of factions, regions, structures, mail and reports from their rows. Where memory
+//! runs out, the answer is AllocError.
 ghost use Rattle.std.specs.Prelude.{◌≡◌, IfOk, true};
 ghost use Rattle.std.specs.List.{list_all};
 ghost use Rattle.atl_world.specs.Names.{name_ok};

@@ -39,8 +39,8 @@ fn make_regions(alloc: Global, plans: &Numbered<RegionPlan>) -> Result<Regions, 
     Regions::unmarked_from(alloc, regions)
 }
 
-/// The books of `things` things right after founding: the money and the people that the regions
-/// have, under the entry Founding.
+/// The books of `things` things, from 2 to 65,538, right after founding: the money and the people
+/// that the regions have, under the entry Founding. There may be at most MOST_REGIONS regions.
 fn founding_books(alloc: Global, things: usize, regions: &Regions) -> Result<Books, AllocError>
     requires few { length (map.entries regions.now.values) ≤ most_regions }
     requires some { 2 ≤ things }

@@ -46,7 +46,8 @@ fn home(world: &World, word: u32) -> u32
     land[word as usize % land.len()]
 }
 
-/// The first unit of a faction: one man with the given money, called `Unit` and its number.
+/// The first unit of a faction: one man with the given money, at most HOLDING_LIMIT, no goods, and
+/// the name `Unit` with the unit's number. The unit is in the given region, inside no structure.
 fn make_unit(
     alloc: Global,
     number: u32,
@@ -80,7 +81,8 @@ fn make_unit(
     })
 }
 
-/// A faction as it joins: not gone, and showing the name that it joins under.
+/// A faction as it joins: not gone, and showing the name that it joins under. The name and the pass
+/// text have to be UTF-8.
 fn make_faction(alloc: Global, number: u32, name: &[u8], pass: &[u8]) -> Result<Faction, AllocError>
     requires name { IsUtf8 name.now }
     requires pass { IsUtf8 pass.now }
@@ -95,8 +97,9 @@ fn make_faction(alloc: Global, number: u32, name: &[u8], pass: &[u8]) -> Result<
     })
 }
 
-/// Books the money and the one man of a faction that joins, under the entry Joining. What is booked
-/// of both so far has to be far from the ends of i64.
+/// Books the money and the one man of a faction that joins, under the entry Joining. The books need
+/// money and people among their things, and what is booked of each so far has to be from -2^62 - 1
+/// to 2^62.
 fn book_joining(books: &mut Books, money: u32)
     requires things { 2 ≤ books.old.things }
     requires money { LeavesRoomForJoining (amount_in books.old Joining Money) }
@@ -129,8 +132,9 @@ impl Campaign {
 
     /// Adds a faction with one unit, and returns the numbers of both. The campaign has to be good,
     /// and the name and the pass text have to keep their rules. The unit is one man with the start
-    /// money, in the land region that the word of the dice picks. What it brings is booked. On a
-    /// fault the campaign stays as it is, its marks too. See docs/RULES.md, "Joining".
+    /// money, in the land region that the word of the dice picks. What the unit brings is booked.
+    /// NameTaken if a faction joined under this name, Full if no faction can join, or Memory; after
+    /// a fault the campaign and its marks stay as they are. See docs/RULES.md, "Joining".
     #[tactic(auto, unfolding(crate::specs::Joining::join_of))]
     pub fn join(
         &mut self,
