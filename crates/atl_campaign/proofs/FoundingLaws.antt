@@ -64,7 +64,7 @@ no_items w i =
     let nothing : Every (λ n r. region_amount (Item i) r ≡ 0) founded = every-mapped founded_region (λ n r. region_amount (Item i) r ≡ 0) w.regions (λ n p is. ap (λ o. unwrap_or o 0) (get-empty nat_cmp i)) in
     none_weighed (λ (r : Region). region_amount (Item i) r) (entries founded) (each-from_every (λ n r. region_amount (Item i) r ≡ 0) founded nothing)
 
--- the sum that founding books of a thing is the money for money, the people for people, and 0 for each item
+-- what founding books of a thing is the given money for money, the given people for people, and 0 for each item
 founding_booked : (things money people : ℕ) (t : Thing) → booked (after_booking (after_booking (no_amounts things) Founding Money (pos money)) Founding People (pos people)) t ≡ booked_for t Money (pos money) +ℤ booked_for t People (pos people)
 founding_booked things money people t =
     booked-after_booking (after_booking (no_amounts things) Founding Money (pos money)) Founding People (pos people) t

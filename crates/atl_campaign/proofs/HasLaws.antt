@@ -1,4 +1,5 @@
 -- Laws of the rows of `has` (units' goods): the units assembled from rows are written as the same rows, in some order.
+-- A row is exact (IsExact) if its key and its amount are read as they are, and the amount is not 0.
 use Rattle.std.proofs.Common.{◌≡◌, ◌==◌, ℕ, ◌++◌, List, [], ◌∷◌, Bool, true, false, not, map, filter, sym, ap, subst, ◌∙◌, arith, inl, inr, ◌⊎◌}
 use Rattle.std.specs.Prelude.{pos, ℤ}
 use Rattle.std.specs.List.{flat_map, AllByRecursion, IsDistinct}

@@ -1,4 +1,5 @@
--- Laws of a unit that gets another holding and does not begin to guard: steadiness, totals and marks.
+-- Laws of a unit that gets another holding and does not begin to guard: steadiness, totals and marks. A unit may have a
+-- holding with a valid name, numbers within their limits, and only items and skills of the world.
 use Rattle.std.proofs.Common.{◌≡◌, ◌≢◌, ◌==◌, ℕ, ◌+◌, ◌*◌, ◌≤◌, ◌<◌, Bool, true, false, Option, Some, None, length, refl, sym, ap, subst, ◌∙◌, arith}
 use Rattle.std.specs.Prelude.{IsTrue, option_map, if◌then◌else◌}
 use Rattle.std.specs.Ordering.{nat_cmp}
@@ -164,7 +165,8 @@ module _ (w : WorldValue) (c : CampaignValue) (n : ℕ) (u : Unit) (h : HoldingV
         (every-insert (λ m y. Agree new_unit y) c.units n new_unit (λ g k same. refl) (λ m y there g k same. old n u is m y there (only g) k same))
         (λ k x here. every-insert (λ m y. Agree x y) c.units n new_unit (λ g k2 same. old k x here n u is g (only k2) same) (old k x here))
 
-  -- the campaign stays steady when unit n gets the holding h, if the unit may have that (MayHaveWithoutNewGuard)
+  -- the campaign stays steady when unit n gets the holding h, if the unit may have h, and with h guards only if it did
+  -- before (MayHaveWithoutNewGuard)
   pub steady-unit_amount : MayHaveWithoutNewGuard w u h → IsSteady w c → IsSteady w with_new_holding
   steady-unit_amount may old = record {
     numbers = numbers_kept may.limits old.numbers;

@@ -27,7 +27,7 @@ rest_at keys i d h = rw add-one (drop-cons keys i d h)
 pub next_of : {K : Type 0} (keys : List K) (i : ℕ) (x : K) → i < length keys → x ≡ get_or keys i x → drop i keys ≡ x ∷ drop (i + 1) keys
 next_of keys i x h is = rest_at keys i x h ∙ ap (λ y. y ∷ drop (i + 1) keys) (sym is)
 
--- for seen_more: `c || b` is true if b is, and else what c is
+-- for seen_more: `c || (b || false)` is true if b is, and else what c is
 added : (b c : Bool) → cond b true c ≡ (c || (b || false))
 added true true = refl
 added true false = refl

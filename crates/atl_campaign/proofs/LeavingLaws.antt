@@ -385,7 +385,8 @@ marks-after_handover c s from to = by_test (is_owned_by (get c.value.structures 
     by_test true = marks-structure (owned_by to) c s
     by_test false = marks-refl c
 
--- removing a unit without handing its structure on, with its mark, marks all that changes (MarksChanges)
+-- removing a unit without handing its structure on, with the unit, its row and all its goods marked, marks all that
+-- changes (MarksChanges)
 pub marks-taken : (c : MarkedCampaign) (n : ℕ) → MarksChanges c (taken_marked c n)
 marks-taken c n = by_unit (get c.value.units n) refl
   where

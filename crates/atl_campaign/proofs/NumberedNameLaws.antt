@@ -1,4 +1,5 @@
--- Laws of default names: a word and a number, as `Unit 7`, keep the rule of names.
+-- Laws of default names: a word and a number, as `Unit 7`, keep the rule of names. The word can be the front of a name
+-- (IsFront): it has 1 to 20 bytes that may be in names, and does not begin with a space.
 use Rattle.std.proofs.Common.{◌≡◌, ℕ, ◌+◌, ◌-◌, ◌%◌, ◌≤◌, ◌<◌, ◌==◌, ◌^◌, not, true, false, List, [], ◌∷◌, ◌++◌, length, get_or, codes, decimal, refl, sym, ap, ◌∙◌, arith, length-append, append_assoc, lit≤}
 use Rattle.std.specs.List.{list_all}
 use Rattle.std.specs.Cmp.Derive.{both_true}
