@@ -1,5 +1,5 @@
--- Laws of `amounts_for`, which makes a map from a list of numbers: the amount of each number, and when two maps of
--- amounts are equal.
+-- Laws of `amounts_for f ns`, the map from each number of the list ns to the amount that f gives it, without amounts of
+-- 0; and when two maps of amounts are equal.
 use Rattle.std.proofs.Common.{◌≡◌, ◌==◌, ℕ, ◌≤◌, Bool, true, false, not, ◌||◌, cond, List, [], ◌∷◌, map, filter, Option, Some, None, refl, sym, ap, ◌∙◌, arith}
 use Rattle.std.specs.Prelude.{unwrap_or}
 use Rattle.std.specs.List.{list_any}

@@ -26,7 +26,8 @@ module _ (days : FinMap nat_cmp ℕ) (f : ℕ → ℕ → ℕ) (s : ℕ) where
   abbrev is_among : List (ℕ × ℕ) → Bool
   is_among es = list_any (eq_by_cmp nat_cmp s) (map (λ e. e.0) es)
 
-  -- after the skills of some entries are set, skill s has f of its days if it is among them, and otherwise what it had
+  -- if each entry has the days that `days` has of its skill: once the entries are set, skill s has f of its days where
+  -- it is among them, and else what it had
   set_among : (es : List (ℕ × ℕ)) (left : FinMap nat_cmp ℕ) → EachEntry (λ k v. amount_of days k ≡ v) es → amount_of (set_all left es) s ≡ cond (is_among es) (f s (amount_of days s)) (amount_of left s)
   set_among [] left each = refl
   set_among ((k, v) ∷ es) left (one, each) =
@@ -118,7 +119,7 @@ every_set f [] left old = old
 every_set f (e ∷ es) left old = every_set f es (with_amount_of left e.0 (f e.0 e.1)) (every_amount (λ s d. 1 ≤ d) left e.0 (f e.0 e.1) (λ some. some) old)
 
 -- setting, in the map `had`, each skill of `days` to `f` of its days gives the map `said`, if `said` has `f` of each
--- skill's days, and `had` has it already where `days` has 0
+-- skill's days, `had` has it already where `days` has 0, and `had` and `said` list no skill with 0 days
 set_as_said : (days had said : FinMap nat_cmp ℕ) (f : ℕ → ℕ → ℕ) → Every (λ s d. 1 ≤ d) had → Every (λ s d. 1 ≤ d) said
     → ((s : ℕ) → amount_of days s ≡ 0 → amount_of had s ≡ f s 0) → ((s : ℕ) → f s (amount_of days s) ≡ amount_of said s)
     → with_days had (map (λ e. (e.0, f e.0 e.1)) (entries days)) ≡ said
@@ -141,7 +142,8 @@ set_again days f none some =
 abbrev rest_days : (n men : ℕ) → (skill days : ℕ) → ℕ
 rest_days n men k d = d - days_going n men d
 
--- the holding that the code sets for the sender of n men is that of the definition (`after_sending`)
+-- the holding that the code sets for the sender of n men is that of the definition (`after_sending`), if the sender
+-- lists no skill with 0 days
 pub fewer_is : (n : ℕ) (h : HoldingValue) → Every (λ s d. 1 ≤ d) h.days → record h { men = h.men - n; days = with_days h.days (left_list n h.men h.days) } ≡ after_sending n h
 fewer_is n h had =
     ap (λ (m : FinMap nat_cmp ℕ). record h { men = h.men - n; days = m })
@@ -155,7 +157,8 @@ fewer_is n h had =
 abbrev raised_days : (n men : ℕ) → FinMap nat_cmp ℕ → (skill days : ℕ) → ℕ
 raised_days n men had k d = amount_of had k + days_going n men d
 
--- the holding that the code sets for the receiver of n men is that of the definition (`after_receiving`)
+-- the holding that the code sets for the receiver of n men is that of the definition (`after_receiving`), if the
+-- receiver lists no skill with 0 days
 pub more_is : (n : ℕ) (other h : HoldingValue) → Every (λ s d. 1 ≤ d) h.days → record h { men = h.men + n; days = with_days h.days (raised_list n other.men other.days h.days) } ≡ after_receiving n other h
 more_is n other h had =
     ap (λ (m : FinMap nat_cmp ℕ). record h { men = h.men + n; days = m })

@@ -55,7 +55,7 @@ module _ (c : CampaignValue) (n : ℕ) (x : Faction) (name : List ℕ) (is : get
     books = old.books;
   }
 
-  -- two factions that joined under the same bytes have the same number, so they are one
+  -- two factions that joined under the same name, byte for byte, have the same number, so they are one
   abbrev JoinedOnce : ℕ → Faction → ℕ → Faction → Type 0
   JoinedOnce k f m g = f.joined_as ≡ g.joined_as → k ≡ m
 

@@ -151,7 +151,8 @@ module _ (w : WorldValue) (c : CampaignValue) (p : ℕ) (u : Unit) (is : get c.u
       let none = old.gone m f there gone in
       numbers_where-insert_other test c.units c.next_unit child free (none_passing test c.units none p u is) ∙ none
 
-  -- after a unit is formed, each structure still has its right owner (`AreOwned`)
+  -- after a unit is formed, each structure is still owned by a unit inside it, or by nobody where none is inside
+  -- (`AreOwned`)
   owners_kept : AreOwned begun
   owners_kept n s there =
       let o = old.owners n s there in

@@ -1,4 +1,6 @@
--- Laws of GIVE and PAY: the campaign stays early, its books balanced, and no unit but the giver is worse off.
+-- Laws of GIVE and PAY: the campaign stays early, its books balanced, and no unit but the giver is worse off. A unit is
+-- no worse off (`IsNoWorse`) with the same faction, place, name and guard flag, and no less men, money, goods and days.
+-- A unit may have (`MayHave`) what is within the limits and of the world, under a name that keeps the name rule.
 use Rattle.std.proofs.Common.{◌≡◌, ◌≢◌, ◌==◌, ℕ, ◌+◌, ◌-◌, ◌≤◌, ◌<◌, Bool, true, false, cond, not, [], ◌∷◌, length, Option, Some, None, refl, sym, ap, subst, ◌∙◌, arith}
 use Rattle.std.specs.Prelude.{⊤, IfSome, nat_lt}
 use Rattle.std.specs.Ordering.{nat_cmp, eq_by_cmp}

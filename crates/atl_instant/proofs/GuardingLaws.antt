@@ -1,5 +1,7 @@
 -- Laws of a unit with another name or guard flag, and of GUARD 1: the campaign stays steady, and the guards of each
--- region stay of one faction.
+-- region stay of one faction. A unit is no worse off (`IsNoWorse`) with the same faction, place, name and guard flag,
+-- and no less men, money, goods and days. A unit may have (`MayHave`) what is within the limits and of the world, under
+-- a name that keeps the name rule.
 use Rattle.std.proofs.Common.{◌≡◌, ◌==◌, ℕ, ◌+◌, Bool, true, false, not, ◌&&◌, ◌||◌, List, [], ◌∷◌, Some, None, refl, sym, ap, subst, ◌∙◌, inl, inr, arith}
 use Rattle.std.specs.Prelude.{IfSome, IsTrue, nat_lt}
 use Rattle.std.specs.List.{list_any}
@@ -89,7 +91,8 @@ module _ (w : WorldValue) (c : CampaignValue) (n : ℕ) (u : Unit) (is : get c.u
       held_same People = refl
       held_same (Item i) = refl
 
-      -- for `total-labelled`: totals a and b are equal, if they are once what the unit holds (x, which is y) is added
+      -- for `total-labelled`: totals a and b are equal, if a + x is b + y, and x and y, what the unit holds with the
+      -- one and the other name and flag, are equal
       same : (a b x y : ℕ) → a + x ≡ b + y → y ≡ x → a ≡ b
       same a b x y e f = omega arith
 

@@ -1,5 +1,6 @@
 -- Laws of NAME and GUARD 0: the campaign stays early, and a unit is no worse off unless its own faction wrote one of
--- these orders for it.
+-- these orders for it. A unit is no worse off (`IsNoWorse`) with the same faction, place, name and guard flag, and no
+-- less men, money, goods and days.
 use Rattle.std.proofs.Common.{◌≡◌, ◌≢◌, ◌==◌, ℕ, Bool, true, false, List, Some, None, refl, sym, subst}
 use Rattle.std.specs.Prelude.{IfSome, IsTrue, if◌then◌else◌}
 use Rattle.std.specs.FinMap.{get}
@@ -41,7 +42,8 @@ name_other w n text other a b = refl
 
 -- what an order of NAME or GUARD 0 for unit n keeps (`Keeps`), if the order fits the world (`fit`)
 module _ (fit : Type 0) (w : WorldValue) (c : CampaignValue) (n : ℕ) (u : Unit) (is : get c.units n ≡ Some u) where
-  -- campaign d, which an order for unit n makes of c, is early if c is, and no unit but n is worse off in it (`Keeps`)
+  -- campaign d, which an order for unit n makes of c, is early and in balance if c is and the order fits the world
+  -- (`fit`), and no unit but n is worse off in d (`Keeps`)
   abbrev Kept : CampaignValue → Type 0
   Kept d = Keeps IsEarly fit w c n u.faction d
 
@@ -99,7 +101,8 @@ module _ (fit : Type 0) (w : WorldValue) (c : CampaignValue) (n : ℕ) (u : Unit
       relabelled y true = record { kind = refl; region = refl; done = refl; name = λ old. ok }
       relabelled y false = record { kind = refl; region = refl; done = refl; name = λ old. old }
 
-      -- each structure, renamed or not, has its right owner (`IsOwned`)
+      -- a structure that is owned by a unit inside, or by nobody where none is inside (`IsOwned`), is so still, renamed
+      -- or not
       owned : (q : ℕ) (y : Structure) (b : Bool) → IsOwned c q y → IsOwned c q (if b then titled name y else y)
       owned q y true o = record { owned = o.owned; ownerless = o.ownerless }
       owned q y false o = o
@@ -135,7 +138,8 @@ name_keeps w a c t x own = by_operands t.order_value.operands
 pub name_orderly : IsOrderly name_step IsEarly nothing_remaining moves_nothing name_concerns IsNoWorse
 name_orderly = orderly_by name_keeps (λ w a t n f own other. passed w t.unit t.order_value.operands (λ names. other (own, names)))
   where
-    -- for `name_orderly`: the phase passes over an order whose operands can't be other than those of GUARD 1
+    -- for `name_orderly`: the phase passes over GUARD 1, given as an order for which other operands than those of GUARD
+    -- 1 are impossible
     passed : (w : WorldValue) (n : ℕ) (o : OperandsValue) → (o ≢ operands.Flag true → ⊥) → name_effect w n o ≡ None
     passed w n (operands.Name what name) other = absurd (other (λ same. cc))
     passed w n (operands.Flag false) other = absurd (other (λ same. cc))

@@ -1,5 +1,6 @@
 -- Laws of LEAVE, ENTER and PROMOTE: the campaign stays early, and a unit is no worse off unless its own faction wrote
--- one of these orders for it.
+-- one of these orders for it. A unit is no worse off (`IsNoWorse`) with the same faction, place, name and guard flag,
+-- and no less men, money, goods and days.
 use Rattle.std.proofs.Common.{◌≡◌, ◌≢◌, ◌==◌, ℕ, Bool, true, false, not, List, [], ◌∷◌, Option, Some, None, refl, sym, ap, ◌∙◌, arith}
 use Rattle.std.proofs.lemmas.Bool.{true≢false}
 use Rattle.std.specs.Prelude.{IfSome, if◌then◌else◌}
@@ -48,7 +49,8 @@ place_other w a f n text other l b d = refl
 
 -- what an order of LEAVE, ENTER or PROMOTE for unit n keeps (`Keeps`)
 module _ (fit : Type 0) (w : WorldValue) (c : CampaignValue) (n : ℕ) (u : Unit) (is : get c.units n ≡ Some u) where
-  -- campaign d, which an order for unit n makes of c, is early if c is, and no unit but n is worse off in it (`Keeps`)
+  -- campaign d, which an order for unit n makes of c, is early and in balance if c is and the order fits the world
+  -- (`fit`), and no unit but n is worse off in d (`Keeps`)
   abbrev Kept : CampaignValue → Type 0
   Kept d = Keeps IsEarly fit w c n u.faction d
 
@@ -108,7 +110,8 @@ module _ (fit : Type 0) (w : WorldValue) (c : CampaignValue) (n : ℕ) (u : Unit
       relabelled y true = record { kind = refl; region = refl; done = refl; name = λ old. old }
       relabelled y false = record { kind = refl; region = refl; done = refl; name = λ old. old }
 
-      -- each structure has its right owner (`IsOwned`), whether it is the one that gets the new owner or not
+      -- a structure is still owned by a unit inside it, or by nobody where none is inside (`IsOwned`), whether it gets
+      -- the new owner or not
       owned : (q : ℕ) (y : Structure) (b : Bool) → (q == u.structure) ≡ b → IsOwned c q y → IsOwned c q (if b then owned_by to y else y)
       owned q y true here old =
           let (v, there, within) = inside_to to (get c.units to) refl near some in

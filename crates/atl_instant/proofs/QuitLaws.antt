@@ -1,5 +1,6 @@
--- Laws of QUIT: units leave, what they had is booked as gone, and nothing else changes; the campaign stays steady.
--- A unit is no worse off, unless its faction quits by an order for a unit that was its own as the phase began.
+-- Laws of QUIT: units leave, what they had is booked as gone, and nothing else changes; the campaign stays steady. A
+-- unit is no worse off, unless its faction quits by an order for a unit that was its own as the phase began. A unit is
+-- no worse off (`IsNoWorse`) with the same faction, place, name and guard flag, and no less men, money, goods and days.
 use Rattle.std.proofs.Common.{◌≡◌, ◌≢◌, ◌==◌, ℕ, ◌+◌, ◌*◌, ◌≤◌, ◌<◌, not, Bool, true, false, cond, List, [], ◌∷◌, length, drop, get_or, Option, Some, None, refl, sym, ap, subst, ◌∙◌, inl, inr, arith}
 use Rattle.std.specs.Prelude.{ℤ, pos, neg_ℤ, ◌+ℤ◌, IfSome, fold, unwrap_or, if◌then◌else◌}
 use Rattle.std.proofs.lemmas.Int.{ints}
@@ -146,7 +147,7 @@ pub no_people : (es : List (ℕ × ℕ)) → held_in_items es People ≡ 0
 no_people [] = refl
 no_people (e ∷ es) = nothing_more (1 == 2 + e.0) e.1 (held_in_items es People) (let apart : (1 == 2 + e.0) ≡ false = grind (arith, nat_tests) in apart) ∙ no_people es
 
--- a sorted list of items has as much of an item as the search in the list finds, or 0
+-- a sorted list of items has of an item the amount that a search in the list finds, and 0 where the search finds none
 pub of_item : (j : ℕ) (es : List (ℕ × ℕ)) → is_sorted nat_cmp es ≡ true → held_in_items es (Item j) ≡ unwrap_or (find nat_cmp j es) 0
 of_item j [] s = refl
 of_item j (e ∷ es) s =
@@ -452,8 +453,8 @@ all_left_others c (n ∷ ns) k apart = all_left_others (after_leaving c n) ns k 
 
 -- ---- one order
 
--- P holds of the campaign after an order of QUIT, if P holds of the campaign before and of the one in which the
--- faction's units left
+-- P holds of the campaign after an order of QUIT, if P holds of the campaign before and, where the order has the number
+-- of the unit's faction, of the one in which the faction's units left
 pub quit_cases : (P : CampaignValue → Type 0) (c : CampaignValue) (number : ℕ) (u : Unit) → P c → (number ≡ u.faction → P (fold after_leaving c (numbers_of u.faction c.units))) → P (quit number c u).0
 unfolding quit
 quit_cases P c number u same leave = by_fault (quit_fault number u) refl
@@ -497,7 +498,8 @@ reserve_within w c steady e t = by_test (entry_index e == entry_index (loss_entr
     by_test true = all_held_within w c steady t
     by_test false = none (sum_over (λ (u : Unit). 0) c.units) (length (entries c.units)) (sum_within (λ (u : Unit). 0) 0 (entries c.units) (each-from_every (λ n u. 0 ≤ 0) c.units (λ n u is. omega arith)))
 
--- QUIT keeps a steady campaign steady, and a unit whose faction doesn't quit is no worse off (`IsOrderly`)
+-- QUIT keeps a steady campaign steady and in balance, books no more than the leaving units had, and leaves a unit whose
+-- faction doesn't quit no worse off (`IsOrderly`)
 pub quit_orderly : IsOrderly quit_step IsSteady quit_reserve quit_moves quit_concerns IsNoWorse
 quit_orderly = record {
   well = λ w a c t x steady fit own. well w c x steady t.order_value.operands;

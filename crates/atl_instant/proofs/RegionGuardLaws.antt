@@ -183,7 +183,7 @@ module _ (c : CampaignValue) (m : GuardMap) (n : ℕ) (u : Unit) (is : get c.uni
   set_noted none =
       every-insert (λ k v. guards v ≡ true → get set_now v.region ≡ Some v.faction) c.units n (guarding c n u is) (λ on. get-insert_same m u.region u.faction) (λ k v there on. by_region k v there on)
     where
-      -- unit v, which guards, has its faction in the map `set_now`, in the region of unit u or in another
+      -- unit v, which guards, has its faction in the map `set_now`, whether v is in the region of unit u or in another
       by_region : (k : ℕ) (v : Unit) → get c.units k ≡ Some v → guards v ≡ true → get set_now v.region ≡ Some v.faction
       by_region k v there on =
           elim (cases_eq v.region u.region) [

@@ -1,4 +1,6 @@
 -- GIVE and PAY: a unit gives items or money to another. See docs/RULES.md, "Giving".
+-- A unit is no worse off (`IsNoWorse`) with the same faction, place, name and guard flag, and no less men, money, goods
+-- and days.
 use Rattle.std.specs.Prelude.{ℕ, ◌+◌, ◌-◌, ◌==◌, ◌&&◌, not, nat_lt, Bool, true, false, [], ◌∷◌, Option, Some, None, if◌then◌else◌}
 use Rattle.std.specs.FinMap.{get}
 use Rattle.atl_orders.specs.declared.order.Operands.TheVariants as operands

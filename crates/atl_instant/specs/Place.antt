@@ -1,5 +1,7 @@
 -- LEAVE, ENTER and PROMOTE: units leave structures, enter them, and hand them over to other units.
 -- See docs/RULES.md, "Place".
+-- A unit is no worse off (`IsNoWorse`) with the same faction, place, name and guard flag, and no less men, money, goods
+-- and days.
 use Rattle.std.specs.Prelude.{ℕ, ◌==◌, Bool, true, false, not, [], ◌∷◌, Option, Some, None, if◌then◌else◌}
 use Rattle.std.specs.FinMap.{get}
 use Rattle.atl_world.specs.Worlds.{WorldValue}

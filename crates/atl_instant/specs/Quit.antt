@@ -1,4 +1,6 @@
 -- QUIT: a faction leaves the campaign with all its units. See docs/RULES.md, "Quitting".
+-- A unit is no worse off (`IsNoWorse`) with the same faction, place, name and guard flag, and no less men, money, goods
+-- and days.
 use Rattle.std.specs.Prelude.{◌≡◌, ℕ, pos, neg_ℤ, ◌==◌, not, Bool, true, false, [], ◌∷◌, fold, Option, Some, None, if◌then◌else◌}
 use Rattle.std.specs.FinMap.{entries, get}
 use Rattle.atl_world.specs.Sums.{sum_over}
@@ -116,7 +118,8 @@ quit_moves e t = if entry_index e == entry_index (loss_entry t) then most_moved 
 abbrev pub loss_under : BooksEntry → Thing → HoldingValue → ℕ
 loss_under e t h = if entry_index e == entry_index (loss_entry t) then unit_amount t h else 0
 
--- by how much QUIT may still move the books: what all units together hold of a thing, under the entry for its loss
+-- by how much QUIT may still move the books: what all units together hold of a thing under the entry for its loss, and
+-- 0 under any other entry
 abbrev pub quit_reserve : RemainingBound
 quit_reserve c e t = sum_over (λ u. loss_under e t u.holding) c.units
 

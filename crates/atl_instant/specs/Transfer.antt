@@ -1,4 +1,6 @@
 -- TRANSFER: men move from one unit to another. See docs/RULES.md, "Transferring".
+-- A unit is no worse off (`IsNoWorse`) with the same faction, place, name and guard flag, and no less men, money, goods
+-- and days.
 use Rattle.std.specs.Prelude.{◌≡◌, ℕ, ◌+◌, ◌-◌, ◌*◌, ◌/◌, ◌==◌, ◌&&◌, not, nat_lt, Bool, true, false, [], ◌∷◌, ◌++◌, Option, Some, None, if◌then◌else◌}
 use Rattle.std.specs.FinMap.{get, keys}
 use Rattle.atl_orders.specs.declared.order.Operands.TheVariants as operands

@@ -66,7 +66,7 @@ fn new_unit(
 }
 
 /// Adds a new unit of a faction to the campaign, in the region and the structure of its parent, the
-/// unit that forms it. Returns its number.
+/// unit that forms it. Returns the new unit's number, which must be free and at most `LAST_UNIT`.
 fn begin(
     alloc: Global,
     campaign: &mut Campaign,
@@ -136,7 +136,7 @@ fn formings(alloc: Global, month: &Month) -> Result<Vec<Forming>, AllocError>
 }
 
 /// Carries out an order of FORM: adds the new unit, and notes it under its alias, or changes
-/// nothing where the order has a fault. Returns the outcome.
+/// nothing where the order has a fault. Returns the outcome. The next unit number must be free.
 fn form(
     alloc: Global,
     campaign: &mut Campaign,
@@ -162,7 +162,8 @@ fn form(
     }
 }
 
-/// Carries out one order of FORM, and adds its event to the month.
+/// Carries out one order of FORM, and adds its event to the month. The next unit number must be
+/// free.
 fn form_one(
     alloc: Global,
     campaign: &mut Campaign,

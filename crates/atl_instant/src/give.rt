@@ -1,4 +1,6 @@
 //! GIVE and PAY: a unit gives items or money to another. See docs/RULES.md, "Giving".
+//! A unit is no worse off (`IsNoWorse`) with the same faction, place, name and guard flag, and no
+//! less men, money, goods and days.
 ghost use Rattle.std.specs.Prelude.{◌≡◌, ◌≢◌, ◌≤◌, ◌+◌, IfOk, OnOk, Some, true};
 ghost use Rattle.std.specs.FinMap as map;
 ghost use Rattle.std.specs.Option.{option_copied};
@@ -64,8 +66,8 @@ fn give_fault(
     (!itself && total > u64::from(HOLDING_LIMIT)).then_some(EventFault::NoRoom)
 }
 
-/// Sets how much money, or pieces of the item that is given, a unit holds; nothing changes where
-/// the unit isn't there.
+/// Sets how much money, or pieces of the item that is given, a unit holds, at most 999,999,999;
+/// nothing changes where the unit isn't there.
 fn set_held(campaign: &mut Campaign, number: u32, gift: Gift, amount: u32) -> Result<(), AllocError>
     requires { amount ≤ holding_limit }
     ensures { OnOk result (ChangesHolding campaign.old campaign.new number

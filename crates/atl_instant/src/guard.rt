@@ -39,6 +39,7 @@ fn guard_fault(holders: &RegionGuards, unit: &Unit) -> Option<EventFault>
 }
 
 /// Carries out GUARD 1: sets the guard flag of the unit, or changes nothing where a fault applies.
+/// The map of guards must be that of the campaign.
 #[tactic(auto, unfolding(crate::specs::Guard::guard))]
 fn guard(
     campaign: &mut Campaign,
@@ -65,7 +66,7 @@ fn guard(
 }
 
 /// Carries out an order of GUARD 1, and returns its outcome, or None for GUARD 0, which is passed
-/// over.
+/// over. The map of guards must be that of the campaign.
 fn carry_out(
     campaign: &mut Campaign,
     holders: &mut RegionGuards,
@@ -86,6 +87,7 @@ fn carry_out(
 }
 
 /// Carries out an order of GUARD, and adds its event, if it has one, to those of earlier orders.
+/// The map of guards must be that of the campaign.
 fn guard_one(
     campaign: &mut Campaign,
     holders: &mut RegionGuards,

@@ -1,4 +1,6 @@
 //! NAME and GUARD 0: units give names, and stop guarding. See docs/RULES.md, "Name".
+//! A unit is no worse off (`IsNoWorse`) with the same faction, place, name and guard flag, and no
+//! less men, money, goods and days.
 ghost use Rattle.std.specs.Prelude.{◌≡◌, IfOk, IsTrue, OnOk};
 ghost use Rattle.std.specs.FinMap as map;
 ghost use Rattle.atl_world.specs.Names.{name_ok};
@@ -19,7 +21,8 @@ use std::alloc::{AllocError, Global};
 #[derive(Drop, Clone, Copy)]
 pub struct NamePhase;
 
-/// The name that an order gives, copied from its mailing's text.
+/// The name that an order gives, copied from its mailing's text. The name must keep the rule of
+/// names.
 fn name_of(alloc: Global, mailing: &Mailing, span: Span) -> Result<Text, AllocError>
     requires { IsTrue (name_ok (name_in mailing.now.text span)) }
     ensures { IfOk result (λ name. name ≡ name_in mailing.now.text span) }
@@ -121,7 +124,7 @@ fn name(
 }
 
 /// Carries out NAME: the order's unit gives the name, if it is the faction's own, or nothing
-/// changes, with NotYours.
+/// changes, with NotYours. The name must keep the rule of names.
 fn give_name(
     alloc: Global,
     world: &World,

@@ -1,4 +1,6 @@
 //! QUIT: a faction leaves the campaign with all its units. See docs/RULES.md, "Quitting".
+//! A unit is no worse off (`IsNoWorse`) with the same faction, place, name and guard flag, and no
+//! less men, money, goods and days.
 ghost use Rattle.std.specs.Prelude.{◌≡◌, ◌<◌, IfOk, OnOk, fold, length, true};
 ghost use Rattle.atl_records.specs.Books.{amount_in, thing_index};
 ghost use Rattle.atl_campaign.specs.Covers.{MarksChanges};
@@ -37,7 +39,8 @@ fn loss_entry(thing: Thing) -> BooksEntry
     }
 }
 
-/// Books an amount of a thing as gone: men under left, money and items under lost.
+/// Books an amount of a thing as gone: men under left, money and items under lost. The books must
+/// have the thing, and room for the amount.
 fn book_loss(campaign: &mut Campaign, thing: Thing, amount: u32)
     requires there { thing_index thing < campaign.old.value.books.things }
     requires room { HasRoom amount (amount_in campaign.old.value.books (loss_entry thing) thing) }
@@ -47,7 +50,8 @@ fn book_loss(campaign: &mut Campaign, thing: Thing, amount: u32)
     book_taken(campaign, loss_entry(thing), thing, amount);
 }
 
-/// Books each item of a list, with its amount, as lost.
+/// Books each item of a list, with its amount, as lost. The world must have the items, and the
+/// books must have room for their amounts.
 fn book_items(world: &World, campaign: &mut Campaign, items: &[(u16, u32)])
     requires things { campaign.old.value.books.things ≡ things_of world.now }
     requires known { EachEntry (λ i amount. i < length world.now.items) items.now }
@@ -60,7 +64,8 @@ fn book_items(world: &World, campaign: &mut Campaign, items: &[(u16, u32)])
     }
 }
 
-/// Books all that a unit has as gone: its men as left, its money and its items as lost.
+/// Books all that a unit has as gone: its men as left, its money and its items as lost. The world
+/// must have the items, and the books must have room for all of this.
 fn book_off(world: &World, campaign: &mut Campaign, men: u32, money: u32, items: &[(u16, u32)])
     requires things { campaign.old.value.books.things ≡ things_of world.now }
     requires known { EachEntry (λ i amount. i < length world.now.items) items.now }
@@ -77,7 +82,8 @@ fn book_off(world: &World, campaign: &mut Campaign, men: u32, money: u32, items:
     book_items(world, campaign, items);
 }
 
-/// Removes a unit, and books all that it has as gone; nothing changes where it isn't there.
+/// Removes a unit, and books all that it has as gone; nothing changes where it isn't there. The
+/// campaign must be steady, and its books must have room for what all units have.
 #[tactic(auto, unfolding(crate::specs::Quit::after_leaving))]
 fn leave(
     alloc: Global,
@@ -101,7 +107,8 @@ fn leave(
     Ok(())
 }
 
-/// Removes the units of a list one after another, and books all that they have as gone.
+/// Removes the units of a list one after another, and books all that they have as gone. The
+/// campaign must be steady, and its books must have room for what all units have.
 fn leave_all(
     alloc: Global,
     world: &World,
@@ -121,7 +128,8 @@ fn leave_all(
 }
 
 /// Carries out QUIT: all units of the faction leave, or nothing changes where a fault applies:
-/// NotYours, or WrongNumber where the order has not the number of the unit's faction.
+/// NotYours, or WrongNumber where the order has not the number of the unit's faction. The campaign
+/// must be steady, and its books must have room for what all units have.
 #[tactic(auto, unfolding(crate::specs::Quit::quit))]
 fn quit(
     alloc: Global,

@@ -1,4 +1,6 @@
 //! TRANSFER: men move from one unit to another. See docs/RULES.md, "Transferring".
+//! A unit is no worse off (`IsNoWorse`) with the same faction, place, name and guard flag, and no
+//! less men, money, goods and days.
 ghost use Rattle.std.specs.Prelude.{◌≡◌, ◌≢◌, ◌≤◌, ◌+◌, ◌*◌, IfOk, OnOk, Some, true};
 ghost use Rattle.std.specs.FinMap as map;
 ghost use Rattle.std.specs.Option.{option_copied};
@@ -24,7 +26,8 @@ use std::alloc::{AllocError, Global};
 #[derive(Drop, Clone, Copy)]
 pub struct TransferPhase;
 
-/// The days of a skill that go with `going` of a unit's men: their part, rounded down.
+/// The days of a skill that go with `going` of a unit's men, of whom there must be as many, and at
+/// least one: their part, rounded down.
 fn days_going(going: u32, men: u32, days: u32) -> u32
     requires some { 1 ≤ men }
     requires fewer { going ≤ men }

@@ -145,13 +145,13 @@ faction_within [] n h = cc
 faction_within (w ∷ []) n h = cc
 faction_within (w ∷ v ∷ ws) n h = from_one last_faction (number_of last_faction v.bytes) n (number_within last_faction v.bytes) h
 
--- what a header line gives, if no fault, has a faction from 1 to 9,999 (`IsHeaded`), if the number f that the line
--- names, if any, is in this range
+-- what a header line gives, if no fault, has a faction from 1 to 9,999 and a next line above 0 (`IsHeaded`), if the
+-- number f that the line names, if any, is in this range
 line_headed : (n : ℕ) (rest : List (List ℕ)) (f : Option ℕ) → ((k : ℕ) → f ≡ Some k → IsWithin last_faction k) → Holds IsHeaded (header_line n rest f)
 line_headed n rest None h = tt
 line_headed n rest (Some k) h = (h k refl, omega arith)
 
--- what the first header of lines gives, if no fault, has a faction from 1 to 9,999 (`IsHeaded`)
+-- what the first header of lines gives, if no fault, has a faction from 1 to 9,999 and a next line above 0 (`IsHeaded`)
 header_sound : (lines : List (List ℕ)) (n : ℕ) → Holds IsHeaded (header_from n lines)
 unfolding header_from
 header_sound [] n = tt
@@ -159,7 +159,8 @@ header_sound (line ∷ rest) n =
     cond_both (begins (codes "#ATLANTIS") (words line)) _ _ (Holds IsHeaded)
     (λ _. line_headed n rest (faction_of (words line)) (faction_within (words line))) (λ _. header_sound rest (n + 1))
 
--- what the lines after a header give is in bounds (`IsReading`), if the header's faction is from 1 to 9,999
+-- what the lines after a header give is in bounds (`IsReading`), if the header's faction is from 1 to 9,999 and its
+-- next line above 0 (`IsHeaded`)
 after_header_sound : (world : WorldValue) (r : Result HeaderValue MailFault) → Holds IsHeaded r → Holds (IsReading world) (after_header world r)
 after_header_sound world (Err fault) h = tt
 after_header_sound world (Ok head) h = record { faction = h.0; entries = body_sound world head.rest head.next Nowhere no_alias tt; lines = body_rises world head.rest head.next 0 Nowhere no_alias h.1 }

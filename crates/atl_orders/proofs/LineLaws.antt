@@ -1,4 +1,5 @@
--- The lines of a text: how the first is split off, and at which index of the text it ends.
+-- The lines of a text, which are the pieces between its line feeds: how the first is split off, and at which index of
+-- the text it ends.
 use Rattle.atl_orders.proofs.WordLaws.{ends_further}
 use Rattle.std.proofs.Common.{Option, Some, None, IfSome, ◌≡◌, ◌≢◌, ℕ, zero, suc, ◌+◌, ◌-◌, ◌<◌, ◌≤◌, Bool, true, false, not, cond, List, [], ◌∷◌, ◌++◌, length, get_or, take, drop, map, refl, sym, ap, ◌∙◌, arith}
 use Rattle.std.specs.List.{position, position_or_len}

@@ -55,7 +55,7 @@ pub from_one : (most : ℕ) (o : Option ℕ) (n : ℕ) → ((k : ℕ) → o ≡ 
 from_one most None n f h = cc
 from_one most (Some k) n f h = let m : k ≤ most = f k refl in (grind (arith, nat_tests), grind (arith, nat_tests))
 
--- a number that a word writes, if it is at most `most` and not 0, is from 1 to `most`
+-- the number that a word is read as, with `most` as the limit and 0 as a fault, is from 1 to `most`
 word_number : (most : ℕ) (fault : LineFault) (w : WordText) → Holds (IsWithin most) (or_fault fault (not_zero (number_of most w.bytes)))
 word_number most fault w = found (IsWithin most) fault (not_zero (number_of most w.bytes)) (λ n h. from_one most (number_of most w.bytes) n (number_within most w.bytes) h)
 

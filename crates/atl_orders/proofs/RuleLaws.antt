@@ -133,7 +133,7 @@ body_fits world n state given (line ∷ rest) =
     cond_both (begins (codes "#END") (words line)) _ _ (λ (es : List (ℕ × Effect)). BodySays world n state given (line ∷ rest) (flat_map entry_of es) (flat_map fault_of es)) (λ h. orders_ended n state given line rest h)
     (λ h. one_line n state given line rest h s (line_fits world state given line) _ _ (body_fits world (n + 1) s.state s.given rest))
 
--- orders and faulty lines that the rules for lines allow are those that `effects` gives; all but the world is implicit
+-- orders and faulty lines that the rules for lines (`BodySays`) allow are those that `effects` gives
 pub body_only : (world : WorldValue) {n : ℕ} {state : ReaderState} {given : ℕ → Bool} {lines : List (List ℕ)} {entries : List EntryValue} {faults : List FaultyLine} → BodySays world n state given lines entries faults → (entries ≡ entries_from world n state given lines) × (faults ≡ faults_from world n state given lines)
 unfolding effects
 body_only world (text_ended n state given) = (refl, refl)

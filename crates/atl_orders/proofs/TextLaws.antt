@@ -38,7 +38,8 @@ later n k = omega arith
 from_none : (n : ℕ) → 0 + n ≡ n
 from_none n = omega arith
 
--- if a line that is no header is put in front of lines, their first header stays the first
+-- if lines have no header or a first one, as `header_from` gives it (`Found`), so have they with a line that is no
+-- header in front
 with_line_above : (n : ℕ) (line : List ℕ) (rest : List (List ℕ)) → IsNoHeader line → header_from n (line ∷ rest) ≡ header_from (n + 1) rest → Found (n + 1) rest → Found n (line ∷ rest)
 with_line_above n line rest h e (none a f) = none (All-cons IsNoHeader line rest h a) (e ∙ f)
 with_line_above n line rest h e (one above header below is f) =

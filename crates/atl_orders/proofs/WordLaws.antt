@@ -54,7 +54,8 @@ pub words-comment : (bs : List ℕ) → words (semicolon ∷ bs) ≡ []
 unfolding words_after
 words-comment bs = refl
 
--- the first word of a line that begins with a quote ends at the next quote, and the other words come after that
+-- the first word of a line that begins with a quote ends at the next quote, or at the line's end, and the other words
+-- come after that
 pub words-quoted : (bs : List ℕ) → words (quote ∷ bs) ≡ record { bytes = before_first is_quote bs; quoted = true } ∷ words (drop 1 (drop (position_or_len is_quote bs) bs))
 unfolding words_after
 words-quoted bs = ap (λ ws. record { bytes = before_first is_quote bs; quoted = true } ∷ ws) (words_after-drop (position_or_len is_quote bs + 1) bs ∙ ap words (sym (drop-drop 1 (position_or_len is_quote bs) bs)))
@@ -67,7 +68,8 @@ drop-bare false n b bs h =
     let more : 1 + n ≡ suc n = omega arith in
     rw (less, more) refl
 
--- a line that begins with a byte b that doesn't end words has as its first word the bytes up to the first that does
+-- a line that begins with a byte b that doesn't end words has as its first word the bytes up to the first that does, or
+-- to the line's end, and then the words of the rest
 pub words-bare : (b : ℕ) (bs : List ℕ) → ends_word b ≡ false → words (b ∷ bs) ≡ record { bytes = before_first ends_word (b ∷ bs); quoted = false } ∷ words (drop (position_or_len ends_word (b ∷ bs)) (b ∷ bs))
 unfolding words_after
 words-bare b bs h =
@@ -76,7 +78,7 @@ words-bare b bs h =
     cond-false (is_blank b) _ _ two.0 ∙ cond-false (eqb b semicolon) _ _ one.1 ∙ cond-false (is_quote b) _ _ two.1
     ∙ ap (λ ws. record { bytes = before_first ends_word (b ∷ bs); quoted = false } ∷ ws) (words_after-drop (position_or_len ends_word (b ∷ bs) - 1) bs ∙ ap words (drop-bare (ends_word b) _ b bs h))
 
--- a line that begins with a word without quotes has that word first
+-- a line that begins with a word without quotes has that word first, and then the words of the rest
 pub words-bare_line : (line : List ℕ) → 0 < length line → ends_word (get_or line 0 0) ≡ false → words line ≡ record { bytes = before_first ends_word line; quoted = false } ∷ words (drop (position_or_len ends_word line) line)
 words-bare_line [] p h = absurd (omega arith)
 words-bare_line (b ∷ bs) p h = words-bare b bs h

@@ -84,7 +84,8 @@ end_step (Skipping parent) given = step nothing (outside parent) given
 abbrev pub form_value : ℕ → OrderValue
 form_value alias = order_of verbs.Form (operands.Alias alias)
 
--- the step of a FORM line for the unit of this number, outside of blocks; on a fault the block that it opens is skipped
+-- the step of a FORM line for unit n outside of blocks: a new alias is given, and its block opens; on a fault, as
+-- BadAlias for an alias given before, the block is skipped
 abbrev pub block_step : ℕ → (ℕ → Bool) → Result (ℕ × List WordText) LineFault → LineStep
 block_step parent given (Ok n) =
     if given n.0
@@ -92,7 +93,8 @@ block_step parent given (Ok n) =
     else step (says (Number parent) (form_value n.0)) (Forming parent n.0) (with_alias given n.0)
 block_step parent given (Err fault) = step (faulty fault) (Skipping (Some parent)) given
 
--- the step of a FORM line: it opens a block; the fault is NestedForm inside a block, and NoUnit if no unit is named
+-- the step of a FORM line: a block opens, which is skipped with the fault NoUnit if no unit is named; inside a block
+-- the fault is NestedForm, and the open block stays
 abbrev pub form_step : ReaderState → (ℕ → Bool) → List WordText → LineStep
 form_step Nowhere given ws = step (faulty NoUnit) (Skipping None) given
 form_step (At n) given ws = block_step n given (alias_at ws)

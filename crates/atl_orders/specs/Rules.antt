@@ -55,21 +55,24 @@ pub data WordsSay (world : WorldValue) (state : ReaderState) (given : ℕ → Bo
   -- FORM where no unit is named: the line has the fault NoUnit, and a block opens that is skipped
   form_nowhere : FirstWordIs w keywords.Form → state ≡ Nowhere
       → s ≡ step (faulty NoUnit) (Skipping None) given → WordsSay world state given w ws s
-  -- FORM with a faulty alias: the line has this fault, and a block opens that is skipped
+  -- FORM for a named unit outside of blocks, with a faulty alias: the line has this fault, and a block opens that is
+  -- skipped
   form_faulty : FirstWordIs w keywords.Form → (n : ℕ) → state ≡ At n → (fault : LineFault) → alias_at ws ≡ Err fault
       → s ≡ step (faulty fault) (Skipping (Some n)) given → WordsSay world state given w ws s
-  -- FORM with an alias that an earlier FORM gave: the line has the fault BadAlias, and a block opens that is skipped
+  -- FORM for a named unit outside of blocks, with an alias that an earlier FORM gave: the line has the fault BadAlias,
+  -- and a block opens that is skipped
   form_again : FirstWordIs w keywords.Form → (n : ℕ) → state ≡ At n
       → (alias : ℕ) (rest : List WordText) → alias_at ws ≡ Ok (alias, rest) → given alias ≡ true
       → s ≡ step (faulty BadAlias) (Skipping (Some n)) given → WordsSay world state given w ws s
-  -- FORM with a new alias: the order FORM for the named unit; the alias is given now, and the new unit's block opens
+  -- FORM for a named unit outside of blocks, with a new alias: the line gives the order FORM for this unit, the alias
+  -- is given now, and the new unit's block opens
   form_new : FirstWordIs w keywords.Form → (n : ℕ) → state ≡ At n
       → (alias : ℕ) (rest : List WordText) → alias_at ws ≡ Ok (alias, rest) → given alias ≡ false
       → s ≡ step (says (Number n) (form_value alias)) (Forming n alias) (with_alias given alias) → WordsSay world state given w ws s
   -- an order where no unit is named, or in a block that is skipped: the line has the fault NoUnit
   order_nowhere : (verb : Verb) → FirstWordIs w (keywords.Order verb) → target state ≡ None
       → s ≡ step (faulty NoUnit) state given → WordsSay world state given w ws s
-  -- an order whose words have a fault: the line has this fault
+  -- an order for the named unit, or in a block for the new unit, whose words have a fault: the line has this fault
   order_faulty : (verb : Verb) → FirstWordIs w (keywords.Order verb) → (unit : UnitRef) → target state ≡ Some unit
       → (fault : LineFault) → said_by world verb ws ≡ Err fault
       → s ≡ step (faulty fault) state given → WordsSay world state given w ws s

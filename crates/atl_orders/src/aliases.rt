@@ -37,7 +37,7 @@ impl Aliases {
         })
     }
 
-    /// Whether an alias is in the set.
+    /// Whether an alias, at most `LAST_ALIAS`, is in the set.
     pub fn contains(&self, alias: u32) -> bool
         requires { alias ≤ last_alias }
         ensures { result ≡ alias_set self.now alias }
@@ -45,7 +45,7 @@ impl Aliases {
         self.given[alias as usize]
     }
 
-    /// Adds an alias to the set. It takes no memory.
+    /// Adds an alias, at most `LAST_ALIAS`, to the set. It takes no memory.
     pub fn add(&mut self, alias: u32)
         requires { alias ≤ last_alias }
         ensures { alias_set self.new ≡ with_alias (alias_set self.old) alias }

@@ -137,7 +137,8 @@ struct Header<'a> {
     rest: Option<&'a [u8]>,
 }
 
-/// The first header of a text, else NoHeader, or BadHeader if it names no faction.
+/// The first header of a text of at most `MOST_BYTES` bytes, else NoHeader, or BadHeader if the
+/// first header names no faction.
 #[tactic(auto, using(crate::proofs::WordLaws::ends_further, crate::proofs::WordLaws::ends_with_all), unfolding(crate::specs::Mailing::header_from))]
 fn find_header(text: &[u8]) -> Result<Header<'_>, MailFault>
     requires { length text.now ≤ most_bytes }
@@ -172,8 +173,8 @@ pub fn is_mailing_of(faction: u32, text: &[u8]) -> bool
     text.len() <= MOST_BYTES && find_header(text).is_ok_and(|header| header.faction == faction)
 }
 
-/// The mailing that a text gives after its header, with a copy of the text. Its orders end at `#END`
-/// or at the end of the text.
+/// The mailing that a text gives after its header `header`, with a copy of the text. The orders end
+/// at `#END` or at the end of the text.
 #[tactic(auto, using(crate::proofs::LineLaws::line_ends_at, crate::proofs::WordLaws::ends_further, crate::proofs::LineLaws::starts_shorter, crate::proofs::WordLaws::ends_shorter), unfolding(crate::specs::Mailing::effects))]
 fn read_body(
     alloc: Global,

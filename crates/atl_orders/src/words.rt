@@ -128,6 +128,7 @@ pub fn begins(line: &[u8], name: &[u8]) -> bool
 }
 
 /// The number that a word writes in digits, if it is at most `most`; `None` for any other word.
+/// `most` must be at most `MOST_NUMBER`.
 pub fn number(bytes: &[u8], most: u32) -> Option<u32>
     requires { most ≤ most_number }
     ensures { result ≡ number_of most bytes.now }

@@ -1,4 +1,5 @@
--- Laws of the list of the books' amounts: it has the accounts in order, with the amounts that are not 0.
+-- Laws of the list of the books' amounts: it has the accounts in order, with the amounts that are not 0. Of a list of
+-- accounts `listed_of` keeps those whose amount is not 0.
 use Rattle.std.proofs.Common.{◌≡◌, ℕ, zero, suc, ◌<◌, ◌+◌, ◌&&◌, ◌||◌, T, Bool, true, false, not, cond, List, [], ◌∷◌, ◌++◌, length, map, Option, Some, None, refl, sym, ap, subst, ◌∙◌, arith, inl, inr}
 use Rattle.std.specs.Prelude.{ℤ, ⊤, nat_lt}
 use Rattle.std.specs.List.{AllByRecursion, flat_map, list_all, list_any, range_with_len}

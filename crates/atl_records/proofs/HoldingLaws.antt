@@ -86,7 +86,7 @@ module _ (items : FinMap nat_cmp ℕ) (i amount : ℕ) where
   pub set_again : has_amount items i amount ≡ true → with_amount_of items i amount ≡ items
   set_again has = by_entry (get items i) refl has
     where
-      -- the amount is there already, whether none is listed under i or one is
+      -- setting the amount that is there already changes nothing, whether one is listed under i (`listed`) or none
       by_entry : (listed : Option ℕ) → get items i ≡ listed → is_listed listed amount ≡ true → with_amount_of items i amount ≡ items
       by_entry None is none = ap (λ b. if b then remove items i else insert items i amount) none ∙ remove_none items i is
       by_entry (Some listed) is same =

@@ -32,8 +32,9 @@ unreached_level_is_above_0 (suc n) men days h = omega arith
 pub added : (sum x rest whole all : ℕ) → whole ≡ x + rest → sum + whole ≡ all → (sum + x) + rest ≡ all
 added sum x rest whole all h e = omega (arith, h, e)
 
--- with B for most_u32 * most_weight: if `sum` is at most B * low, then with x for the next item e of a sorted list
--- added, it is at most B * next, for some `next` of at most most_items from which the items after e begin
+-- Let B be most_u32 * most_weight. If a sorted list of items begins from `low`, and `sum` is at most B * low, then
+-- `sum` plus x, what the first item e adds, is at most B * next. Here x is at most B, and 0 if e's number is most_items
+-- or more; the items after e begin from `next`, at most most_items.
 pub fits_next : (low sum x : ℕ) (e : ℕ × ℕ) (es : List (ℕ × ℕ)) → is_sorted nat_cmp (e ∷ es) ≡ true → low ≤ most_items → sum ≤ (most_u32 * most_weight) * low → low ≤ e.0 → x ≤ (most_u32 * most_weight) → (most_items ≤ e.0 → x ≡ 0)
     → (next : ℕ) × (next ≤ most_items) × (sum + x ≤ (most_u32 * most_weight) * next) × BeginsFrom next es
 fits_next low sum x e es sorted few fits from small far =

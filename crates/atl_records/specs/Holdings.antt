@@ -33,7 +33,7 @@ holding_code =
 abbrev pub amount_of : FinMap nat_cmp ℕ → ℕ → ℕ
 amount_of items item = unwrap_or (get items item) 0
 
--- whether an amount is the listed one; 0 is the amount where none is listed
+-- whether an amount is the listed one and not 0, or is 0 where none is listed
 abbrev pub is_listed : Option ℕ → ℕ → Bool
 is_listed None amount = amount == 0
 is_listed (Some listed) amount = not (amount == 0) && listed == amount

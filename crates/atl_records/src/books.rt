@@ -108,7 +108,8 @@ impl Thing {
         }
     }
 
-    /// The thing with a number: money for 0, people for 1, the item with index i for 2 + i.
+    /// The thing with a number below 65,538: 0 is money, 1 is people, and 2 + i is the item with
+    /// index i.
     pub fn of_number(number: usize) -> Thing
         requires { number < possible_things }
         ensures { result ≡ thing_at number }

@@ -70,9 +70,9 @@ pub fn put_amount(amounts: &mut Numbered<u32>, number: u32, amount: u32) -> Resu
 
 /// Makes a holding, and reads and sets its parts.
 impl Holding {
-    /// A holding without the guard flag, of at most MEN_LIMIT men and HOLDING_LIMIT of money. It
-    /// has the pieces of each item and the days of each skill over all men, where they are not 0.
-    /// It takes no memory.
+    /// A holding of at most MEN_LIMIT men, at most HOLDING_LIMIT of money, and from 1 to
+    /// HOLDING_LIMIT pieces of each listed item. The days of each skill are over all men; the guard
+    /// flag is clear. The call takes no memory.
     pub fn new(
         name: Text,
         men: u32,

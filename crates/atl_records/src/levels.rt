@@ -81,7 +81,7 @@ fn carriage(world: &World, item: u32) -> u32
     }
 }
 
-/// Multiplies an amount by what each piece weighs or carries.
+/// Multiplies an amount by what each piece weighs or carries, which must be at most `MOST_WEIGHT`.
 fn times(amount: u32, each: u32) -> u64
     requires { each ≤ most_weight }
     ensures value { result ≡ amount * each }

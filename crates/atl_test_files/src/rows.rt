@@ -122,7 +122,7 @@ fn put_each<S: Alter, T: Put>(conn: &mut Connection<S>, rows: &[T]) -> Result<()
     Ok(())
 }
 
-/// Inserts the campaign row, with the world text.
+/// Inserts each row of the table `campaign`, with the world text.
 fn put_head<S: Alter>(
     conn: &mut Connection<S>,
     world: &str,

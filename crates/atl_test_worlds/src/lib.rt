@@ -1,11 +1,12 @@
 //! World texts that several crates of tests share, and the rows and mailings of a month on the
-//! island (`month`).
+//! island (`month`). The small world has one region; the island has three regions of land and one
+//! of sea.
 #![tactic(auto)]
 
 pub mod month;
 
 /// Makes the text of a world with one region from these literals: the money of a faction that
-/// joins, the region's jobs and peasants, and text to append.
+/// joins, the region's work places and peasants, and text to append.
 macro_rules! world_of_one_region {
     ($start_money:literal, $places:literal, $peasants:literal, $more:literal) => {
         concat!(
@@ -44,14 +45,14 @@ money = 500
     };
 }
 
-/// The text of the small world: one region, without items, skills and markets.
+/// The text of the small world: one region, without items, skills, kinds and markets.
 pub const SMALL: &str = world_of_one_region!(1000, 100, 1000, "");
 
 /// The text of the small world where a faction that joins gets no money.
 pub const POOR: &str = world_of_one_region!(0, 100, 1000, "");
 
-/// The text of the small world without jobs, where a faction that joins gets money for half a
-/// month.
+/// The text of the small world without work places, where a faction that joins gets money for half
+/// a month.
 pub const BARREN: &str = world_of_one_region!(5, 0, 1000, "");
 
 /// The text of the small world with only three peasants.

@@ -1,5 +1,6 @@
-//! Tables of edits to world texts, each with the first fault that the reader of worlds then
-//! reports.
+//! Lists of edits to world texts, each with the first fault that the reader of worlds then reports.
+//! The small world (`SMALL`) has one region, without items, skills, kinds and markets; each other
+//! world is the small one with more appended (module `worlds`).
 use atl_test_worlds::SMALL;
 
 /// An edit: a piece of the world text, what replaces it, and the first fault of the new text

@@ -1,5 +1,6 @@
 //! Tests that a faulty world text gets the right first fault with its path, and of the faults'
-//! numbers and names (docs/FORMATS.md, "Faults of a world file").
+//! numbers and names (docs/FORMATS.md, "Faults of a world file"). The small world (`SMALL`) has one
+//! region, without items, skills, kinds and markets.
 use super::asserts::{assert_number, assert_text};
 use super::changes::{
     ARRAY_CHANGES, Change, EQUAL_MARKETS, HEAD_CHANGES, KEY_CHANGES, MARKET_CHANGES, NAME_CHANGES,
@@ -171,7 +172,7 @@ level = 1
 ";
 
 /// A text to append to the small world: `front`, `open` n times, `inside`, `close` n times, and
-/// `end`. Each row of a test's table has its n.
+/// `end`. Each row of a test has an n of its own.
 #[derive(Clone, Copy)]
 struct Long {
     front: &'static str,

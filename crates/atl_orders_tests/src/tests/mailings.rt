@@ -213,8 +213,8 @@ static BAD_WORK: [(&str, &str); 20] = [
     ("UNIT 2 \"\x7f", "6 BadByte"),
 ];
 
-/// Asserts how each line is read as line 3 of a mailing, after `UNIT 7`; each wanted text begins
-/// with `front`.
+/// Asserts how each line is read as line 3 of a mailing, after `UNIT 7`; `front` is put before the
+/// text that a row wants.
 fn lines_tell(
     rt: &impl Abort,
     alloc: Global,
@@ -230,7 +230,7 @@ fn lines_tell(
     Ok(())
 }
 
-/// Asserts how each line of the tables from `GOOD` to `BAD_WORK` is read.
+/// Asserts how each line in the lists from `GOOD` to `BAD_WORK` is read.
 fn forms_tell(rt: &impl Abort, alloc: Global, world: &World) -> Result<(), Fail> {
     lines_tell(rt, alloc, world, "Number(7) ", &GOOD)?;
     lines_tell(rt, alloc, world, "Number(7) ", &NAMING)?;
@@ -424,7 +424,7 @@ fn faction_of(alloc: Global, world: &World, text: &[u8]) -> Result<usize, Fail> 
     Ok(mailing.faction as usize)
 }
 
-/// Asserts how all mailings in the tables of this module are read, and the faction of two more.
+/// Asserts how all mailings in the lists of this module are read, and the faction of two more.
 fn all_is_read(rt: &impl Abort, alloc: Global, world: &World) -> Result<(), Fail> {
     forms_tell(rt, alloc, world)?;
     all_texts_tell(rt, alloc, world)?;

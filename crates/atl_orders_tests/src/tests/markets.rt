@@ -1,5 +1,5 @@
 //! Tests of a world's markets in both formats, and of whether two worlds differ in their markets
-//! alone.
+//! alone. The world with one market has one region, and an item, a skill and a kind.
 use super::asserts::assert_shown;
 use super::worlds::{MARKET, changed, read_in, with_markets};
 use atl_tables::read_world;

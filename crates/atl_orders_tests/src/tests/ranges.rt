@@ -1,5 +1,5 @@
 //! Tests of each number of a world file: missing, no whole number, at both ends of its range, and
-//! one beyond.
+//! one beyond. The world with one market has one region, and an item, a skill and a kind.
 use super::faults::assert_change;
 use super::worlds::with_markets;
 use std::alloc::Global;

@@ -1,4 +1,5 @@
-//! Tests that the small world and the island are read in full, part by part.
+//! Tests that the small world (one region) and the island (three regions of land, one of sea) are
+//! read in full, part by part.
 use super::asserts::{assert_number, assert_numbers, assert_shown, assert_text};
 use atl_tables::read_world;
 use atl_test_worlds::{ISLE, SMALL};

@@ -1,4 +1,5 @@
-//! World texts for these tests, and what the reader makes of them.
+//! World texts for these tests, made of the small world (`SMALL`, one region), and what the reader
+//! makes of them.
 use atl_tables::{WorldFault, read_old_world, read_world};
 use atl_test_worlds::SMALL;
 use atl_world::{Format, Text, World};

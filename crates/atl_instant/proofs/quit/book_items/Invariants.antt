@@ -7,8 +7,8 @@ use Rattle.atl_phase.specs.Bounds.{HaveRoom, moving_items}
 use Rattle.atl_instant.specs.Quit.{with_item_loss}
 use Rattle.atl_instant.proofs.quit.book_items.Given as goal
 
--- booking the items still to come gives what booking all of them gives; the items still to come are of the world, and
--- the books have room for them
+-- booking the items still to come gives what booking all of them gives; these items and the things of the books are of
+-- the world, the books have room for the items, and all changes are marked
 abbrev pub invariant-loop-item : goal.invariant-loop-item
 invariant-loop-item l = record {
   rest : fold with_item_loss l.campaign.value (drop l.item-index l.items) ≡ fold with_item_loss l.initial.campaign.value l.items;
