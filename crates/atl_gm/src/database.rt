@@ -85,8 +85,8 @@ fn confirm_file(rt: &HostRuntime, path: &str) -> Result<(), Failure> {
     Err(Failure::Store)
 }
 
-/// Opens the file as a database, or makes it. A file that is made has no sums on its pages, which a
-/// `sqlite3` without that extension would spoil.
+/// Opens the file as a database, or makes it. A file that is made has no checksums on its pages,
+/// since a `sqlite3` without the extension for checksums would spoil them.
 fn connect<S: Start>(
     rt: &HostRuntime,
     path: &str,

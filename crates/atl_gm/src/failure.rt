@@ -158,8 +158,9 @@ impl Failure {
         }
     }
 
-    /// Prints the failure on standard error and returns the status: 1, or 2 for a bad command line.
-    /// A bad command line is printed in the words of its parser; the failure Output isn't printed.
+    /// Prints the failure on standard error and returns the status: 2 for a command line that is
+    /// bad or asks for help, else 1. Such a command line is answered in the words of its parser;
+    /// the failure Output isn't printed.
     pub fn report<R: Eprint>(self, rt: &R) -> ExitCode {
         let _ = match &self {
             Failure::CommandLine(error) => eprint!(rt; "{error}"),

@@ -1,4 +1,6 @@
--- Laws on the router's rows: looking up a path in rows with a common prefix, and a number after that prefix.
+-- Laws on the router's rows: looking up a path in rows with a common prefix, and a number after that prefix. A row is
+-- the text of a route with a key. In it the byte `param_token` stands for a parameter, which is a part of a path
+-- without a slash.
 use Rattle.std.proofs.Common.{get_or, ltb, ◌&&◌, ◌≡◌, ◌≢◌, ℕ, ◌-◌, ◌<◌, ◌⊎◌, inl, inr, List, [], ◌∷◌, ◌++◌, length, take, drop, Option, Some, None, Bool, true, false, cond, refl, sym, ap, ◌∙◌, subst, arith, nat_eq, ◌==◌}
 use Rattle.std.specs.Prelude.{option_and_then}
 use Rattle.std.specs.Cmp.Lexicographic.{pointwise}
@@ -43,8 +45,8 @@ after_prefix_is [] p rest h = cc
 after_prefix_is (x ∷ w) [] rest h = cc
 after_prefix_is (x ∷ w) (y ∷ p) rest h = after_prefix_by x y w p rest (y == x) refl (λ k. after_prefix_is w p rest k) (sym (after_prefix_step x y w p) ∙ h)
 
--- looking up a path in rows with a common prefix, past the first byte of both, looks up what follows the prefix, or
--- finds nothing
+-- For `lookup_after_prefix`: looking up a path past its first byte, in rows with a common prefix, looks up what follows
+-- the prefix. It finds nothing where the first bytes of path and prefix differ, or the path lacks the prefix.
 front_by : (x y : ℕ) (w p : List ℕ) (t : Rows) (v : Bool) → (y == x) ≡ v → first (prepend w t) p ≡ option_and_then (λ rest. first t rest) (after_prefix w p) → seek 0 (step y (prepend (x ∷ w) t)) p ≡ option_and_then (λ rest. first t rest) (cond v (after_prefix w p) None)
 front_by x y w p t true e ih =
     let same : y ≡ x = grind (arith, nat_tests) in
@@ -53,7 +55,8 @@ front_by x y w p t false e ih =
     let differ : x ≢ y = λ q. grind (arith, nat_tests) in
     rw (step-miss y x w t differ) (seek-empty 0 p)
 
--- looking up a path in rows with a common prefix looks up the rest of the path after the prefix, or finds nothing
+-- looking up a path in rows with a common prefix that has no parameter (`IsText`) looks up what follows the prefix, or
+-- finds nothing if the path lacks the prefix
 pub lookup_after_prefix : (w : List ℕ) (t : Rows) (path : List ℕ) → IsText w → first (prepend w t) path ≡ option_and_then (λ rest. first t rest) (after_prefix w path)
 unfolding seek
 lookup_after_prefix [] t path h = ap (λ r. first r path) (prepend-nil t)
@@ -159,18 +162,18 @@ digits_utf8 p h = all_utf8 is_ascii_digit (λ b e. grind (arith, nat_tests)) p h
 pub ascii_utf8 : (p : List ℕ) → list_all (λ b. ltb b 128) p ≡ true → IsUtf8 p
 ascii_utf8 p h = all_utf8 (λ b. ltb b 128) (λ b e. grind (arith, nat_tests)) p h
 
--- The lookup after a prefix finds the key, and the text is UTF-8 or no number; or it finds nothing, and the text is no
--- number.
+-- Looking up a text in the row of a parameter finds the row's key, and the text is UTF-8 or no number; or it finds
+-- nothing, and the text is no number.
 abbrev pub NumberSays : ℕ → List ℕ → Type 0
 NumberSays key rest = ((first (number_row key) rest ≡ Some key) × ((number_of rest ≡ None) ⊎ IsUtf8 rest)) ⊎ ((first (number_row key) rest ≡ None) × (number_of rest ≡ None))
 
--- a text that is no number is as `NumberSays` has it, whether its lookup finds the key or nothing
+-- the lookup of a text that is no number may find the key or nothing: `NumberSays` allows either for such a text
 found_or_none : (key : ℕ) (rest : List ℕ) → number_of rest ≡ None → IsAt key (first (number_row key) rest) → NumberSays key rest
 found_or_none key rest none (inl e) = inl (e, inl none)
 found_or_none key rest none (inr e) = inr (e, none)
 
--- a text that isn't empty finds its key, and is UTF-8 or no number; or it finds nothing, and is no number
--- (`NumberSays`), whether all its bytes are digits (t) or not
+-- looking up a text that isn't empty finds the key, and the text is UTF-8 or no number; or it finds nothing, and the
+-- text is no number (`NumberSays`), whether all its bytes are digits (t) or not
 number_by : (key b : ℕ) (p : List ℕ) (t : Bool) → list_all is_ascii_digit (b ∷ p) ≡ t → NumberSays key (b ∷ p)
 unfolding number_of
 number_by key b p true e = inl (key_found key b p (first_digit b p (is_ascii_digit b) refl e) (no_slash (b ∷ p) e), inr (digits_utf8 (b ∷ p) e))
@@ -178,7 +181,8 @@ number_by key b p false e =
     let none : number_of (b ∷ p) ≡ None = rw e (none_if_not_digits (nat_lt 0 (length (b ∷ p))) (nat_le (length (b ∷ p)) 9) (Some (digits_value 10 (b ∷ p)))) in
     found_or_none key (b ∷ p) none (one_or_none key b p)
 
--- a text after a prefix finds its key, and is UTF-8 or no number; or it finds nothing, and is no number (`NumberSays`)
+-- looking up any text finds the key, and the text is UTF-8 or no number; or it finds nothing, and the text is no number
+-- (`NumberSays`)
 pub number_says : (key : ℕ) (rest : List ℕ) → NumberSays key rest
 unfolding seek number_of
 number_says key [] = inr (refl, refl)

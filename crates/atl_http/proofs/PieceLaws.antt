@@ -1,4 +1,5 @@
--- Laws on pieces: bytes after a final verdict change nothing, and no input has two final verdicts.
+-- Laws on pieces: bytes after a final verdict change nothing, and no input has two final verdicts. A verdict is final
+-- if the request is whole or refused.
 use Rattle.std.proofs.Common.{◌≡◌, ℕ, ◌≤◌, ◌+◌, ◌-◌, Bool, true, false, cond, List, [], ◌++◌, length, take, nat_lt, refl, sym, ap, ◌∙◌, subst, inl, inr, arith}
 use Rattle.std.specs.Prelude.{Result, Ok, Err}
 use Rattle.std.proofs.lemmas.List.{append-nil, take-append-le, length-append}

@@ -1,4 +1,5 @@
--- Laws on the routes: the router's lookup of a path, with its parameter, gives the route of `route_of`.
+-- Laws on the routes: the router's lookup of a path, with its parameter, gives the route of `route_of`. The pattern of
+-- a route is its path with the byte `param_token` for the number, which is the parameter of the route.
 use Rattle.std.proofs.Common.{add-zero, lit<, get_or, ltb, leb, length-append, ◌&&◌, ◌≡◌, ℕ, ◌+◌, ◌-◌, ◌<◌, ◌≤◌, ◌⊎◌, inl, inr, List, [], ◌∷◌, ◌++◌, length, drop, Option, Some, None, Bool, true, false, refl, sym, ap, ◌∙◌, subst, arith, ◌==◌}
 use Rattle.std.specs.Prelude.{MatchOption, bytes_eq, option_and_then, option_map, codes}
 use Rattle.std.proofs.lemmas.Bool.Decides.{nat_tests}
@@ -28,17 +29,18 @@ use Rattle.atl_http.proofs.FrontLaws.{after_prefix_is, lookup_after_prefix, numb
 abbrev number_text : List ℕ
 number_text = codes "number"
 
--- a byte below the parameter's token, before a text without a parameter, makes a text without a parameter
+-- a byte below `param_token`, before a text without a parameter, makes a text without a parameter (`IsText`)
 text_step : (b : ℕ) (front : List ℕ) (t : Bool) → ltb b param_token ≡ t → (list_all (λ c. ltb c param_token) front ≡ true → IsText front) → (t && list_all (λ c. ltb c param_token) front) ≡ true → IsText (b ∷ front)
 text_step b front true e ih h = (grind (arith, nat_tests), ih h)
 text_step b front false e ih h = cc
 
--- a text whose bytes are all below the parameter's token has no parameter (`IsText`)
+-- a text whose bytes are all below `param_token` has no parameter (`IsText`)
 is_text : (front : List ℕ) → list_all (λ b. ltb b param_token) front ≡ true → IsText front
 is_text [] h = tt
 is_text (b ∷ front) h = text_step b front (ltb b param_token) refl (λ k. is_text front k) h
 
--- walking a route's pattern along a path passes the prefix, and reaches the parameter after it
+-- walking a pattern along a path that is at least as long as the pattern's prefix passes the prefix, and reaches the
+-- parameter after it
 walk_front : (front : List ℕ) (len t : ℕ) → IsText front → t + length front ≤ len → wild_from (front ++ param_token ∷ []) len t t ≡ (t + length front, t + length front)
 walk_front [] len t h l = rw (add-zero t) refl
 walk_front (b ∷ front) len t h l =
@@ -56,8 +58,8 @@ part_rest path n h =
     let count : length (drop n path) ≡ length path - n = length-drop n path in
     rw (one, two, ← count) (take-length (drop n path))
 
--- if a pattern's prefix has `n` bytes and its parameter is last, the walk takes the path without its first `n` bytes as
--- `number`
+-- if the prefix of a pattern has `n` bytes and the parameter is last, walking the pattern along a path takes the path
+-- without its first `n` bytes as the parameter `number`
 takes : (pattern text path rest : List ℕ) (start end n : ℕ) → wild_from pattern (length path) 0 0 ≡ (n, n) → (ltb n (length pattern) && (get_or pattern n 0 == param_token) && ltb (n + 1) (length pattern)) ≡ false → part_of text start end ≡ number_text → drop n path ≡ rest → n ≤ length path → walk pattern text path ((start, end) ∷ []) 0 0 ≡ (number_text, rest) ∷ []
 takes pattern text path rest start end n at last named_is rest_is h =
     rw (at, last, named_is, part_rest path n h, rest_is) refl
@@ -113,8 +115,8 @@ record Fronted (key : ℕ) (front : List ℕ) : Type 0 where
   -- if what follows the prefix is no number, the route of this key is None for it (`route_in`)
   without : (rest : List ℕ) → number_of rest ≡ None → route_in (kept_at key).value (Some rest) ≡ None
 
--- if the rest after a UTF-8 prefix that ends in an ASCII byte is the parameter, the rest is UTF-8 where prefix and rest
--- together are, and the other way round (`Fronted`)
+-- `Fronted` holds of a UTF-8 prefix that ends in an ASCII byte, if what follows the prefix is the parameter, and the
+-- route is None where this is no number. What follows the prefix is then UTF-8 exactly where the path is.
 fronted : (key last : ℕ) (front : List ℕ) → length front ≡ last + 1 → IsUtf8 front → ((rest : List ℕ) → get_or (front ++ rest) last 0 < 128) → ((rest : List ℕ) → Takes key (front ++ rest) rest)
     → ((rest : List ℕ) → number_of rest ≡ None → route_in (kept_at key).value (Some rest) ≡ None) → Fronted key front
 fronted key last front count text ascii takes_rest without = record {
@@ -234,24 +236,24 @@ leads_other c q one two three four =
     let first_four : (114 == c) ≡ false = grind (arith, nat_tests) in
     nowhere (letter_first c q ∙ rw (first_one, first_two, first_three, first_four) (seek-empty 0 q)) (rw (one, two, three, four) refl)
 
--- for each path without `c`, `j` or `o` after the slash, the router finds the route that `route_of` gives, whether that
--- byte is `r` or not (`Leads`)
+-- for each path whose byte after the slash is not `c`, `j` or `o`, the router finds the route that `route_of` gives,
+-- whether this byte is `r` or not (`Leads`)
 letter_report : (c : ℕ) (q : List ℕ) → (c == 99) ≡ false → (c == 106) ≡ false → (c == 111) ≡ false → (t : Bool) → (c == 114) ≡ t → Leads (47 ∷ c ∷ q)
 letter_report c q one two three true e =
     let same : 114 ≡ c = grind (arith, nat_tests) in
     subst (λ x. Leads (47 ∷ x ∷ q)) same (leads_report q)
 letter_report c q one two three false e = leads_other c q one two three e
 
--- for each path without `c` or `j` after the slash, the router finds the route that `route_of` gives, whether that byte
--- is `o` or not (`Leads`)
+-- for each path whose byte after the slash is not `c` or `j`, the router finds the route that `route_of` gives, whether
+-- this byte is `o` or not (`Leads`)
 letter_orders : (c : ℕ) (q : List ℕ) → (c == 99) ≡ false → (c == 106) ≡ false → (t : Bool) → (c == 111) ≡ t → Leads (47 ∷ c ∷ q)
 letter_orders c q one two true e =
     let same : 111 ≡ c = grind (arith, nat_tests) in
     subst (λ x. Leads (47 ∷ x ∷ q)) same (leads_orders q)
 letter_orders c q one two false e = letter_report c q one two e (c == 114) refl
 
--- for each path without `c` after the slash, the router finds the route that `route_of` gives, whether that byte is `j`
--- or not (`Leads`)
+-- for each path whose byte after the slash is not `c`, the router finds the route that `route_of` gives, whether this
+-- byte is `j` or not (`Leads`)
 letter_join : (c : ℕ) (q : List ℕ) → (c == 99) ≡ false → (t : Bool) → (c == 106) ≡ t → Leads (47 ∷ c ∷ q)
 letter_join c q one true e =
     let same : 106 ≡ c = grind (arith, nat_tests) in
@@ -333,7 +335,8 @@ matched_text_is : {A : Type 0} (view : A → List ℕ) (r : Option A) (text : Op
 matched_text_is view None text h = h
 matched_text_is view (Some x) text h = h
 
--- for a UTF-8 path, the route made from the found key and its parameter is that of `route_of`
+-- for a UTF-8 path, the route made from the key that the router finds and the text of the parameter `number` is that of
+-- `route_of`
 pub found_route_is : {A : Type 0} (view : A → List ℕ) (r : Option A) (path given : List ℕ) (e : RouteOf RouteKey) (route : Option Route) → given ≡ path → IsUtf8 path → first kept path ≡ Some e → GetsParameter view r (walk e.pattern e.text given e.names 0 0) → route ≡ route_in e.value (option_map view r) → route ≡ route_of path
 found_route_is view r path given e route same text at gets is =
     let says : FindsRoute path e = found path e text at in

@@ -58,7 +58,7 @@ refusal_status Gone = 403
 refusal_status TooLong = 413
 refusal_status why = 400
 
--- the reply to a refusal or a fault: its name and number as JSON
+-- the reply of this status to a refusal or a fault of a command, with its name and number as JSON
 abbrev pub failure : (status : ℕ) → (name : List ℕ) → (number : ℕ) → Reply
 failure status name number = record { status = status; allow = None; kind = json; body = error_body name number }
 

@@ -18,7 +18,7 @@ use Rattle.atl_http.specs.declared.io.HttpFault.TheVariants.{Cut, ReadFault, Wri
 abbrev pub most_reads : ℕ
 most_reads = 1000000
 
--- the most writes of one reply that may be interrupted
+-- the number of interrupted writes after which the reply is given up
 abbrev pub most_interrupted : ℕ
 most_interrupted = 1000000
 
@@ -36,8 +36,8 @@ IsReadOutcome (Err e) came.End = ⊥
 IsReadOutcome (Err e) came.Interrupted = error_kind e ≡ kind.Interrupted
 IsReadOutcome (Err e) came.Failed = error_kind e ≢ kind.Interrupted
 
--- What one read does, by its outcome: a piece goes from the remaining bytes to the front of `room`. Any other outcome
--- takes no bytes, and End comes only at the end of the input.
+-- What one read does, by its outcome: a piece goes from the remaining bytes to the front of the buffer `room`. Any
+-- other outcome takes no bytes, and End comes only at the end of the input.
 abbrev pub GivesBytes : (before after : Option (List ℕ)) → (room : List ℕ) → ReadOutcome → Type 0
 GivesBytes before after room (came.Piece count) = (0 < count) × (count ≤ length room) × Consumes before after (take count room)
 GivesBytes before after room came.End = Keeps before after × IsAtEnd after

@@ -31,7 +31,8 @@ has_host minor fields = minor == 0 || is_some (only (values_of (codes "Host") fi
 
 -- ---- the second: a route, and its method
 
--- the route (Some) if the request's method is its method; else NoRoute (None), or BadMethod
+-- the route of a path (Some), if the request's method is the method of this route, and BadMethod for another method;
+-- NoRoute if the path has no route (None)
 abbrev pub with_method : (method : List ℕ) → Option Route → Result Route Problem
 with_method method None = Err NoRoute
 with_method method (Some route) = if bytes_eq method (method_of route) then Ok route else Err (BadMethod route)
@@ -47,8 +48,9 @@ abbrev pub size_within : Option ℕ → Result ℕ Problem
 size_within None = Err BadRequest
 size_within (Some n) = if nat_lt most_bytes n then Err BodyTooLong else Ok n
 
--- the body length that the values of Content-Length declare: exactly one value, or no value (0) where the length is
--- optional
+-- The body length by the values of Content-Length: the number that the only value writes, or 0 without a value where
+-- the length is optional. Else NoLength without a value, BadRequest for several or for no number, and BodyTooLong for a
+-- number above the limit (`size_within`).
 abbrev pub declared : (optional : Bool) → List (List ℕ) → Result ℕ Problem
 declared true [] = Ok 0
 declared false [] = Err NoLength
@@ -64,8 +66,8 @@ unless_coded (coding ∷ more) size = Err NoLength
 unfoldable pub posted_size : (optional : Bool) → List Pair → Result ℕ Problem
 posted_size optional fields = unless_coded (values_of (codes "Transfer-Encoding") fields) (declared optional (values_of (codes "Content-Length") fields))
 
--- the number of body bytes that are read: what Content-Length declares, which may be missing for `/close` (0); none for
--- a GET
+-- the number of body bytes that are read: what Content-Length declares, which may be missing for `/close` (0), or the
+-- problem with it; none for a GET
 abbrev pub size_of : Route → List Pair → Result ℕ Problem
 size_of Join fields = posted_size false fields
 size_of (Orders faction) fields = posted_size false fields
@@ -103,8 +105,8 @@ joining body = do
   pass ← or_problem BadJson (text_at (codes "pass") said)
   Ok (request.Join name pass)
 
--- The request that a route, pass text and body make; BadJson if the body of a join is no object with the texts of a
--- join.
+-- The request that a route, pass text and body make; BadJson if the body of a join is no JSON object with the texts
+-- `name` and `pass`.
 abbrev pub request_of : Route → (pass body : List ℕ) → Result Request Problem
 request_of Join pass body = joining body
 request_of (Orders faction) pass body = Ok (request.Orders faction pass body)
@@ -126,7 +128,8 @@ abbrev pub verdict_on_request : Result Request Problem → Verdict
 verdict_on_request (Err problem) = Refused problem
 verdict_on_request (Ok asked) = Asks asked
 
--- the verdict on a head, by the result of its checks and the bytes after it: More while the body isn't whole
+-- the verdict on a head by its checks and the bytes after it: Refused if a check failed, More while the body isn't
+-- whole, else the verdict on the request
 abbrev pub verdict_with_body : Result (Route × ℕ × List ℕ) Problem → (rest : List ℕ) → Verdict
 verdict_with_body (Err problem) rest = Refused problem
 verdict_with_body (Ok (route, size, pass)) rest = if nat_lt (length rest) size then More else verdict_on_request (request_of route pass (take size rest))

@@ -20,7 +20,7 @@ use Rattle.atl_http.specs.declared.problem.CheckError.{CheckError}
 use Rattle.atl_http.specs.declared.problem.CheckError.TheVariants.{Memory, Failed}
 use Rattle.atl_http.specs.Fields.{Pair}
 
--- The lookup found these values: none, one (the bytes of a span within the bytes), or several.
+-- The lookup found these values: none; one, which is the bytes of a span that lies within `bytes`; or several.
 abbrev pub HasValues : List ℕ → FieldLookup → List (List ℕ) → Type 0
 HasValues bytes Nowhere values = values ≡ []
 HasValues bytes (Once span) values = (values ≡ span_bytes bytes span ∷ []) × IsWithin (length bytes) span

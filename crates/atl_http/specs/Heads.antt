@@ -64,7 +64,7 @@ IsFinal More = ⊥
 IsFinal (Refused problem) = ⊤
 IsFinal (Asks asked) = ⊤
 
--- the verdict of an outcome: refused, or asking for a command
+-- a final verdict as a verdict: Refused with the problem, or Asks with the request
 abbrev pub final : FinalVerdict → Verdict
 final (outcome.Refused problem) = Refused problem
 final (outcome.Asks asked) = Asks asked
@@ -73,7 +73,8 @@ final (outcome.Asks asked) = Asks asked
 abbrev pub IsShortBy : (seen : List ℕ) → (count : ℕ) → Type 0
 IsShortBy seen count = (more : List ℕ) → length more < count → Judges (seen ++ more) More
 
--- The progress on these bytes is right: their verdict, or a number of missing bytes, at least one.
+-- The progress on these bytes is right: the final verdict on them, or a count of missing bytes, at least 1. With fewer
+-- further bytes than the count the request isn't whole (`IsShortBy`).
 abbrev pub ComesTo : (seen : List ℕ) → Progress → Type 0
 ComesTo seen (progress.Lacks count) = (0 < count) × IsShortBy seen count
 ComesTo seen (progress.Ends outcome) = Judges seen (final outcome)

@@ -26,8 +26,8 @@ ReadsMore before after old new (Err ReadFault) = Keeps before after × (new ≡ 
 ReadsMore before after old new (Err WriteFault) = ⊥
 ReadsMore before after old new (Err Memory) = ⊤
 
--- The bytes `seen` were read, and no more than needed: their verdict is the outcome, or More if the input ended or a
--- read failed. Memory leaves open what was read.
+-- The bytes `seen` were read, and no more than needed. The result is the final verdict on them. With Cut, at the end of
+-- the input, and with ReadFault the verdict on them is More. Memory leaves open what was read.
 abbrev pub Receives : (before after : Option (List ℕ)) → (seen : List ℕ) → Result FinalVerdict HttpFault → Type 0
 Receives before after seen (Ok outcome) = Consumes before after seen × IsReadSoFar seen × Judges seen (final outcome)
 Receives before after seen (Err Cut) = Consumes before after seen × Judges seen More × IsAtEnd after
@@ -50,7 +50,8 @@ Sends before after bytes (Err ReadFault) = ⊥
 Sends before after bytes (Err WriteFault) = (count : ℕ) × (count < length bytes) × Appends before after (take count bytes)
 Sends before after bytes (Err Memory) = ⊥
 
--- The message is the reply to the outcome. If memory ran out there is no message, and the command has been run or not.
+-- The message is the reply to a request with this final verdict (`IsReply`). If memory ran out there is no message, and
+-- the command has been run or not.
 abbrev pub RepliesWith : {S : Type 0} → Ghosts S → Dice → (old : ServiceValue S) → FinalVerdict → Result Message AllocError → (new : ServiceValue S) → Type 0
 RepliesWith g dice old outcome (Ok message) new = (reply : Reply) × Says reply message × IsReply g dice old outcome reply new
 RepliesWith g dice old outcome (Err e) new = (new ≡ old) ⊎ ((reply : Reply) × IsReply g dice old outcome reply new)

@@ -14,7 +14,8 @@ use Rattle.atl_http.specs.Serving.{Known, Serves}
 abbrev pub IsServed : {S : Type 0} → Ghosts S → Dice → (old : ServiceValue S) → Result ℕ HttpFault → (new : ServiceValue S) → Type 0
 IsServed g dice old told new = (before : Known) × (after : Known) × Serves g dice before after old told new
 
--- One connection's request is served: with Err Memory the service ran out of memory, with Ok it did not.
+-- One connection's request is served: with Err Memory the service ran out of memory, with Ok it did not. Err Net never
+-- comes.
 abbrev pub ServesConnection : {S : Type 0} → Ghosts S → Dice → (old : ServiceValue S) → Result (Unit {0}) ListenFault → (new : ServiceValue S) → Type 0
 ServesConnection g dice old (Ok done) new = (told : Result ℕ HttpFault) × (told ≢ Err http.Memory) × IsServed g dice old told new
 ServesConnection g dice old (Err Memory) new = IsServed g dice old (Err http.Memory) new

@@ -1,4 +1,5 @@
--- For proofs alone: the four routes as the router of `matchit` stores them, and the route that each key means.
+-- For proofs alone: the four routes as the router of `matchit` stores them, and the route that each key means. The byte
+-- `param_token` stands for a number in the text of a route.
 use Rattle.std.specs.Prelude.{ℕ, zero, suc, ◌+◌, List, [], ◌∷◌, ◌++◌, length, codes, Option, Some, None, option_map}
 use Rattle.matchit.specs.Rows.{Rows, RowsOf, param_token}
 use Rattle.matchit.specs.Router.{RouteOf, rename}

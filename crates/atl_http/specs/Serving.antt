@@ -39,8 +39,8 @@ command_of dice next regions (Report faction pass) = command.Report faction pass
 abbrev pub command_in : {S : Type 0} → Dice → ServiceValue S → Request → Command
 command_in dice old request = command_of dice (next_faction old.campaign) (len old.world.regions) request
 
--- The reply is right for an outcome: a refused request changes nothing; for any other its command is run, and its
--- answer is the reply.
+-- The reply is right for a final verdict. A refused request gets the reply to its problem, and changes nothing; for any
+-- other the command is run, and the reply is that to its answer.
 abbrev pub IsReply : {S : Type 0} → Ghosts S → Dice → (old : ServiceValue S) → FinalVerdict → Reply → (new : ServiceValue S) → Type 0
 IsReply g dice old (Refused problem) reply new = (reply ≡ problem_reply problem) × (new ≡ old)
 IsReply g dice old (Asks request) reply new = (answer : Answer) × Runs g old (command_in dice old request) answer new × (reply ≡ answer_reply answer)
@@ -63,8 +63,9 @@ fault_number ReadFault = Some 2
 fault_number WriteFault = Some 3
 fault_number Memory = None
 
--- What serving one request does, by its result: with Ok the whole reply to the bytes seen was written. With a fault
--- none of it was written, or a part.
+-- What serving one request does, by its result. With Ok the whole reply to the bytes seen was written; with WriteFault
+-- only the first part of it, perhaps nothing. With Cut and ReadFault nothing was written, and the service is unchanged.
+-- With Memory nothing was written, and the command has been run or not.
 abbrev pub Serves : {S : Type 0} → Ghosts S → Dice → (before after : Known) → (old : ServiceValue S) → Result ℕ HttpFault → (new : ServiceValue S) → Type 0
 Serves g dice before after old (Ok status) new =
     (seen : List ℕ) × (reply : Reply) × Consumes before.left after.left seen × RepliesTo g dice old seen reply new × (status ≡ reply.status) × Appends before.held after.held (bytes_of reply)

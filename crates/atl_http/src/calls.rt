@@ -9,7 +9,7 @@ use std::io::{self, Error, ErrorKind, Read, Write};
 /// The most reads for one request.
 pub const MOST_READS: u32 = 1_000_000;
 
-/// The most writes of one reply that may be interrupted.
+/// The number of interrupted writes after which the reply is given up.
 pub const MOST_INTERRUPTED: u32 = 1_000_000;
 
 /// The outcome of one read: a piece, the end of the input, an interruption, or a failure.

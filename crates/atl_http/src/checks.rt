@@ -211,7 +211,7 @@ fn joining(alloc: Global, body: &[u8]) -> Result<Request, CheckError>
 }
 
 /// Makes the request of a route, a pass text and a whole body. BadJson if the body of a join is no
-/// object with both texts; Memory without memory for these.
+/// JSON object with the texts `name` and `pass`; Memory without memory for the request.
 pub fn request_of(
     alloc: Global,
     route: Route,

@@ -43,7 +43,7 @@ fn phrase_of(status: StatusCode) -> &'static str
     }
 }
 
-/// Writes the status line and the three fields that every reply begins with.
+/// Writes the status line and the fields Content-Type, Content-Length and Connection.
 #[tactic(auto, unfolding(crate::specs::Replies::head_of))]
 fn write_head(
     out: &mut String,

@@ -114,8 +114,8 @@ fn router(alloc: Global) -> Result<Router<RouteKey>, AllocError>
     Ok(router)
 }
 
-/// The route of the key `place`, with the number that the text `parameter` writes; None if that is
-/// no number.
+/// The route of the key `place`, with the number that the text `parameter` writes; None if the
+/// route needs a number and `parameter` writes none.
 fn route_in(place: RouteKey, parameter: Option<&str>) -> Option<Route>
     ensures { result ≡ route_in place (option_map (λ text. text.now) parameter.entry) }
 {

@@ -58,8 +58,9 @@ fn told_of(
     Ok(told_between(alloc, world, &before, &after, &events)?)
 }
 
-/// The state of playing a file of cases, line by line: the campaign and the phases for the next
-/// case, the case that is being read, the count of the cases played, and a report.
+/// The state of playing a file of cases, line by line. It has the world, the campaign and the
+/// phases for the next case, the case that is being read, the count of the cases played, and a
+/// report.
 struct Player {
     world: World,
     setting: Setting,

@@ -1,4 +1,5 @@
--- Laws on the cause of a fault: for Memory a call of the write ran out of memory, for Store it gave another error.
+-- Laws on the cause of a fault: for Memory a call of the write ran out of memory, for Store it gave another error. A
+-- disk is clean if each read has returned what was written (docs/PROVED.md, "Premises").
 use Rattle.std.proofs.Common.{◌≡◌, ◌≢◌, Bool, true, false, cond, Result, Ok, Err, IfErr, refl, sym, subst, inr}
 use Rattle.std.specs.Prelude.{IsErrAnd}
 use Rattle.sqlite_trees.specs.declared.store.Store.{Ghosts}
@@ -59,8 +60,8 @@ module _ {S : Type 0} (g : Ghosts S) (own : Statements) (old new : Held S) where
   write_has_cause write.Memory told = inr (λ clean. lacked (told clean))
   write_has_cause write.Store told = λ clean. failed (told clean)
 
-  -- if a call ends with the fault of a write as its error, the error that this fault reports is the cause of the
-  -- service's fault (`HasCause`)
+  -- if a call ends with a write's fault, which on a clean disk reports an error of a call of the write, this error is
+  -- the cause of the service's fault (`HasCause`)
   pub call_has_cause : {A : Type 0} (fault : WriteFault) (r : Result A WriteFault) → IsErrAnd r (λ f. f ≡ fault) → (HasCleanDisk (state g new) → IsFaultOfError g own write_fault old new fault) → IfErr r (λ f. HasCause g own old new (of_write f))
   call_has_cause fault (Ok a) is told = tt
   call_has_cause fault (Err f) is told = subst (λ x. HasCause g own old new (of_write x)) (sym is) (write_has_cause fault told)

@@ -55,7 +55,8 @@ module _ (w : WorldValue) (n : ℕ) (text : List ℕ) where
   named : (next : ℕ) (rest : List (List ℕ)) → header_from 1 (lines text) ≡ Ok (record { faction = n; next = next; rest = rest }) → Names (after_header w (header_from 1 (lines text)))
   named next rest is = rw is (_, refl, refl)
 
-  -- a mailing of at most 65,536 bytes is not refused as too long
+  -- a mailing whose header names the faction is still read as one of that faction after the test of its length
+  -- (`long`), if it has at most 65,536 bytes
   not_long : (long : Bool) → nat_lt most_bytes (length text) ≡ long → length text ≤ most_bytes → Names (after_header w (header_from 1 (lines text))) → Names (cond long (Err TooLong) (after_header w (header_from 1 (lines text))))
   not_long true is short names = absurd (grind (arith, nat_tests))
   not_long false is short names = names
@@ -252,11 +253,12 @@ sites_stay w faults events c d n is sites listed =
 
 -- ---- what the store requires, and what is written
 
--- the books of a good campaign count at most as many things as the store can write (`most_things`)
+-- the books of a good campaign of a valid world have at most as many things as the store can write (`most_things`)
 pub few_things : (w : WorldValue) (c : CampaignValue) → IsWorld w → IsGood w c → c.books.things ≤ most_things
 few_things w c world good = omega (arith, good.sound.steady.numbers.books.count, world.few_items)
 
--- after all reports of a month are stored, the campaign is that of `closed`, and good
+-- if storing a month's reports for factions of a good campaign makes the campaign of `closed`, the campaign after
+-- storing them is that of `closed`, and good
 pub closed_after_reports : (w : WorldValue) (c turned after : CampaignValue) (words : List ℕ) (outcome : MonthResult) → reported_to_all w turned outcome ≡ closed w c words → after ≡ reported_to_all w turned outcome → AreThere turned outcome.factions.items → IsGood w turned → (after ≡ closed w c words) × IsGood w after
 closed_after_reports w c turned after words outcome whole is there good =
     (is ∙ whole, subst (IsGood w) (sym is) (good_reports w outcome.events.items (λ n. unwrap_or (get outcome.faults n) []) turned outcome.factions.items there good))

@@ -1,4 +1,5 @@
--- Law: a connection over files whose reads are compared with digests has a clean disk, or two digests have collided.
+-- Law: a connection over files whose reads are compared with digests has a clean disk, or two digests have collided. A
+-- disk is clean if each read has returned what was written (docs/PROVED.md, "Premises").
 use Rattle.std.proofs.Common.{◌≡◌, ◌⊎◌, ℕ, Bool, true, false, List, IsTrue, inl, inr, refl}
 use Rattle.std.proofs.lemmas.Bool.{false≢true}
 use Rattle.sqlite_disk.specs.Events.{Event, replay}
@@ -19,7 +20,8 @@ no_doubt true is = refl
 no_doubt false is = absurd (false≢true is)
 
 module _ {D : Type 0} {g : disk.Ghosts D} (start : D → List ℕ) (record_of : D → List Event) where
-  -- a shielded connection over files whose calls are recorded has a clean disk, or two digests have collided
+  -- a connection over files whose calls are recorded, and whose reads are compared with digests (it is shielded), has a
+  -- clean disk, or two digests have collided
   pub shielded_is_clean : ((d : D) → g.is_fair d ≡ (replay (start d) (record_of d)).is_fair) → ((d : D) → g.is_clean d ≡ (replay (start d) (record_of d)).is_honest) → (conn : Held (FileStore D g)) → is_shielded conn.store
       → HasCleanDisk (file_state conn) ⊎ HasCollided start record_of conn.store
   shielded_is_clean fair clean conn shielded =

@@ -1,4 +1,5 @@
--- Laws on `found`: it founds (`Founds`) or refuses (`RefusesFounding`) as promised; the new service is consistent.
+-- Laws on `found`: it founds (`Founds`) or refuses (`RefusesFounding`) as promised; the new service is consistent. A
+-- disk is clean if each read has returned what was written (docs/PROVED.md, "Premises").
 use Rattle.std.proofs.Common.{◌≡◌, ◌⊎◌, Bool, true, false, List, ℕ, Result, Ok, Some, refl, sym, ap, ◌∙◌, subst, inl, inr, arith}
 use Rattle.std.proofs.lemmas.Bool.{false≢true}
 use Rattle.sqlite_trees.specs.declared.store.Store.{Ghosts}
@@ -64,7 +65,7 @@ module _ {S : Type 0} (g : Ghosts S) where
     text = λ up clean. ap world_of (world_text_is (state g conn) text c (holds clean)) ∙ is;
   }
 
-  -- if the world text and pass text are good and the tables were created, the campaign is founded (`Founds`)
+  -- if the world text is a world, the pass text is good and the tables were created, the campaign is founded (`Founds`)
   pub founds_on : (old conn : Held S) (w : WorldValue) (c : CampaignValue) (text pass : List ℕ) → Prepares text pass w c → Creates g text c old conn → IsLater (state g old) (state g conn) → Founds g old text pass (record { conn = conn; world = w; campaign = Some c })
   founds_on old conn w c text pass made creates later = record {
     fresh = creates.fresh;
@@ -105,8 +106,8 @@ module _ {S : Type 0} (g : Ghosts S) where
     refused_by_store NotEmpty refused = record { cause = ((w, made.world), made.pass_is_good, refused.0); leaves = refused.1; later = later }
     refused_by_store Store refused = record { cause = ((w, made.world), made.pass_is_good, refused.0.fresh); leaves = (failed refused.0, store_refuses refused.1); later = later }
       where
-        -- if creating fails with Store, the connection wasn't ready and is unchanged, or a call of the write gave an
-        -- error other than out of memory (`RefusesToWrite`)
+        -- If creating fails with Store, the connection wasn't ready and is unchanged, or it was ready and the write
+        -- failed. On a clean disk a call of the write then gave an error other than out of memory (`RefusesToWrite`).
         store_refuses : ((¬ IsReadyToCreate (state g old)) × (new ≡ old)) ⊎ BreaksOffCreation g text c old new Store → RefusesToWrite g (FoundsBy text pass) old new
         store_refuses (inl unasked) = inl unasked
         store_refuses (inr off) = inr (off.ready, λ clean. creation_failed g (FoundsBy text pass) old new (told_by_founding Store (off.told clean)))

@@ -18,12 +18,12 @@ use Rattle.atl_service.specs.declared.command.Refusal.TheVariants as why
 use Rattle.atl_service.specs.Step.{step, reported}
 
 module _ (w : WorldValue) (c : CampaignValue) (name pass : List ℕ) (word : ℕ) where
-  -- `step` refuses a join whose name breaks the rule of names
+  -- `step` refuses with BadName a join whose name breaks the rule of names
   pub bad_name : not (name_ok name) ≡ true → step w c (Join name pass word) ≡ (c, Refused why.BadName)
   unfolding step
   bad_name e = rw e refl
 
-  -- `step` refuses a join whose name is good and whose pass text breaks the rule of pass texts
+  -- `step` refuses with BadPassText a join whose name is good and whose pass text breaks the rule of pass texts
   pub bad_pass : name_ok name ≡ true → not (pass_ok pass) ≡ true → step w c (Join name pass word) ≡ (c, Refused why.BadPassText)
   unfolding step
   bad_pass a e = rw (a, e) refl
@@ -43,7 +43,8 @@ module _ (w : WorldValue) (c : CampaignValue) (name pass : List ℕ) (word : ℕ
   unfolding step
   steps_on d n m a b e = rw (a, b, e) refl
 
--- if `join_of` succeeds with `y` after its two tests, then `y` is the joined campaign `x`
+-- if `join_of` succeeds with `y` after its tests whether the name is taken and whether the campaign is full, `y` is the
+-- joined campaign `x`
 accepted : {S : Type 0} (taken full : Bool) (x y : S) → cond taken (Err NameTaken) (cond full (Err Full) (Ok x)) ≡ Ok y → x ≡ y
 accepted true full x y e = cc
 accepted false true x y e = cc
@@ -71,8 +72,8 @@ arrival w name pass word c good =
       report = is_there _ report (get_inserted c.reports c.next_faction report);
     }
 
--- After a join that succeeds in a good campaign, with its first report, the new faction, unit and report are there
--- (`HasArrival`).
+-- after a join that succeeds in a good campaign, with its first report, the new faction, unit and report are there, and
+-- the books have money and people among their things (`HasArrival`)
 pub arrives : (w : WorldValue) (name pass : List ℕ) (word : ℕ) (c d : CampaignValue) (n m : ℕ) → IsGood w c → join_of w name pass word c ≡ Ok (d, (n, m)) → HasArrival (reported w d n) n
 unfolding join_of
 arrives w name pass word c d n m good e =

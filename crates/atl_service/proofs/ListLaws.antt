@@ -1,5 +1,5 @@
--- Laws on lists of commands: if each command runs as promised (`Runs`), so does the list (`RunsAll`), which implies
--- the main theorem (`Headline`).
+-- Laws on lists of commands: if each command runs as promised (`Runs`), so does the list (`RunsAll`), which implies the
+-- main theorem (`Headline`). A disk is clean if each read has returned what was written (docs/PROVED.md, "Premises").
 use Rattle.std.proofs.Common.{◌≡◌, ◌⊎◌, ◌≤◌, ◌<◌, ◌+◌, ◌++◌, ◌∷◌, [], ℕ, List, map, drop, length, get_or, Option, Some, None, IfSome, refl, sym, ap, ap₂, ◌∙◌, subst, inl, inr, append_assoc, append-nil, arith}
 use native.Mathlib.Numerals.{unary_clauses}
 use Rattle.std.proofs.lemmas.List.{drop_more, drop_all}
@@ -73,7 +73,9 @@ module _ {S : Type 0} (g : Ghosts S) where
         on.1 ∙ world_is,
       )
 
-  -- after a command that ended in a fault, the rest of the list is answered Closed, and nothing changes any more
+  -- After a command that ended in a fault with its cause, the rest of the list is answered Closed, and the service
+  -- stays closed. On a clean disk the tables stay at the campaign before the command, and a crash leaves that or the
+  -- one of `step` (`LeavesAfterFault`).
   ended_in_fault : (old mid new : ServiceValue S) (c : CampaignValue) (x : Command) (fault : Failure) (cs : List Command) (rs : List Answer) → Closes g c old x mid → HasCause g (OfCommand old.world c x) old.conn mid.conn fault → HoldsCampaign g old.conn (text_in g old.conn) c
       → (HasCleanDisk (state g mid.conn) → HasCleanDisk (state g old.conn)) → FollowsAt g mid cs rs new mid.campaign
       → AreClosed cs rs × (new.campaign ≡ None) × (HasCleanDisk (state g new.conn) → LeavesAfterFault (state g old.conn).faults (state g new.conn) (text_in g old.conn) c (step old.world c x).0) × IsFault g (text_in g old.conn) old.world c x fault new.conn

@@ -1,5 +1,5 @@
 -- Laws on `open`: it returns what was stored, or refuses and leaves the tables unchanged; the opened service is
--- consistent.
+-- consistent. A disk is clean if each read has returned what was written (docs/PROVED.md, "Premises").
 use Rattle.std.proofs.Common.{◌≡◌, Bool, false, true, not, Some, refl, ap, ◌∙◌, subst, inl, arith}
 use Rattle.sqlite_trees.specs.declared.store.Store.{Ghosts}
 use Rattle.sqlite.specs.Effect.{Database}
@@ -65,8 +65,8 @@ module _ {S : Type 0} (g : Ghosts S) where
           let worlds : w ≡ v = holds_one_world w v db there text c.value d (loads.world clean) reads rows were.rows in
           (texts, worlds, ap Some (holds_one v db there text c.value d (subst (λ p. IsGood p c.value) worlds loads.good) good rows were.rows).1)
 
-      -- the service of a loaded campaign is consistent if the connection was in no transaction, and its dirty set is
-      -- empty
+      -- the service of a loaded campaign is consistent if the connection was in no transaction, and the campaign's
+      -- dirty set is empty
       pub opened_consistent : old.in_transaction ≡ false → IsService g new w c true
       opened_consistent idle = record {
         consistent = record { idle = alone.mode ∙ idle; good = λ up. loads.good; tables = λ up. loads.tables; text = λ up. loads.world };

@@ -1,5 +1,6 @@
 -- Laws on `run`: what `answer_to` promises (`Answers`, `CommandLeavesAfterFault`) implies what `run` promises (`Runs`).
--- An answered command keeps the service consistent.
+-- An answered command keeps the service consistent. A disk is clean if each read has returned what was written
+-- (docs/PROVED.md, "Premises").
 use Rattle.std.proofs.Common.{◌≡◌, Bool, true, false, cond, Some, None, IfSome, refl, sym, ap, ap₂, ◌∙◌, subst}
 use Rattle.std.proofs.lemmas.Bool.{false≢true}
 use Rattle.sqlite_trees.specs.declared.store.Store.{Ghosts}
@@ -71,7 +72,8 @@ module _ {S : Type 0} (g : Ghosts S) where
     runs_on old answer true seen up stands leaves done = subst (λ e. Runs g e command answer (shown conn' w c' true)) seen (runs_open answer stands leaves done)
     runs_on old answer false seen up stands leaves done = absurd (false≢true up)
 
-    -- The command ended in a fault, and left what `CommandLeavesAfterFault` allows.
+    -- The command ended in a fault. On a clean disk the tables keep the campaign before the command, and a crash leaves
+    -- this campaign or the one after the command (`CommandLeavesAfterFault`).
     abbrev pub GaveUp : Type 0
     GaveUp = CommandLeavesAfterFault g w c conn command conn'
 
@@ -80,12 +82,14 @@ module _ {S : Type 0} (g : Ghosts S) where
     closes_open : IsConsistent g conn w c true → LeavesIdle g conn conn' → GaveUp → Closes g c (shown conn w c true) command (shown conn' w c' false)
     closes_open stands leaves gave_up = record { same = refl; tables = λ clean. gave_up clean (text_in g conn) (stands.tables refl (leaves.later.clean clean)) }
 
-    -- after a command that ended in a fault of a write, `run` may answer the service's fault for it and close (`Runs`)
+    -- if a command of a consistent open service ended in a fault of a write that has its cause (`HasCause`), `run` may
+    -- answer the service's fault for it and close (`Runs`)
     pub closes_for : (old : ServiceValue S) (fault : WriteFault) (told : Failure) (is_open : Bool) → told ≡ of_write fault → shown conn w c is_open ≡ old → is_open ≡ true → IsConsistent g conn w c is_open → LeavesIdle g conn conn' → GaveUp → HasCause g (OfCommand w c command) conn conn' (of_write fault)
         → Runs g old command (Fault told) (shown conn' w c' false)
     closes_for old fault told true is seen up stands leaves gave_up cause = subst (λ e. Runs g e command (Fault told) (shown conn' w c' false)) seen (subst (λ t. RunsOpen g c (shown conn w c true) command (Fault t) (shown conn' w c' false)) (sym is) (closes fault cause))
       where
-        -- an open service may answer the fault of a write that has its cause, and close (`RunsOpen`)
+        -- for `closes_for`: the open service, whose command ended in a fault of a write that has its cause, may answer
+        -- the service's fault for it and close (`RunsOpen`)
         closes : (fault : WriteFault) → HasCause g (OfCommand w c command) conn conn' (of_write fault) → RunsOpen g c (shown conn w c true) command (Fault (of_write fault)) (shown conn' w c' false)
         closes write.Memory cause = (closes_open stands leaves gave_up, cause)
         closes write.Store cause = (closes_open stands leaves gave_up, cause)

@@ -1,5 +1,6 @@
 -- What answering one command does to campaign and tables while the service is open: from campaign `before` and
--- connection `old` to `after` and `new`.
+-- connection `old` to `after` and `new`. A disk is clean if each read has returned what was written (docs/PROVED.md,
+-- "Premises").
 use Rattle.std.specs.Prelude.{◌≡◌, ℕ, List, false, ⊤}
 use Rattle.sqlite_trees.specs.declared.store.Store.{Ghosts}
 use Rattle.sqlite.specs.Held.{Held, state}
@@ -55,13 +56,14 @@ pub record Answers {S : Type 0} (g : Ghosts S) (w : WorldValue) (before : Campai
 abbrev pub CommandLeavesAfterFault : {S : Type 0} → Ghosts S → WorldValue → CampaignValue → Held S → Command → Held S → Type 0
 CommandLeavesAfterFault g w before old command new = HasCleanDisk (state g new) → (text : List ℕ) → Keeps (state g old) text before → LeavesAfterFault (state g old).faults (state g new) text before (step w before command).0
 
--- After any command, answered or failed: the connection is in no transaction; a disk in doubt stays so, no failure is
--- forgotten, and tested reads stay tested (`IsLater`); and, if the disk is clean, tables that aren't the campaign's are
--- unchanged.
+-- After any command, answered or failed, the connection is in no transaction. A disk that isn't clean stays so, no
+-- failure of it is forgotten, and reads that are compared with digests stay so (`IsLater`). If the disk is clean,
+-- tables that aren't the campaign's hold what they held.
 pub record LeavesIdle {S : Type 0} (g : Ghosts S) (old new : Held S) : Type 0 where
   -- the connection is in no transaction
   pub idle : new.in_transaction ≡ false
-  -- a disk in doubt stays so, no failure of it is forgotten, and tested reads stay tested (`IsLater`)
+  -- a disk that isn't clean stays so, no failure of it is forgotten, and reads that are compared with digests stay so
+  -- (`IsLater`)
   pub later : IsLater (state g old) (state g new)
   -- if the disk is clean, tables that aren't the campaign's hold what they held (`LeavesOthersAlone`)
   pub others : HasCleanDisk (state g new) → LeavesOthersAlone (state g old) (state g new)

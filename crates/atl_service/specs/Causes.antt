@@ -1,4 +1,5 @@
--- Why a command or founding ended in the fault Memory or Store: the error that a call of its write gave.
+-- Why a command or founding ended in the fault Memory or Store: the error that a call of its write gave. A disk is
+-- clean if each read has returned what was written (docs/PROVED.md, "Premises").
 use Rattle.std.specs.Prelude.{◌≡◌, ◌⊎◌, ℕ, List, Bool, true, false, Ok}
 use Rattle.sqlite_trees.specs.declared.store.Store.{Ghosts}
 use Rattle.sqlite.specs.declared.error.Error.{Error}

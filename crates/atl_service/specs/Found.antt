@@ -1,4 +1,5 @@
--- What `found` returns and leaves. See docs/RULES.md, "Founding".
+-- What `found` returns and leaves. A disk is clean if each read has returned what was written (docs/PROVED.md,
+-- "Premises"). See docs/RULES.md, "Founding".
 use Rattle.std.specs.Prelude.{◌≡◌, ◌⊎◌, ℕ, List, Bool, true, false, Some, Ok, Err, ⊤}
 use Rattle.sqlite_trees.specs.declared.store.Store.{Ghosts}
 use Rattle.sqlite.specs.Held.{Held, state}
@@ -35,7 +36,8 @@ pub record Founds {S : Type 0} (g : Ghosts S) (old : Held S) (text pass : List �
   pub tables : HoldsCampaign g made.conn text (founded_of made.world pass)
   -- if the disk is clean, the world text that the tables hold is the given text
   pub text_is : HasCleanDisk (state g made.conn) → text_in g made.conn ≡ text
-  -- a disk in doubt stays so, no failure of it is forgotten, and tested reads stay tested (`IsLater`)
+  -- a disk that isn't clean stays so, no failure of it is forgotten, and reads that are compared with digests stay so
+  -- (`IsLater`)
   pub later : IsLater (state g old) (state g made.conn)
 
 -- The text is a world: it parses without a fault.
@@ -75,8 +77,11 @@ pub record FailsToFound {S : Type 0} (g : Ghosts S) (old : Held S) (text pass : 
 abbrev pub RefusesToWrite : {S : Type 0} → Ghosts S → Statements → Held S → Held S → Type 0
 RefusesToWrite g own old new = ((¬ IsReadyToCreate (state g old)) × (new ≡ old)) ⊎ (IsReadyToCreate (state g old) × GivesOtherError g own old new)
 
--- What a refused founding by a world text and a pass text leaves, by its cause: nothing is changed after a failed
--- check; Store and Memory leave what `FailsToFound` says, and have a reason (`RefusesToWrite`, `LacksMemory`).
+-- What a refused founding by a world text and a pass text leaves, by its cause. After a failed check nothing is
+-- changed. After Store and Memory, if the disk is clean, the tables are as before, and a crash may leave the founded
+-- campaign (`FailsToFound`). Store comes of a connection that isn't ready, or of an error of the write
+-- (`RefusesToWrite`). With Memory the connection is unchanged, or a call of the write ran out of memory
+-- (`LacksMemory`).
 abbrev pub LeavesByCause : {S : Type 0} → Ghosts S → Held S → List ℕ → List ℕ → Held S → Cause → Type 0
 LeavesByCause g old text pass new (BadWorld fault) = new ≡ old
 LeavesByCause g old text pass new BadPassText = new ≡ old
@@ -95,7 +100,8 @@ pub record RefusesFounding {S : Type 0} (g : Ghosts S) (old : Held S) (text pass
   pub cause : MayBeCause text pass (has_campaign old.schema) why
   -- founding leaves what its cause allows (`LeavesByCause`)
   pub leaves : LeavesByCause g old text pass new why
-  -- a disk in doubt stays so, no failure of it is forgotten, and tested reads stay tested (`IsLater`)
+  -- a disk that isn't clean stays so, no failure of it is forgotten, and reads that are compared with digests stay so
+  -- (`IsLater`)
   pub later : IsLater (state g old) (state g new)
 
 -- What founding builds before it writes: `w` is the world of the text and `c` the campaign founded in it; the pass text

@@ -1,4 +1,5 @@
--- What `open` returns and leaves. See docs/FORMATS.md, "Opening a file".
+-- What `open` returns and leaves. A disk is clean if each read has returned what was written (docs/PROVED.md,
+-- "Premises"). See docs/FORMATS.md, "Opening a file".
 use Rattle.std.specs.Prelude.{◌≡◌, ℕ, List, Some, Ok}
 use Rattle.sqlite_trees.specs.declared.store.Store.{Ghosts}
 use Rattle.sqlite.specs.Held.{Held, state}
@@ -15,8 +16,8 @@ use Rattle.atl_service.specs.declared.command.Cause.{Cause}
 use Rattle.atl_service.specs.declared.command.Cause.TheVariants.{NotACampaign, OldFormat, Damaged, Store, Memory}
 use Rattle.atl_service.specs.Service.{ServiceValue, text_in}
 
--- A campaign was opened: if the disk is clean, the service has the world and good campaign of the tables, which are
--- unchanged.
+-- A campaign was opened: the service has the campaign that was loaded, and it is good. If the disk is clean, the tables
+-- hold this campaign and a text of the service's world, and nothing is changed.
 pub record Opens {S : Type 0} (g : Ghosts S) (old : Held S) (made : ServiceValue S) : Type 0 where
   -- the campaign that was loaded, with its marks
   pub campaign : MarkedCampaign
@@ -27,7 +28,8 @@ pub record Opens {S : Type 0} (g : Ghosts S) (old : Held S) (made : ServiceValue
   -- If the disk is clean, nothing is changed, and a crash leaves what it could have left before (`Survives`); the
   -- connection is in a transaction exactly if it was in one (`LeavesAlone`).
   pub alone : LeavesAlone g old made.conn
-  -- a disk in doubt stays so, no failure of it is forgotten, and tested reads stay tested (`IsLater`)
+  -- a disk that isn't clean stays so, no failure of it is forgotten, and reads that are compared with digests stay so
+  -- (`IsLater`)
   pub later : IsLater (state g old) (state g made.conn)
 
 -- Opening returns the text, world and campaign that were stored. This holds if the disk is clean and the tables held a
@@ -57,5 +59,6 @@ pub record RefusesOpening {S : Type 0} (g : Ghosts S) (old : Held S) (why : Caus
   -- If the disk is clean, nothing is changed, and a crash leaves what it could have left before (`Survives`); the
   -- connection is in a transaction exactly if it was in one (`LeavesAlone`).
   pub alone : LeavesAlone g old new
-  -- a disk in doubt stays so, no failure of it is forgotten, and tested reads stay tested (`IsLater`)
+  -- a disk that isn't clean stays so, no failure of it is forgotten, and reads that are compared with digests stay so
+  -- (`IsLater`)
   pub later : IsLater (state g old) (state g new)

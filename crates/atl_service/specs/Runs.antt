@@ -1,5 +1,5 @@
 -- What `run` and `run_all` return and leave: answers, campaign and tables of one command, and of a list. `Headline` is
--- the main theorem.
+-- the main theorem. A disk is clean if each read has returned what was written (docs/PROVED.md, "Premises").
 use Rattle.std.specs.Prelude.{◌≡◌, ◌≢◌, ◌⊎◌, ◌<◌, ◌+◌, ◌∷◌, ◌++◌, [], ℕ, List, map, take, drop, length, slice_get, Option, Some, None, ⊤}
 use Rattle.sqlite_trees.specs.declared.store.Store.{Ghosts}
 use Rattle.sqlite.specs.Held.{state}
@@ -43,6 +43,8 @@ pub record Closes {S : Type 0} (g : Ghosts S) (c : CampaignValue) (old : Service
   pub tables : HasCleanDisk (state g new.conn) → LeavesAfterFault (state g old.conn).faults (state g new.conn) (text_in g old.conn) c (step old.world c command).0
 
 -- What one command may answer in a service that is open with campaign `c`, and what each answer leaves of the service.
+-- Joined, Mailed, MonthDone and Text carry the command out (`Accepts`). Text, which is a report, and Refused change
+-- nothing. Memory and Store close the service (`Closes`) and have their cause (`HasCause`). Closed never comes.
 abbrev pub RunsOpen : {S : Type 0} → Ghosts S → CampaignValue → ServiceValue S → Command → Answer → ServiceValue S → Type 0
 RunsOpen g c old command (Joined faction unit) new = Accepts g c old command (Joined faction unit) new
 RunsOpen g c old command (Mailed orders faults) new = Accepts g c old command (Mailed orders faults) new
@@ -53,8 +55,8 @@ RunsOpen g c old command (Fault Memory) new = Closes g c old command new × HasC
 RunsOpen g c old command (Fault Store) new = Closes g c old command new × HasCause g (OfCommand old.world c command) old.conn new.conn Store
 RunsOpen g c old command (Fault Closed) new = ⊥
 
--- What one command may answer and leave: an open service does what `RunsOpen` says; a closed one answers Closed, and
--- nothing changes.
+-- What one command may answer and leave: an open service carries the command out, refuses it, or closes with a fault
+-- (`RunsOpen`). A closed service answers Closed, and nothing changes.
 abbrev pub RunsAt : {S : Type 0} → Ghosts S → ServiceValue S → Command → Answer → ServiceValue S → Option CampaignValue → Type 0
 RunsAt g old command answer new (Some c) = RunsOpen g c old command answer new
 RunsAt g old command answer new None = (answer ≡ Fault Closed) × (new ≡ old)
@@ -73,9 +75,9 @@ AreClosed [] (a ∷ rs) = ⊥
 AreClosed (c ∷ cs) [] = ⊥
 
 -- From campaign `c` on, the answers are those of `step` up to the first fault, and Closed after it. Without a fault the
--- tables end with the rows of the last campaign. After a fault they stay at the campaign of the commands before it
--- (`LeavesAfterFault`), and the fault has its cause. Both need a clean disk. `faults` is how often the disk had failed
--- before.
+-- service ends with the last campaign, which on a clean disk the tables hold. After a fault the service is closed, and
+-- the fault has its cause. On a clean disk the tables then stay at the campaign of the commands before the fault
+-- (`LeavesAfterFault`). `faults` is how often the disk had failed before.
 abbrev pub Follows : {S : Type 0} → Ghosts S → List ℕ → ℕ → WorldValue → CampaignValue → List Command → List Answer → ServiceValue S → Type 0
 Follows g text faults w c [] [] new = (new.campaign ≡ Some c) × HoldsCampaign g new.conn text c
 Follows g text faults w c (command ∷ cs) (Joined faction unit ∷ rs) new = ((step w c command).1 ≡ Joined faction unit) × Follows g text faults w (step w c command).0 cs rs new
@@ -88,17 +90,19 @@ Follows g text faults w c (command ∷ cs) (Fault fault ∷ rs) new =
 Follows g text faults w c [] (a ∷ rs) new = ⊥
 Follows g text faults w c (command ∷ cs) [] new = ⊥
 
--- What a list of commands may answer and leave: an open service does what `Follows` says; a closed one answers Closed
--- each time, and nothing changes.
+-- What a list of commands may answer and leave: an open service answers as `step` up to the first fault, and Closed
+-- after it (`Follows`). A closed service answers Closed each time, and nothing changes.
 abbrev pub FollowsAt : {S : Type 0} → Ghosts S → ServiceValue S → List Command → List Answer → ServiceValue S → Option CampaignValue → Type 0
 FollowsAt g old commands answers new (Some c) = Follows g (text_in g old.conn) (state g old.conn).faults old.world c commands answers new × (new.world ≡ old.world)
 FollowsAt g old commands answers new None = AreClosed commands answers × (new ≡ old)
 
 -- Running the list of commands from service `old` may give these answers and leave service `new`.
 pub record RunsAll {S : Type 0} (g : Ghosts S) (old : ServiceValue S) (commands : List Command) (answers : List Answer) (new : ServiceValue S) : Type 0 where
-  -- answers and service are as `Follows` says, or, if the service was closed, each answer is Closed and nothing changes
+  -- the answers are those of `step` up to the first fault, and Closed after it (`Follows`), or, if the service was
+  -- closed, each answer is Closed and nothing changes
   pub follows : FollowsAt g old commands answers new old.campaign
-  -- a disk in doubt stays so, no failure of it is forgotten, and tested reads stay tested (`IsLater`)
+  -- a disk that isn't clean stays so, no failure of it is forgotten, and reads that are compared with digests stay so
+  -- (`IsLater`)
   pub later : IsLater (state g old.conn) (state g new.conn)
 
 -- The main theorem: answers and campaign are those of `run_of`, and if the disk has been clean so far, the tables hold

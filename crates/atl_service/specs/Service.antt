@@ -1,4 +1,5 @@
--- A service as contracts see it: its connection, its world and, while it is open, its campaign; and its invariant.
+-- A service as contracts see it: its connection, its world and, while it is open, its campaign; and its invariant. A
+-- disk is clean if each read has returned what was written (docs/PROVED.md, "Premises").
 use Rattle.std.specs.Prelude.{◌≡◌, ℕ, List, Bool, true, false, Option, Ok, refl}
 use Rattle.std.specs.Coded.{Coded, code_by, coded×, coded_option}
 use Rattle.sqlite_trees.specs.declared.store.Store.{Ghosts}
@@ -33,7 +34,7 @@ service_code {S} store =
 abbrev pub text_in : {S : Type 0} → Ghosts S → Held S → List ℕ
 text_in g conn = world_text (state g conn)
 
--- The service is consistent: it is in no transaction and, while it is open, its campaign is good.
+-- The service is consistent: its connection is in no transaction and, while the service is open, its campaign is good.
 -- While it is open and the disk is clean, its tables hold the campaign and a text of its world.
 pub record IsConsistent {S : Type 0} (g : Ghosts S) (conn : Held S) (w : WorldValue) (c : CampaignValue) (is_open : Bool) : Type 0 where
   -- the connection is in no transaction

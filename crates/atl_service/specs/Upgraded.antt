@@ -1,4 +1,5 @@
--- What `upgrade` returns and leaves. See docs/RULES.md, "Upgrading".
+-- What `upgrade` returns and leaves. A disk is clean if each read has returned what was written (docs/PROVED.md,
+-- "Premises"). See docs/RULES.md, "Upgrading".
 use Rattle.std.specs.Prelude.{◌≡◌, ℕ, List, Some}
 use Rattle.sqlite_trees.specs.declared.store.Store.{Ghosts}
 use Rattle.sqlite.specs.Held.{Held, state}
@@ -13,8 +14,8 @@ use Rattle.atl_service.specs.declared.command.Cause.TheVariants.{World, NotACamp
 use Rattle.atl_service.specs.Service.{ServiceValue, text_in}
 
 -- A file was upgraded: the service is open with the new text's world and a campaign with empty stocks. On a clean disk
--- it is the campaign that the tables held, and they now hold it with the new text. A disk in doubt stays so, no failure
--- of it is forgotten, and tested reads stay tested (`IsLater`).
+-- it is the campaign that the tables held, and they now hold it with the new text. A disk that isn't clean stays so, no
+-- failure of it is forgotten, and reads that are compared with digests stay so (`IsLater`).
 pub record UpgradesTo {S : Type 0} (g : Ghosts S) (old : Held S) (text : List ℕ) (made : ServiceValue S) : Type 0 where
   -- the upgraded campaign, with its marks
   pub campaign : MarkedCampaign
@@ -25,7 +26,8 @@ pub record UpgradesTo {S : Type 0} (g : Ghosts S) (old : Held S) (text : List �
   pub upgrades : Upgrades g text old made.conn made.world campaign
   -- if the disk is clean, the world text that the tables hold is the new text
   pub text_is : HasCleanDisk (state g made.conn) → text_in g made.conn ≡ text
-  -- a disk in doubt stays so, no failure of it is forgotten, and tested reads stay tested (`IsLater`)
+  -- a disk that isn't clean stays so, no failure of it is forgotten, and reads that are compared with digests stay so
+  -- (`IsLater`)
   pub later : IsLater (state g old) (state g made.conn)
 
 -- the cause that `upgrade` reports for a fault of the store's upgrade, of the same name
@@ -45,7 +47,10 @@ pub record RefusesUpgrade {S : Type 0} (g : Ghosts S) (old : Held S) (text : Lis
   pub fault : UpgradeFault
   -- the cause of the refusal is that of the store's fault, of the same name
   pub why_is : why ≡ of_upgrading fault
-  -- the store's upgrade may be refused with this fault, and leaves what `RefusesToUpgrade` says
+  -- The store may refuse the upgrade with this fault. If the disk is clean, the tables are as before while the
+  -- connection is open, and a crash leaves what it could have left before, or the upgraded campaign
+  -- (`RefusesToUpgrade`).
   pub refused : RefusesToUpgrade g text old new fault
-  -- a disk in doubt stays so, no failure of it is forgotten, and tested reads stay tested (`IsLater`)
+  -- a disk that isn't clean stays so, no failure of it is forgotten, and reads that are compared with digests stay so
+  -- (`IsLater`)
   pub later : IsLater (state g old) (state g new)

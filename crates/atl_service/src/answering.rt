@@ -214,7 +214,8 @@ fn report(
 }
 
 /// Carries out any command, or refuses it, and returns the answer. After an Err the campaign in
-/// memory may be changed in part; the tables are as before while the connection is open.
+/// memory may be changed in part; if the disk is clean, the tables are as before while the
+/// connection is open.
 pub(crate) fn answer_to<S: Alter>(
     alloc: Global,
     world: &World,

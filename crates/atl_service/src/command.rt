@@ -146,8 +146,9 @@ impl fmt::Display for Refusal {
 /// Lets a caller handle a refusal as any `Error`; its text is what `Display` writes.
 impl Error for Refusal {}
 
-/// Why a command could not be carried out. While the connection is open its tables are as before; a
-/// crash leaves them as before or after the command. See docs/RULES.md, "Refusals and faults".
+/// Why a command could not be carried out. If the disk is clean, the tables are as before while the
+/// connection is open, and a crash leaves them as before or after the command. See docs/RULES.md,
+/// "Refusals and faults".
 #[derive(Drop, Clone, Copy, Debug, PartialEq, Eq)]
 pub enum Fault {
     /// Out of memory. The service is closed from then on.

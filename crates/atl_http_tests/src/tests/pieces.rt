@@ -141,7 +141,8 @@ fn mails_byte_by_byte(
     Ok(())
 }
 
-/// A head of a report's request with a field of `long` bytes and `fields` short fields.
+/// The head of a request for a report, with a field whose value has `long` bytes, and `fields`
+/// short fields.
 fn head(alloc: Global, long: usize, fields: usize) -> Result<Vec<u8>, Fail> {
     let mut head = Vec::from_slice(alloc, b"GET /report/1 HTTP/1.0\r\nAtlantis-Pass: pw\r\nA:")?;
     head.extend_from_slice(&b"x".repeat(alloc, long)?)?;
@@ -159,7 +160,8 @@ static LONG_HEADS: [(usize, usize, &str); 4] = [
     (1, 31, BAD_REQUEST),
 ];
 
-/// Asserts the reply to a head with a field of `long` bytes and `fields` short fields.
+/// Asserts the reply to a head with a field whose value has `long` bytes, and `fields` short
+/// fields.
 fn long_head(
     rt: &impl Abort,
     alloc: Global,

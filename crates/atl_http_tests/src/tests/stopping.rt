@@ -29,8 +29,8 @@ fn open<D: Disk + Drop>(alloc: Global, files: Files<D>) -> Option<Connection<Fil
     Connection::open_files(alloc, files, Options::new(1)).ok()
 }
 
-/// Founds a campaign on files and asserts `STOPPED`; false if the disk stopped before the campaign
-/// was founded.
+/// Founds a campaign on files, and asserts the replies of `STOPPED`; false if the disk stopped
+/// before the campaign was founded.
 fn stops<D: Disk + Drop>(rt: &impl Abort, alloc: Global, files: Files<D>) -> bool {
     let Some(conn) = open(alloc, files) else {
         return false;

@@ -46,7 +46,8 @@ fn the_last_mailing_is_kept(rt: HostRuntime) -> Result<(), Fail> {
     plays(&rt, rt.alloc(), SMALL, &TWO_SENT, &AFTER_TWO)
 }
 
-/// Mailings that are refused in the campaign of `EVERY_TABLE`, one for each refusal of `Mail`.
+/// Mailings that are refused, one for each refusal of `Mail`, in the campaign that the SQL
+/// `EVERY_TABLE` makes, where Avalon has sent a mailing and Bree is gone.
 static REFUSED: [Step; 7] = [
     Step::Told(Asked::Mail(9, "no", "hello"), "no faction"),
     Step::Told(Asked::Mail(1, "no", "hello"), "wrong pass"),

@@ -27,7 +27,8 @@ fn a_name_is_taken_once(rt: HostRuntime) -> Result<(), Fail> {
     plays(&rt, rt.alloc(), SMALL, &JOINS_TWICE, &AFTER_JOINING)
 }
 
-/// Joins and reports that are refused in the campaign of `EVERY_TABLE`, each with its refusal.
+/// Joins and reports that are refused, each with its refusal, in the campaign that the SQL
+/// `EVERY_TABLE` makes, where no unit number is left and Bree is gone.
 static REFUSED: [Step; 6] = [
     Step::Told(Asked::Join(" x", "a b", 0), "bad name"),
     Step::Told(Asked::Join("Avalon", "a b", 0), "bad pass text"),

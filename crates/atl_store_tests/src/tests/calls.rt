@@ -1,5 +1,5 @@
 //! The calls of the store as steps of a script, each with its answer: `Done`, or the fault. Each
-//! call is made at one location alone, since a proof ties its clauses anew at each.
+//! call is made at one place alone, since each place takes a proof of its own.
 use super::campaigns::{founded_by, has_arrived, has_few_things, joined};
 use super::words::{done, done_or_fault, text_of};
 use atl_campaign::Campaign;

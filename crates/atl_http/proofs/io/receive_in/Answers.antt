@@ -8,7 +8,8 @@ use Rattle.atl_http.proofs.io.receive_in.Goals as goal
 pub progress_if_due-requires : goal.progress_if_due-requires
 progress_if_due-requires g c = laws.short_of_equal c.deref.result.now c.loop-outcome.seen.items c.loop-outcome.lacking c.deref.ensures.value c.loop-outcome.invariant.short
 
--- after one more read, `seen` is what was read, and the request isn't whole with fewer than `lacking` further bytes
+-- after one more read without a fault, `seen` is what was read, with fewer than `lacking` further bytes the request
+-- isn't whole, and the reads are within their limit
 pub loop-outcome-preserved : goal.loop-outcome-preserved
 loop-outcome-preserved g c =
     let lacks : ComesTo c.loop-outcome.seen.items (Lacks c.in-Lacks.count) = laws.lacks_of_equal c.deref.result.now c.loop-outcome.seen.items c.in_ok-outcome.field-0 c.in-Lacks.count c.deref.ensures.value c.in-Lacks.is c.in_ok-outcome.ensures in
@@ -21,7 +22,7 @@ loop-outcome-preserved g c =
       goes_on = c.in-Ok.ensures.ends.1;
     }
 
--- if a read ends in a fault, the bytes read so far are those that `Receives` allows
+-- if a read ends in Cut or ReadFault, `seen` has the bytes that were read, and the verdict on them is More (`Receives`)
 pub returns-in-Err-clause-receives : goal.returns-in-Err-clause-receives
 returns-in-Err-clause-receives g c =
     let lacks : ComesTo c.loop-outcome.seen.items (Lacks c.in-Lacks.count) = laws.lacks_of_equal c.deref.result.now c.loop-outcome.seen.items c.in_ok-outcome.field-0 c.in-Lacks.count c.deref.ensures.value c.in-Lacks.is c.in_ok-outcome.ensures in

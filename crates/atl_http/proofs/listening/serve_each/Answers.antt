@@ -2,7 +2,8 @@ use Rattle.atl_http.proofs.ListeningLaws as laws
 use Rattle.atl_http.proofs.listening.serve_each.Goals as goal
 use Rattle.atl_http.proofs.listening.serve_each.Goals.{in-Ok+in-Ok-serve_stream, in-Err}
 
--- if serving a connection ends in a fault, this fault and the service are those that `ServesEach` allows
+-- if serving a connection ends in a fault, `serve_each` ends with this fault, after fewer than `count` requests were
+-- served without a fault (`ServesEach`)
 pub returns-in-Err-serve_stream : goal.returns-in-Err-serve_stream
 returns-in-Err-serve_stream g c = laws.ended g.S.Store c.args.dice c.loop.counter c.args.count c.args.service.now c.loop.service c.serve_stream.new.service c.in-Err-serve_stream.fault c.loop-test.true c.loop.invariant c.in-Err-serve_stream.ensures
 

@@ -51,7 +51,7 @@ men_lost w c n before after was is early = by_unit (get c.units n) refl was
           flags = of_one_faction_kept w c n u after there (λ x. x.holding.guard) (λ g. ap (λ (h : HoldingValue). h.guard) held ∙ g) early.flags;
         }
 
--- where the unit is there, the campaign stays early after it lost its men
+-- an early campaign stays early after a unit that is there has lost its men and its days of study
 pub returns-in-Some-clause-early : goal.returns-in-Some-clause-early
 returns-in-Some-clause-early c =
     let after : c.set_all_days.new.self ≡ without_men c.in-Some.holding.now = search rules in

@@ -25,14 +25,16 @@ returns-clause-ok g c =
       tables = λ clean text keeps. rw done (rw c.as_slice.ensures at (c.in_ok-write_mail.ensures.ok clean text old keeps));
     }
 
--- if `write_mail` fails, the tables are left as `CommandLeavesAfterFault` allows
+-- If `write_mail` fails, on a clean disk the tables keep the campaign before the mailing. A crash leaves this campaign
+-- or the one after the mailing (`CommandLeavesAfterFault`).
 pub returns-in_err-write_mail-clause-err : goal.returns-in_err-write_mail-clause-err
 returns-in_err-write_mail-clause-err g c = on_err _ (CommandLeavesAfterFault g.S.Store c.args.world.now c.args.campaign.now.value c.args.conn.now (Mail c.args.faction c.args.pass.now c.args.text.now) c.write_mail.new.conn) (λ clean text keeps.
     let old = c.args.campaign.now.value in
     let stops = rw c.as_slice.ensures at (c.in_err-write_mail.ensures.err clean text old keeps) in
     subst (λ (after : CampaignValue). LeavesAfterFault (state g.S.Store c.args.conn.now).faults (state g.S.Store c.write_mail.new.conn) text old after) (sym (ap (λ p. p.0) c.in-Ok.ensures.step)) stops)
 
--- if `write_mail` fails, the fault of the mailing has its cause (`HasCause`)
+-- if `write_mail` fails, on a clean disk an error of one of its calls is the cause of the fault of the mailing
+-- (`HasCause`)
 pub returns-in_err-write_mail-clause-cause : goal.returns-in_err-write_mail-clause-cause
 returns-in_err-write_mail-clause-cause g c =
     call_has_cause g.S.Store (OfMail c.args.faction c.args.text.now) c.args.conn.now c.write_mail.new.conn _ c.from_residual-in_err-write_mail.result c.from_residual-in_err-write_mail.ensures.1

@@ -22,7 +22,8 @@ write_changes-requires-clause-things g c =
     let done = closed_after_reports w c.args.campaign.now.value c.turn_month.new.campaign.value after c.as_slice.result.now c.in_ok-outcome.outcome c.in_ok-outcome.ensures.outcome c.in_ok-report_to_all.ensures.what c.in_ok-outcome.ensures.there c.in_ok-outcome.ensures.good in
     few_things w after c.in_default.ensures.ok.world done.1
 
--- if `write_changes` fails, the tables are left as `CommandLeavesAfterFault` allows
+-- If `write_changes` fails, on a clean disk the tables keep the campaign before the close. A crash leaves this campaign
+-- or the one after the close (`CommandLeavesAfterFault`).
 pub returns-in_err-write_changes-clause-err : goal.returns-in_err-write_changes-clause-err
 returns-in_err-write_changes-clause-err g c = on_err _ (CommandLeavesAfterFault g.S.Store c.args.world.now c.args.campaign.now.value c.args.conn.now (Close c.args.month c.args.pass.now c.args.words.now) c.write_changes.new.conn) (λ clean text keeps.
     let old = c.args.campaign.now.value in
@@ -49,7 +50,8 @@ returns-clause-ok g c =
       tables = λ clean text keeps. rw written (c.in_ok-write_changes.ensures.ok clean text old keeps marks.covers);
     }
 
--- if `write_changes` fails, the fault of the close has its cause (`HasCause`)
+-- if `write_changes` fails, on a clean disk an error of one of its calls is the cause of the fault of the close
+-- (`HasCause`)
 pub returns-in_err-write_changes-clause-cause : goal.returns-in_err-write_changes-clause-cause
 returns-in_err-write_changes-clause-cause g c =
     let w = c.args.world.now in

@@ -2,8 +2,8 @@ use Rattle.std.proofs.Common.{◌+◌, ◌++◌, ◌∷◌, [], cond, ap, ◌∙
 use Rattle.atl_service.proofs.ListLaws.{one_more, all_done, headline}
 use Rattle.atl_service.proofs.service.Service.run_all.Goals as goal
 
--- after one more command is run, the answers so far, with those that the rest may get, are answers that the whole list
--- may get (`RunsAll`)
+-- After one more command is run, the answers so far, with those that the rest may get, are answers that the whole list
+-- may get (`RunsAll`). The tables still hold the campaign, the books balance, and there is room for all answers.
 pub loop-command-preserved : goal.loop-command-preserved
 loop-command-preserved g c =
     let fits = c.push.ensures.succeeds (omega (arith, c.loop-command.invariant.count, c.loop-command.invariant.room)) in
@@ -16,7 +16,8 @@ loop-command-preserved g c =
       room = omega (arith, c.push.ensures.capacity, c.loop-command.invariant.room);
     }
 
--- the commands were answered as `run_all` promises (`RunsAll`)
+-- the answers are those of `step` up to the first fault, and Closed after it; from a closed service each is Closed
+-- (`RunsAll`)
 pub returns-clause-runs : goal.returns-clause-runs
 returns-clause-runs g c = all_done g.S.Store _ _ _ c.loop-command.command-index _ c.loop-command-test.false c.loop-command.invariant.whole c.loop-command.invariant.tables
 
