@@ -36,7 +36,8 @@ module _ (books : BooksValue) (e : BooksEntry) (t : Thing) (z : ℤ) (n : ℕ) (
       by_number true is = near_by _ _ z n small (amount-after_booking books e t z f u)
       by_number false is = near_same _ _ (amount-other books f e u t z (is_unequal _ _ is))
 
-  -- books with room for n and for the bound `next` have room for `next` after a booking of at most n in size
+  -- after a booking of at most n in size the books have room for the bound `next`, if before they had room for this
+  -- bound, and for n besides on the booked amount
   pub booked-room : (next : BookBound) → ((f : BooksEntry) (u : Thing) → HasRoom (moves_only n e t f u + next f u) (amount_in books f u)) → (f : BooksEntry) (u : Thing) → HasRoom (next f u) (amount_in (after_booking books e t z) f u)
   booked-room next room f u = near_room (moves_only n e t f u) (next f u) _ _ (booked-near f u) (room f u)
 

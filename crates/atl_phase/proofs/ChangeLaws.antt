@@ -1,4 +1,5 @@
--- Laws of a change to the holding of one unit: the campaign after it, and which marks are set.
+-- Laws of a change to the holding of one unit: the campaign after it, and which marks are set. `ChangesHolding` says
+-- that a unit holds what f makes of its holding, that nothing else changes, and that all changes are marked.
 use Rattle.std.proofs.Common.{◌≡◌, ◌≢◌, ℕ, Option, Some, None, refl, sym, ap, ◌∙◌}
 use Rattle.std.specs.Ordering.{nat_cmp}
 use Rattle.std.specs.FinMap.{FinMap, get, insert}
@@ -52,7 +53,8 @@ others_held f c n k apart = by_unit (get c.units n)
 
 -- ---- what calls leave
 
--- if unit n isn't there, an unchanged campaign counts as one in which its holding was changed by f (`ChangesHolding`)
+-- if there is no unit n, a campaign that stays as it is counts as one in which the holding of unit n was changed by f
+-- (`ChangesHolding`)
 pub nobody_changes : (c : MarkedCampaign) (n : ℕ) (f : HoldingValue → HoldingValue) → get c.value.units n ≡ None → ChangesHolding c c n f
 nobody_changes c n f none = record {
   value = sym (ap (λ o. record c.value { units = changed_at (λ (u : Unit). record u { holding = f u.holding }) c.value.units n o }) none);

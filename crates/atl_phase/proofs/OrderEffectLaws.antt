@@ -1,4 +1,7 @@
--- Laws of a phase that carries out its orders one by one: what holds after it, and which units it spares.
+-- Laws of a phase that carries out its orders one by one: what holds after it, and which units it spares. The remaining
+-- bound of an amount of the books is how far the amount may still move. In an orderly phase (`IsOrderly`) each order
+-- keeps `holds` true, the month and the books' balance, and moves no amount further than its remaining bound falls.
+-- Each order leaves the units that it doesn't concern as `spares` says.
 use Rattle.std.proofs.Common.{suc, zero, ◌≡◌, ◌==◌, ◌+◌, ℕ, ◌≤◌, Bool, true, false, List, [], ◌∷◌, Option, Some, None, refl, sym, ap, subst, arith}
 use Rattle.std.proofs.lemmas.Option.{same_Some}
 use Rattle.std.specs.Prelude.{ℤ, fold, IfSome, if◌then◌else◌}
@@ -78,7 +81,8 @@ well_twice {holds} {reserve} w a b c one two = record {
 pub room_left : {holds : Condition} {reserve : RemainingBound} (w : WorldValue) (a b : CampaignValue) → StepsWell holds reserve w a b → HaveRoom (reserve a) a → HaveRoom (reserve b) b
 room_left {holds} {reserve} w a b well room e t = room_after_use (reserve a e t) (reserve b e t) (amount_in a.books e t) (amount_in b.books e t) (well.uses_bound e t) (room e t)
 
--- a step within a remaining bound (`StepsWell`) is within a bound of the phase that is at least as large (`LeavesWell`)
+-- a step that keeps `holds`, month and balance, and moves amounts within their remaining bounds (`StepsWell`), moves
+-- them within the phase's bounds (`LeavesWell`), if these are at least as large
 pub leaves_well : {holds : Condition} {reserve : RemainingBound} {moving : BookBound} (w : WorldValue) (a b : CampaignValue) → ((e : BooksEntry) (t : Thing) → reserve a e t ≤ moving e t) → StepsWell holds reserve w a b → LeavesWell holds moving w a b
 leaves_well {holds} {reserve} {moving} w a b l h = record {
   leaves_it = h.holds_still;

@@ -32,8 +32,8 @@ module _ (c d : CampaignValue) (n : ℕ) (away : (k : ℕ) → k ≢ n → get d
     ownerless = λ none. every_away (λ k v. v.structure ≢ q) (outside none) (λ k v apart there. old.ownerless none k v there);
   }
 
-  -- a structure that unit n has left is rightly owned by its heir: the lowest of the other units inside, or nobody (0)
-  -- where no other unit is inside
+  -- A structure that unit n has left is rightly owned by the structure's heir: the lowest of the other units inside, or
+  -- nobody (0) where no other unit is inside. For this all units have numbers of at least 1.
   pub heir_owns : (place : ℕ) → place ≢ 0 → Every (λ k v. 1 ≤ k) c.units → ((v : Unit) → get d.units n ≡ Some v → v.structure ≢ place) → (y : Structure) → IsOwned d place (owned_by (heir c place n) y)
   heir_owns place some low outside y =
       let next = heir c place n in

@@ -56,8 +56,8 @@ module _ (is_of : Verb → Bool) (aliases : Aliases) (readings : FinMap nat_cmp 
     -- the order has a verb of the phase, and counts among the orders of the mailing
     pub passes : (is_of t.order_value.verb && stands (tasks_of aliases t.faction there.reading) t) ≡ true
 
-  -- of the entries of a faction's mailing from an index on, each order that passes the test of the phase is in that
-  -- mailing and counts (`Counts`)
+  -- of a faction's entries from an index on, each order that counts and has a verb of the phase is such an order of the
+  -- faction's mailing (`Counts`)
   counted : (f : ℕ) (r : Reading) → get readings f ≡ Some r → (place : ℕ) (es : List EntryValue) → ((j : ℕ) (e : EntryValue) → slice_get es j ≡ Some e → slice_get r.entries (place + j) ≡ Some e) →
       AllByRecursion (λ t. (is_of t.order_value.verb && stands (tasks_of aliases f r) t) ≡ true → Counts t) (tasks_from aliases f place es)
   counted f r h place [] whole = tt
@@ -70,7 +70,8 @@ module _ (is_of : Verb → Bool) (aliases : Aliases) (readings : FinMap nat_cmp 
         counted f r h (place + 1) es (λ j x is. let next : place + suc j ≡ (place + 1) + j = omega arith in subst (λ n. slice_get r.entries n ≡ Some x) next (whole (suc j) x is)),
       )
 
-  -- each order of these mailings that the phase takes is in its faction's mailing and counts (`Counts`)
+  -- of some factions' readings in the map `readings`, each order that the phase takes is in its faction's mailing,
+  -- counts there, and has a verb of the phase (`Counts`)
   all_count : (es : List (ℕ × Reading)) → EachEntry (λ f r. get readings f ≡ Some r) es → AllByRecursion Counts (flat_map (λ e. tasks_for is_of (tasks_of aliases e.0 e.1)) es)
   all_count [] h = tt
   all_count (e ∷ es) h =
@@ -78,14 +79,16 @@ module _ (is_of : Verb → Bool) (aliases : Aliases) (readings : FinMap nat_cmp 
       append_each Counts (tasks_for is_of ts) (flat_map (λ e. tasks_for is_of (tasks_of aliases e.0 e.1)) es)
       (kept _ Counts ts (counted e.0 e.1 h.0 0 e.1.entries (λ j x is. let at : j ≡ 0 + j = omega arith in subst (λ n. slice_get e.1.entries n ≡ Some x) at is))) (all_count es h.1)
 
-  -- each order of a phase is under its key, is in its faction's mailing and counts (`Counts`)
+  -- each order of a phase is under its key, is in its faction's mailing, counts there, and has a verb of the phase
+  -- (`Counts`)
   pub orders_count : (a : Arrangement) → AllByRecursion (λ e. (e.0 ≡ key_of a e.1) × Counts e.1) (entries (orders_of is_of a aliases readings))
   orders_count a =
       let ts = flat_map (λ e. tasks_for is_of (tasks_of aliases e.0 e.1)) (entries readings) in
       entries-listed (slice_cmp nat_cmp) (λ k t. (k ≡ key_of a t) × Counts t) nat_list_cmp_total (slice_cmp-IsAntisymmetric nat_cmp-IsAntisymmetric) (key_of a) ts
       (each_so Counts (λ t. (key_of a t ≡ key_of a t) × Counts t) (λ t h. (refl, h)) ts (all_count (entries readings) (each-from_every (λ f r. get readings f ≡ Some r) readings (λ f r is. is))))
 
-  -- what follows for an order from `Counts` holds of each order of a phase
+  -- P holds of each order of a phase, if it holds of each order that is in its faction's mailing, counts there, and has
+  -- a verb of the phase (`Counts`)
   of_each : (P : Task → Type 0) → ((t : Task) → Counts t → P t) → (a : Arrangement) → All P (values (orders_of is_of a aliases readings))
   of_each P so a =
       let es = entries (orders_of is_of a aliases readings) in

@@ -1,5 +1,7 @@
 -- Laws of a unit that goes to another structure of its region, or to none, while structures change owners (handovers):
--- the campaign stays steady, and other units stay.
+-- the campaign stays steady, and other units stay. A refit (`IsRefit`) is a campaign in which one unit is in another
+-- structure of its region, and structures have other owners and names. The right owner of a structure (`IsOwned`) is a
+-- unit inside it, or nobody (0) where no unit is inside.
 use Rattle.std.proofs.Common.{◌≡◌, ◌≢◌, ◌==◌, ◌&&◌, ℕ, ◌≤◌, Bool, true, false, Option, Some, None, refl, sym, ap, subst, ◌∙◌, arith}
 use Rattle.std.proofs.lemmas.Bool.{true≢false}
 use Rattle.std.proofs.lemmas.Option.{same_Some}

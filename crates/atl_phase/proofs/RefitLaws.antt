@@ -1,5 +1,6 @@
 -- Laws of a refit, a campaign in which one unit is in another structure of its region, and structures have other owners
--- and names: the campaign stays steady. A relabelled structure is one with another owner or name (`IsRelabelled`).
+-- and names: the campaign stays steady. A relabelled structure is one with another owner or name (`IsRelabelled`). The
+-- right owner (`IsOwned`) is a unit inside the structure, or nobody (0) where no unit is inside.
 use Rattle.std.proofs.Common.{◌≡◌, ◌≢◌, ◌==◌, ℕ, ◌+◌, ◌*◌, ◌≤◌, Bool, true, false, Option, Some, None, refl, sym, ap, subst, ◌∙◌, arith}
 use Rattle.std.specs.Prelude.{IsTrue, option_map}
 use Rattle.std.specs.Ordering.{nat_cmp}
@@ -68,8 +69,9 @@ module _ (c : CampaignValue) (units : FinMap nat_cmp Unit) (structures : FinMap 
   pub named_replaced : Every (λ k x. IsTrue (name_ok x.holding.name)) units → Every (λ k x. IsTrue (name_ok x.name)) structures → AreNamed c → AreNamed replaced
   named_replaced new_units new_structures old = record { pass = old.pass; factions = old.factions; joined = old.joined; units = new_units; structures = new_structures }
 
-  -- factions, units and structures stay numbered as the rule says (`AreNumbered`), if each number that had no unit or
-  -- no structure still has none, and there are as many structures
+  -- Factions and structures are still numbered from 1 without a gap, and no unit has the next unit number or a greater
+  -- one (`AreNumbered`). For this no number gets a unit or a structure that had none, and there are as many structures
+  -- as before.
   pub numbered_replaced : len structures ≡ len c.structures → ((k : ℕ) → get c.units k ≡ None → get units k ≡ None) → ((k : ℕ) → get c.structures k ≡ None → get structures k ≡ None)
       → AreNumbered c → AreNumbered replaced
   numbered_replaced count no_unit no_structure old = record {
@@ -152,7 +154,8 @@ module _ (w : WorldValue) (c : CampaignValue) (n : ℕ) (u : Unit) (s : ℕ) (is
       posts = old.posts;
     }
 
-    -- after the refit factions, units and structures are still numbered as the rule says (`AreNumbered`)
+    -- after the refit factions and structures are still numbered from 1 without a gap, and no unit has the next unit
+    -- number or a greater one (`AreNumbered`)
     next_kept : AreNumbered c → AreNumbered refitted
     next_kept =
         numbered_replaced c units structures refit.count
@@ -233,7 +236,8 @@ module _ (w : WorldValue) (c : CampaignValue) (n : ℕ) (u : Unit) (is : get c.u
   units_stay : insert c.units n as_it_was ≡ c.units
   units_stay = put_same c.units n u as_it_was is refl
 
-  -- structures that are relabelled, while no unit moves, are a refit (`IsRefit`) of an early campaign
+  -- structures that are relabelled, each with its right owner, while no unit moves, are a refit (`IsRefit`) of an early
+  -- campaign
   relabelled_refit : IsEarly w c → IsRefit w c n u u.structure is structures g
   relabelled_refit old = record {
     at = at;

@@ -17,7 +17,8 @@ use Rattle.atl_phase.specs.OrderIndices.{Lines, line_in, with_line}
 
 -- the greatest line in a slot for a unit, after one more line is noted
 module _ (lines : Lines) (k u line : ℕ) where
-  -- after a line of slot k and unit u is noted, slot k has for u the greater of it and the old one; other slots stay
+  -- after a line of slot k and unit u is noted, slot k has for u the greater of this line and the old one; other slots
+  -- stay
   group_at : (j : ℕ) → group_of (with_line lines k u line) j ≡ (if j == k then insert (group_of lines k) u (max (line_in lines k u) line) else group_of lines j)
   group_at j =
       ap (λ o. unwrap_or o empty) (get-insert nat_cmp_total lines k (insert (group_of lines k) u (max (line_in lines k u) line)) j)
@@ -27,8 +28,8 @@ module _ (lines : Lines) (k u line : ℕ) where
         | false ↦ refl
       ]
 
-  -- after a line of slot k and unit u is noted, the greatest line of slot k for u is the greater of it and the old one;
-  -- for other units it stays
+  -- once a line of slot k and unit u is noted, the greatest line of slot k is for u the greater of this line and the
+  -- old one, and for other units the old one
   in_group : (unit n : ℕ) → max (unwrap_or (get (insert (group_of lines k) u (max (line_in lines k u) line)) unit) 0) n ≡ max (line_in lines k unit) (max (if (u == unit) && true then line else 0) n)
   in_group unit n =
       ap (λ o. max (unwrap_or o 0) n) (get-insert nat_cmp_total (group_of lines k) u (max (line_in lines k u) line) unit)
@@ -46,8 +47,8 @@ module _ (lines : Lines) (k u line : ℕ) where
       two : (a n : ℕ) → max a n ≡ max a (max 0 n)
       two a n = omega arith
 
-  -- after a line of slot k and unit u is noted, the greatest line of a slot for a unit is the greater of it and the old
-  -- one, if both are k and u, and otherwise the old one
+  -- once a line of slot k and unit u is noted, the greatest line is for k and u the greater of this line and the old
+  -- one, and otherwise the old one
   noted_at : (j unit n : ℕ) → max (line_in (with_line lines k u line) j unit) n ≡ max (line_in lines j unit) (max (if (u == unit) && (j == k) then line else 0) n)
   noted_at j unit n =
       ap (λ g. max (unwrap_or (get g unit) 0) n) (group_at j)
@@ -74,7 +75,8 @@ module _ (slot : Slot) (aliases : Aliases) (faction : ℕ) (text : List ℕ) whe
       ap (λ ds. last_line slot unit (tasks_from aliases faction i (map (entry_value text) ds))) (next_of es i e h is)
       ∙ ap (λ o. max (if (unit_of aliases faction e.target == unit) && is_same_slot slot o then e.line else 0) (rest_from (i + 1) es unit)) slot_is
 
-  -- the line at i noted, and then the orders from i + 1 on, give the same greatest line as the orders from i on
+  -- if the order at i is in a slot, the greatest of the noted lines and those still to come stays the same once the
+  -- line of this order is noted
   pub noted : (es : List Entry) (i : ℕ) (e : Entry) (lines : Lines) (other : Slot) (unit : ℕ) → i < length es → e ≡ get_or es i e → (row_of e.order.verb).slot ≡ Some other →
       max (line_in (with_line lines (slot_number other) (unit_of aliases faction e.target) e.line) (slot_number slot) unit) (rest_from (i + 1) es unit) ≡ max (line_in lines (slot_number slot) unit) (rest_from i es unit)
   noted es i e lines other unit h is b =

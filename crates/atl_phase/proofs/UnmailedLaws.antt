@@ -46,8 +46,8 @@ pub record LeavesUnmailed (meaning : Meaning) (keeps : Frame) : Type 0 where
   pub readings : (w : WorldValue) (c : CampaignValue) (m : MonthValue) → (meaning w c m).1.readings ≡ m.readings
   -- after the phase the events report no fewer men of a unit as starved than before it
   pub starved_reported : (w : WorldValue) (c : CampaignValue) (m : MonthValue) (n : ℕ) → starved_in m.events n ≤ starved_in (meaning w c m).1.events n
-  -- each unit of a faction without a mailing keeps its faction, its name and no less of any item, and loses just the
-  -- men whom the new events report as starved
+  -- If the phase keeps what `keeps` says, each unit of a faction without a mailing keeps its faction, its name and no
+  -- less of any item. The unit loses just the men whom the new events report as starved.
   pub left : (w : WorldValue) (c : CampaignValue) (m : MonthValue) → keeps w m c (meaning w c m).0 →
       Every (λ n u. get m.readings u.faction ≡ None → IsUnaffected (IsLessBy (starved_in (meaning w c m).1.events n - starved_in m.events n)) (meaning w c m).0 n u) c.units
 
@@ -57,8 +57,8 @@ pub record LeavesUnmailed (meaning : Meaning) (keeps : Frame) : Type 0 where
 pub record ClosesUnmailed (meaning : Meaning) (keeps : Frame) : Type 0 where
   -- after the phase the events report no fewer men of a unit as starved than before it
   pub starved_reported : (w : WorldValue) (c : CampaignValue) (m : MonthValue) (n : ℕ) → starved_in m.events n ≤ starved_in (meaning w c m).1.events n
-  -- each unit of a faction without a mailing, unless all its men starved, keeps its faction, its name and no less of
-  -- any item, and loses just the men whom the new events report as starved
+  -- If the phase keeps what `keeps` says, each unit of a faction without a mailing, unless all its men starved, keeps
+  -- its faction, its name and no less of any item. The unit loses just the men whom the new events report as starved.
   pub left : (w : WorldValue) (c : CampaignValue) (m : MonthValue) → keeps w m c (meaning w c m).0 →
       Every (λ n u. get m.readings u.faction ≡ None → IsLeft (starved_in (meaning w c m).1.events n - starved_in m.events n) (meaning w c m).0 n u) c.units
 
@@ -197,7 +197,7 @@ pub record HasItsItems (before after : Unit) : Type 0 where
   -- the unit has no less of any item after the change than before
   pub items : (i : ℕ) → amount_of before.holding.items i ≤ amount_of after.holding.items i
 
--- a unit that is no worse off has its name, and no less of any item (`HasItsItems`)
+-- a unit that is no worse off (`IsNoWorse`) has its name, and no less of any item (`HasItsItems`)
 pub items_of_no_worse : (u v : Unit) → IsNoWorse u v → HasItsItems u v
 items_of_no_worse u v h = record { name = h.name; items = h.items }
 
@@ -269,7 +269,8 @@ module _ (step : OrderMeaning) where
   order_spares : SparesMen step → (w : WorldValue) (a : Aliases) (c : CampaignValue) (t : Task) → OthersHaveMen t.faction c (order_result (step w a t) c t.faction t.unit).0
   order_spares spares w a c t = ordered_cases (OthersHaveMen t.faction c) (step w a t) c t (others_men t.faction c c (men_stay c)) (λ x own. spares w a c t x own)
 
-  -- orders of other factions than a unit's, one after another, leave it its men, if each effect does (`SparesMen`)
+  -- orders of other factions than a unit's, one after another, leave the unit its men, if each order's effect leaves
+  -- units of other factions theirs (`SparesMen`)
   orders_spare : SparesMen step → (w : WorldValue) (c : CampaignValue) (m : MonthValue) (ts : List Task) → (n : ℕ) (u : Unit) → get c.units n ≡ Some u → AllByRecursion (λ t. t.faction ≢ u.faction) ts → IsUnaffected HasItsMen (fold (one_order step w) (c, m) ts).0 n u
   orders_spare spares w c m [] n u there others = men_stay c n u there
   orders_spare spares w c m (t ∷ ts) n u there others =
@@ -316,9 +317,9 @@ module _ (step : OrderMeaning) where
         let ts = values (orders_of is_of ByUnit m.aliases m.readings) in
         orders_spare spares w c m ts n u there (recursion_from_All (λ t. t.faction ≢ u.faction) ts (none_ordered is_of ByUnit m u.faction none))
 
-    -- A phase leaves units of factions without a mailing their items, and their men less the starved
-    -- (`LeavesUnmailed`), if each of its steps leaves units of other factions their men (`SparesMen`), and units of
-    -- factions without a mailing keep their items.
+    -- A phase that carries out its orders one by one leaves units of factions without a mailing their items, and their
+    -- men less the starved (`LeavesUnmailed`). For this each order must leave units of other factions their men
+    -- (`SparesMen`), and units of factions without a mailing must keep their items.
     pub carried_leaves : {keeps : Frame} → SparesMen step → ((w : WorldValue) (c d : CampaignValue) (m : MonthValue) → keeps w m c d → UnmailedAre HasItsItems m c d) → LeavesUnmailed (meaning_by_orders step is_of) keeps
     carried_leaves {keeps} spares items =
         whole_leaves {meaning = meaning_by_orders step is_of} {keeps = keeps} carried_readings carried_starve_none

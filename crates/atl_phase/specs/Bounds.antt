@@ -20,7 +20,7 @@ use Rattle.atl_phase.specs.Unbooked.{moves_nothing}
 
 -- ---- by how much the amounts of the books may move
 
--- the bound on the books of this many steps together, if each step moves the amounts by at most the bound given
+-- the bound on the books of a number of steps together, if each step moves the amounts by at most the given bound
 abbrev pub moved_times : ℕ → BookBound → BookBound
 moved_times steps moving e t = steps * moving e t
 
@@ -80,9 +80,9 @@ pub record IsUnitOf (c : CampaignValue) (t : Task) (u : Unit) : Type 0 where
   -- the unit is of the faction that wrote the order
   pub faction : u.faction ≡ t.faction
 
--- The conditions on a phase that carries its orders out one by one: each order keeps `holds`, month, balance and
--- remaining bound (`StepsWell`), `spares` relates each unit that an order doesn't concern to what it is after it, and
--- no remaining bound is above the bound of the phase.
+-- The conditions on a phase that carries its orders out one by one. Each order keeps `holds`, month and balance, and
+-- moves no amount further than its remaining bound falls (`StepsWell`). `spares` relates each unit that an order
+-- doesn't concern to the unit as it is after the order. No remaining bound is above the bound of the phase.
 pub record IsOrderly (step : OrderMeaning) (holds : Condition) (reserve : RemainingBound) (moving : BookBound) (concerns : Affects) (spares : Unaffected) : Type 0 where
   -- each order that can be read with the world, for a unit of its writer's faction, keeps `holds` true, the month, and
   -- the books' balance, and moves no amount further than its remaining bound falls (`StepsWell`)
@@ -90,8 +90,8 @@ pub record IsOrderly (step : OrderMeaning) (holds : Condition) (reserve : Remain
       IfSome (step w a t) (λ deed. StepsWell holds reserve w c (deed c x).0)
   -- `spares` can be used over several orders: it is reflexive, transitive, and keeps the faction
   pub spares_is_relation : IsUnaffectedRelation spares
-  -- each unit that an order for a unit of its writer's faction doesn't concern is there after the order, and `spares`
-  -- relates what it was to what it is then
+  -- if `holds` is true before, each unit that an order for a unit of its writer's faction doesn't concern is there
+  -- after the order, and `spares` relates what it was to what it is then
   pub spared : (w : WorldValue) (a : Aliases) (c : CampaignValue) (t : Task) (x : Unit) → holds w c → IsUnitOf c t x →
       (n : ℕ) (u : Unit) → get c.units n ≡ Some u → (concerns t n u.faction → ⊥) → IfSome (step w a t) (λ deed. IsUnaffected spares (deed c x).0 n u)
   -- for no amount of the books is the remaining bound above the bound of the phase

@@ -34,7 +34,7 @@ Follows leaves needs = (w : WorldValue) (c : CampaignValue) → leaves w c → n
 abbrev pub both_need : Condition → Condition → Condition → Condition
 both_need needs between follows w c = needs w c × Follows between follows
 
--- What a phase keeps: a statement about the campaign before it, the month that it got, and the campaign after it.
+-- What a phase keeps: a statement about the world, the month that the phase got, and the campaign before and after it.
 -- It says what the phase leaves to the units whose own faction wrote no order of it.
 abbrev pub Frame : Type 1
 Frame = WorldValue → MonthValue → CampaignValue → CampaignValue → Type 0
@@ -56,7 +56,7 @@ BookBound = BooksEntry → Thing → ℕ
 abbrev pub both_move : BookBound → BookBound → BookBound
 both_move first second e t = first e t + second e t
 
--- the bound on the books of a phase that moves the amount of this entry and thing alone, by at most this much
+-- the bound on the books of a phase that moves the amount of one entry and thing alone, by at most a given number
 abbrev pub moves_only : ℕ → BooksEntry → Thing → BookBound
 moves_only most e t f u = if amount_number f u == amount_number e t then most else 0
 

@@ -85,11 +85,11 @@ with_events m events = record m { events = m.events ++ events }
 
 -- ---- mailings
 
--- no two of these mailings are of one faction
+-- no two mailings of a list are of one faction
 abbrev pub HaveOwnFactions : List Mailing → Type 0
 HaveOwnFactions mailings = IsDistinct (eq_by_cmp nat_cmp) (map (λ m. m.faction) mailings)
 
--- the map of these readings, each under its faction
+-- the map of the readings of a list, each under its faction
 abbrev pub by_faction : List Reading → FinMap nat_cmp Reading
 by_faction readings = from_entries (map (λ r. (r.faction, r)) readings)
 

@@ -28,7 +28,7 @@ OrderEffect = CampaignValue → Unit → CampaignValue × Outcome
 abbrev pub OrderMeaning : Type 0
 OrderMeaning = WorldValue → Aliases → Task → Option OrderEffect
 
--- whether a unit is there, and of this faction
+-- whether a unit is there, and of a given faction
 abbrev pub is_of_faction : ℕ → Option Unit → Bool
 is_of_faction faction None = false
 is_of_faction faction (Some u) = u.faction == faction
@@ -37,7 +37,7 @@ is_of_faction faction (Some u) = u.faction == faction
 abbrev pub is_own : CampaignValue → Task → Bool
 is_own c t = is_of_faction t.faction (get c.units t.unit)
 
--- the unit, if it is there and of this faction; None otherwise
+-- a unit, if it is there and of a given faction; None otherwise
 abbrev pub of_faction : ℕ → Option Unit → Option Unit
 of_faction faction None = None
 of_faction faction (Some u) = if u.faction == faction then Some u else None
@@ -57,7 +57,7 @@ abbrev pub order_result : Option OrderEffect → CampaignValue → (faction n : 
 order_result None c faction n = (c, None)
 order_result (Some deed) c faction n = let after = faction_effect deed c faction n in (after.0, Some after.1)
 
--- the event of an order with this outcome
+-- the event that reports an order with a given outcome
 abbrev pub event_for : Task → Outcome → Event
 event_for t outcome = record { faction = t.faction; unit = t.unit; line = t.line; verb = Order t.order_value.verb; outcome = outcome }
 
@@ -91,7 +91,7 @@ pub record IsOwnOrder (t : Task) (n f : ℕ) : Type 0 where
 abbrev pub Unaffected : Type 1
 Unaffected = Unit → Unit → Type 0
 
--- the unit of this number, which was u before, is there after, and `spares` relates u to what it is then
+-- the unit of a number, which was u before, is there after, and `spares` relates u to what it is then
 pub record IsUnaffected (spares : Unaffected) (after : CampaignValue) (number : ℕ) (u : Unit) : Type 0 where
   -- the unit of this number as it is in the campaign after
   pub unit : Unit
@@ -100,7 +100,7 @@ pub record IsUnaffected (spares : Unaffected) (after : CampaignValue) (number : 
   -- `spares` relates u, which the unit was before, to the unit as it is after
   pub spared : spares u unit
 
--- each unit that none of these orders concerns is there after, and `spares` relates what it was to what it is then
+-- each unit that none of the listed orders concerns is there after, and `spares` relates what it was to what it is then
 abbrev pub AreUnaffected : Affects → Unaffected → List Task → CampaignValue → CampaignValue → Type 0
 AreUnaffected concerns spares ts before after =
     (n : ℕ) (u : Unit) → get before.units n ≡ Some u → All (λ t. concerns t n u.faction → ⊥) ts → IsUnaffected spares after n u

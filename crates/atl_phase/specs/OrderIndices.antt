@@ -37,11 +37,11 @@ line_in lines slot unit = unwrap_or (get (group_of lines slot) unit) 0
 abbrev pub with_line : Lines → (slot unit line : ℕ) → Lines
 with_line lines slot unit line = insert lines slot (insert (group_of lines slot) unit (max (line_in lines slot unit) line))
 
--- the noted lines are the greatest lines of these orders, in each slot and for each unit (`last_line`)
+-- the noted lines are the greatest lines of the orders of a list, in each slot and for each unit (`last_line`)
 abbrev pub AreLastLines : List Task → Lines → Type 0
 AreLastLines ts lines = (slot : Slot) (unit : ℕ) → line_in lines (slot_number slot) unit ≡ last_line slot unit ts
 
--- whether an order with this line counts by the noted lines: it has no slot, or its line is noted for its slot and unit
+-- whether an order counts by the noted lines: it has no slot, or its line is the one noted for its slot and unit
 abbrev pub stands_by : Lines → (unit line : ℕ) → Option Slot → Bool
 stands_by lines unit line None = true
 stands_by lines unit line (Some slot) = line == line_in lines (slot_number slot) unit
@@ -75,11 +75,11 @@ no_mailing = record { faction = 0; text = []; entries = []; faults = [] }
 abbrev pub no_entry : Entry
 no_entry = record { line = 0; target = Number 0; order = record { verb = Work; operands = Nothing } }
 
--- the mailing at this index of the list, from 0 on
+-- the mailing at an index of a list, from 0 on; an empty one past the last
 abbrev pub mailing_at : List Mailing → ℕ → Mailing
 mailing_at mailings place = slice_index_or mailings place no_mailing
 
--- all orders of the mailing at this index of the list
+-- all orders of the mailing at an index of a list
 abbrev pub tasks_at : Aliases → List Mailing → ℕ → List Task
 tasks_at aliases mailings place = tasks_of aliases (mailing_at mailings place).faction (reading_of (mailing_at mailings place))
 
@@ -114,7 +114,8 @@ pub record Adds (mailings : List Mailing) (ts : List Task) (old new : List Order
   -- the new indices name the orders of the old ones, and then ts
   pub tasks : map (task_at mailings) new ≡ map (task_at mailings) old ++ ts
 
--- the new indices name the orders that the old ones name, and after them those that count of the mailing at this index
+-- the new indices name the orders that the old ones name, and after them the orders that count of the mailing at an
+-- index of the list
 abbrev pub AddsMailing : Aliases → List Mailing → ℕ → List OrderIndex → List OrderIndex → Type 0
 AddsMailing aliases mailings place = Adds mailings (tasks_for every_verb (tasks_at aliases mailings place))
 
@@ -126,12 +127,12 @@ AreIndicesByMailing aliases mailings = AreAt mailings (all_tasks aliases mailing
 abbrev pub AreOrderIndices : Arrangement → Aliases → List Mailing → List OrderIndex → Type 0
 AreOrderIndices arrangement aliases mailings = AreAt mailings (values (orders_of every_verb arrangement aliases (by_faction (map reading_of mailings))))
 
--- those of the orders which these indices name that have a verb of the phase, in their order
+-- of the orders that some indices name, those that have a verb of the phase, in the order of the indices
 abbrev pub tasks_picked : (Verb → Bool) → List Mailing → List OrderIndex → List Task
 tasks_picked is_of mailings places = filter (has_verb is_of) (map (task_at mailings) places)
 
--- The invariant of a month: its mailings are sorted by faction, and its gathered indices by unit.
--- The gathered indices, if there are any, name all orders that count.
+-- The invariant of a month: its mailings, no two of one faction, are sorted by faction, and its gathered indices by
+-- unit. The gathered indices, if there are any, name all orders that count.
 pub record IsSortedMonth {Z : Type 0} (aliases : Aliases) (mailings : List Mailing) (gathered_indices : Option (Vec OrderIndex Z)) : Type 0 where
   -- the month's mailings are sorted by faction, and no two are of one faction
   pub sorted : AreByFaction mailings

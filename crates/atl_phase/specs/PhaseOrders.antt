@@ -78,12 +78,13 @@ last_line slot unit [] = 0
 last_line slot unit (t ∷ ts) =
     max (if t.unit == unit && is_same_slot slot (row_of t.order_value.verb).slot then t.line else 0) (last_line slot unit ts)
 
--- whether an order in this slot counts: it has the greatest line for its unit; an order without a slot always does
+-- whether an order in a slot counts among the orders of a list: its line is the greatest in the slot for its unit; an
+-- order without a slot always counts
 abbrev pub stands_in : List Task → Task → Option Slot → Bool
 stands_in ts t None = true
 stands_in ts t (Some slot) = t.line == last_line slot t.unit ts
 
--- whether an order counts among these orders, which are all of its mailing
+-- whether an order counts among the orders of a list, which are all of its mailing
 abbrev pub stands : List Task → Task → Bool
 stands ts t = stands_in ts t (row_of t.order_value.verb).slot
 

@@ -25,7 +25,7 @@ pub record MovedEntries : Type 0 where
 abbrev pub no_moved_entries : MovedEntries
 no_moved_entries = record { money = []; people = []; items = [] }
 
--- the entries under which a phase may move this thing
+-- the entries under which a phase may move a given thing
 abbrev pub entries_of : MovedEntries → Thing → List BooksEntry
 entries_of moved Money = moved.money
 entries_of moved People = moved.people
@@ -36,7 +36,7 @@ abbrev pub is_among : BooksEntry → List BooksEntry → Bool
 is_among e [] = false
 is_among e (k ∷ ks) = is_among e ks || (entry_index e == entry_index k)
 
--- whether a phase may move the amount of this entry and this thing
+-- whether a phase may move the amount of a given entry and thing
 abbrev pub may_move : MovedEntries → BooksEntry → Thing → Bool
 may_move moved e t = is_among e (entries_of moved t)
 
@@ -57,7 +57,8 @@ pub record PhaseSpec : Type 1 where
 abbrev pub MovesItsOwn : PhaseSpec → Type 0
 MovesItsOwn phase = (e : BooksEntry) (t : Thing) → phase.moving e t ≤ (if may_move phase.moved e t then most_moved else 0)
 
--- the specification of a phase with this effect, which moves no amount of the books and keeps what the frame says
+-- the specification of a phase that has a given effect, moves no amount of the books, and keeps what the given frame
+-- says
 abbrev pub spec_without_books : Meaning → Frame → PhaseSpec
 spec_without_books meaning keeps = record { meaning = meaning; moving = moves_nothing; moved = no_moved_entries; keeps = keeps }
 
@@ -87,13 +88,13 @@ books_money_and_people money people meaning keeps = record {
 
 -- ---- some phases, one after the other
 
--- the effect of these phases, one after the other
+-- the effect of the phases of a list, one after the other
 abbrev pub meaning_of : List PhaseSpec → Meaning
 meaning_of [] = λ w c m. (c, m)
 meaning_of (phase ∷ []) = phase.meaning
 meaning_of (phase ∷ next ∷ rest) = then_also phase.meaning (meaning_of (next ∷ rest))
 
--- the bound on the books of these phases together: the sum of their bounds
+-- the bound on the books of the phases of a list together: the sum of their bounds
 abbrev pub moving_of : List PhaseSpec → BookBound
 moving_of [] = λ e t. 0
 moving_of (phase ∷ []) = phase.moving
@@ -106,12 +107,12 @@ keeps_of [] = λ w m before after. ⊤
 keeps_of (phase ∷ []) = phase.keeps
 keeps_of (phase ∷ next ∷ rest) = both_keep phase.meaning phase.keeps (keeps_of (next ∷ rest))
 
--- how many of these phases may move the amount of this entry and this thing
+-- how many phases of a list may move the amount of a given entry and thing
 abbrev pub moving_phases_of : List PhaseSpec → BooksEntry → Thing → ℕ
 moving_phases_of [] e t = 0
 moving_phases_of (phase ∷ rest) e t = (if may_move phase.moved e t then 1 else 0) + moving_phases_of rest e t
 
--- P holds of each of these phases
+-- P holds of each phase of a list
 abbrev pub EachPhase : (PhaseSpec → Type 0) → List PhaseSpec → Type 0
 EachPhase P [] = ⊤
 EachPhase P (phase ∷ rest) = P phase × EachPhase P rest

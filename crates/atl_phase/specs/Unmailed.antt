@@ -15,7 +15,7 @@ abbrev pub men_starved_by : EventVerb → Outcome → ℕ
 men_starved_by verbs.Upkeep (outcomes.Starved men) = men
 men_starved_by verb outcome = 0
 
--- how many men of the unit of this number starved, by these events
+-- how many men of the unit with a given number starved, by the events of a list
 abbrev pub starved_in : List Event → (number : ℕ) → ℕ
 starved_in events number = sum_by (λ e. if e.unit == number then men_starved_by e.verb e.outcome else 0) events
 

@@ -18,7 +18,7 @@ use std::marker::Model;
 /// What the phases of a month hand on: the mailings, the unit that FORM made under each alias, the
 /// words of the dice, and the events so far. Nothing shows in which order the mailings were given.
 pub struct Month {
-    // Sorted by faction, no two of one faction.
+    // The mailings, sorted by faction, no two of one faction.
     mailings: Vec<Mailing>,
     // The unit that FORM made for each alias, by faction and then by alias.
     aliases: Numbered<Numbered<u32>>,
@@ -61,8 +61,8 @@ impl Model for Month {
 
 /// Makes a month of its mailings, and reads its orders, aliases, dice words and events.
 impl Month {
-    /// A month before its first phase, with these mailings, no two of one faction, and these words
-    /// of the dice. It takes no memory.
+    /// A month before its first phase, with the given mailings, no two of one faction, and the
+    /// given words of the dice. It takes no memory.
     pub fn new(alloc: Global, mut mailings: Vec<Mailing>, words: Vec<u32>) -> Month
         requires { HaveOwnFactions mailings.items }
         ensures { result ≡ record {

@@ -30,7 +30,7 @@ pub(crate) struct OrderIndex {
 
 /// Gives the key that an order is sorted by.
 impl OrderIndex {
-    /// The numbers that the order is sorted by in this arrangement, from the most to the least
+    /// The numbers that the order is sorted by in an arrangement, from the most to the least
     /// significant; the last is its index in its mailing.
     fn key(&self, arrangement: Arrangement) -> [usize; 4]
         ensures { result ≡ key_by arrangement self.now }
@@ -110,7 +110,7 @@ pub(crate) fn order_indices(
     Ok(list)
 }
 
-/// Sorts indices of orders by their keys in this arrangement.
+/// Sorts indices of orders by their keys in an arrangement.
 fn sort(list: &mut Vec<OrderIndex>, arrangement: Arrangement)
     ensures moved { IsPermutation list.old.items list.new.items }
     ensures sorted { IsSortedByKey (key_by arrangement) (slice_cmp nat_cmp) list.new.items }

@@ -45,9 +45,11 @@ pub trait OrderPhase: PhaseVerbs {
     ghost spares: { Unaffected } = { IsNoWorse };
 
     /// Carries out an order of the phase's verbs, and returns its outcome, or None where the phase
-    /// passes it over. An order for a unit that isn't the faction's own changes nothing. AllocError
-    /// without memory; the campaign may then be changed in part. See docs/RULES.md, "Orders of a
-    /// month".
+    /// passes it over. Before it `holds` is true, the books have room for what may still be booked
+    /// (`reserve`), and the order is such as can be read with the world. An order for a unit that
+    /// isn't there, or is another faction's, changes nothing, and is NotYours unless it is passed
+    /// over. AllocError without memory; the campaign may then be changed in part. See
+    /// docs/RULES.md, "Orders of a month".
     fn carry_out(
         &self,
         alloc: Global,
@@ -71,7 +73,7 @@ pub trait OrderPhase: PhaseVerbs {
         ensures { IsOrderly (step self.now) holds reserve moving concerns spares };
 }
 
-/// Whether a unit is there, and of this faction.
+/// Whether a unit is there, and of a given faction.
 pub fn is_of_faction(campaign: &Campaign, unit: u32, faction: u32) -> bool
     ensures { result ≡ is_of_faction faction (get campaign.now.value.units unit) }
 {
@@ -93,7 +95,8 @@ pub fn own_unit<'c>(campaign: &'c Campaign, order: PhaseOrder<'_>) -> Option<&'c
     }
 }
 
-/// Carries out an order, and adds its event, if it has one, to those of earlier orders.
+/// Carries out an order under the premises of `carry_out`, and adds its event, if it has one, to
+/// the events of earlier orders.
 fn carry_one<P: OrderPhase>(
     alloc: Global,
     phase: &P,
@@ -119,8 +122,9 @@ fn carry_one<P: OrderPhase>(
 }
 
 /// Carries out the orders of a phase one by one, by unit, line and faction, and adds their events.
-/// AllocError without memory; campaign and month may then be changed in part. See docs/RULES.md,
-/// "Orders of a month".
+/// Before it `holds` is true, the books have room for the phase, and the orders are such as can be
+/// read with the world. AllocError without memory; campaign and month may then be changed in part.
+/// See docs/RULES.md, "Orders of a month".
 pub fn carry_out_orders<P: OrderPhase>(
     alloc: Global,
     phase: &P,

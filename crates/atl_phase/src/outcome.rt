@@ -5,7 +5,7 @@ ghost use Rattle.atl_records.specs.declared.event.Outcome.TheVariants.{Fault};
 
 use atl_campaign::{EventFault, Outcome};
 
-/// The outcome of an order with this fault: the fault by its number.
+/// The outcome of an order with a given fault: the fault by its number.
 pub fn fault_outcome(fault: EventFault) -> Outcome
     ensures { result ≡ Fault (event_fault_number fault) }
 {

@@ -33,8 +33,9 @@ pub trait Phase {
     // What the phase keeps: what is left to the units whose own faction wrote no order of it.
     ghost keeps: { Frame };
 
-    /// Runs the phase, and returns the campaign and the month as it leaves them. The orders are
-    /// such as can be read with the world. AllocError without memory; both are then given up.
+    /// Runs the phase, and returns the campaign and the month as it leaves them. The campaign is as
+    /// `needs` says, the books have room for the phase, and the orders are such as can be read with
+    /// the world. AllocError without memory; campaign and month are then given up.
     fn run(&self, alloc: Global, world: &World, campaign: Campaign, month: Month) -> PhaseResult
         requires needs { needs world.now campaign.value }
         requires room { HaveRoom moving campaign.value }

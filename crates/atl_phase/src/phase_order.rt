@@ -35,7 +35,7 @@ pub struct PhaseOrder<'m> {
 
 /// Makes the event that reports an order.
 impl<'m> PhaseOrder<'m> {
-    /// The event of the order with this outcome.
+    /// The event that reports the order with a given outcome.
     pub fn event(self, outcome: Outcome) -> Event
         ensures { result ≡ event_for (task_of self.entry) outcome }
     {

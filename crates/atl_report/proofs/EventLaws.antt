@@ -10,23 +10,25 @@ use Rattle.atl_report.specs.Events.{faulty_lines, event_lines, own_events, resul
 use Rattle.atl_report.specs.Sight.{view_of}
 use Rattle.atl_report.specs.Report.{header_line, region_parts, report_of, OthersEventsAreNotReported, OnlyWhatIsSeenIsReported}
 
--- without faulty lines, the text of faulty lines and events is `None.`, if no event of the list passes the test
+-- a report's text for no faulty lines and for those events of a list that pass the test p is `None.`, if none passes
 none_passes : (p : Event → Bool) (es : List Event) → list_any p es ≡ false → results_text [] (filter p es) ≡ codes "None.\n"
 none_passes p [] h = refl
 none_passes p (e ∷ es) h = by_test (p e) h (none_passes p es)
   where
-    -- for `none_passes`: with the event `e` in front the text is still `None.`, since `e` fails the test, too (`t` is
-    -- false)
+    -- for `none_passes`: with the event `e` in front of the list the text is still `None.`, since `e` fails the test,
+    -- too (`t` is false)
     by_test : (t : Bool) → (t || list_any p es) ≡ false → (list_any p es ≡ false → results_text [] (filter p es) ≡ codes "None.\n") → results_text [] (cond t (e ∷ filter p es) (filter p es)) ≡ codes "None.\n"
     by_test true h rest = absurd (false≢true (sym h))
     by_test false h rest = rest h
 
--- without faulty lines, the text of faulty lines and events is the lines of the events that pass the test, if one does
+-- a report's text for no faulty lines and for those events of a list that pass the test p is the lines of these events,
+-- if one passes
 some_passes : (p : Event → Bool) (es : List Event) → list_any p es ≡ true → results_text [] (filter p es) ≡ event_lines (filter p es)
 some_passes p [] h = absurd (false≢true h)
 some_passes p (e ∷ es) h = by_test (p e) h (some_passes p es)
   where
-    -- with the event `e` in front the text is the lines of the passing events, whether `e` is one of them (`t`) or not
+    -- for `some_passes`: with the event `e` in front of the list the text is the lines of the events that pass the
+    -- test, whether `e` passes (`t`) or not
     by_test : (t : Bool) → (t || list_any p es) ≡ true → (list_any p es ≡ true → results_text [] (filter p es) ≡ event_lines (filter p es)) → results_text [] (cond t (e ∷ filter p es) (filter p es)) ≡ event_lines (cond t (e ∷ filter p es) (filter p es))
     by_test true h rest = refl
     by_test false h rest = rest h
@@ -41,7 +43,8 @@ pub results_none : (faction : ℕ) (faults : List FaultyLine) (events : List Eve
 results_none faction (f ∷ fs) events h = absurd (false≢true (sym (ap (λ b. b && not (list_any (λ (e : Event). e.faction == faction) events)) (some_length f fs)) ∙ h))
 results_none faction [] events h = by_test (list_any (λ (e : Event). e.faction == faction) events) h (none_passes (λ (e : Event). e.faction == faction) events)
   where
-    -- if `t`, whether some event is the faction's own, is false, the text is `None.`
+    -- for `results_none`: without faulty lines the text is `None.`, if `t`, whether some event is the faction's own, is
+    -- false
     by_test : (t : Bool) → not t ≡ true → (t ≡ false → results_text [] (own_events faction events) ≡ codes "None.\n") → results_text [] (own_events faction events) ≡ codes "None.\n"
     by_test true h rest = absurd (false≢true h)
     by_test false h rest = rest refl
@@ -52,7 +55,8 @@ pub results_lines : (faction : ℕ) (faults : List FaultyLine) (events : List Ev
 results_lines faction (f ∷ fs) events h = refl
 results_lines faction [] events h = by_test (list_any (λ (e : Event). e.faction == faction) events) h (some_passes (λ (e : Event). e.faction == faction) events)
   where
-    -- if `t`, whether some event is the faction's own, is true, the text is the lines of the own events
+    -- for `results_lines`: without faulty lines the text is the lines of the own events, if `t`, whether some event is
+    -- the faction's own, is true
     by_test : (t : Bool) → not t ≡ false → (t ≡ true → results_text [] (own_events faction events) ≡ event_lines (own_events faction events)) → results_text [] (own_events faction events) ≡ event_lines (own_events faction events)
     by_test true h rest = rest refl
     by_test false h rest = absurd (false≢true (sym h))

@@ -94,7 +94,7 @@ seen_by c f q =
 
 -- ---- the numbers gathered
 
--- replaces a value by `tt`, so that of an entry its number alone is left
+-- replaces a value by `tt`, the only value of the unit type, so that of an entry its number alone is left
 abbrev forget_value : {V : Type 0} → V → Prim.Unit {0}
 forget_value v = tt
 

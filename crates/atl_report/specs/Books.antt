@@ -59,7 +59,7 @@ amount_line w t e amount = if int_eq amount (pos 0) then [] else thing_name w t 
 abbrev pub amount_lines : WorldValue → BooksValue → Thing → List BooksEntry → List ℕ
 amount_lines w books t = each_text (λ e. amount_line w t e (amount_in books e t))
 
--- the line with how much of a thing all units and regions hold
+-- the line with how much of a thing all units and regions hold, with the stocks of markets
 unfoldable pub total_line : WorldValue → CampaignValue → Thing → List ℕ
 total_line w c t = thing_name w t ▸ codes " total " ▸ decimal (total c t) ▸ codes "\n"
 

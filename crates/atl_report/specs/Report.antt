@@ -162,7 +162,8 @@ region_parts w = each_text (region_part w)
 unfoldable pub report_of : WorldValue → View → List FaultyLine → List Event → List ℕ
 report_of w v faults events = header_line v ▸ orders_part v.faction faults events ▸ region_parts w v.regions
 
--- the law that two lists of events with the same events of a faction give it the same report
+-- the law that two lists of events with the same events of a faction give this faction the same report, for the same
+-- view and faulty lines
 abbrev pub OthersEventsAreNotReported : Type 0
 OthersEventsAreNotReported =
     (w : WorldValue) (v : View) (faults : List FaultyLine) (events others : List Event)

@@ -28,7 +28,7 @@ use Rattle.atl_report.specs.declared.views.Side.TheVariants.{Own, Other}
 use Rattle.atl_report.specs.declared.watch.Watch.{Watch}
 use Rattle.atl_report.specs.Watching.{watch_over, is_seen, is_seen_there, sees_region}
 
--- the shown name of a faction; empty where there is no such faction
+-- the name of a faction, as reports show it; empty where there is no such faction
 abbrev pub shown_name : Option Faction → List ℕ
 shown_name faction = option_map_or (λ f. f.name) faction []
 
@@ -76,11 +76,12 @@ unit_views w c watch = filter_map (λ n. seen_unit w c watch n (get c.units n)) 
 abbrev pub structures_in : ℕ → FinMap nat_cmp Structure → List ℕ
 structures_in region structures = numbers_where (λ s. s.region == region) structures
 
--- the number of a structure's owner, or 0 where the owner isn't seen
+-- the number of a structure's owner; 0 where nobody owns it, or the owner isn't seen
 abbrev pub shown_owner : WorldValue → CampaignValue → Watch → Structure → ℕ
 shown_owner w c watch s = if is_seen_there w watch (get c.units s.owner) then s.owner else 0
 
--- the view of a structure, with its owner, or 0 where that unit isn't seen
+-- the view of a structure: number, kind, name, how much is done, and the owner, which is 0 where there is none, or the
+-- owner isn't seen
 abbrev pub structure_view : WorldValue → CampaignValue → Watch → ℕ → Structure → StructureView
 structure_view w c watch number s = record { number = number; kind = s.kind; name = s.name; done = s.done; owner = shown_owner w c watch s }
 

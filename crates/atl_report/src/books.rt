@@ -77,7 +77,8 @@ fn write_entry(
     Ok(())
 }
 
-/// Writes the lines of a thing under the entries of a list, without those whose amount is 0.
+/// Writes the lines of a thing that the books count, under the entries of a list, without those
+/// whose amount is 0.
 fn write_entries(
     out: &mut String,
     world: &World,
@@ -97,7 +98,8 @@ fn write_entries(
     Ok(())
 }
 
-/// Writes the line with how much of a thing all units and regions hold.
+/// Writes the line with how much of a thing all units and regions, at most 1,000,000 together, hold
+/// with the stocks of markets.
 #[tactic(auto, unfolding(crate::specs::Books::total_line))]
 fn write_total(
     out: &mut String,
@@ -115,7 +117,8 @@ fn write_total(
     Ok(())
 }
 
-/// Writes all lines of a thing: those of its entries, and its total.
+/// Writes all lines of a thing that the books count: those of its entries, and its total. There are
+/// at most 1,000,000 units and regions together.
 #[tactic(auto, unfolding(crate::specs::Books::thing_part))]
 fn write_part(
     out: &mut String,
@@ -133,7 +136,8 @@ fn write_part(
     Ok(())
 }
 
-/// Writes the lines of all items of the world, in its order.
+/// Writes the lines of all items of the world, in its order. The books count the things of this
+/// world, and there are at most 1,000,000 units and regions together.
 fn write_items(out: &mut String, world: &World, campaign: &Campaign) -> Result<(), AllocError>
     requires things { campaign.now.value.books.things ≡ things_of world.now }
     requires countable { IsCountable campaign.now.value }
@@ -147,10 +151,11 @@ fn write_items(out: &mut String, world: &World, campaign: &Campaign) -> Result<(
     Ok(())
 }
 
-/// The text of the books of a campaign whose things are those of this world, with at most 1,000,000
-/// units and regions together. For money, people and each item in the order of the world, it has a
-/// line for each entry that has an amount, and one for how much all units and regions hold.
-/// AllocError without memory. See docs/FORMATS.md, "Books".
+/// The text of the books of a campaign whose things are those of the given world, with at most
+/// 1,000,000 units and regions together. For money, people and each item in the order of the world,
+/// it has a line for each entry whose amount isn't 0. One more line says how much all units and
+/// regions hold, with the stocks of markets. AllocError without memory. See docs/FORMATS.md,
+/// "Books".
 #[tactic(auto, unfolding(crate::specs::Books::books_of))]
 pub fn books_text(alloc: Global, world: &World, campaign: &Campaign) -> Result<String, AllocError>
     requires things { campaign.now.value.books.things ≡ things_of world.now }

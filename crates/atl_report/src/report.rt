@@ -159,7 +159,8 @@ fn write_goods(out: &mut String, world: &World, side: &Side) -> Result<(), Alloc
     }
 }
 
-/// The line of a unit: number, name, men, guard, structure, and an own unit's items and skills.
+/// The line of a unit: number, name, men, guard and structure, and an own unit's money, items and
+/// skills, or the faction of another's.
 impl InReport for UnitView {
     ghost text = { unit_line };
 

@@ -15,7 +15,7 @@ use atl_campaign::{Campaign, Holding, Region, Structure, Unit, level};
 use atl_world::{Market, Numbered, RegionPlan, Sequence, Text, World};
 use std::alloc::{AllocError, Global};
 
-/// A copy of a faction's shown name; empty where there is no such faction.
+/// A copy of a faction's name, as reports show it; empty where there is no such faction.
 fn shown_name(alloc: Global, campaign: &Campaign, faction: u32) -> Result<Text, AllocError>
     ensures { IfOk result (λ name. name ≡ shown_name (get campaign.now.value.factions faction)) }
 {
@@ -118,7 +118,7 @@ fn unit_views(
     Ok(units)
 }
 
-/// The number of a structure's owner, or 0 where the owner isn't seen.
+/// The number of a structure's owner; 0 where nobody owns it, or the owner isn't seen.
 fn shown_owner(world: &World, campaign: &Campaign, watch: Watch, structure: &Structure) -> u32
     ensures { result ≡ shown_owner world.now campaign.now.value watch structure.now }
 {
@@ -129,7 +129,8 @@ fn shown_owner(world: &World, campaign: &Campaign, watch: Watch, structure: &Str
     }
 }
 
-/// The view of a structure, with its owner, or 0 where that unit isn't seen.
+/// The view of a structure: number, kind, name, how much is done, and the owner, which is 0 where
+/// there is none, or the owner isn't seen.
 fn structure_view(
     alloc: Global,
     world: &World,
@@ -150,7 +151,8 @@ fn structure_view(
     })
 }
 
-/// The views of all structures of the watched region, in the order of their numbers.
+/// The views of all structures of the watched region, which `sites` lists, in the order of their
+/// numbers.
 fn structure_views(
     alloc: Global,
     world: &World,
@@ -215,7 +217,8 @@ fn region_market_views(
     }
 }
 
-/// The view of a region: peasants, money, markets, all structures, and the units that are seen.
+/// The view of a region: peasants, money, markets, all structures, which `sites` lists, and the
+/// units that are seen.
 fn region_view(
     alloc: Global,
     world: &World,
@@ -270,7 +273,8 @@ fn regions_seen(
     Ok(seen)
 }
 
-/// The views of the regions that a faction sees, in the order of their numbers.
+/// The views of the regions that a faction sees, in the order of their numbers; `sites` lists the
+/// structures of each region.
 fn region_views(
     alloc: Global,
     world: &World,
@@ -315,12 +319,12 @@ pub fn view_over(
     })
 }
 
-/// What a faction sees: the regions where it has a unit with men, and what is seen there.
-/// These are all markets and structures, and each unit that is its own, guards, or has a stealth
-/// level at most the best observation level of the faction's own units there. Of its own units it
-/// sees the money, the items and the skills too. A structure's owner is 0 where that unit isn't
-/// seen. It goes over the campaign's structures once, and else over the faction's units and what is
-/// in the regions seen. AllocError without memory. See docs/RULES.md, "Sight".
+/// What a faction sees: the regions where it has a unit with men, and what is seen there. Seen are
+/// all markets and structures, and the units that are the faction's own, guard, or have a stealth
+/// level at most the faction's best observation level there. Of its own units the faction sees the
+/// money, the items and the skills too. A structure's owner is 0 where there is none, or the owner
+/// isn't seen. The call goes over the campaign's structures once, and else over the faction's units
+/// and what is in the regions seen. AllocError without memory. See docs/RULES.md, "Sight".
 pub fn view(
     alloc: Global,
     world: &World,

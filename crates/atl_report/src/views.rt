@@ -83,7 +83,8 @@ impl Drop for UnitView {
     }
 }
 
-/// Whether a unit is the faction's own, with its goods, or another's, with that faction's name.
+/// Whether a unit is the faction's own, with its money, items and skills, or another's, with that
+/// faction's number and name.
 pub enum Side {
     /// The faction's own, with its money, and with its items and skills in the order of the world.
     Own {

@@ -1,4 +1,5 @@
--- Sets with no number in common: a set of marks is kept in two of them, one with the recent marks.
+-- Laws of sets with no number in common. `Marks` keeps the marked numbers in two such sets: m, which has room for all
+-- marks (`AreMarks`), and l, the set of the recent marks.
 use Rattle.std.proofs.Common.{◌≡◌, ℕ, ◌+◌, ◌<◌, ◌≤◌, Bool, true, false, cond, not, ◌&&◌, ◌||◌, List, [], ◌∷◌, length, get_or, refl, sym, ap, ◌∙◌, inl, inr, arith}
 use Rattle.std.proofs.lemmas.Bool.{cases_order, false≢true, and_parts, false_from_ne_true}
 use Rattle.std.specs.List.{list_any}
@@ -148,7 +149,7 @@ no_marks room recent = none_recent set.empty room recent (let none : set.len {R 
 
 -- a number n is to be marked, where v is the set of all marks: those of m and the recent ones of l
 module _ (m l v : RoomySet) (n : ℕ) (seen : ◌≡◌ {A = RoomySet} (record { numbers = set.union m.numbers l.numbers; room = m.room }) v) (marks : AreMarks m l) where
-  -- if n isn't in v, the set of all marks, it is neither in m nor among the recent marks of l
+  -- if n isn't in v, the set of all marks, it is neither in m nor in l, the set of the recent marks
   in_neither : set.contains v.numbers n ≡ false → (set.contains m.numbers n ≡ false) × (set.contains l.numbers n ≡ false)
   in_neither h = neither _ _ (sym (set.contains-union nat_cmp_total m.numbers l.numbers n) ∙ ap (λ (w : RoomySet). set.contains w.numbers n) seen ∙ h)
 
@@ -156,8 +157,8 @@ module _ (m l v : RoomySet) (n : ℕ) (seen : ◌≡◌ {A = RoomySet} (record {
   pub fits_recent : set.contains v.numbers n ≡ false → set.len l.numbers < l.room → set.len (set.insert l.numbers n) ≤ l.room
   fits_recent missing room = let more = len-new l.numbers n (in_neither missing).1 in omega (arith, more, room)
 
-  -- after an unmarked n is put among the recent marks of l, still no number is both in m and in l, and m has room for
-  -- all (`AreMarks`), if it has room for all marks and n
+  -- After an unmarked n is put into l, the set of the recent marks, no number is both in m and in l, and m has room for
+  -- all marks (`AreMarks`). For this m must have room for all marks and n.
   pub one_recent : set.contains v.numbers n ≡ false → set.len (set.insert v.numbers n) ≤ v.room → AreMarks m (record l { numbers = set.insert l.numbers n })
   one_recent missing h =
       let more = len-new v.numbers n missing in
@@ -167,8 +168,8 @@ module _ (m l v : RoomySet) (n : ℕ) (seen : ◌≡◌ {A = RoomySet} (record {
       let recent = len-new l.numbers n (in_neither missing).1 in
       record { apart = apart_insert m.numbers l.numbers n marks.apart (in_neither missing).0; fits = omega (arith, more, all, size, room, recent, h) }
 
-  -- if m has room for all marks and n, then once m has all of these and l has none, no number is in both, and m has
-  -- room for all (`AreMarks`)
+  -- if m has room for all marks and n, then once m has these, and l has none, no number is in both, and m has room for
+  -- all (`AreMarks`)
   pub one_more : set.len (set.insert v.numbers n) ≤ v.room → AreMarks (record { numbers = set.insert (set.union m.numbers l.numbers) n; room = m.room }) (record { numbers = set.empty; room = l.room })
   one_more h = none_recent (set.insert (set.union m.numbers l.numbers) n) m.room l.room
       (let size = ap (λ (w : RoomySet). set.len (set.insert w.numbers n)) seen in let room = ap (λ (w : RoomySet). w.room) seen in omega (arith, size, room, h))

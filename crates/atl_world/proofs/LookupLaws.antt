@@ -1,4 +1,5 @@
--- Laws of the test whether a word means a name, byte by byte and ignoring ASCII case.
+-- Laws of the test whether a word means a name, byte by byte and ignoring ASCII case. In a word without quotes (the
+-- flag `quoted` is false) `_` means a space.
 use Rattle.std.proofs.Common.{◌≡◌, ◌≢◌, ℕ, suc, ◌+◌, ◌<◌, ◌≤◌, Bool, true, false, ◌&&◌, eqb, List, [], ◌∷◌, length, get_or, drop, map, refl, sym, ap, ◌∙◌}
 use Rattle.std.specs.Str.{str_eq_ignore_ascii_case}
 use Rattle.std.specs.Char.{to_ascii_lowercase, eq_ignore_ascii_case}
@@ -31,6 +32,7 @@ same_letter name quoted word i h k e = sym (step name quoted word i h k ∙ ap (
 pub other_letter : (name : List ℕ) (quoted : Bool) (word : List ℕ) (i : ℕ) → i < length name → i < length word → eq_ignore_ascii_case (get_or name i 0) (letter_of quoted (get_or word i 0)) ≡ false → same_from name quoted word i ≡ false
 other_letter name quoted word i h k e = step name quoted word i h k ∙ ap (λ t. t && same_from name quoted word (i + 1)) e
 
--- a word means a name from an index on that is past the end of both (`same_from`)
+-- a word means a name from an index on (`same_from`) if that is past the last byte of the word and of the name, since
+-- no byte is left to differ
 pub end_of_both : (name : List ℕ) (quoted : Bool) (word : List ℕ) (i : ℕ) → length name ≤ i → length word ≤ i → same_from name quoted word i ≡ true
 end_of_both name quoted word i h k = rw (drop_all i name h, drop_all i word k) refl

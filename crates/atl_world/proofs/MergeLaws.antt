@@ -1,4 +1,5 @@
--- Laws of two sorted lists merged into one: its numbers, its order, and the merge in place.
+-- Laws of two sorted lists merged into one: its numbers, its order, and the merge in place. The merge in place fills
+-- the first list, which has room for all, from the end of the list on, beginning with the largest number.
 use Rattle.std.proofs.Common.{◌≡◌, ℕ, suc, ◌+◌, ◌-◌, ◌<◌, ◌≤◌, Bool, true, false, ◌||◌, List, [], ◌∷◌, ◌++◌, length, get_or, take, drop, set, Option, refl, sym, ap, subst, ◌∙◌, inl, inr, arith}
 use Rattle.std.specs.Prelude.{IsTrue}
 use Rattle.std.proofs.lemmas.Bool.{cases_order, false≢true}
@@ -30,7 +31,8 @@ merged xs ys = sorted_merge nat_cmp true xs ys
 abbrev step : ℕ → List ℕ → (List ℕ → List ℕ) → List ℕ → List ℕ
 step x xs on ys = merge_step nat_cmp true x xs on ys
 
--- if P holds of xs on Less, of ys on Equal and of zs on Greater, P holds of the one that the ordering k chooses
+-- P holds of the list that k chooses, if P holds of xs where k is Less, of ys where k is Equal, and of zs where k is
+-- Greater
 by_rank : (P : List ℕ → Type 0) (k : Ordering) (xs ys zs : List ℕ) → (k ≡ Less → P xs) → (k ≡ Equal → P ys) → (k ≡ Greater → P zs) → P (match_ordering k xs ys zs)
 by_rank P Less xs ys zs a b c = a refl
 by_rank P Equal xs ys zs a b c = b refl
@@ -189,8 +191,8 @@ under_last xs count n s l h = all_under (take count xs) n (λ k m.
 put_there : (xs : List ℕ) (place from n : ℕ) → place ≡ from → place < length xs → drop from (set xs place n) ≡ n ∷ drop (from + 1) xs
 put_there xs place from n e l = subst (λ p. drop p (set xs place n) ≡ n ∷ drop (p + 1) xs) e (drop-set xs place n l)
 
--- a merge in place still gives the merged list after the first list's largest number left, above all left of the
--- second, is put at its index
+-- where the first list's largest number left is above all left of the second, to put it in place keeps this list: the
+-- numbers left of both lists, merged, followed by those in place
 pub own_put : (xs ys now : List ℕ) (own less left place n : ℕ) → own ≡ less + 1 → place ≡ less + left → place < length now → less < length xs → n ≡ get_or xs less 0 → Under (take left ys) n
     → merged (take less xs) (take left ys) ++ drop (less + left) (set now place n) ≡ merged (take own xs) (take left ys) ++ drop (own + left) now
 own_put xs ys now own less left place n o p within short is under =
@@ -201,8 +203,8 @@ own_put xs ys now own less left place n o p within short is under =
     ∙ sym (append_assoc (merged (take less xs) (take left ys)) (n ∷ []) (drop (own + left) now))
     ∙ ap (λ zs. zs ++ drop (own + left) now) (sym first)
 
--- a merge in place still gives the merged list after the second list's largest number left, above all left of the
--- first, is put at its index
+-- where the second list's largest number left is above all left of the first, to put it in place keeps this list: the
+-- numbers left of both lists, merged, followed by those in place
 pub other_put : (xs ys now : List ℕ) (own left less place n : ℕ) → left ≡ less + 1 → place ≡ own + less → place < length now → less < length ys → n ≡ get_or ys less 0 → Under (take own xs) n
     → merged (take own xs) (take less ys) ++ drop (own + less) (set now place n) ≡ merged (take own xs) (take left ys) ++ drop (own + left) now
 other_put xs ys now own left less place n o p within short is under =

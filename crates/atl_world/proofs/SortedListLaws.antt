@@ -1,4 +1,5 @@
--- Laws of a sorted list of numbers and the set of its numbers: numbers put in, taken out and searched.
+-- Laws of a sorted list of numbers and the set of its numbers: numbers put in, taken out and searched. A number belongs
+-- at an index (`BelongsAt`) if all numbers before the index are less, and all from it on are greater.
 use Rattle.std.proofs.Common.{◌≡◌, ℕ, suc, ◌+◌, ◌-◌, ◌<◌, ◌≤◌, Bool, true, false, cond, ◌||◌, List, [], ◌∷◌, length, get_or, refl, sym, ap, ◌∙◌, inl, inr, arith}
 use Rattle.std.specs.List.{list_any, insert, remove, AllByRecursion}
 use Rattle.std.specs.Prelude.{Result, Ok, Err, IfOk, IfErr}

@@ -107,8 +107,8 @@ module _ {X : Type 0} where
   abbrev chosen : (p : X → Bool) → List (ℕ × X) → List ℕ
   chosen p es = map (λ e. e.0) (filter (λ e. p e.1) es)
 
-  -- taking the numbers of the passing entries of es, with e in front if b is true, gives their numbers with that of e
-  -- in front if b is true
+  -- for `chosen-cons`: to put e, if b is true, in front of the entries of es that pass the test p, puts the number of e
+  -- in front of the numbers of these entries
   chosen-cond : (p : X → Bool) (b : Bool) (e : ℕ × X) (es : List (ℕ × X)) → map (λ e. e.0) (cond b (e ∷ filter (λ e. p e.1) es) (filter (λ e. p e.1) es)) ≡ cond b (e.0 ∷ chosen p es) (chosen p es)
   chosen-cond p true e es = refl
   chosen-cond p false e es = refl

@@ -126,7 +126,8 @@ module _ {V : Type 0} where
   pub there_itself : (m : FinMap nat_cmp V) (n : ℕ) (x : V) → get (insert m n x) n ≡ Some x
   there_itself m n x = get-insert nat_cmp_total m n x n ∙ ap (λ b. cond b (Some x) (get m n)) (key_itself n)
 
-  -- there is room to mark a value that was put in, if the room is at least the marks so far and all values together
+  -- there is room to mark the number of a value that was put in, if the room is for at least the marks so far and all
+  -- values together
   pub fits-inserted : (v : FinMap nat_cmp V) (m : set.FinSet nat_cmp) (r n : ℕ) (x : V) → set.len m + len (insert v n x) ≤ r → set.len (set.insert m n) ≤ r
   fits-inserted v m r n x h = fits-marked (insert v n x) m r n (ap is_some (there_itself v n x)) (Room-all (insert v n x) m r h)
 

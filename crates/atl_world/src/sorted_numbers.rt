@@ -205,9 +205,9 @@ fn is_last_above(numbers: &[u32], count: usize, other: u32) -> bool
     count > 0 && numbers[count - 1] > other
 }
 
-/// Merges the first `own` numbers of a list with all of another one, into the first list, whose
-/// length is that of both together. Both are sorted, and no number is in both. The largest is put
-/// first, so each number is moved at most once.
+/// Merges the first `own` numbers of a list with all of another list, into the first list, which is
+/// as long as these together. The first `own` numbers and the other list are sorted, and have no
+/// number in common. The largest number is put in place first, so each is moved at most once.
 fn merge(numbers: &mut [u32], own: usize, others: &[u32])
     requires size { length numbers.old ≡ own + length others.now }
     requires rising { IsStrictlySortedBy nat_cmp (take own numbers.old) }

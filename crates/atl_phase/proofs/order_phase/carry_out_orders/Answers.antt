@@ -43,8 +43,8 @@ carry_one-requires-clause-fit g c =
     (ap (map task_of) c.deref-order-items.ensures.value ∙ c.in_ok-orders.ensures) (orders_fit w m.aliases m.readings c.requires.read g.P.PhaseVerbs.is_of)
     c.loop-order.order-index o c.loop-order-test.true)
 
--- after one more order the loop's invariant still holds: the orders left make what all make, and the steps so far kept
--- the phase's condition, month, balance and remaining bound (`StepsWell`)
+-- After one more order the loop's invariant still holds: the orders left make what all make. The steps so far kept the
+-- phase's condition, month and balance, and moved each amount by at most what its remaining bound fell (`StepsWell`).
 pub loop-order-preserved : goal.loop-order-preserved
 loop-order-preserved g c =
     let P = g.P.OrderPhase in
@@ -95,7 +95,8 @@ returns-clause-leaves g c =
     leaves_well c.args.world.now c.args.campaign.now.value c.loop-order.campaign.value
     (c.is_orderly.ensures.bounded c.args.world.now c.args.campaign.now.value c.requires.holds) c.loop-order.invariant.well
 
--- each unit that no order concerns is there after all of them, as `spares` says (`spares_others`)
+-- each unit that no order of the phase concerns is there after all of them, and `spares` relates what it was to what it
+-- is then (`spares_others`)
 pub returns-clause-keeps : goal.returns-clause-keeps
 unfolding meaning_by_orders
 returns-clause-keeps g c =

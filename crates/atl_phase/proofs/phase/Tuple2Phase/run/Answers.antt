@@ -8,7 +8,8 @@ use Rattle.atl_phase.proofs.phase.Tuple2Phase.run.Goals as goal
 pub run-requires-2-clause-room : goal.run-requires-2-clause-room
 run-requires-2-clause-room g c = room_behind g.P.Phase.moving g.Q.Phase.moving c.args.world.now c.args.campaign.value c.in_ok-campaign.campaign.value c.in_ok-campaign.ensures.leaves c.requires.room
 
--- both phases in turn satisfy `LeavesWell`, within the sum of their bounds
+-- after two phases in turn the second one's condition holds, month and balance are kept, and each amount has moved by
+-- at most the sum of its two bounds (`LeavesWell`)
 pub returns-clause-leaves : goal.returns-clause-leaves
 returns-clause-leaves g c = both_leave_well g.P.Phase.moving g.Q.Phase.moving c.args.world.now c.args.campaign.value c.in_ok-campaign.campaign.value c.in_ok-campaign-2.campaign.value c.in_ok-campaign.ensures.leaves c.in_ok-campaign-2.ensures.leaves
 

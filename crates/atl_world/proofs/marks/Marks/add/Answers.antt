@@ -16,19 +16,20 @@ pub add-requires : goal.add-requires
 add-requires c =
     fits_recent c.self.inside.numbers c.self.inside.recent c.args.self.now c.args.number c.self.view_is c.self.invariant (sym c.contains.ensures ∙ c.if-contains.false) (c.has_recent_room.ensures c.if-has_recent_room.true)
 
--- after the number is added to the recent ones, no number is in both sets, and the first has room for all (`AreMarks`)
+-- after the number is added to the recent marks, no number is both among these and among the other marks, and there is
+-- room for all among the others (`AreMarks`)
 pub invariant_of-self : goal.invariant_of-self
 invariant_of-self c =
     rw c.add.ensures (one_recent c.self.inside.numbers c.self.inside.recent c.args.self.now c.args.number c.self.view_is c.self.invariant (sym c.contains.ensures ∙ c.if-contains.false) c.requires)
 
--- after all marks and the number are in the first set, no number is in both, and the first has room for all
--- (`AreMarks`)
+-- after all marks and the number are in one set, none is recent, so no number is also among the recent marks, and the
+-- set has room for all (`AreMarks`)
 pub invariant_of-self-else-has_recent_room : goal.invariant_of-self-else-has_recent_room
 invariant_of-self-else-has_recent_room c =
     rw (c.add-else-has_recent_room.ensures, c.merge_from.ensures.numbers, c.merge_from.ensures.others)
     (one_more c.self.inside.numbers c.self.inside.recent c.args.self.now c.args.number c.self.view_is c.self.invariant c.requires)
 
--- where there is room among the recent numbers, the marks after the call are the old ones with the number
+-- where there is room among the recent marks, the marks after the call are the old ones with the number
 pub returns-then-has_recent_room : goal.returns-then-has_recent_room
 returns-then-has_recent_room c =
     let n = c.args.number in
@@ -38,7 +39,8 @@ returns-then-has_recent_room c =
     let room = ap (λ (m : RoomySet). m.room) c.self.view_is in
     λ i. record { numbers = numbers i; room = room i }
 
--- where the recent numbers are merged first, the marks after the call are the old ones with the number
+-- where the recent marks are first merged into the other marks, the marks after the call are the old ones with the
+-- number
 pub returns-else-has_recent_room : goal.returns-else-has_recent_room
 returns-else-has_recent_room c =
     let n = c.args.number in

@@ -5,7 +5,8 @@ use Rattle.atl_world.proofs.SetLaws.{union-empty}
 use Rattle.atl_world.proofs.ApartLaws.{no_marks}
 use Rattle.atl_world.proofs.marks.Marks.clear.Goals as goal
 
--- of two empty sets, no number is in both, and the first has room for all (`AreMarks`)
+-- after the call there are no recent marks and no others, so no number is among both, and there is room for all
+-- (`AreMarks`)
 pub invariant_of-self : goal.invariant_of-self
 invariant_of-self c = rw (c.clear.ensures, c.clear-2.ensures) (no_marks c.self.inside.numbers.room c.self.inside.recent.room)
 

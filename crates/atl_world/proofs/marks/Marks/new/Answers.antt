@@ -5,7 +5,8 @@ use Rattle.atl_world.proofs.SetLaws.{union-empty}
 use Rattle.atl_world.proofs.ApartLaws.{no_marks}
 use Rattle.atl_world.proofs.marks.Marks.new.Goals as goal
 
--- of two empty sets without room, no number is in both, and the first has room for all (`AreMarks`)
+-- in the new set there are no recent marks and no others, so no number is among both, and room for 0 marks is enough
+-- (`AreMarks`)
 pub invariant_of-result : goal.invariant_of-result
 invariant_of-result c = rw (c.new.ensures, c.new-2.ensures) (no_marks 0 0)
 

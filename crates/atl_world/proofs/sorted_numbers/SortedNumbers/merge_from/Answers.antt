@@ -24,7 +24,8 @@ invariant_of-self c = rw (c.unite.ensures.items, c.deref.ensures.value) (rising-
 pub invariant_of-others : goal.invariant_of-others
 invariant_of-others c = rw c.clear.ensures.items rising-empty
 
--- the set after the call is the union of both sets, and the room is the same
+-- the numbers of the list after the call are those that this list and the other one had before, and the room is the
+-- same
 pub returns-clause-numbers : goal.returns-clause-numbers
 returns-clause-numbers c =
     let others = c.others.inside.numbers.items in
