@@ -41,7 +41,7 @@ less_both a s t = omega arith
 -- ---- TAX
 
 module _ (w : WorldValue) where
-  -- one payment of TAX changes its unit and region alone: the unit's share of money goes from the region to it
+  -- one payment of TAX changes its unit and region alone: the unit's share of money goes from the region to the unit
   tax_pays : Pays true (λ d e. after_tax d e) (λ n. with_more_money) with_less_money
   tax_pays = record {
     mine = λ d e u is (q, around). ap (λ (s : CampaignValue). get s.units e.0) (taxed_is w d e u q is around) ∙ get-insert_same d.units e.0 (paid_unit d e.0 u e.1);
@@ -133,27 +133,31 @@ module _ (asked : FinMap nat_cmp ℕ) (w : WorldValue) where
       made_regions (with_raw_used d e.0 amount x.raw) e.0 i e.1
       ∙ by_option (HasItsRegions d) (λ r. with_used d e.0 r amount) x.raw d refl (λ r raw. used_regions d e.0 r amount)))
 
-  -- a unit that is there has, after its production, what it made more and the raw items for it less (`maker_by`)
+  -- a unit that is there has, after its production, more of the item that it made and less of the raw items
+  -- (`maker_by`)
   produced_unit : (d : CampaignValue) (e : ℕ × ℕ) (u : Unit) → get d.units e.0 ≡ Some u → get (after_production asked w d e).units e.0 ≡ Some (maker_by w u e.1 (get asked e.0))
   unfolding after_production
   produced_unit d e u is = by_item (get asked e.0)
     where
-      -- after its production the unit has what it made more, and the raw items `o`, if any go into it, less
+      -- after its production the unit has the pieces that it made more, and `amount` less of the raw item `o`, if there
+      -- is one
       by_raw : (i amount : ℕ) (o : Option ℕ) → get (with_made (with_raw_used d e.0 amount o) e.0 i e.1).units e.0 ≡ Some (record u { holding = with_more (with_less u.holding o amount) i e.1 })
       by_raw i amount None = made_unit w d e.0 i e.1 u is
       by_raw i amount (Some r) = made_unit w (with_used d e.0 r amount) e.0 i e.1 (record u { holding = with_less u.holding (Some r) amount }) (used_unit w d e.0 r amount u is)
 
-      -- after its production the unit is as `maker_of` makes it for the world's item `o`, or as it was without one
+      -- after its production the unit has more of the world's item `o` and less of the raw items (`maker_of`); without
+      -- an item `o` the unit is as it was
       by_world : (i : ℕ) (o : Option Item) → get (option_map_or (with_item_made d e.0 e.1 i) o d).units e.0 ≡ Some (option_map_or (maker_of u e.1 i) o u)
       by_world i None = is
       by_world i (Some x) = by_raw i (e.1 * x.raw_count) x.raw
 
-      -- after its production the unit is as `maker_by` makes it for the item `o` that its order names, if it names one
+      -- after its production the unit has more of the item `o` that its order names, and less of the raw items
+      -- (`maker_by`); without such an item the unit is as it was
       by_item : (o : Option ℕ) → get (option_map_or (λ i. option_map_or (with_item_made d e.0 e.1 i) (slice_get w.items i) d) o d).units e.0 ≡ Some (maker_by w u e.1 o)
       by_item None = is
       by_item (Some i) = by_world i (slice_get w.items i)
 
-  -- the production of a unit changes that unit alone, by what it made and the raw items for it
+  -- the production of a unit changes this unit alone, by the pieces that it made and the raw items that it used
   produce_pays : Pays false (after_production asked w) (λ n u made. maker_by w u made (get asked n)) unchanged_region
   produce_pays = record {
     mine = λ d e u is here. produced_unit d e u is;
@@ -164,7 +168,7 @@ module _ (asked : FinMap nat_cmp ℕ) (w : WorldValue) where
     twice = λ q s t. refl;
   }
 
--- PRODUCE pays all units at once: each has what it made more and the raw items for it less, and no region changes
+-- PRODUCE changes all units at once: each has the pieces that it made more and the raw items less; no region changes
 pub produces_at_once : ProducesAtOnce
 produces_at_once w c os =
     let items = items_by produce_pots w c os in

@@ -39,12 +39,13 @@ use Rattle.atl_market.proofs.WantLaws.{given_is_named}
 
 -- ---- what a trade leaves to unit and stock
 
--- what a unit holds after a trade is `with_trade` of what it held, whatever the stock is
+-- a holding set to the result of a trade is the holding after that trade (`with_trade`), whatever the stock is
 trade_is : (trade : Trade) (h : HoldingValue) (stock share : ℕ) (m : Market) → with_trade_result h m.item (trade_result_of trade h stock share m) ≡ with_trade trade h share m
 trade_is Sell h stock share m = refl
 trade_is Buy h stock share m = refl
 
--- the stock after a trade is `stock_after` of the stock before, whatever the unit holds
+-- the result of a trade has the old stock, plus the share by SELL or less the share by BUY (`stock_after`), whatever
+-- the unit holds
 stock_traded : (trade : Trade) (h : HoldingValue) (stock share : ℕ) (m : Market) → (trade_result_of trade h stock share m).stock ≡ stock_after trade stock share
 stock_traded Sell h stock share m = refl
 stock_traded Buy h stock share m = refl
@@ -71,15 +72,16 @@ module _ (d : CampaignValue) (n : ℕ) (u : Unit) (i : ℕ) (entry : BooksEntry)
 -- ---- one unit trades
 
 module _ (trade : Trade) (items : FinMap nat_cmp ℕ) (w : WorldValue) where
-  -- what unit `n` is after it traded a number of pieces with the market for its order's item
+  -- what unit `n` is after it traded a number of pieces with the market for its order's item, if there is one
   abbrev trader : ℕ → UnitChange
   trader n u share = trader_of trade u share (market_for w u (get items n))
 
-  -- the trade of a unit that is there makes of the unit what `trader` makes of it for its share
+  -- the trade of a unit that is there exchanges its share of goods and the money for it, if it has a market (`trader`)
   unit_traded : (d : CampaignValue) (e : ℕ × ℕ) (u : Unit) → get d.units e.0 ≡ Some u → get (after_trade trade items w d e).units e.0 ≡ Some (trader e.0 u e.1)
   unit_traded d e u is = by_market (market_for w u (get items e.0)) refl
     where
-      -- the trade makes of the unit what `trader_of` makes of it for its share, whether there is a market `o` or not
+      -- the trade exchanges the unit's share of goods and the money for it, or nothing without a market `o`
+      -- (`trader_of`)
       by_market : (o : Option Market) → market_for w u (get items e.0) ≡ o → get (after_trade trade items w d e).units e.0 ≡ Some (trader_of trade u e.1 o)
       by_market None at = ap (λ (s : CampaignValue). get s.units e.0) (traded_is trade items w d e u is None at) ∙ is
       by_market (Some m) at =
@@ -96,7 +98,8 @@ module _ (trade : Trade) (items : FinMap nat_cmp ℕ) (w : WorldValue) (units : 
   abbrev drawn_here : (r i : ℕ) → ℕ
   drawn_here r i = cond (draws_item units items (r, i) e.0) e.1 0
 
-  -- region `r`, which was `q`, is there after the trade, and each of its stocks changed by `drawn_here`
+  -- region `r`, which was `q`, is there after the trade; only its stocks changed, each by what the unit draws
+  -- (`drawn_here`)
   abbrev IsTraded : ℕ → Region → Type 0
   IsTraded r q = HasNewStocks q (stock_after trade) (drawn_here r) (get (after_trade trade items w d e).regions r)
 
@@ -105,7 +108,7 @@ module _ (trade : Trade) (items : FinMap nat_cmp ℕ) (w : WorldValue) (units : 
   none_drawn true share none = none
   none_drawn false share none = refl
 
-  -- without a market, and with a share of 0, the stocks of each region change as `IsTraded` says: not at all
+  -- without a market, and with a share of 0, no stock of any region changes (`IsTraded`)
   without_market : market_for w u (get items e.0) ≡ None → e.1 ≡ 0 → (r : ℕ) (q : Region) → get d.regions r ≡ Some q → IsTraded r q
   without_market at none r q around = record {
     stocks = q.stocks;
@@ -151,7 +154,8 @@ module _ (trade : Trade) (items : FinMap nat_cmp ℕ) (w : WorldValue) (units : 
         mine : (i : ℕ) → draws_item units items (r, i) e.0 ≡ (m.item == i)
         mine i = draws r i ∙ ap (λ b. b && m.item == i) (ap (λ k. u.region == k) same ∙ same_number u.region)
 
-        -- the market's stock after the trade is `stock_after` of its stock before
+        -- the market's stock after the trade is its stock before, plus the share by SELL or less the share by BUY
+        -- (`stock_after`)
         stock : deal.stock ≡ stock_after trade (amount_of q.stocks m.item) e.1
         stock =
             stock_traded trade u.holding (stock_of d u.region m.item) e.1 m
@@ -221,8 +225,8 @@ module _ (trade : Trade) (items : FinMap nat_cmp ℕ) (w : WorldValue) where
     abbrev Trades : ℕ × ℕ → Type 0
     Trades e = (u : Unit) × (get c.units e.0 ≡ Some u) × (market_for w u (get items e.0) ≡ None → e.1 ≡ 0)
 
-    -- After trades in the order of unit numbers, by units that are there (`Trades`), each stock has changed by what its
-    -- region's units traded of the item.
+    -- After trades in the order of unit numbers each stock has changed by what its region's units traded of the item.
+    -- All these units are there, and without a market their share is 0 (`Trades`).
     regions_traded : IsWorld w → (d : CampaignValue) (es : List (ℕ × ℕ)) → Rise es → AreUntouched c d es → AllByRecursion Trades es → (r : ℕ) (q : Region) → get d.regions r ≡ Some q
         → HasNewStocks q (stock_after trade) (λ i. drawn (draws_item c.units items (r, i)) es) (get (fold (after_trade trade items w) d es).regions r)
     regions_traded world d [] rise same all r q around = record { stocks = q.stocks; region = around; amounts = λ i. sym (none_traded trade (amount_of q.stocks i)) }

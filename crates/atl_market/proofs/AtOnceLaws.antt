@@ -92,7 +92,8 @@ module _ {needs : Bool} {step : CampaignValue → ℕ × ℕ → CampaignValue} 
         let now : get d.units e.0 ≡ Some u = ready.same.0 ∙ there in
         unpaid_stays (step d e) es n (ready_still d e es u now here ready) above.1 ∙ pays.others d e u now here n (λ same. absurd (omega (arith, same, above.0)))
 
-    -- after payments in the order of unit numbers each unit has changed by its share, if it has one
+    -- after payments that can be made (`AreReady`), in the order of unit numbers, each unit has changed by its share,
+    -- if it has one
     units_paid : (d : CampaignValue) (es : List (ℕ × ℕ)) → AreReady d es → (n : ℕ) (u : Unit) → get d.units n ≡ Some u → get (fold step d es).units n ≡ Some (paid_unit (gets n) u (find nat_cmp n es))
     units_paid d [] ready n u is = is
     units_paid d (e ∷ es) ready n u is =
@@ -109,7 +110,8 @@ module _ {needs : Bool} {step : CampaignValue → ℕ × ℕ → CampaignValue} 
               units_paid (step d e) es rest n u (pays.others d e v now here n apart ∙ is) ∙ ap (λ o. Some (paid_unit (gets n) u o)) (sym (found_other e es n apart))
         ]
 
-    -- after payments in the order of unit numbers each region has changed by what its units got together
+    -- after payments that can be made (`AreReady`), in the order of unit numbers, each region has changed by what its
+    -- units got together
     regions_drained : (d : CampaignValue) (es : List (ℕ × ℕ)) → AreReady d es → (r : ℕ) (q : Region) → get d.regions r ≡ Some q → get (fold step d es).regions r ≡ Some (gives q (drawn (draws_region c.units r) es))
     regions_drained d [] ready r q is = is ∙ ap Some (sym (pays.nothing q))
     regions_drained d (e ∷ es) ready r q is =

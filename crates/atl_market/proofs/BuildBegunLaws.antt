@@ -24,8 +24,8 @@ use Rattle.atl_phase.proofs.OrderEffectLaws.{bound_unused_by}
 
 -- ---- where units hold what they held, and nothing is booked
 
--- A change that leaves what BUILD needs (`CanBuild`), and keeps the month, the books, all totals and what BUILD may
--- still book, is sound as a step of BUILD (`StepsWell`).
+-- A change that leaves what BUILD needs (`CanBuild`), and keeps the month, books, totals and what BUILD may still book,
+-- is one that BUILD may make (`StepsWell`).
 pub still_well : (w : WorldValue) (c d : CampaignValue) → CanBuild w d → IsSameMonth c d → d.books ≡ c.books → ((t : Thing) → total d t ≡ total c t) → ((e : BooksEntry) (t : Thing) → build_reserve d e t ≡ build_reserve c e t) → StepsWell CanBuild build_reserve w c d
 still_well w c d can same books totals reserves = record {
   holds_still = can;
@@ -36,7 +36,7 @@ still_well w c d can same books totals reserves = record {
 
 -- ---- a structure more
 
--- the name that a structure is begun with, such as `Ship 7`, keeps the rule of names
+-- the name that a structure is begun with, such as `Ship 7`, keeps the rule of names for numbers up to 999,999,999
 pub first_name_ok : (k : Kind) (number : ℕ) → number ≤ last_unit → IsTrue (name_ok (name_prefix k ++ decimal number))
 first_name_ok k number l = by_sort k.ship
   where

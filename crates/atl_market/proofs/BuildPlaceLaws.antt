@@ -1,4 +1,5 @@
--- Laws of BUILD: moving a unit from its structure into another of its region keeps what BUILD needs (`CanBuild`).
+-- Laws of BUILD: moving a unit into another structure of its region, or on land out of its structure, keeps what BUILD
+-- needs (`CanBuild`).
 use Rattle.std.proofs.Common.{◌≡◌, ◌≢◌, ℕ, ◌+◌, false, true, Some, refl, sym, subst, arith}
 use Rattle.std.specs.FinMap.{get}
 use Rattle.atl_world.specs.Worlds.{WorldValue}
@@ -22,7 +23,7 @@ cancelled : (a b h g : ℕ) → a + h ≡ b + g → g ≡ h → a ≡ b
 cancelled a b h g e f = omega (arith, e, f)
 
 module _ (w : WorldValue) (c : CampaignValue) (n : ℕ) (u : Unit) (s : ℕ) (is : get c.units n ≡ Some u) (can : CanBuild w c) (apart : u.structure ≢ s) where
-  -- the campaign after unit `n` went into structure `s`
+  -- the campaign after unit `n` went into structure `s`; 0 is no structure
   abbrev placed : CampaignValue
   placed = behind w c n u s is can.steady apart
 
@@ -33,7 +34,8 @@ module _ (w : WorldValue) (c : CampaignValue) (n : ℕ) (u : Unit) (s : ℕ) (is
       let moved : Unit = record u { structure = s } in
       cancelled (build_reserve placed e t) (build_reserve c e t) (f u) (f moved) (sum_over-insert_known f c.units n u moved is) refl
 
-  -- moving a unit into a structure of its region, on water into a ship, keeps what BUILD needs (`CanBuild`)
+  -- moving a unit into another structure of its region (on water a ship), or on land out of its structure, keeps what
+  -- BUILD needs (`CanBuild`)
   pub place_well : (s ≢ 0 → (x : Structure) × (get c.structures s ≡ Some x) × (x.region ≡ u.region)) → (is_land_at w u.region ≡ false → (x : Structure) × (get c.structures s ≡ Some x) × (is_ship w x ≡ true)) → StepsWell CanBuild build_reserve w c (with_place c n u.region s)
   place_well inside afloat =
       subst (StepsWell CanBuild build_reserve w c) (sym (place_is w c n u s is can.steady apart))

@@ -58,7 +58,8 @@ abbrev used_of : (item amount : ℕ) → BooksEntry → Thing → ℕ
 used_of item amount e (Item j) = if entry_index e == entry_index Used then cond (eq_by_cmp nat_cmp j item) amount 0 else 0
 used_of item amount e t = 0
 
--- using `amount` of an item lowers what BUILD may still book for the holding (`still_bookable`) by it, under Used
+-- using `amount` of an item lowers what BUILD may still book for the holding (`still_bookable`): under Used of the item
+-- by `amount`, else not at all
 usable_less : (h : HoldingValue) (item amount : ℕ) → amount ≤ amount_of h.items item → (e : BooksEntry) (t : Thing) → still_bookable e t h ≡ still_bookable e t (with_less h item amount) + used_of item amount e t
 usable_less h item amount enough e Money = refl
 usable_less h item amount enough e People = refl

@@ -58,7 +58,7 @@ module _ (draws : Drawers) where
     abbrev pub Listed : List ℕ → ℕ × ℕ → Type 0
     Listed ns e = draws e.0 ≡ true → IsListed e.0 ns × (amount e.0 ≡ e.1)
 
-    -- shares that are `Listed` for the numbers `n ∷ ns`, all of units above `n`, are `Listed` for `ns`
+    -- units above `n` that draw and are on the list `n ∷ ns`, with their amounts as shares (`Listed`), are on `ns`
     narrowed : (n : ℕ) (ns : List ℕ) (es : List (ℕ × ℕ)) → AllByRecursion (λ f. n < f.0) es → AllByRecursion (Listed (n ∷ ns)) es → AllByRecursion (Listed ns) es
     narrowed n ns [] above all = tt
     narrowed n ns (f ∷ es) above all = (λ draws. let (is, same) = all.0 draws in (another f.0 n ns above.0 is, same), narrowed n ns es above.1 all.1)
@@ -96,7 +96,8 @@ module _ (draws : Drawers) where
     skipped : (drawing others first all : ℕ) → drawing ≤ others → all ≡ first + others → drawing ≤ all
     skipped drawing others first all h e = omega (arith, h, e)
 
-    -- sorted shares that are listed under the sorted units `ns` draw at most the sum of the amounts of `ns`
+    -- if the drawing units of sorted shares are on the sorted list `ns`, with their amounts as shares (`Listed`), they
+    -- draw at most the sum of the amounts of `ns`
     abbrev Bounded : List ℕ → Type 0
     Bounded ns = (es : List (ℕ × ℕ)) → IsRisen ns → Rise es → AllByRecursion (Listed ns) es → drawn es ≤ sum (map amount ns)
 
@@ -191,8 +192,7 @@ module _ {K : Type 0} (pots : DrawnPots K) where
         put : get (insert d.regions r (f q)) (pots.pot_region k) ≡ Some x
         put = sym (ap (λ m. get m (pots.pot_region k)) (changed ∙ changed-known f d.regions r q around)) ∙ found
 
-    -- if a unit's share is 0 and no region changes, each pot keeps what it has, as it should by the unit's turn
-    -- (`Drains`)
+    -- if a unit's share is 0 and no region changes, all pots lose just what the unit draws, which is nothing (`Drains`)
     pub nothing_drains : after.regions ≡ d.regions → e.1 ≡ 0 → Drains d e after
     nothing_drains same none k x found = (x, sym (ap (λ m. get m (pots.pot_region k)) same) ∙ found, ap (λ s. pots.left k x + cond (pots.draws k e.0) s 0) none ∙ neither (pots.draws k e.0) (pots.left k x))
       where

@@ -47,7 +47,8 @@ module _ (w : WorldValue) (c : CampaignValue) (n : ℕ) (u : Unit) (q : Region) 
   abbrev exchanged : CampaignValue
   exchanged = with_booking left entry Money z
 
-  -- an exchange that keeps goods together (`KeepsTogether`) changes the total of each thing by what it books
+  -- an exchange after which unit and region together have what they had, plus the money booked (`KeepsTogether`),
+  -- changes the total of each thing by what it books
   total_of : KeepsTogether u q f more z → (t : Thing) → pos (total exchanged t) ≡ pos (total c t) +ℤ booked_for t Money z
   total_of keeps t = by_thing t (total-amount left entry Money t z) (total-region f supplied u.region q around t) (total-unit_amount w c n u more is t)
     where
@@ -75,8 +76,8 @@ module _ (w : WorldValue) (c : CampaignValue) (n : ℕ) (u : Unit) (q : Region) 
           ap pos (same (total exchanged (Item i)) (total left (Item i)) (total supplied (Item i)) (total c (Item i)) (amount_of q.stocks i) (amount_of (f q).stocks i) (amount_of u.holding.items i) (amount_of more.items i) s a b (keeps.items i))
           ∙ sym (none_booked (total c (Item i)) i)
 
-  -- An exchange that keeps goods together, breaks no rule of unit or region, and books at most `limit` money keeps an
-  -- early campaign early and its books balanced.
+  -- An exchange keeps an early campaign early and its books balanced, if it breaks no rule of unit or region and books
+  -- at most `limit` money. Unit and region must together have what they had, plus the money booked (`KeepsTogether`).
   pub exchange_well : (limit : ℕ) → MayHave w more → (more.guard ≡ true → u.holding.guard ≡ true) → (IsSteady w supplied → IsSteady w left) → KeepsTogether u q f more z → IsWithin limit z → IsEarly w c → LeavesWell IsEarly (moves_only limit entry Money) w c exchanged
   exchange_well limit may flag region keeps small early =
       let before = early-having w c n u more is may flag early in

@@ -40,12 +40,12 @@ risen_apart : (es : Entries) → IsRisen (map (λ e. e.0) es) → IsApart es
 risen_apart [] up = tt
 risen_apart (e ∷ es) up = (none_above e.0 es up.0, risen_apart es up.1)
 
--- a number below the number of each entry passes the test `below_all` for these entries
+-- a number below the number of each entry is so also by the test that maps make (`below_all`)
 all_below : (k : ℕ) (es : Entries) → AllByRecursion (λ n. k < n) (map (λ e. e.0) es) → below_all nat_cmp k es ≡ true
 all_below k [] h = refl
 all_below k (e ∷ es) h = ap (λ o. is_lt o && below_all nat_cmp k es) (sym (nat_cmp_is k e.0 Less h.0)) ∙ all_below k es h.1
 
--- entries with sorted numbers are sorted as entries of a map
+-- entries with sorted numbers are sorted also by the test that maps make (`is_sorted`)
 risen_sorted : (es : Entries) → IsRisen (map (λ e. e.0) es) → is_sorted nat_cmp es ≡ true
 risen_sorted [] up = refl
 risen_sorted (e ∷ es) up = ap (λ b. b && is_sorted nat_cmp es) (all_below e.0 es up.0) ∙ risen_sorted es up.1
@@ -271,7 +271,8 @@ module _ (item_of : ℕ → Option ℕ) (pot_of : (item region : ℕ) → ℕ) (
       other apart None = refl
       other apart (Some s) = found_other (e.0, s) (of_wants es) n apart
 
-  -- `item_shares`, the definition's map of all shares, has under each number that unit's `item_share`, or nothing
+  -- the definition's map of all shares (`item_shares`) has under each number the share of that unit (`item_share`), or
+  -- nothing
   pub shares_at : (n : ℕ) → get (item_shares item_of pot_of wants c) n ≡ gets n
   shares_at n = get-from_entries nat_cmp_total (of_wants (entries wants)) n ∙ found_listed (entries wants) n ∙ by_share (gets n) refl
     where
@@ -331,7 +332,7 @@ module _ (item_of : ℕ → Option ℕ) (pot_of : (item region : ℕ) → ℕ) (
       unwanted groups [] h = refl
       unwanted groups (n ∷ ns) h = by_test (unwanted groups ns) (is_some (get wants n)) refl h
         where
-          -- units of which none has a want still change no group with unit `n`, which has none either, in front of them
+          -- a list of units without a want still changes no group with unit `n`, which has no want either, in front
           by_test : (filter (λ k. is_some (get wants k)) ns ≡ [] → fold (with_want item_of wants) groups ns ≡ groups) → (b : Bool) → is_some (get wants n) ≡ b → cond b (n ∷ filter (λ k. is_some (get wants k)) ns) (filter (λ k. is_some (get wants k)) ns) ≡ [] → fold (with_want item_of wants) groups (n ∷ ns) ≡ groups
           by_test rest true is h = cc
           by_test rest false is h = ap (λ (gs : Groups). fold (with_want item_of wants) gs ns) (skipped groups n (item_of n) (get wants n) is) ∙ rest h

@@ -170,7 +170,8 @@ last_put : {V : Type 0} (m : FinMap nat_cmp V) (es : List (ℕ × V)) (n : ℕ) 
 last_put m [] n = refl
 last_put {V} m (e ∷ es) n = last_put (insert m e.0 e.1) es n ∙ by_find (find nat_cmp n (reverse es)) refl ∙ sym (ap (λ fs. or_else (find nat_cmp n fs) (get m n)) (reverse-append (e ∷ []) es))
   where
-    -- what entries after `e` have for `n` (`o`), or else the map with `e` has, is what all have, or else the map
+    -- for `last_put`: what the entries after `e` have for `n` (`o`), or else the map with `e` put in, is what all
+    -- entries have, or else the map
     by_find : (o : Option V) → find nat_cmp n (reverse es) ≡ o → or_else o (get (insert m e.0 e.1) n) ≡ or_else (find nat_cmp n (reverse es ++ e ∷ [])) (get m n)
     by_find (Some s) is = ap (λ o. or_else o (get m n)) (sym (found_first n (reverse es) (e ∷ []) s is))
     by_find None is =
@@ -255,7 +256,8 @@ zip_apart [] ss h = tt
 zip_apart (n ∷ ns) [] h = tt
 zip_apart (n ∷ ns) (s ∷ ss) h = (refuted _ (λ t is. let low = zip_found (λ k. n < k) ns ss n t h.0 is in absurd (omega (arith, low))), zip_apart ns ss h.1)
 
--- if `g` has under each number of `ns` the amount of `ss` paired with it, `g` maps the numbers to these amounts
+-- for distinct numbers `ns` and as many amounts `ss`: if `g` has under each number the amount paired with it, `g` maps
+-- the numbers to the amounts
 zip_all : (g : ℕ → Option ℕ) (ns ss : List ℕ) → length ss ≡ length ns → IsApart (zip ns ss) → ((n s : ℕ) → find nat_cmp n (zip ns ss) ≡ Some s → g n ≡ Some s) → map g ns ≡ map Some ss
 zip_all g [] [] l apart h = refl
 zip_all g [] (s ∷ ss) l apart h = absurd (omega arith)

@@ -53,7 +53,7 @@ on : (b : Bool) → (if b then holding_limit else 0) ≤ holding_limit
 on true = omega arith
 on false = omega arith
 
--- for `used_less` and `made_less`: the bound that moves only the amount numbered `b` is 0 for one numbered `a`
+-- for `used_less` and `made_less`: the bound that moves only the amount numbered `b` is 0 for another one, numbered `a`
 off : (a b : ℕ) → a ≢ b → (if a == b then holding_limit else 0) ≤ 0
 off a b apart = let other : (a == b) ≡ false = grind (arith, nat_tests) in rw other (omega arith)
 

@@ -114,12 +114,14 @@ module _ (w : WorldValue) (c : CampaignValue) (e : ℕ × ℕ) where
   abbrev price : ℕ
   price = e.1 * w.rules.recruit_price
 
-  -- recruiting by a unit that is there, in a region that is there, gives the campaign `recruited_to` of its share
+  -- recruiting by a unit that is there, in a region that is there, moves the unit's share of peasants into the unit,
+  -- and takes and books their price (`recruited_to`)
   pub recruited_is : (u : Unit) (q : Region) → get c.units e.0 ≡ Some u → get c.regions u.region ≡ Some q → after_recruiting w c e ≡ recruited_to c e.0 u q e.1 price
   unfolding after_recruiting
   recruited_is u q is around = unit_there c e.0 _ u is ∙ region_there c u.region _ q around ∙ recruits_are w c e.0 u q e.1 price is around
 
-  -- recruiting by a unit that can recruit gives the campaign `recruited_to` of its share
+  -- recruiting by a unit that can recruit moves the unit's share of peasants into the unit, and takes and books their
+  -- price (`recruited_to`)
   made_is : (can : CanRecruit w c e) → after_recruiting w c e ≡ recruited_to c e.0 can.at.unit can.at.region e.1 price
   made_is can = recruited_is can.at.unit can.at.region can.at.there can.at.around
 
@@ -166,7 +168,7 @@ module _ (w : WorldValue) (c : CampaignValue) where
   abbrev CanHave : ℕ × ℕ → Type 0
   CanHave e = (u : Unit) × (get c.units e.0 ≡ Some u) × (u.holding.men + e.1 ≤ men_limit) × (e.1 * w.rules.recruit_price ≤ u.holding.money)
 
-  -- in a campaign the listed shares (unit, share) of RECRUIT can be given, one after the other (`AreReady`)
+  -- in a campaign the listed units can have their shares of RECRUIT, and the regions have peasants enough (`AreReady`)
   abbrev AreToJoin : CampaignValue → List (ℕ × ℕ) → Type 0
   AreToJoin = AreReady pots CanHave w c
 
@@ -174,7 +176,8 @@ module _ (w : WorldValue) (c : CampaignValue) where
   abbrev CanBook : CampaignValue → List (ℕ × ℕ) → Type 0
   CanBook d es = HaveRoom (moved_times (length es) step_moves) d
 
-  -- the first of the shares still to come can be given, if the books have room for all of them
+  -- if units and regions allow the shares still to come (`AreToJoin`), and the books have room for them, the first
+  -- share can be given
   first_can : (d : CampaignValue) (e : ℕ × ℕ) (es : List (ℕ × ℕ)) → AreToJoin d (e ∷ es) → CanBook d (e ∷ es) → CanRecruit w d e
   first_can d e es ready room =
       let (u, there, fits, payable) = ready.fits.0 in
@@ -183,7 +186,8 @@ module _ (w : WorldValue) (c : CampaignValue) where
       let draws = one_draws c.units peasants_of d e u q there around es ready.enough in
       record { at = record { unit = u; there = now; region = q; around = around }; fits = fits; payable = payable; enough = draws; early = ready.early; room = first_room step_moves d e es room }
 
-  -- the shares still to come can be given in turn, if the books have room for all of them
+  -- if units and regions allow the shares still to come (`AreToJoin`), and the books have room for them, they can be
+  -- given in turn
   all_can : (d : CampaignValue) (es : List (ℕ × ℕ)) → AreToJoin d es → CanBook d es → CanInTurn (CanRecruit w) (after_recruiting w) d es
   all_can d [] ready room = tt
   all_can d (e ∷ es) ready room =

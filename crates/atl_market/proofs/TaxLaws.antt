@@ -95,7 +95,7 @@ module _ (w : WorldValue) (c : CampaignValue) (n : ℕ) (u : Unit) (q : Region) 
 -- ---- one step
 
 module _ (w : WorldValue) (c : CampaignValue) (e : ℕ × ℕ) where
-  -- tax of a unit that is there, in a region that is there, moves its share from the region to it
+  -- the tax of a unit that is there, in a region that is there, moves the share of money from the region to the unit
   pub taxed_is : (u : Unit) (q : Region) → get c.units e.0 ≡ Some u → get c.regions u.region ≡ Some q → after_tax c e ≡ drained c e.0 u q e.1
   unfolding after_tax
   taxed_is u q is around = unit_there c e.0 _ u is ∙ region_there c u.region _ q around ∙ tax_is w c e.0 u q e.1 is around
@@ -150,11 +150,12 @@ module _ (w : WorldValue) (c : CampaignValue) where
   abbrev HasRoomFor : ℕ × ℕ → Type 0
   HasRoomFor e = (u : Unit) × (get c.units e.0 ≡ Some u) × (u.holding.money + e.1 ≤ holding_limit)
 
-  -- in a campaign the listed shares (unit, share) of TAX can be paid, one after the other (`AreReady`)
+  -- in a campaign the listed units have room for their shares of TAX, and the regions have money enough (`AreReady`)
   abbrev AreTaken : CampaignValue → List (ℕ × ℕ) → Type 0
   AreTaken = AreReady pots HasRoomFor w c
 
-  -- the unit of the first share still to come can take it in campaign `d` (`CanTax`)
+  -- if units and regions allow the shares still to come (`AreTaken`), the unit of the first share can take it
+  -- (`CanTax`)
   first_can : (d : CampaignValue) (e : ℕ × ℕ) (es : List (ℕ × ℕ)) → AreTaken d (e ∷ es) → CanTax w d e
   first_can d e es ready =
       let (u, there, fits) = ready.fits.0 in
@@ -163,7 +164,7 @@ module _ (w : WorldValue) (c : CampaignValue) where
       let draws = one_draws c.units money_of d e u q there around es ready.enough in
       record { at = record { unit = u; there = now; region = q; around = around }; fits = fits; enough = draws; early = ready.early }
 
-  -- the shares still to come can be paid in turn, from campaign `d` on
+  -- if units and regions allow the shares still to come (`AreTaken`), they can be paid in turn, from campaign `d` on
   all_can : (d : CampaignValue) (es : List (ℕ × ℕ)) → AreTaken d es → CanInTurn (CanTax w) after_tax d es
   all_can d [] ready = tt
   all_can d (e ∷ es) ready =

@@ -67,7 +67,7 @@ use Rattle.atl_market.proofs.WantLaws.{GivesToWants, few_given, given_is_named}
 
 -- ---- a trade keeps the goods of unit and region together, and books the money
 
--- the result of a trade is within all limits, keeps the goods of unit and region together, and books the money
+-- the result of a trade is within all limits, leaves unit and stock together as much of the item, and books the money
 pub record ResultFits (w : WorldValue) (u : Unit) (i before : ℕ) (d : TradeResult) : Type 0 where
   -- the trade leaves the unit at most 999,999,999 money
   pub money : d.money ≤ holding_limit
@@ -107,7 +107,8 @@ module _ (w : WorldValue) (c : CampaignValue) (n : ℕ) (u : Unit) (q : Region) 
   abbrev left : CampaignValue
   left = region_changed (λ r. restocked r i d.stock) paid u.region
 
-  -- setting unit `n`, which is there, its region's stock and the books to what the trade leaves gives the campaign `after`
+  -- setting unit `n`, which is there, its region's stock and the books to the result of the trade gives the campaign
+  -- `after`
   pub deal_is : with_result c n u i entry d ≡ after
   deal_is = ap (λ o. with_booking (with_stock (with_holding_at c n more o) u.region i d.stock) entry Money d.booked) is
 
@@ -162,7 +163,8 @@ pub market_is : (w : WorldValue) → IsWorld w → (u : Unit) (item : Option ℕ
 market_is w world u None m is = none_some m is
 market_is w world u (Some i) m is = by_plan (get w.regions u.region) refl is
   where
-    -- the market found in the plan `o` of the unit's region, if any, is the market for item `i` (`IsMarketFor`)
+    -- the market for item `i` that the world has in the unit's region `o` is the market of that region and item
+    -- (`IsMarketFor`)
     by_plan : (o : Option RegionPlan) → get w.regions u.region ≡ o → option_and_then (λ (p : RegionPlan). get p.markets i) o ≡ Some m → IsMarketFor w u (Some i) m
     by_plan None at found = none_some m found
     by_plan (Some p) at found =
@@ -405,7 +407,8 @@ module _ (trade : Trade) (items : FinMap nat_cmp ℕ) (w : WorldValue) (world : 
   abbrev CanHave : ℕ × ℕ → Type 0
   CanHave e = (u : Unit) × (get c.units e.0 ≡ Some u) × CanAfford trade u.holding e.1 (market_for w u (get items e.0))
 
-  -- in a campaign the listed shares (unit, share) of SELL or BUY can be traded, one after the other (`AreReady`)
+  -- in a campaign the listed units can afford their shares of SELL or BUY, and the pots have enough for all
+  -- (`AreReady`)
   abbrev AreToTrade : CampaignValue → List (ℕ × ℕ) → Type 0
   AreToTrade = AreReady pots CanHave w c
 
@@ -422,7 +425,8 @@ module _ (trade : Trade) (items : FinMap nat_cmp ℕ) (w : WorldValue) (world : 
       by_trade Sell few = omega (arith, same, low, few)
       by_trade Buy few = few
 
-  -- the first of the shares still to come can be traded, if the books have room for all of them
+  -- if units and pots allow the shares still to come (`AreToTrade`), and the books have room for them, the first share
+  -- can be traded
   first_can : (d : CampaignValue) (e : ℕ × ℕ) (es : List (ℕ × ℕ)) → AreToTrade d (e ∷ es) → CanBook d (e ∷ es) → CanTrade trade items w d e
   first_can d e es ready room =
       let (u, there, deal) = ready.fits.0 in
@@ -445,7 +449,8 @@ module _ (trade : Trade) (items : FinMap nat_cmp ℕ) (w : WorldValue) (world : 
         room = first_room step_moves d e es room;
       }
 
-  -- the shares still to come can be traded in turn, if the books have room for all of them
+  -- if units and pots allow the shares still to come (`AreToTrade`), and the books have room for them, they can be
+  -- traded in turn
   all_can : (d : CampaignValue) (es : List (ℕ × ℕ)) → AreToTrade d es → CanBook d es → CanInTurn (CanTrade trade items w) (after_trade trade items w) d es
   all_can d [] ready room = tt
   all_can d (e ∷ es) ready room =
@@ -567,7 +572,7 @@ can_book_result trade items w c n share can u m stock entry d there at stock_at 
 pub stock_most : (w : WorldValue) (c : CampaignValue) (r i : ℕ) → IsWorld w → IsEarly w c → stock_of c r i ≤ most_amount
 stock_most w c r i world early = by_region (get c.regions r) refl
   where
-    -- the limit of the region's stock is at most 999,999,999, whether the world has a plan `o` of the region or not
+    -- the limit of the region's stock is at most 999,999,999, whether the region is one of the world's (`o`) or not
     by_market : (q : Region) → amount_of q.stocks i ≤ stock_limit w r i → (o : Option RegionPlan) → get w.regions r ≡ o → stock_limit w r i ≤ most_amount
     by_market q low None at = subst (λ p. option_map_or (λ (x : Market). x.limit) (option_and_then (λ (p : RegionPlan). get p.markets i) p) most_amount ≤ most_amount) (sym at) (omega arith)
     by_market q low (Some p) at = subst (λ p. option_map_or (λ (x : Market). x.limit) (option_and_then (λ (p : RegionPlan). get p.markets i) p) most_amount ≤ most_amount) (sym at) (limited (get p.markets i) refl)

@@ -40,7 +40,8 @@ later_room moving w c d x xs well room =
     (room_less (both_move moving (moved_times (length xs) moving)) (moved_times (length (x ∷ xs)) moving) c (one_more moving x xs) room)
 
 module _ {A : Type 0} {leaves : Condition} (moving : BookBound) (w : WorldValue) (can : CampaignValue → A → Type 0) (step : CampaignValue → A → CampaignValue) (each : (c : CampaignValue) (x : A) → can c x → LeavesWell leaves moving w c (step c x)) where
-  -- steps in turn keep the campaign's rules and its books balanced, within all bounds together, if each step does
+  -- steps that can be taken in turn (`CanInTurn`) keep a campaign's rules and its books balanced, within the sum of
+  -- their bounds, if each step does
   pub turns_leave_well : (c : CampaignValue) (xs : List A) → leaves w c → CanInTurn can step c xs → LeavesWell leaves (moved_times (length xs) moving) w c (fold step c xs)
   turns_leave_well c [] h turns = well_unchanged (moved_times 0 moving) w c h
   turns_leave_well c (x ∷ xs) h turns =

@@ -119,7 +119,7 @@ work_leaves = shared_leave work_pots work_orders (paid_men work_pots work_orders
 
 -- ---- RECRUIT
 
--- among orders of which none is of faction `f`, none is for a unit and of that faction
+-- among orders of which none is of faction `f`, none is for unit `n` and of faction `f`
 none_listed : (n f : ℕ) (ts : List Task) → AllByRecursion (λ t. t.faction ≢ f) ts → list_any (λ o. o.unit == n && o.faction == f) ts ≡ false
 none_listed n f [] h = refl
 none_listed n f (t ∷ ts) h = neither (t.unit == n) (t.faction == f) _ (other_number t.faction f h.0) (none_listed n f ts h.1)

@@ -37,7 +37,8 @@ module _ (p : PotMeaning) (w : WorldValue) (c : CampaignValue) (n : ℕ) (u : Un
   no_order : (o : Task) → o.unit ≡ n → (u.faction == o.faction) ≡ true → own o ≡ false → ⊥
   no_order o unit faction is = false≢true (sym (clash o.unit n o.faction u.faction unit faction is))
     where
-      -- for `no_order`: `own` can't be false of an order with the unit's number (`a`, `b`) and faction (`f`, `g`)
+      -- for `no_order`: the test that `own` makes can't be false where the units `a` and `b` are equal, and the
+      -- factions `f` and `g`
       clash : (a b f g : ℕ) → a ≡ b → (g == f) ≡ true → (a == b && f == g) ≡ false → true ≡ false
       clash a b f g same one none = grind (arith, nat_tests)
 

@@ -107,8 +107,8 @@ module _ (p : PotMeaning) (w : WorldValue) (c : CampaignValue) where
       by_test v at true own h = by_fault v at own (p.fault w v t) refl h
       by_test v at false own h = none_some u (ap result_ok h)
 
-      -- for `carries_out`: unit `u`, if `unless_fault` returns it for the unit with the order's number (`o`), carries
-      -- it out
+      -- for `carries_out`: the unit `u` that `unless_fault` returns for the unit with the order's number (`o`) carries
+      -- the order out
       by_unit : (o : Option Unit) → get c.units t.unit ≡ o → unless_fault t (of_faction t.faction o) ≡ Ok u → CarriesOut t u
       by_unit None at h = none_some u (ap result_ok h)
       by_unit (Some v) at h = by_test v at (v.faction == t.faction) refl h

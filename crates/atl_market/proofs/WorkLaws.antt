@@ -166,7 +166,7 @@ module _ (w : WorldValue) where
       let well = worked_well w c e can in
       (can, work_in_turn (after_work w c e) es rise.1 well.leaves_it (later_room step_moves w c (after_work w c e) e es well room) (still c (after_work w c e) e.0 es (worked_others w c e can) rise.0 all))
 
-  -- a unit has room for the wages of as many work places as it wants
+  -- a unit whose money is within the limit has room for the wages of as many work places as it wants
   wanted_fits : (u : Unit) (o : Option Terrain) (places : ℕ) → u.holding.money ≤ holding_limit → places ≤ work_want u o → u.holding.money + places * option_map_or (λ (t : Terrain). t.wage) o 0 ≤ holding_limit
   wanted_fits u None places fits low = omega (arith, fits)
   wanted_fits u (Some t) places fits low =

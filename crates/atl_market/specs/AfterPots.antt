@@ -81,7 +81,8 @@ with_less h item amount =
 abbrev pub with_more : HoldingValue → (item amount : ℕ) → HoldingValue
 with_more h item amount = record h { items = with_amount_of h.items item (amount_of h.items item + amount) }
 
--- a unit with `made` more of an item `x` under the number `item`, and less of the raw items that went into them
+-- A unit with `made` pieces more of item `x`, which has the number `item`, and less of the raw items that the pieces
+-- take.
 abbrev pub maker_of : Unit → (made item : ℕ) → Item → Unit
 maker_of u made item x =
     record u { holding = with_more (with_less u.holding x.raw (made * x.raw_count)) item made }
@@ -90,8 +91,8 @@ maker_of u made item x =
 abbrev pub maker_by : WorldValue → Unit → (made : ℕ) → Option ℕ → Unit
 maker_by w u made asked = option_map_or (λ i. option_map_or (maker_of u made i) (slice_get w.items i) u) asked u
 
--- The law of PRODUCE: all units make items at once: each has what it made added, and the raw items for it taken from
--- it; no region changes.
+-- The law of PRODUCE: all units make items at once: each has the pieces that it made added, and the raw items for these
+-- pieces taken away; no region changes.
 abbrev pub ProducesAtOnce : Type 0
 ProducesAtOnce =
     (w : WorldValue) (c : CampaignValue) (os : List Task)

@@ -33,8 +33,8 @@ RegionChange = Region → (given : ℕ) → Region
 abbrev pub paid_unit : UnitChange → Unit → Option ℕ → Unit
 paid_unit gets u share = option_map_or (gets u) share u
 
--- A phase pays all units at once: after it each unit is `gets` of what it was and its share, and each region `gives` of
--- what it was and all that its units got.
+-- A phase pays all units at once: `gets` makes of each unit and its share the unit after the phase. `gives` makes of
+-- each region and all that its units got the region after the phase.
 pub record PaysAtOnce (p : PotMeaning) (w : WorldValue) (gets : ℕ → UnitChange) (gives : RegionChange) (c : CampaignValue) (os : List Task) : Type 0 where
   -- each unit is what `gets` makes of it and its share; a unit without a share is as it was
   pub units :
@@ -56,26 +56,26 @@ abbrev pub given_of : (item_of : ℕ → Option ℕ) → FinMap nat_cmp ℕ → 
 given_of item_of given units region item =
     sum (map (λ e. e.1) (filter (λ e. is_in_region region (get units e.0) && is_for item (item_of e.0)) (entries given)))
 
--- The region `after` is `q` with only its stocks changed: the stock of each item is `becomes` of the old stock and of
--- the amount of the item that was given.
+-- The region `after` is `q` with only its stocks changed: `becomes` makes of each item's old stock, and of the amount
+-- of the item that was given, the new stock.
 pub record HasNewStocks (q : Region) (becomes : (stock given : ℕ) → ℕ) (given : (item : ℕ) → ℕ) (after : Option Region) : Type 0 where
   -- how many pieces of each item the region `after` has in stock, by the number of the item
   pub stocks : FinMap nat_cmp ℕ
   -- the region `after` is there, and is `q` with `stocks` in the place of its own stocks
   pub region : after ≡ Some (record q { stocks = stocks })
-  -- the new stock of each item is `becomes` of its old stock and of the amount of the item that was given
+  -- `becomes` makes of each item's old stock, and of the amount of the item that was given, the new stock
   pub amounts : (item : ℕ) → amount_of stocks item ≡ becomes (amount_of q.stocks item) (given item)
 
--- A phase with pots of items pays all units at once: after it each unit is `gets` of what it was and its share, and
--- each stock of a region `becomes` of what it was and all that those of its units got that ask for the item.
+-- A phase with pots of items pays all units at once: `gets` makes of each unit and its share the unit after the phase.
+-- `becomes` makes of each stock of a region, and of all that units there got of the item, the stock after the phase.
 pub record PaysItemsAtOnce (p : PotMeaning) (w : WorldValue) (item_of : ℕ → Option ℕ) (gets : ℕ → UnitChange)
     (becomes : (stock given : ℕ) → ℕ) (c : CampaignValue) (os : List Task) : Type 0 where
   -- each unit is what `gets` makes of it and its share; a unit without a share is as it was
   pub units :
       (n : ℕ) (u : Unit) → get c.units n ≡ Some u
       → get (after_sharing p w c os).units n ≡ Some (paid_unit (gets n) u (get (given_by p w c os) n))
-  -- of each region the stocks alone change: each stock is `becomes` of what it was and of all that those units in the
-  -- region got that ask for the item
+  -- Of each region the stocks alone change: `becomes` makes of each old stock, and of all that units in the region got
+  -- of the item, the new stock.
   pub regions :
       (r : ℕ) (q : Region) → get c.regions r ≡ Some q
       → HasNewStocks q becomes (given_of item_of (given_by p w c os) c.units r) (get (after_sharing p w c os).regions r)

@@ -76,8 +76,8 @@ with_new_structure c kind k region size = with_structure_begun c (new_structure 
 abbrev pub after_start : CampaignValue → (n kind : ℕ) → Kind → (region size : ℕ) → CampaignValue
 after_start c n kind k region size = with_place (with_new_structure (with_used c n k.material size) kind k region size) n region c.next_structure
 
--- The effect of `BUILD kind` by unit `n`: a structure is begun and the outcome is its size; with a fault nothing
--- changes.
+-- The effect of `BUILD kind` by unit `n`: a structure is begun, and the outcome is Done with how much of it is done.
+-- With a fault nothing changes, and the outcome is the fault.
 unfoldable pub begin : WorldValue → (n kind : ℕ) → Kind → OrderEffect
 begin w n kind k c u =
     let size = size_added k u.holding 0 in
@@ -123,8 +123,8 @@ go_on w n c u = go_on_at c n u (structure_and_kind_at w c u.structure)
 
 -- ---- the effect of an order
 
--- The effect of an order of unit `n` by its operands: with a kind of the world `begin`, with none `go_on`, else no
--- effect.
+-- The effect of an order of unit `n` by its operands: a kind of the world begins a structure (`begin`), no kind
+-- continues one (`go_on`). Other operands have no effect.
 abbrev pub build_effect : WorldValue → (n : ℕ) → OperandsValue → Option OrderEffect
 build_effect w n (operands.Kind (Some kind)) = option_map (begin w n kind) (slice_get w.kinds kind)
 build_effect w n (operands.Kind None) = Some (go_on w n)

@@ -41,7 +41,8 @@ item_of w asked = option_and_then (slice_get w.items) asked
 abbrev pub up_to_raw : HoldingValue → (count : ℕ) → (raw : Option ℕ) → (most : ℕ) → ℕ
 up_to_raw h count raw most = option_map_or (λ r. min (amount_of h.items r / count) most) raw most
 
--- the most of an item that a unit can make: by its men times level, its room for the item, and its raw items
+-- The most of an item that a unit can make: the least of its men times level, its room for the item, and what its raw
+-- items allow.
 abbrev pub most_makeable_of : HoldingValue → (item : ℕ) → Item → ℕ
 most_makeable_of h i x =
     up_to_raw h x.raw_count x.raw (min (h.men * level_in_any h x.skill) (holding_limit - amount_of h.items i))

@@ -32,7 +32,7 @@ pub(crate) trait ItemPots {
     fn item(&self, unit: u32) -> Option<u16>
         ensures { result ≡ item_of self.now unit };
 
-    /// How much of an item there is in a region, at most 999,999,999.
+    /// How much of an item there is to share in a region, its pot: at most 999,999,999.
     fn pot(&self, item: u32, region: u32) -> u64
         requires { ready self.now }
         ensures value { result ≡ pot_of self.now item region }
@@ -110,8 +110,8 @@ fn share_items<P: ItemPots>(
     Ok(())
 }
 
-/// Shares all items of one region among its units, and puts the shares into a map by unit. It goes
-/// over the units of the region once, and only if one of them has a want.
+/// Shares all items of one region among its units, and puts the shares into a map by unit. The
+/// function goes over the units of the region once, and only if one of them has a want.
 fn share_region<P: ItemPots>(
     alloc: Global,
     campaign: &Campaign,
@@ -135,9 +135,10 @@ fn share_region<P: ItemPots>(
     share_items(alloc, pots, wants, region, &groups, given)
 }
 
-/// How much each unit gets of the item that it asks for, out of what its region has of it, by unit.
-/// All get their shares at once. It goes once over the regions, and once over the units of those
-/// where one has a want, for however many items. AllocError without memory.
+/// How much each unit gets of the item that it asks for, out of what its region has of the item, by
+/// unit. All units get their shares at once. The function goes once over the regions, and once over
+/// the units of each region where one has a want, for however many items. AllocError without
+/// memory.
 pub(crate) fn item_shares<P: ItemPots>(
     alloc: Global,
     campaign: &Campaign,

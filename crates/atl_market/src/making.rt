@@ -69,8 +69,8 @@ pub(crate) fn make_fault(world: &World, holding: &Holding, asked: Option<u16>) -
     lacks_raw(holding, item.raw_count, item.raw).then_some(EventFault::NoMaterial)
 }
 
-/// How many of an item a unit can make: by its men times level, its room for the item, and its raw
-/// items; at most 999,999,999.
+/// How many of an item a unit can make: the least of its men times level, its room for the item,
+/// and what its raw items allow; at most 999,999,999.
 fn most_makeable_of(holding: &Holding, number: u16, item: &Item) -> u32
     requires { 1 ≤ item.now.raw_count }
     ensures value { result ≡ most_makeable_of holding.now number item.now }

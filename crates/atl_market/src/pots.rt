@@ -114,8 +114,8 @@ pub(crate) fn regions_with_wants(
     Ok(asked)
 }
 
-/// Shares one region's pot among its units, and puts the shares into a map by unit. It goes over
-/// the units of the region only if one of them has a want.
+/// Shares one region's pot among its units, and puts the shares into a map by unit. The function
+/// goes over the units of the region only if one of them has a want.
 fn share_region<P: Pots>(
     alloc: Global,
     campaign: &Campaign,
@@ -144,9 +144,9 @@ fn share_region<P: Pots>(
 
 /// What units get of the pots of their regions, by unit, all at once. The units of a region that
 /// have a want share its pot, in unit order, by their wants; each want is at most 999,999,999. A
-/// unit that has no want, or is in no region of the campaign, gets nothing and is not listed. It
-/// goes over the regions once, and over the units of those where one has a want. AllocError without
-/// memory. See docs/RULES.md, "Shares".
+/// unit that has no want, or is in no region of the campaign, gets nothing and is not listed. The
+/// function goes once over the regions, and over the units of each region where one has a want.
+/// AllocError without memory. See docs/RULES.md, "Shares".
 pub fn pot_shares<P: Pots>(
     alloc: Global,
     campaign: &Campaign,

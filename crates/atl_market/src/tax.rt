@@ -50,7 +50,7 @@ impl<'a> Pots for RegionMoney<'a> {
     }
 }
 
-/// The fault, want and share of a unit in TAX, and its share going from its region's money to it;
+/// The fault, want and share of a unit in TAX, and the payment of the share by the unit's region;
 /// the event says how much was taken.
 impl PotPhase for TaxPhase {
     ghost meaning = { λ _. tax_pots };

@@ -67,7 +67,8 @@ fn written_work<'m>(
 }
 
 /// Appends an order of WORK, on line 0, for each unit with men for which its own faction wrote none
-/// of `orders`, the month-long ones. `mailing` and `work` are what the appended orders refer to.
+/// of `orders`, the month-long ones. Each appended order refers to the mailing `mailing` and the
+/// order `work`.
 fn add_idle<'m>(
     alloc: Global,
     campaign: &Campaign,
@@ -116,9 +117,9 @@ fn sort(list: &mut Vec<PhaseOrder<'_>>)
     );
 }
 
-/// The orders of the phase WORK: those of the mailings, and one for each unit with men without a
-/// month-long order, sorted by unit, line and faction. `mailing` and `work` are what the latter
-/// refer to.
+/// The orders of the phase WORK: those of the mailings, and an added one for each unit with men
+/// without a month-long order, sorted by unit, line and faction. Each added order refers to the
+/// mailing `mailing` and the order `work`.
 fn work_orders<'m>(
     alloc: Global,
     campaign: &Campaign,

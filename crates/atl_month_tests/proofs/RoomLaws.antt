@@ -1,5 +1,5 @@
--- Laws that the books of a good campaign have room for all that a phase may book. `agreeing` needs them for seven
--- phases.
+-- Laws that the books of a good campaign have room for all that a phase may book. The tests `agreeing` play seven
+-- phases, which need this room.
 use Rattle.std.proofs.Common.{◌≤◌, ℕ, Bool, true, false, arith}
 use Rattle.std.specs.Prelude.{if◌then◌else◌}
 use Rattle.atl_world.specs.Worlds.{WorldValue}

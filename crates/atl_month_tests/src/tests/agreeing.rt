@@ -1,5 +1,6 @@
 //! Tests that seven phases and `share` give the results of a plain reference calculation
-//! (`reference`). The phases are SELL, BUY, TAX, RECRUIT, PRODUCE, WORK and upkeep.
+//! (`reference`). The phases are SELL, BUY, TAX, RECRUIT, PRODUCE, WORK and upkeep, played on a
+//! campaign of 300 units (`crowd`).
 ghost use Rattle.atl_campaign.specs.Good.{IsGood};
 ghost use Rattle.atl_phase.specs.Fit.{AreFit};
 
@@ -193,7 +194,7 @@ fn run_upkeep(
 }
 
 /// Plays a phase that shares pots as the program does; the result is the campaign and the month
-/// after it.
+/// after it. The campaign must be good, and the month's mailings read with its world.
 fn run_sharing(
     alloc: Global,
     world: &World,
@@ -215,7 +216,7 @@ fn run_sharing(
 }
 
 /// Plays a phase of `PLAYED` as the program does; the result is the campaign and the month after
-/// it.
+/// it. The campaign must be good, and the month's mailings read with its world.
 fn run_on(
     alloc: Global,
     world: &World,
@@ -259,8 +260,8 @@ fn reckoned(
     Ok(plain)
 }
 
-/// Asserts that a phase changes the campaign of `crowd` as the reference calculates, and has the
-/// same events as it.
+/// Asserts that a phase makes of the campaign of `crowd` the campaign and the events that the
+/// reference calculates.
 fn agrees(rt: &impl Abort, alloc: Global, world: &World, played: Played) -> Result<(), Fail> {
     let campaign = crowd(alloc, world)?;
     let month = crowd_month(alloc, world)?;
@@ -303,7 +304,8 @@ static WANTS: [&[u64]; 6] = [
 /// The largest pot that is shared among the wants of `WANTS`.
 const MOST_SHARED: u64 = 300;
 
-/// Asserts that `share` splits one pot among these wants as the reference does.
+/// Asserts that `share` splits one pot among the wants `wants` as the reference does; a pot above
+/// `MOST_SHARED` and a want above 999,999,999 are a failure.
 fn pot_agrees(rt: &impl Abort, alloc: Global, pot: u64, wants: &[u64]) -> Result<(), Fail> {
     if pot > MOST_SHARED || !are_small(wants) {
         return Err(Fail::new("a pot and wants that are small enough"));
@@ -314,8 +316,8 @@ fn pot_agrees(rt: &impl Abort, alloc: Global, pot: u64, wants: &[u64]) -> Result
     Ok(())
 }
 
-/// Asserts that `share` splits each pot up to `MOST_SHARED` among these wants as the reference
-/// does.
+/// Asserts that `share` splits each pot up to `MOST_SHARED` among the wants `wants` as the
+/// reference does.
 fn pots_agree(rt: &impl Abort, alloc: Global, wants: &[u64]) -> Result<(), Fail> {
     for pot in 0..=MOST_SHARED {
         pot_agrees(rt, alloc, pot, wants)?;

@@ -1,6 +1,6 @@
-//! The campaign of 300 units on which `agreeing` compares phases with the reference, and a month of
-//! orders. Four factions have them in twelve regions. What each unit has and orders is picked by
-//! its number from tables of several lengths.
+//! The crowd: a campaign of 300 units on which `agreeing` compares phases with the reference, and a
+//! month of orders. Four factions have the units in twelve regions. What each unit has and orders
+//! is picked by its number from tables of several lengths.
 ghost use Rattle.std.specs.Prelude.{◌≤◌, IfOk, length};
 ghost use Rattle.atl_campaign.specs.Good.{IsGood};
 ghost use Rattle.atl_phase.specs.Fit.{AreFit};
@@ -171,7 +171,7 @@ static LANDS: [(&str, u32, u32); 7] = [
 /// How many men a unit has, picked by its number.
 static MEN: [i64; 11] = [1, 1, 2, 3, 5, 8, 13, 40, 90, 2, 1];
 
-/// How much money a unit has, picked by its number.
+/// How much money a unit has, picked by its number, if the number is no multiple of `RICH`.
 static MONEY: [i64; 7] = [0, 3, 20, 150, 900, 0, 4_000];
 
 /// Each unit whose number is a multiple of this has `FULL_PURSE` of money.
@@ -551,8 +551,8 @@ fn book_all(
     Ok(())
 }
 
-/// Replaces the rows of a campaign just founded by those of the crowd; the books get rows under
-/// Joining for all that the units have and all that is in stock.
+/// Puts the crowd's factions, units, goods, stocks and reports into the rows of a campaign just
+/// founded. The books get rows under Joining for all that the units have and all that is in stock.
 fn fill(alloc: Global, parts: &mut Parts) -> Result<(), AllocError> {
     parts.markets = stocks(alloc)?;
     book_all(&parts.markets, &mut parts.books)?;

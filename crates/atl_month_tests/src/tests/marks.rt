@@ -179,7 +179,7 @@ fn tell_things_of(
 }
 
 /// Appends the items, or the skills, that are marked one by one of all units to the text `told`,
-/// each as `unit:thing`, and then `|`.
+/// each as `unit:thing` with a blank after it, and then `|`.
 fn tell_things(
     alloc: Global,
     units: Entries<'_, Numbered<()>>,
@@ -191,8 +191,8 @@ fn tell_things(
     told.push_str("|")
 }
 
-/// What a campaign has marked of units, as five lists in a text, each ended by `|`.
-/// They are the marked units, marked rows, units with all their goods marked, single items, and
+/// What a campaign has marked of units, as five lists in a text, each ended by `|`. They are the
+/// marked units, those with marked rows, those with all their goods marked, single items, and
 /// single skills.
 fn marks_of(alloc: Global, campaign: &Campaign) -> Result<String, AllocError> {
     let mut told = String::new(alloc);

@@ -18,7 +18,7 @@ const MOST_LEVEL: u64 = 5;
 /// The days in the rule of levels: level `n` of a skill takes 15 * n * (n + 1) days for each man.
 const LEVEL_DAYS: u64 = 15;
 
-/// The highest level of a skill that this many men have with these days together; 0 without men.
+/// The highest level of a skill that `men` men have with `days` days together; 0 without men.
 fn level(days: u64, men: u64) -> u64 {
     let mut level = 0;
     for next in 1..=MOST_LEVEL {
@@ -48,7 +48,7 @@ fn raw_for(plain: &Plain, person: PlainUnit, item: &Item) -> Option<u64> {
     held.checked_div(u64::from(item.raw_count))
 }
 
-/// The number of the item that an order names.
+/// The number of the item that an order names; 0 if it names none.
 fn item_of(order: PhaseOrder<'_>) -> u32 {
     match &order.order.operands {
         Operands::Item(item) => u32::from(*item),
@@ -92,7 +92,8 @@ pub(crate) fn claim(world: &World, plain: &Plain, order: PhaseOrder<'_>) -> Clai
     }
 }
 
-/// How many of an item the terrain of a region yields in a month.
+/// How many of an item the terrain of a region yields in a month; 0 if there is no such terrain or
+/// item.
 fn output(world: &World, region: u32, item: u32) -> u64 {
     let Some(terrain) = world.terrain_of(region) else {
         return 0;

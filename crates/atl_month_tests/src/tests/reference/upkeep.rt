@@ -36,8 +36,9 @@ fn short_of(maintenance: u64, person: PlainUnit) -> u64 {
     due.saturating_sub(person.money)
 }
 
-/// Adds what a unit has left, and what it is short of, to the sums of `purse`; if it has a lower
-/// number (`is_before`), also to the sums over lower numbers.
+/// Adds what a unit has left, and what it is short of, to the sums of `purse`. If the unit's number
+/// is lower than that of the unit for which the sums are (`is_before`), the sums over lower numbers
+/// get these amounts as well.
 fn add(maintenance: u64, purse: Purse, person: PlainUnit, is_before: bool) -> Purse {
     let (left, short) = (left_of(maintenance, person), short_of(maintenance, person));
     let (left_before, short_before) = if is_before { (left, short) } else { (0, 0) };

@@ -11,7 +11,7 @@ use std::alloc::{AllocError, Global};
 /// The number of the only thing that WORK shares: jobs.
 const PLACES: u32 = 0;
 
-/// What a job in a region pays.
+/// What a job in a region pays; 0 if the region has no terrain.
 fn wage(world: &World, region: u32) -> u64 {
     match world.terrain_of(region) {
         Some(terrain) => u64::from(terrain.wage),
@@ -19,7 +19,7 @@ fn wage(world: &World, region: u32) -> u64 {
     }
 }
 
-/// How many jobs a region has.
+/// How many jobs a region has; 0 if the region has no terrain.
 fn places(world: &World, region: u32) -> u64 {
     match world.terrain_of(region) {
         Some(terrain) => u64::from(terrain.places),
@@ -27,7 +27,8 @@ fn places(world: &World, region: u32) -> u64 {
     }
 }
 
-/// How many jobs a WORK order asks for, or its fault.
+/// How many jobs a WORK order asks for, one for each man as far as there is room for the wages, or
+/// the order's fault.
 pub(crate) fn claim(world: &World, plain: &Plain, order: PhaseOrder<'_>) -> Claim {
     let Some(person) = own(plain, order) else {
         return Claim::Fault(EventFault::NotYours);
@@ -107,7 +108,7 @@ pub(crate) fn pot(world: &World, region: u32) -> Pot {
     }
 }
 
-/// What a unit earns by its jobs: its share times the region's wage.
+/// What a unit earns by its jobs: its share times the region's wage; 0 if there is no such unit.
 pub(crate) fn earned(world: &World, plain: &Plain, given: &[Given], unit: u32) -> u64 {
     match plain.person(unit) {
         Some(person) => given_to(given, unit).wrapping_mul(wage(world, person.region)),

@@ -1,4 +1,5 @@
-//! Tests of the text of the books. The wanted texts are worked out by hand.
+//! Tests of the text of the books. Each scene says what a campaign has; the wanted texts are worked
+//! out by hand. Faction 1 is Avalon.
 ghost use Rattle.atl_campaign.specs.Good.{IsGood};
 
 use super::compare::assert_text;
@@ -12,8 +13,8 @@ use std::alloc::Global;
 use std::process::Abort;
 use std::test::Fail;
 
-/// A month after Avalon joined: its man earned 12 by work and paid 10 for upkeep, and the region's
-/// income was 1,000.
+/// The scene after Avalon's first month: its man earned 12 by work and paid 10 for upkeep, and the
+/// region's income was 1,000.
 const FIRST_MONTH: Scene = Scene {
     people: &[SceneUnit { money: 1002, ..MAN }],
     regions: &[(1, 1000, 1500)],
@@ -41,8 +42,8 @@ people joining 1
 people total 1001
 ";
 
-/// A month in which Avalon quit: its 1,000 money is lost, its man left, and the region's income was
-/// 1,000.
+/// The scene after a month in which Avalon quit: its 1,000 money is lost, its man left, and the
+/// region's income was 1,000.
 const QUITTING: Scene = Scene {
     regions: &[(1, 1000, 1500)],
     books: &[
@@ -69,7 +70,7 @@ people left -1
 people total 1000
 ";
 
-/// Books with an amount under every entry, many of them negative.
+/// A scene whose books have an amount of money under every entry, half of them negative.
 const EVERY_ENTRY: Scene = Scene {
     regions: &[(1, 1000, 489)],
     books: &[
@@ -116,7 +117,7 @@ people founding 1000
 people total 1000
 ";
 
-/// A campaign whose units made 20 wood, and 2 carts out of 10 of the 12 wood that they had joined
+/// A scene whose units made 20 wood, and 2 carts out of 10 of the 12 wood that they had joined
 /// with.
 const PRODUCTION: Scene = Scene {
     people: &[

@@ -1,5 +1,5 @@
-//! Tests of the lines on markets in a report. The world is the island with two markets in region 4;
-//! its text names the cart before the wood.
+//! Tests of the lines on markets in a report, for scenes, which say what a campaign has. The world
+//! is the island with two markets in region 4; its text names the cart before the wood.
 use super::compare::assert_text;
 use super::scenes::{Built, LODGE, MAN, NOBODY, Scene, SceneUnit, campaign_of};
 use atl_report::{report_text, view};
@@ -10,7 +10,7 @@ use std::alloc::Global;
 use std::process::Abort;
 use std::test::Fail;
 
-/// The text of two markets in region 4, to append to that of the island, whose last region this is.
+/// The text of two markets, to append to the text of the island, whose last region is region 4.
 const MARKETS: &str = r#"[[region.market]]
 item = "cart"
 price = 500
@@ -28,7 +28,7 @@ restock = 20
 /// A unit of one man in region 4, which has the markets.
 const MERCHANT: SceneUnit = SceneUnit { region: 4, ..MAN };
 
-/// A scene, and the wanted report of faction 1 on what it sees in it.
+/// A scene, and the report that faction 1 has to get of what the faction sees there.
 #[derive(Clone, Copy)]
 struct Case {
     scene: Scene,

@@ -1,4 +1,5 @@
-//! Makes campaigns for the tests of reports, from rows that `check` accepts.
+//! Makes campaigns for the tests of reports out of scenes, which say what a campaign has. A scene
+//! gives rows of tables, of which atl_state makes a campaign after it has checked them.
 ghost use Rattle.std.specs.Prelude.{IfOk};
 ghost use Rattle.atl_campaign.specs.Good.{IsGood};
 
@@ -348,7 +349,7 @@ fn rows_of(alloc: Global, world: &World, scene: &Scene) -> Result<Parts, Fail> {
     Ok(parts)
 }
 
-/// The campaign of a scene; rows that `check` refuses are a failure.
+/// The campaign of a scene; rows that `check_as` of atl_state refuses are a failure.
 pub(crate) fn campaign_of(alloc: Global, world: &World, scene: &Scene) -> Result<Campaign, Fail>
     ensures { IfOk result (λ c. IsGood world.now c.value) }
 {

@@ -1,5 +1,5 @@
 //! Tests of which units and structures a report shows, by whole reports worked out by hand
-//! (docs/RULES.md, "Sight"). The world is the island.
+//! (docs/RULES.md, "Sight"). The world is the island; each scene says what a campaign has.
 use super::compare::assert_text;
 use super::scenes::{
     BOAT, Built, CART, LODGE, LUMBERJACK, MAN, NOBODY, OBSERVATION, SAILING, STEALTH, Scene,
@@ -15,8 +15,8 @@ use std::alloc::Global;
 use std::process::Abort;
 use std::test::Fail;
 
-/// A scene, the units that lose their men in it, faulty lines and events, and the report that a
-/// faction has to get of them.
+/// A scene, the units there that lose their men, faulty lines and events, a faction, and the report
+/// that the faction has to get.
 #[derive(Clone, Copy)]
 struct Case {
     scene: Scene,

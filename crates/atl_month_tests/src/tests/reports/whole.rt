@@ -1,4 +1,4 @@
-//! A test of a whole report, in the small world after one faction has joined.
+//! A test of a whole report, in the small world after one faction, Avalon, has joined.
 ghost use Rattle.std.specs.Prelude.{IfOk};
 ghost use Rattle.atl_campaign.specs.Good.{IsGood};
 
@@ -54,8 +54,8 @@ fn founded_in(alloc: Global, world: &World) -> Result<Campaign, Fail>
     Ok(founded(alloc, world, b"gm")?)
 }
 
-/// Makes Avalon join, with 0 as the word of the dice; the answer is the numbers of its faction and
-/// unit.
+/// Makes the faction Avalon join, with 0 as the word of the dice; the result is the number of the
+/// faction and that of its unit.
 fn avalon_joins(world: &World, campaign: &mut Campaign) -> Result<(u32, u32), Fail>
     requires { IsGood world.now campaign.old.value }
 {
