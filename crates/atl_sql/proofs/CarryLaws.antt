@@ -56,7 +56,8 @@ module _ (t : Table) (old new : Database) (has : HasTables old) (ours : Has all_
   abbrev OthersStay : Type 0
   OthersStay = (u : Table) → Has schema.tables u → u.tree ≢ t.tree → new.trees u.tree ≡ old.trees u.tree
 
-  -- if `new` has the schema of `old`, and its trees are sound under it, it still has a campaign's tables (`HasTables`)
+  -- if `new` has the schema of `old`, and trees that are sound under this schema, `new` still has a campaign's tables
+  -- (`HasTables`)
   pub stays_there : new.schema ≡ schema → IsSoundDatabase schema new.trees → HasTables new
   stays_there is sound = record {
     begins = record { tables = has.begins.tables; indexes = has.begins.indexes; made_of = is; free = has.begins.free; plain = has.begins.plain };
@@ -77,7 +78,8 @@ module _ (t : Table) (old new : Database) (has : HasTables old) (ours : Has all_
   pub altered : (S : Set) → Makes schema t old new S → Alters t S old new
   altered S makes = record { rows = makes.rows; others = λ u listed apart. makes.others u (among_all has.begins.tables u listed) apart }
 
-  -- a write that makes the rows of `t` the set `S` (`Makes`) has done `Does` (`Done`), if `Does` follows from `Alters`
+  -- if `Does` follows from the rows of `t` being `S` and a campaign's other tables staying (`Alters`), a write that
+  -- makes the rows `S` (`Makes`) has done `Does` (`Done`)
   pub done_with : (Does : Database → Database → Type 0) (S : Set) → (Alters t S old new → Does old new) → Makes schema t old new S → Done Does old new
   done_with Does S is makes = record { does = is (altered S makes); tables = stays_there makes.schema_is makes.sound; carries = carried makes.schema_is makes.others }
 

@@ -1,4 +1,5 @@
 -- Laws on causes: an error that a step returns was given by a statement of the step, or by the commit (`Gives`).
+-- `own` is the set of statements that the step may run; `more` is a set that has all of these.
 use Rattle.std.proofs.Common.{◌≡◌, ◌⊎◌, ◌≤◌, ℕ, List, zero, suc, true, false, true≢false, IsTrue, Result, Ok, Err, IsErrAnd, IfErr, refl, sym, ap, ◌∙◌, subst, inl, inr, arith}
 use Rattle.std.proofs.lemmas.Bool.{cases_Bool}
 use Rattle.sqlite_disk.specs.Disk.{MoreFaults}
@@ -112,8 +113,8 @@ module _ {S : Type 0} (g : Ghosts S) (own : Statements) (e : Error) where
   pub gives : (old new : Held S) → IsTrue (state g old).in_transaction → IsGiven own e (state g old) (state g new) → Gives g own e old new
   gives old new inside given = record { before = old; after = new; reached = (0, as_begun old inside); kept = record { was_open = λ up. up; committed = λ _. refl }; given = given; cause = by_call (state g old) (state g new) own e given }
 
-  -- if statements lead from `old` to `mid` in a transaction, on a clean disk and with nothing committed, an error that
-  -- the transaction gives from `mid` on is one that it gives from `old` on (`Gives`)
+  -- an error that a transaction gives from `mid` on is one that it gives from `old` on (`Gives`), if statements lead
+  -- from `old` to `mid` on a clean disk, and commit nothing
   pub gives_after : (old mid new : Held S) → IsTrue (state g old).in_transaction → IsTrue (state g mid).in_transaction → IsReached g own old mid → HasCleanDisk (state g mid) → KeepsCommit (state g old) (state g mid) → Survives (state g old) (state g mid) (λ _. ⊥) → (state g mid).faults ≤ (state g new).faults → Gives g own e mid new → Gives g own e old new
   gives_after old mid new was is reached clean kept survives counts gave = record {
     before = gave.before;

@@ -46,7 +46,8 @@ pub record IsCreate (before after : Schema) (table : Table) (text : List ℕ) : 
   -- the schema `after` lacks no table of sequences, which only AUTOINCREMENT needs
   pub uncounted : lacks_sequence after ≡ false
 
--- running a CREATE TABLE text (`IsCreate`) on a database of the schema `before` adds the table
+-- running a CREATE TABLE text (`IsCreate`) on a database of the schema `before` adds the table, without rows
+-- (`Creates`)
 pub makes_table : (before after : Schema) (table : Table) (text : List ℕ) → IsCreate before after table text → (old new : State) (count : ℕ) → old.now.schema ≡ before → Executes text [] old new (Ok count)
     → Creates before after table.tree old.now new.now
 makes_table before after table text is old new count has ran =

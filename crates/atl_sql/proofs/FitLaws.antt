@@ -1,4 +1,5 @@
 -- Laws on rows whose values are of their columns' types: SQL stores them unchanged, inserted or updated.
+-- A numbered row, whose key is a number, is stored as the number, NULL, and the values of the other columns.
 use Rattle.std.proofs.Common.{◌≡◌, ◌++◌, ◌+◌, ◌/◌, ℕ, pos, zero, suc, List, [], ◌∷◌, length, map, take, Some, refl, ap, ◌∙◌, subst, arith, nat_eq, false}
 use Rattle.std.specs.List.{range_with_len}
 use Rattle.std.proofs.Math.Nat.{div_self}
@@ -69,19 +70,20 @@ column_after (v ∷ vs) x more = column_after vs x more
 
 -- ---- what the terms make of the parameters, which are a number and so many values
 
--- the terms of the INSERT of a numbered row with this many values: the number and the values, from the parameters
+-- the terms of the INSERT of a numbered row with this many values: number and values from the parameters, NULL between
 abbrev pub given_row : ℕ → List Term
 given_row width = col 0 0 ∷ lit Null ∷ map (col 0) (range_with_len 1 width)
 
--- the terms of the UPDATE of a numbered row with this many values: its own number, and the values from the parameters
+-- the terms of the UPDATE of a numbered row with this many values: the number that the row has, NULL, and the values
+-- from the parameters
 abbrev pub changed_row : ℕ → List Term
 changed_row width = col 1 0 ∷ lit Null ∷ map (col 0) (range_with_len 1 width)
 
 -- the terms of the INSERT and of the UPDATE make the row of this number and these values
 pub record MakesRow (t : Table) (width number : ℕ) (values : Row) : Type 0 where
-  -- the terms of the INSERT give the number and the values
+  -- the terms of the INSERT give the number, NULL, and the values
   pub source : value_rows ((int number ∷ values) ++ []) (width + 2) (length (given_row width) / (width + 2)) (given_row width) ≡ (int number ∷ Null ∷ values) ∷ []
-  -- the terms of the UPDATE give the number of the row that is there, and the values
+  -- the terms of the UPDATE give the number of the row that is there, NULL, and the values
   pub changed : (more r : Row) → eval_all (changed_row width) (((int number ∷ values) ++ more) ∷ r ∷ []) ≡ column r 0 ∷ Null ∷ values
   -- SQL's casts to the columns' types leave the row as stored (the number, NULL, the values) unchanged
   pub casted : cast_row t (int number ∷ Null ∷ values) ≡ int number ∷ Null ∷ values

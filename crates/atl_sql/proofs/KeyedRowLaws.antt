@@ -93,7 +93,8 @@ pub record HasKey (t : Table) (at : ℕ) (places : List ℕ) : Type 0 where
   pub hits : (indexes : List Index) (new x : Row)
       → conflicts (Some places) (all_indexes ++ indexes) t new x ≡ (agree_at places x new || list_any (shares (Some places) t new x) indexes)
 
--- the text `sql` means the DELETE, by `filter`, of rows of the table with index `at` in the schema and tree `tree`
+-- the text `sql` means the DELETE, by `filter`, of rows of the table with index `at` in the schema and tree `tree`,
+-- whatever other tables follow
 abbrev pub IsTakeOut : ℕ → ℕ → List ℕ → List Term → Type 0
 IsTakeOut tree at sql filter = (more : List Table) (indexes : List Index) → command_of (understood (all_and more indexes) sql) ≡ Delete at (record { lets = []; body = delete_query tree filter })
 

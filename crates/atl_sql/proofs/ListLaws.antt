@@ -1,4 +1,5 @@
 -- Laws on a tree's rows by their rowids: finding, removing and putting rows keeps the rowids different.
+-- A tree is where the file keeps the rows of one table.
 use Rattle.std.proofs.Common.{◌≡◌, ℤ, Bool, true, false, not, List, [], ◌∷◌, map, Ordering, Less, Equal, Greater, refl, sym, ap, ◌∙◌, subst, inl, inr, true≢false}
 use Rattle.std.specs.List.{AllByRecursion}
 use Rattle.std.specs.Ordering.{is_eq, ordering_reverse}
@@ -121,7 +122,8 @@ keyed_without (id ∷ ids) rows keyed = keyed_without ids (without_rowid id rows
   ints = all_from _ _ (λ r there. all_has _ rows r keyed.ints (has_filtered _ rows r there).0);
 })
 
--- putting a row whose rowid is not taken keeps the rowids different, in the form that `AreKeyedByRowid` asks for
+-- no two rowids of a list of rows are alike after a row is put, if no two were before, and the row's rowid was not
+-- taken
 apart_put : (new : Row) (rows : List Row) → IsAscending (λ a b. is_eq (value_cmp (rowid a) (rowid b)) ≡ false) rows → is_taken rows new ≡ false
     → IsAscending (λ a b. is_eq (value_cmp (rowid a) (rowid b)) ≡ false) (put_row new rows)
 apart_put new [] apart free = (tt, tt)
@@ -141,6 +143,7 @@ apart_put new (r ∷ rows) apart free = go (value_cmp (rowid r) (rowid new)) ref
     go Equal is more = absurd (true≢false (sym (ap is_eq is) ∙ (or_parts _ _ free).0))
     go Greater is more = (all_from _ (r ∷ rows) untaken, apart)
 
--- once a row is put, the rowids are integers, no two alike, if its own is an integer that no row had
+-- once a row is put whose rowid is an integer that no row had, the rowids are still integers, no two alike
+-- (`AreKeyedByRowid`)
 pub keyed_put : (new : Row) (rows : List Row) → AreKeyedByRowid rows → is_taken rows new ≡ false → is_int (rowid new) ≡ true → AreKeyedByRowid (put_row new rows)
 keyed_put new rows keyed free int = record { apart = apart_put new rows keyed.apart free; ints = all-put_row _ new rows int keyed.ints }

@@ -121,7 +121,8 @@ module _ (schema : Schema) (among : (u : Table) → Has all_tables u → Has sch
     abbrev pub OneRow : Type 0
     OneRow = (x r : Row) → Has (old.trees t.tree) x → Has (old.trees t.tree) r → take key (visible t x) ≡ take key (visible t r) → is_eq (value_cmp (rowid x) (rowid r)) ≡ true
 
-    -- once an upsert has changed the row with the key, the table is the old one with the row `v` put (`Makes`)
+    -- once an upsert has changed the row with the key to one that shows `v`, the table is the old one with the row `v`
+    -- put (`Makes`)
     over_make : (r : Row) → Has (old.trees t.tree) r → hits schema t unlinked limit params target place project plain new r ≡ true
         → Swaps schema t (λ x. is_eq (value_cmp (rowid x) (rowid r))) (cast_row t (eval_all project (given schema t unlinked limit params target place project plain new r ∷ r ∷ []))) old.trees next.trees
         → UpdateShowsValues → Tests (hits schema t unlinked limit params target place project plain new) (take key v) (old.trees t.tree) → OneRow
@@ -133,21 +134,24 @@ module _ (schema : Schema) (among : (u : Table) → Has all_tables u → Has sch
           λ e. alone x r k there (e ∙ sym same),
         )) sound base is
 
-    -- after an upsert, whether it inserts or updates, the table is the old one with the row `v` put (`Makes`)
+    -- after an upsert whose INSERT and whose UPDATE make rows that show `v`, the table is the old one with the row `v`
+    -- put (`Makes`)
     pub upserts_make : Upserted schema t unlinked limit params target place project plain new old.trees next.trees → visible t (cast_row t new) ≡ v → UpdateShowsValues
         → Tests (hits schema t unlinked limit params target place project plain new) (take key v) (old.trees t.tree) → OneRow
         → Has all_tables t → IsSoundDatabase schema old.trees → IsDatabase next → next.schema ≡ schema → Makes schema t old next (put key v (Has (rows_in t old.trees)))
     upserts_make (inl put_in) shows changed tests alone listed sound base is = swaps_make _ _ v old next put_in.1 shows tests sound base is
     upserts_make (inr over) shows changed tests alone listed sound base is = over_make over.0 over.1 over.2 over.3 changed tests alone listed sound base is
 
-    -- if a row with the key is there, an upsert puts the row that its UPDATE makes, whatever its INSERT would have made
+    -- if a row with the key is there, an upsert whose UPDATE makes a row that shows `v` puts the row `v` (`Makes`),
+    -- whatever the INSERT would have made
     pub updates_make : Upserted schema t unlinked limit params target place project plain new old.trees next.trees → (r : Row) → Has (old.trees t.tree) r → take key (visible t r) ≡ take key v → UpdateShowsValues
         → Tests (hits schema t unlinked limit params target place project plain new) (take key v) (old.trees t.tree) → OneRow
         → Has all_tables t → IsSoundDatabase schema old.trees → IsDatabase next → next.schema ≡ schema → Makes schema t old next (put key v (Has (rows_in t old.trees)))
     updates_make (inl put_in) r there same changed tests alone listed sound base is = absurd (true≢false (sym ((tests r there).1 same) ∙ put_in.0 r there))
     updates_make (inr over) r there same changed tests alone listed sound base is = over_make over.0 over.1 over.2 over.3 changed tests alone listed sound base is
 
-    -- an upsert leaves the database sound (`IsSoundDatabase`): trees obey the schema, and no two rowids are alike
+    -- an upsert keeps the database sound (`IsSoundDatabase`): the trees list the schema, their rows keep its rules,
+    -- and in each of the ten tables the rowids are integers, no two alike
     pub upserts_sound : Upserted schema t unlinked limit params target place project plain new old.trees next.trees → IsSoundDatabase schema old.trees → IsDatabase next → next.schema ≡ schema → IsSoundDatabase schema next.trees
     upserts_sound (inl put_in) sound base is = stays_sound old next sound base is put_in.1.keyed put_in.1.others
     upserts_sound (inr over) sound base is = stays_sound old next sound base is over.3.keyed over.3.others

@@ -43,7 +43,8 @@ with_tables tables = record { tables = tables; indexes = take (sum_by (λ t. len
 abbrev pub schema_of_first : ℕ → Schema
 schema_of_first count = with_tables (take count all_tables)
 
--- a database without tables gets the first `count` tables, all empty; a transaction goes on exactly if there was one
+-- a database without tables gets the first `count` tables, all empty, and lists them in its trees (`IsDatabase`), if
+-- `count` isn't 0; a transaction goes on exactly if there was one
 abbrev pub MakesFirst : ℕ → State → State → Type 0
 MakesFirst count old new = (new.in_transaction ≡ old.in_transaction) × (AreBare no_tables old.now → AreBare (schema_of_first count) new.now × (0 < count → IsDatabase new.now))
 

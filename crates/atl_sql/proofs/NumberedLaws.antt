@@ -44,7 +44,7 @@ abbrev has_number : List Term
 has_number = op2 (Compare Eq Binary) (col 1 0) (col 0 0) ∷ []
 
 -- table `t`, of index `at` among all, has rows of a number and `width` values, put and deleted by the number
--- Its two texts mean, whatever other tables follow: an INSERT of the given row with an UPDATE of the row that has its
+-- The table's two texts mean, whatever other tables follow: an INSERT of a row with an UPDATE of the row that has the
 -- number, and a DELETE of the row that has the number.
 pub record IsNumbered (t : Table) (at width : ℕ) : Type 0 where
   -- the table is one of the ten

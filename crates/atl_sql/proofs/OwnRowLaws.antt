@@ -54,7 +54,7 @@ changed_to project head world r = visible campaign_table (cast_row campaign_tabl
 pub record PutsOwn (project : List Term) (head : CampaignRowValue) (world : List ℕ) (old new : Database) : Type 0 where
   -- if there is no campaign row, the row of the values `head` and the world text `world` is put
   pub first : rows_in campaign_table old.trees ≡ [] → Puts campaign_table 1 (campaign_row head world) old new
-  -- a campaign row that is there is replaced by the row that the UPDATE makes of it
+  -- a campaign row `before` that is there is replaced by the row `after` that the UPDATE makes of it, if both have id 1
   pub again : (before after : Row) → take 1 before ≡ int 1 ∷ [] → take 1 after ≡ int 1 ∷ [] → HasExactly (rows_in campaign_table old.trees) (λ r. r ≡ before) → ((r : Row) → visible campaign_table r ≡ before → changed_to project head world r ≡ after) → Puts campaign_table 1 after old new
   -- the tables of a campaign are there afterwards
   pub tables : HasTables new

@@ -64,7 +64,8 @@ our_trees tree_of xs same tree count =
 -- ---- the whole schema
 
 module _ (count keys : ℕ) (schema : Schema) where
-  -- a schema that passes the tests of tables, indexes and views begins with `count` tables and `keys` of their indexes
+  -- a schema begins with a campaign's first `count` tables and `keys` indexes (`Begins`), if the schema's tables do
+  -- (`AreTables`), its indexes do (`AreIndexes`), and it has no view
   pub begins_made : AreTables count schema.tables → AreIndexes count keys schema.indexes → schema.views ≡ [] → Begins count keys schema
   begins_made tables indexes none = record {
     tables = tables.others;

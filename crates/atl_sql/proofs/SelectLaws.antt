@@ -68,7 +68,7 @@ key_of part = 1
 -- ---- a SELECT of all rows
 
 -- the SELECT of a part means its columns (`columns_of`) of all rows, in the key's order, whatever other tables follow
--- These rows are those that `select_of_part` says of the part.
+-- The rows that the SELECT shows are those as which the part is read (`select_of_part`).
 record IsMeant (part : Part) : Type 0 where
   -- the text means the query of the part's columns (`columns_of`) of all rows of its table, in the order of the key
   command : (more : List Table) (indexes : List Index)
@@ -80,7 +80,7 @@ record IsMeant (part : Part) : Type 0 where
   unlisted : (more : List Table) (indexes : List Index) → reads_listing (first_and (table_count_in (select_of_part part).since) (index_count_in (select_of_part part).since) more indexes) (select_of_part part).select ≡ false
   -- the table's tree is one of the file, not that of a temporary table
   same : (db : Trees) → overlay db [] (table_of part).tree ≡ db (table_of part).tree
-  -- the rows that the query shows of the table are those that `select_of_part` says of the part
+  -- the rows that the query shows of the table are those as which the part is read (`select_of_part`)
   rows : (db : Trees) → map (λ r. eval_all (columns_of part) ([] ∷ r ∷ [])) (db (table_of part).tree) ≡ (select_of_part part).in_table db
   -- a row that the query shows has just the columns that `select_of_part` names for the part
   whole : (r : Row) → first_columns (length (select_of_part part).names) (eval_all (columns_of part) ([] ∷ r ∷ [])) ≡ eval_all (columns_of part) ([] ∷ r ∷ [])
@@ -91,7 +91,7 @@ unfolding understood everything
 meant Own = record { command = λ more indexes. refl; plain = λ more indexes. (refl, refl); unlisted = λ more indexes. refl; same = λ db. refl; rows = λ db. refl; whole = λ r. refl }
 meant part = record { command = λ more indexes. refl; plain = λ more indexes. (refl, refl); unlisted = λ more indexes. refl; same = λ db. refl; rows = λ db. refl; whole = λ r. refl }
 
--- the SELECT of each part shows all rows of its table
+-- under the tables of the first format that has a part, the part's SELECT shows all rows of the part's table (`Reads`)
 pub reads_part : (part : Part) (count : ℕ) → count ≡ length (select_of_part part).names → Reads (select_of_part part).since (select_of_part part).select (select_of_part part).in_table count
 reads_part part count same old new rows h has =
     let listing = select_of_part part in

@@ -61,7 +61,8 @@ module _ {S : Type 0} (g : Ghosts S) (sql : List ℕ) (old begun mid end : Held 
   survived : Survives (state g old) (state g end) (λ _. ⊥)
   survived = survives_begin g old (state g end) _ (subst (λ h. Survives (state g h) (state g end) (λ _. ⊥)) begins (survives_more (state g begun) (state g mid) (state g end) one two))
 
-  -- after the rollback the connection is at rest (`Rests`): its tables are those of the last commit
+  -- if the SELECT committed nothing and the disk is clean, the rollback leaves the tables of the last commit, and a
+  -- connection that is open only if it was before (`Rests`)
   rests : (HasCleanDisk (state g mid) → KeepsCommit (state g begun) (state g mid)) → HasCleanDisk (state g end) → Rests (state g old) (state g end)
   rests keeps clean =
       let kept = subst (λ h. KeepsCommit (state g h) (state g mid)) begins (keeps (omega (arith, two.clean))) in
@@ -85,7 +86,8 @@ module _ {S : Type 0} (g : Ghosts S) (sql : List ℕ) (old begun mid end : Held 
     idle = ended;
   }
 
-  -- a SELECT that is refused inside the transaction failed as a query, not since no transaction was open (`IsTooLate`)
+  -- a SELECT that is refused inside the transaction failed as a query, and not because it needs a transaction and none
+  -- was open (`IsTooLate`)
   not_late : (e : Error) → FailsToQuery sql [] (state g begun) (state g mid) e ⊎ IsTooLate sql [] (state g begun) (state g mid) e → FailsToQuery sql [] (state g begun) (state g mid) e
   not_late e (inl failed) = failed
   not_late e (inr late) = absurd (let no = sym begun_inside ∙ late.3 in cc)

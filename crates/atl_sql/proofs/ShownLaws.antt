@@ -29,7 +29,7 @@ other_only e is = elim (is_memory e) as (λ b. (if b then Memory else OtherType)
   | false ↦ λ _. refl
 ] is
 
--- if reading one row of an answer fails with OtherType, not all its values are of their columns' forms (`AreTyped`)
+-- if reading one of the rows fails with OtherType, not all values of the rows are of their columns' forms (`AreTyped`)
 pub refuses_row : (forms : List Form) (rows : List Row) (at : ℕ) (row : Row) (e : Error) → at < length rows → row ≡ get_or rows at row → (IsTrue (not (is_memory e)) → ¬ IsTyped forms row) → value_fault e ≡ OtherType → ¬ AreTyped forms rows
 refuses_row forms rows at row e within is refused told typed = refused (other_only e told) (typed row (has_at rows at row within is))
 

@@ -36,7 +36,8 @@ upgraded head text before r shows =
     let pass : column r 7 ≡ Text head.pass = ap (λ row. column row 6) shows in
     rw (pass, structure, unit, faction, month, id, cast_int (pos 1), cast_int (pos 2), cast_int (pos head.month), cast_int (pos head.next_faction), cast_int (pos head.next_unit), cast_int (pos head.next_structure)) refl
 
--- the statement that ran gave the campaign row the second format and the new world text
+-- inside a transaction, the statement gives a campaign row of the first format the second format and a new world text
+-- (`UpgradesCampaignRow`)
 pub puts_upgraded : (head : CampaignRowValue) (text : List ℕ) → DoneBy upgrading_upsert (campaign_row_values head text) (UpgradesCampaignRow head text)
 puts_upgraded head text = done_by upgrading_upsert (campaign_row_values head text) (UpgradesCampaignRow head text) (λ old new count inside ran. (
   ran.1.mode ∙ sym inside,

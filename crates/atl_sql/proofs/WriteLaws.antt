@@ -1,4 +1,5 @@
 -- Laws on writes inside a transaction: what one statement, or several steps together, do, and which error they give.
+-- `own` is the set of statements that a write may run; `Does` says what the write does, of the states before and after.
 use Rattle.std.proofs.Common.{◌≡◌, ℕ, List, false, IsTrue, Result, Ok, Err, IsErr, IsErrAnd, OnOk, refl, sym, ◌∙◌, subst, inl, inr, arith}
 use Rattle.std.specs.Borrow.{MutBor}
 use Rattle.std.proofs.lemmas.Bool.{cases_Bool}
@@ -112,7 +113,8 @@ module _ {S : Type 0} (g : Ghosts S) where
   pub among_each : {own : Statements} {Does : State → State → Type 0} {A : Type 0} {r : Result A Error} {a b : MutBor (Held S)} (text : List ℕ) (rows : Set) → ((row : Row) → rows row → own text row) → Writes g (Each text rows) Does r a b → Writes g own Does r a b
   among_each {own = own} text rows are one = among (λ sql params each. subst (λ s. own s params) (sym each.0) (are params each.1)) one
 
-  -- two writes one after the other, the first without an error, are one write with the result of the second
+  -- two writes one after the other, the first without an error, are one write with the result of the second, and do
+  -- `Does`, if `Does` follows from what the two do
   pub two_steps : {own : Statements} {First Second Does : State → State → Type 0} {A X : Type 0} {x : X} {r : Result A Error} {a b c : MutBor (Held S)}
       → ((old mid new : State) → First old mid → Second mid new → Does old new) → Writes g own First (Ok x) a b → Writes g own Second r b c → Writes g own Does r a c
   two_steps {own = own} {r = r} {a = a} {b = b} {c = c} both one two =
@@ -148,7 +150,8 @@ module _ {S : Type 0} (g : Ghosts S) where
       → Writes g own First (Ok x) a b → Writes g own Second {A = Z} (Err e) b c → HandsOn e r → Writes g own Does r a c
   stops_second {e = e} one two failed = stops (two_steps {Does = Any} {r = Err e} (λ old mid new first second. tt) one two) failed
 
-  -- three writes one after the other, the first two without an error, are one write with the result of the third
+  -- three writes one after the other, the first two without an error, are one write with the result of the third, and
+  -- do `Does`, if `Does` follows from what the three do
   pub three_steps : {own : Statements} {First Second Third Does : State → State → Type 0} {A X Y : Type 0} {x : X} {y : Y} {r : Result A Error} {a b c d : MutBor (Held S)}
       → ((old one two new : State) → First old one → Second one two → Third two new → Does old new) → Writes g own First (Ok x) a b → Writes g own Second (Ok y) b c → Writes g own Third r c d → Writes g own Does r a d
   three_steps {y = y} {r = r} {c = c} all one two three =

@@ -38,7 +38,7 @@ abbrev pub IsRefused : Error → State → State → Type 0
 IsRefused e before after = (e ≡ SqliteFailure TooBig) ⊎ IsUnchanged before after
 
 -- In a transaction on this connection a statement of `own`, or the commit, ended with the error `e`.
--- An error other than lack of memory has a cause; the database gives none for lack of memory.
+-- An error other than lack of memory comes of a broken disk or connection, or the call that gave it was refused.
 pub record Gives {S : Type 0} (g : Ghosts S) (own : Statements) (e : Error) (old new : Held S) : Type 0 where
   -- the connection before the call that gave the error
   pub before : Held S

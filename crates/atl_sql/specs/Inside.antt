@@ -39,7 +39,8 @@ pub record Done (Does : Database → Database → Type 0) (old new : Database) :
   -- no table or index is gone, and tables that aren't a campaign's hold what they held
   pub carries : Carries old new
 
--- `Does` is done to the tables, if they were as `Before` says; a transaction goes on exactly if there was one
+-- if the tables were as `Before` says, `Does` is done to them, and all other tables are kept (`Done`); a transaction
+-- goes on exactly if there was one
 abbrev pub Inside : (Database → Type 0) → (Database → Database → Type 0) → State → State → Type 0
 Inside Before Does old new = (new.in_transaction ≡ old.in_transaction) × (Before old.now → Done Does old.now new.now)
 
@@ -54,9 +55,10 @@ pub record Alters (table : Table) (S : Set) (old new : Database) : Type 0 where
   -- each table of a campaign but `table` holds what it held before
   pub others : (t : Table) → Has all_tables t → t.tree ≢ table.tree → new.trees t.tree ≡ old.trees t.tree
 
--- The rows of each of these parts become what `Becomes` says, and the tables of all other parts are as they were.
+-- The rows of each part of the list `parts` become what `Becomes` says, and the tables of all other parts are as they
+-- were.
 pub record Changes (Becomes : Part → List Row → List Row → Type 0) (parts : List Part) (old new : Database) : Type 0 where
-  -- the rows of each of these parts become what `Becomes` says
+  -- the rows of each part of the list `parts` become what `Becomes` says
   pub done : (part : Part) → Has parts part → Becomes part (rows_in (table_of part) old.trees) (rows_in (table_of part) new.trees)
   -- the tables of all parts that are not in the list `parts` are as they were
   pub others : (part : Part) → ¬ Has parts part → new.trees (table_of part).tree ≡ old.trees (table_of part).tree

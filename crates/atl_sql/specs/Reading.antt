@@ -58,7 +58,8 @@ module _ {S : Type 0} (g : Ghosts S) (sql : List ℕ) (old : Held S) where
     -- On a clean disk an open connection was open before, with its tables as they were or as last committed (`Rests`).
     pub rests : HasCleanDisk (state g new) → Rests (state g old) (state g new)
     -- On a clean disk a crash leaves only what it could have left before, and only a failure closes the connection.
-    -- A disk in doubt stays so, no failure is forgotten, and shield and step limit stay (`Survives`).
+    -- A disk in doubt stays so, and no failure is forgotten (`Survives`). The step limit stays, and so does a shield,
+    -- which compares each read with digests of what was written.
     pub survives : Survives (state g old) (state g new) (λ _. ⊥)
     -- The connection is in no transaction afterwards.
     pub idle : new.in_transaction ≡ false
@@ -77,7 +78,8 @@ module _ {S : Type 0} (g : Ghosts S) (sql : List ℕ) (old : Held S) where
     -- On a clean disk an open connection was open before, with its tables as they were or as last committed (`Rests`).
     pub rests : HasCleanDisk (state g new) → Rests (state g old) (state g new)
     -- On a clean disk a crash leaves only what it could have left before, and only a failure closes the connection.
-    -- A disk in doubt stays so, no failure is forgotten, and shield and step limit stay (`Survives`).
+    -- A disk in doubt stays so, and no failure is forgotten (`Survives`). The step limit stays, and so does a shield,
+    -- which compares each read with digests of what was written.
     pub survives : Survives (state g old) (state g new) (λ _. ⊥)
     -- The connection is in no transaction afterwards.
     pub idle : new.in_transaction ≡ false
@@ -94,7 +96,8 @@ module _ {S : Type 0} (g : Ghosts S) (sql : List ℕ) (old : Held S) where
     -- On a clean disk an open connection was open before, with its tables as they were or as last committed (`Rests`).
     pub rests : HasCleanDisk (state g new) → Rests (state g old) (state g new)
     -- On a clean disk a crash leaves only what it could have left before, and only a failure closes the connection.
-    -- A disk in doubt stays so, no failure is forgotten, and shield and step limit stay (`Survives`).
+    -- A disk in doubt stays so, and no failure is forgotten (`Survives`). The step limit stays, and so does a shield,
+    -- which compares each read with digests of what was written.
     pub survives : Survives (state g old) (state g new) (λ _. ⊥)
     -- The connection is in no transaction afterwards.
     pub idle : new.in_transaction ≡ false

@@ -1,4 +1,5 @@
 -- The tables of a campaign: columns, keys, checks, CREATE TABLE texts, and schema. See docs/FORMATS.md, "Tables".
+-- The file keeps each table, and each index, in a tree, which has a number.
 use Rattle.std.specs.Prelude.{◌≡◌, false, [], ◌∷◌, ◌++◌, Some, None, codes, pos, take, map, length, List, ℕ, ⊤}
 use Rattle.std.specs.List.{AllByRecursion}
 use Rattle.sqlite.specs.declared.types.Value.TheVariants.{Int}
@@ -222,7 +223,7 @@ pub record Begins (count keys : ℕ) (schema : Schema) : Type 0 where
   pub tables : List Table
   -- the schema's indexes after the first `keys`
   pub indexes : List Index
-  -- the schema is the first `count` tables and `keys` indexes, and then these tables and indexes
+  -- the schema has the first `count` tables and then `tables`, the first `keys` indexes and then `indexes`, and no view
   pub made_of : schema ≡ first_and count keys tables indexes
   -- none of the tables after the first `count` has a foreign key
   pub free : AllByRecursion (λ t. t.references ≡ []) tables

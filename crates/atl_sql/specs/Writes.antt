@@ -29,7 +29,8 @@ pub record Writes {S : Type 0} (g : Ghosts S) (own : Statements) (Does : State �
   -- The step has committed nothing, if the disk is clean.
   pub kept : HasCleanDisk (state g new.now) → KeepsCommit (state g old.now) (state g new.now)
   -- On a clean disk a crash leaves only what it could have left before, and only a failure closes the connection.
-  -- A disk in doubt stays so, no failure is forgotten, and shield and step limit stay (`Survives`).
+  -- A disk in doubt stays so, and no failure is forgotten (`Survives`). The step limit stays, and so does a shield,
+  -- which compares each read with digests of what was written.
   pub survives : Survives (state g old.now) (state g new.now) (λ _. ⊥)
 
 -- This statement ran with these parameters, without an error, inside a transaction.
@@ -59,7 +60,8 @@ pub record Transacts {S : Type 0} (g : Ghosts S) (own : Statements) (Before : Da
   -- An error of the transaction is one that a statement of `own`, or the commit, gave, if the disk is clean.
   pub error_given : HasCleanDisk (state g new) → IfErr result (λ e. Gives g own e old new)
   -- On a clean disk a crash leaves what it could have left before, or what the transaction commits (`MayLeave`), and
-  -- only a failure closes the connection. A disk in doubt stays so, no failure is forgotten; shield and limit stay.
+  -- only a failure closes the connection. A disk in doubt stays so, and no failure is forgotten. The step limit stays,
+  -- and so does a shield, which compares each read with digests of what was written.
   pub crash : Survives (state g old) (state g new) (MayLeave Before Does (state g old))
   -- The connection is in no transaction afterwards.
   pub idle : new.in_transaction ≡ false

@@ -12,7 +12,7 @@ use Rattle.atl_sql.specs.Shown.{has_row, books_row, CampaignRowValue}
 abbrev pub head_shown : CampaignRow → CampaignRowValue
 head_shown row = record { month = row.month; next_faction = row.next_faction; next_unit = row.next_unit; next_structure = row.next_structure; pass = row.pass.now }
 
--- the number of a kind of goods in the column `sort` of `has`
+-- the number of a kind of goods in the column `sort` of `has`: 0 for an item, 1 for a skill
 abbrev pub sort_number : ThingKind → ℕ
 sort_number Item = 0
 sort_number Skill = 1

@@ -46,8 +46,8 @@ module _ {A : Type 0} (title : A → List ℕ) where
   abbrev is_before : A → List A → Bool
   is_before x front = list_any (λ y. same_name (title y) (title x)) front
 
-  -- if the list of one condition, which has the fault f exactly where b is true, has no fault, b is false: for
-  -- `no_twin`, where b says whether an element before has the name
+  -- if the list of one condition, which has the fault f exactly if b is true, has no fault, b is false: for `no_twin`,
+  -- where b says whether an element before x has the name of x
   by_test : (b : Bool) (f : WorldFault) → first_fault (cond b (Some f) None ∷ []) ≡ None → b ≡ false
   by_test true f h = absurd (cc)
   by_test false f h = refl
@@ -85,7 +85,8 @@ pub names_kept : {A B : Type 0} (f : A → B) (n : A → List ℕ) (m : B → Li
 names_kept f n m h [] = refl
 names_kept f n m h (x ∷ xs) = rw (h x, names_kept f n m h xs) refl
 
--- the names of terrains, items, skills and kinds differ, if the conditions on these names hold (`titles_differ`)
+-- no two terrains, no two items, no two skills and no two kinds have the same name (`ThingNamesDiffer`), if the
+-- conditions on these names hold (`titles_differ`)
 titles_have_names : (all : WorldDraft) → first_fault (titles_differ all) ≡ None → ThingNamesDiffer all
 unfolding titles_differ
 titles_have_names all h =
@@ -102,7 +103,8 @@ titles_have_names all h =
       kinds = differ (λ d. d.name) (codes "kind") (codes "name") all.kinds (back_none skills kinds behind_items);
     }
 
--- the names of terrains, items, skills and kinds differ, if all conditions on names and numbers hold (`names_differ`)
+-- no two terrains, no two items, no two skills and no two kinds have the same name (`ThingNamesDiffer`), if all
+-- conditions on names and numbers hold (`names_differ`)
 pub thing_names_differ : (all : WorldDraft) → first_fault (names_differ all) ≡ None → ThingNamesDiffer all
 unfolding names_differ
 thing_names_differ all h = titles_have_names all (front_none (titles_differ all) (duplicate_numbers all.regions ++ (each duplicate_output_keys 0 all.terrains ++ each duplicate_market_items 0 all.regions)) h)

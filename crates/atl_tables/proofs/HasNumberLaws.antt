@@ -18,8 +18,8 @@ module _ {V : Type 0} (number : V → ℕ) where
   few (v ∷ vs) = omega (arith, one_more (by_number number vs) (number v) v, few vs)
 
   module _ (P : ℕ → V → Type 0) where
-    -- if P holds of u at its number, and of the value that a map has under n, if any (o), P holds of what the map has
-    -- under n once u is put in: for `at_number` (b says whether n is u's number)
+    -- for `at_number`: if P holds of u at the number of u, and of what a map has under n (o), if anything, P holds of
+    -- what the map has under n once u is put in; b says whether n is the number of u
     one : (b : Bool) (n : ℕ) (u v : V) (o : Option V) → (n == number u) ≡ b → P (number u) u → (o ≡ Some v → P n v) → cond b (Some u) o ≡ Some v → P n v
     one true n u v o e here rest h =
         let same : u ≡ v = cc in

@@ -21,7 +21,7 @@ put_first : (k : String Global) (d : Data) (es : List (String Global × Value)) 
 put_first k d [] h = refl
 put_first k d (e ∷ es) h = rw h refl
 
--- the entries of a table, in order of their keys, are those that `in_byte_order` gives
+-- `in_byte_order`, which puts a table's entries into byte order of their keys, leaves entries in this order as they are
 pub entries_in_order : (es : List (String Global × Value)) → IsStrictlySortedBy string_cmp (keys_of es) → in_byte_order (members_view es) ≡ pairs es
 unfolding in_byte_order IsStrictlySortedBy
 entries_in_order [] h = refl

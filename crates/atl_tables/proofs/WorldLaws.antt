@@ -24,13 +24,14 @@ pub at_index : {A : Type 0} (P : A → Type 0) (xs : List A) → All P xs → (i
 at_index P xs all i x h = subst P (get_or_from_slice_get xs i x x h) (All-get_or P xs i x (slice_get_within xs i x h) all)
 
 -- if Q holds of f x wherever P holds of x, and P of all elements of a list, Q holds at each index of the list mapped by
--- f: for `is_world`, tables in range that become records in range
+-- f: for `is_world`, where f makes records in range (Q) of tables in range (P)
 mapped_indices : {A B : Type 0} (P : A → Type 0) (Q : B → Type 0) (f : A → B) → ((x : A) → P x → Q (f x)) → (xs : List A) → All P xs → EachIndex (λ i y. Q y) (map f xs)
 mapped_indices P Q f then [] all i y h = absurd (cc)
 mapped_indices P Q f then (x ∷ xs) all zero y h = let same : f x ≡ y = cc in subst Q same (then x (All-head P x xs all))
 mapped_indices P Q f then (x ∷ xs) all (suc i) y h = mapped_indices P Q f then xs (All-tail P x xs all) i y h
 
--- tables in their ranges give a world that keeps `IsWorld`, if names differ, neighbours are mutual, and there is land
+-- the world of tables in range keeps the facts of every world (`IsWorld`), if its parts are in range, names differ,
+-- neighbours are mutual, and some region is land
 pub is_world : (all : WorldDraft) → IsWorldDraft all → AreWorldPartsOf all (world_parts_of all) → ThingNamesDiffer all → All (λ d. HasNeighbours (regions_of all) d.basics.number d.sides.north d.sides.south d.sides.east d.sides.west) all.regions → 0 < length (land_of (world_of_tables all)) → IsWorld (world_of_tables all)
 unfolding world_of_tables regions_of region_of terrain_of item_of kind_of
 is_world all tables parts names back land =

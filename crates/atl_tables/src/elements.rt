@@ -1,5 +1,5 @@
-//! Reads arrays of tables of the world file, element by element.
-//! See docs/FORMATS.md, "The world file".
+//! Reads arrays of tables of the world file, element by element. A call that may return a fault may
+//! also return `Memory`. See docs/FORMATS.md, "The world file".
 ghost use Rattle.std.specs.Prelude.{◌≡◌, ◌≤◌, ◌∷◌, ℕ, List, IfOk, Result, length};
 ghost use Rattle.std.specs.List.{All};
 ghost use Rattle.toml.specs.Data.{Members};

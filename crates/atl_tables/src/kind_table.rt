@@ -1,5 +1,5 @@
-//! Reads the tables `[[kind]]` and looks up the items and skills that they name.
-//! See docs/FORMATS.md, "The world file".
+//! Reads the tables `[[kind]]` and looks up the items and skills that they name. A call that may
+//! return a fault may also return `Memory`. See docs/FORMATS.md, "The world file".
 ghost use Rattle.std.specs.Prelude.{length};
 ghost use Rattle.atl_tables.specs.Drafts.{IsBuilding, IsPurpose, IsKindDraft};
 ghost use Rattle.atl_tables.specs.KeyByKey.{conditions_of, value_of};

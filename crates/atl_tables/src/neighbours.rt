@@ -1,4 +1,5 @@
-//! Checks that neighbours are mutual. See docs/FORMATS.md, "The world file".
+//! Checks that neighbours are mutual. A call that may return a fault may also return `Memory`. See
+//! docs/FORMATS.md, "The world file".
 ghost use Rattle.std.specs.Prelude.{◌≡◌, OnOk, option_and_then};
 ghost use Rattle.std.specs.FinMap.{get};
 ghost use Rattle.std.specs.List.{All};

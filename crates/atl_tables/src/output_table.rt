@@ -1,4 +1,5 @@
-//! Reads the table `output` of a terrain. See docs/FORMATS.md, "The world file".
+//! Reads the table `output` of a terrain. A call that may return a fault may also return `Memory`.
+//! See docs/FORMATS.md, "The world file".
 ghost use Rattle.std.specs.Prelude.{◌≡◌, ◌≤◌, IfOk, map};
 ghost use Rattle.std.specs.List.{All};
 ghost use Rattle.toml.specs.View.{table_view};

@@ -1,4 +1,5 @@
-//! Reads a world file. See docs/FORMATS.md, "The world file".
+//! Reads a world file. A call that may return a fault may also return `Memory`. See
+//! docs/FORMATS.md, "The world file".
 ghost use Rattle.std.specs.Prelude.{◌≡◌, ◌≤◌, ◌<◌, ◌++◌, length, IfOk};
 ghost use Rattle.std.specs.List.{All};
 ghost use Rattle.toml.specs.View.{table_view};

@@ -1,4 +1,5 @@
-//! Checks that no two regions have the same number. See docs/FORMATS.md, "The world file".
+//! Checks that no two regions have the same number. A call that may return a fault may also return
+//! `Memory`. See docs/FORMATS.md, "The world file".
 ghost use Rattle.atl_tables.specs.Faults.{first_fault};
 ghost use Rattle.atl_tables.specs.Results.{Gives};
 ghost use Rattle.atl_tables.specs.Regions.{duplicate_numbers};

@@ -1,4 +1,5 @@
-//! Reads the table `[rules]` and looks up its skills. See docs/FORMATS.md, "The world file".
+//! Reads the table `[rules]` and looks up its skills. A call that may return a fault may also
+//! return `Memory`. See docs/FORMATS.md, "The world file".
 ghost use Rattle.std.specs.Prelude.{IfOk, length};
 ghost use Rattle.toml.specs.View.{table_view};
 ghost use Rattle.atl_tables.specs.Drafts.{ArePrices, ArePeasantRules, AreMenRules, AreRulesDraft, IsWorldDraft};

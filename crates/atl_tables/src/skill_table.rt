@@ -1,4 +1,5 @@
-//! Reads the tables `[[skill]]`. See docs/FORMATS.md, "The world file".
+//! Reads the tables `[[skill]]`. A call that may return a fault may also return `Memory`. See
+//! docs/FORMATS.md, "The world file".
 ghost use Rattle.atl_world.specs.Worlds.{IsSkill};
 ghost use Rattle.atl_tables.specs.SkillTable.{skill_keys, skill_from};
 
@@ -10,8 +11,8 @@ use atl_world::{Skill, Text};
 use std::alloc::Global;
 use toml::Table;
 
-/// Reads all keys of a table `[[skill]]`: its name and its fee. It has no names to look up, so its
-/// record is read at once.
+/// Reads all keys of a table `[[skill]]`, its name and its fee, into the record of the world at
+/// once, since a skill refers to no other thing by name.
 impl FromTable for Skill {
     ghost conditions = { skill_keys };
 

@@ -1,5 +1,5 @@
-//! Reads the tables `[[terrain]]` and looks up their outputs.
-//! See docs/FORMATS.md, "The world file".
+//! Reads the tables `[[terrain]]` and looks up their outputs. A call that may return a fault may
+//! also return `Memory`. See docs/FORMATS.md, "The world file".
 ghost use Rattle.std.specs.Prelude.{length};
 ghost use Rattle.atl_tables.specs.Drafts.{IsEconomy, IsTerrainDraft};
 ghost use Rattle.atl_tables.specs.KeyByKey.{conditions_of, value_of};

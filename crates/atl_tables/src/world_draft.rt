@@ -1,5 +1,5 @@
-//! The tables of a world file as read, with names not looked up yet, and their look-up.
-//! See docs/FORMATS.md, "The world file".
+//! The tables of a world file as read, with names not looked up yet, and their look-up. A call that
+//! may return a fault may also return `Memory`. See docs/FORMATS.md, "The world file".
 ghost use Rattle.std.specs.Prelude.{◌≡◌, ℕ, IfOk, map};
 ghost use Rattle.std.specs.List.{All};
 ghost use Rattle.atl_tables.specs.Drafts.{IsWorldDraft};

@@ -116,7 +116,8 @@ impl StoredCampaign {
     }
 }
 
-/// Reads all columns of a row of `campaign` but the world text.
+/// Reads all columns of a row of `campaign` but the world text; an error if a value is of another
+/// type, or if memory runs out.
 fn head(alloc: Global, row: &Row) -> Result<StoredCampaignRow, Error>
     ensures ok { IfOk result (λ head. campaign_row_stored head ≡ first_columns 7 row.now) }
     ensures typed { IfOk result (λ _. IsTyped campaign_row_forms row.now) }
@@ -155,7 +156,7 @@ const ALL: &str =
     "SELECT id, format, month, next_faction, next_unit, next_structure, pass, world FROM campaign ORDER BY id";
 
 /// Reads the rows of `campaign` as SQL shows them, whatever their values are. Nothing is changed.
-/// Each fault is returned as `ReadFault` says; OtherType is never returned.
+/// A fault is Memory, Store or Refused, and never OtherType.
 pub fn select_campaign<S: Alter>(conn: &mut Connection<S>) -> Result<Vec<Row>, ReadFault>
     requires { conn.old.in_transaction ≡ false }
     ensures { Asks S.Store (selection campaign_table 1) conn.old result conn.new }

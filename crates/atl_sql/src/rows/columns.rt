@@ -20,7 +20,7 @@ pub(crate) fn integer(row: &Row, at: usize) -> Result<i64, Error>
     Ok(number)
 }
 
-/// The text in a column; an error if the value is no text, or is not UTF-8.
+/// The text in a column; an error if the value is no text, or is not UTF-8, or if memory runs out.
 pub(crate) fn utf8_text(row: &Row, at: usize) -> Result<String, Error>
     ensures ok { IfOk result (λ s. column row.now at ≡ Text (string_bytes s)) }
     ensures other { IfErr result
@@ -30,7 +30,8 @@ pub(crate) fn utf8_text(row: &Row, at: usize) -> Result<String, Error>
     Ok(text)
 }
 
-/// The bytes of the text in a column, UTF-8 or not; an error if the value is no text.
+/// The bytes of the text in a column, UTF-8 or not; an error if the value is no text, or if memory
+/// runs out.
 pub(crate) fn text_bytes(alloc: Global, row: &Row, at: usize) -> Result<Sequence<u8>, Error>
     ensures ok { IfOk result (λ b. column row.now at ≡ Text b) }
     ensures other { IfErr result
@@ -45,7 +46,7 @@ pub(crate) fn text_bytes(alloc: Global, row: &Row, at: usize) -> Result<Sequence
     }
 }
 
-/// The bytes of the blob in a column; an error if the value is no blob.
+/// The bytes of the blob in a column; an error if the value is no blob, or if memory runs out.
 pub(crate) fn bytes(row: &Row, at: usize) -> Result<Sequence<u8>, Error>
     ensures ok { IfOk result (λ b. column row.now at ≡ Blob b) }
     ensures other { IfErr result

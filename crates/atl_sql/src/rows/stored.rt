@@ -86,7 +86,7 @@ pub fn parse_rows<T: Stored>(alloc: Global, rows: &[Row]) -> Result<Vec<T>, Read
 }
 
 /// The rows that a SELECT shows in a transaction of its own, which is rolled back, so that nothing
-/// is changed, whatever the schema is.
+/// is changed, whatever the schema is; else the fault of the SELECT's refusal.
 pub(crate) fn select<S: Alter>(conn: &mut Connection<S>, sql: &str) -> Result<Vec<Row>, ReadFault>
     requires { conn.old.in_transaction ≡ false }
     ensures { Asks S.Store sql.now conn.old result conn.new }
@@ -107,8 +107,8 @@ fn push_row<T: Stored>(alloc: Global, all: &mut Vec<T>, row: &Row) -> bool
     }
 }
 
-/// All rows that a query shows, each parsed as it comes; None if one couldn't be parsed or kept.
-/// Nothing is changed.
+/// All rows that a query shows, each parsed as it comes; None if one couldn't be parsed or kept;
+/// else the fault of the query's refusal. Nothing is changed.
 fn stream<T: Stored, S: Alter>(
     alloc: Global,
     conn: &mut Connection<S>,
@@ -131,7 +131,8 @@ fn stream<T: Stored, S: Alter>(
     Ok(None)
 }
 
-/// All rows that a SELECT shows, parsed after all of them have come, whatever the schema is.
+/// All rows that a SELECT shows, parsed after all of them have come, whatever the schema is; else
+/// the fault of the SELECT's refusal, OtherType for a value of another type, or Memory.
 fn read_inside<T: Stored, S: Alter>(
     alloc: Global,
     conn: &mut Connection<S>,

@@ -10,7 +10,8 @@ returns-in_err-all c =
     let doc = table_view c.args.document.now in
     gives_error _ _ _ _ _ c.from_residual.ensures.1 (stops_on c.in_err-all.field-0.0 (keys_conditions c.args.format doc) (table_conditions (tables_of c.args.format doc)) c.in_err-all.ensures.value)
 
--- if the tables are read without a fault, what `from_tables` returns is the document's world or its first fault
+-- if the tables are read without a fault, `from_tables` returns the document's world, the document's first fault, or
+-- Memory
 pub returns : goal.returns
 unfolding conditions
 returns c =

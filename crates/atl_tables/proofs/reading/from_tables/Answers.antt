@@ -24,13 +24,14 @@ returns-in_err-parts c =
     let e = c.in_err-parts.field-0.0 in
     gives_error _ _ _ _ _ c.from_residual-in_err-parts.ensures.1 (stops_after e (names_differ all) (names_are_known all ++ last all) c.in_ok-names_differ.ensures.0 (stops_on e (names_are_known all) (last all) c.in_err-parts.ensures.value))
 
--- if names differ and refer to things, what `join` returns is the world of the tables or their first fault
+-- if names differ and refer to things, what `join` returns is the world of the tables, their first fault, or Memory
 pub returns : goal.returns
 returns c =
     let all = c.args.all in
     gives_after (λ w. w) c.join.result (names_differ all) (names_are_known all ++ last all) (world_of_tables all) c.in_ok-names_differ.ensures.0
     (gives_after (λ w. w) c.join.result (names_are_known all) (last all) (world_of_tables all) c.in_ok-parts.ensures.value.0 c.join.ensures)
 
--- if no two names are found equal, the names of terrains, items, skills and kinds differ, as `join` requires
+-- if the check of names finds none twice, no two terrains, no two items, no two skills and no two kinds have the same
+-- name, as `join` requires
 pub join-requires-clause-names : goal.join-requires-clause-names
 join-requires-clause-names c = thing_names_differ c.args.all c.in_ok-names_differ.ensures.0

@@ -50,7 +50,7 @@ with_land-requires c =
     let back = rw (c.as_slice.ensures, made) at c.in_ok-mutual_neighbours.ensures.back in
     record { world = rw c.into_skills-skills.ensures (subst (λ (w : WorldValue). 0 < length (land_of w) → IsWorld w) (sym e) (is_world all c.requires.all (subst (AreWorldPartsOf all) c.requires.parts c.requires.sound) c.requires.names back)) }
 
--- if neighbours are mutual, what `with_land` returns is the world that the tables describe, or the fault NoLand
+-- if neighbours are mutual, `with_land` returns the world that the tables describe, the fault NoLand, or Memory
 pub returns : goal.returns
 unfolding neighbours_are_mutual
 returns c =

@@ -13,7 +13,7 @@ use Rattle.atl_tables.proofs.reading.names_differ.Goals as goal
 abbrev numbers : WorldDraft → Conditions
 numbers all = duplicate_numbers all.regions
 
--- the conditions that no two keys of one terrain's output are equal
+-- the conditions that no two keys of one terrain's output are equal, ignoring ASCII case
 abbrev outputs : WorldDraft → Conditions
 outputs all = each duplicate_output_keys 0 all.terrains
 
@@ -21,7 +21,8 @@ outputs all = each duplicate_output_keys 0 all.terrains
 abbrev markets : WorldDraft → Conditions
 markets all = each duplicate_market_items 0 all.regions
 
--- an error in comparing the names of things is the first fault of `names_differ`, or Memory
+-- an error in comparing the names of things is the first fault of the conditions on names and numbers (`names_differ`),
+-- or Memory
 pub returns-in_err-titles_differ : goal.returns-in_err-titles_differ
 unfolding names_differ
 returns-in_err-titles_differ c =
@@ -29,7 +30,8 @@ returns-in_err-titles_differ c =
     let e = c.in_err-titles_differ.field-0.0 in
     gives_error _ _ _ _ _ c.from_residual.ensures.1 (stops_on e (titles_differ t) (numbers t ++ (outputs t ++ markets t)) c.in_err-titles_differ.ensures)
 
--- an error in comparing the numbers of regions is the first fault of `names_differ`, or Memory
+-- an error in comparing the numbers of regions is the first fault of the conditions on names and numbers
+-- (`names_differ`), or Memory
 pub returns-in_err-no_duplicate_numbers : goal.returns-in_err-no_duplicate_numbers
 unfolding names_differ
 returns-in_err-no_duplicate_numbers c =
@@ -37,7 +39,8 @@ returns-in_err-no_duplicate_numbers c =
     let e = c.in_err-no_duplicate_numbers.field-0.0 in
     gives_error _ _ _ _ _ c.from_residual-in_err-no_duplicate_numbers.ensures.1 (stops_after e (titles_differ t) (numbers t ++ (outputs t ++ markets t)) c.in_ok-titles_differ.ensures.0 (stops_on e (numbers t) (outputs t ++ markets t) (rw c.as_slice.ensures at c.in_err-no_duplicate_numbers.ensures)))
 
--- an error in comparing the keys of outputs is the first fault of `names_differ`, or Memory
+-- an error in comparing the keys of outputs is the first fault of the conditions on names and numbers (`names_differ`),
+-- or Memory
 pub returns-in_err-no_duplicates_inside : goal.returns-in_err-no_duplicates_inside
 unfolding names_differ
 returns-in_err-no_duplicates_inside c =
@@ -46,7 +49,7 @@ returns-in_err-no_duplicates_inside c =
     gives_error _ _ _ _ _ c.from_residual-in_err-no_duplicates_inside.ensures.1 (stops_after e (titles_differ t) (numbers t ++ (outputs t ++ markets t)) c.in_ok-titles_differ.ensures.0 (stops_after e (numbers t) (outputs t ++ markets t) (rw c.as_slice.ensures at c.in_ok-no_duplicate_numbers.ensures.0) (stops_on e (outputs t) (markets t) (rw c.as_slice-2.ensures at c.in_err-no_duplicates_inside.ensures))))
 
 -- if no condition before it is broken, the check of the market items, the last one, returns Ok or the first fault of
--- `names_differ`, or Memory
+-- the conditions on names and numbers (`names_differ`), or Memory
 pub returns : goal.returns
 unfolding names_differ
 returns c =

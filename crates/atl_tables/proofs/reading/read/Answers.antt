@@ -4,7 +4,7 @@ use Rattle.atl_tables.specs.World.{world_by, conditions, tables_of, world_of_tab
 use Rattle.atl_tables.proofs.FaultLaws.{reads}
 use Rattle.atl_tables.proofs.reading.read.Goals as goal
 
--- if the text is TOML, what `from_document` returns is the world of the text or its first fault (`world_by`)
+-- if the text is TOML, `from_document` returns the world of the text or the text's first fault (`world_by`), or Memory
 pub returns-in-Ok : goal.returns-in-Ok
 unfolding world_by
 returns-in-Ok c =

@@ -24,7 +24,8 @@ skills doc = list_conditions skill_keys (codes "skill") (optional_array_at most_
 abbrev kinds : Members → Conditions
 kinds doc = list_conditions kind_keys (codes "kind") (optional_array_at most_kinds (codes "kind") (codes "kind") doc)
 
--- an error in reading the tables of items is the first fault of `optional_conditions`, or Memory
+-- an error in reading the tables of items is the first fault of the conditions on items, skills and kinds
+-- (`optional_conditions`), or Memory
 pub returns-in_err-items-clause-value : goal.returns-in_err-items-clause-value
 unfolding optional_conditions
 returns-in_err-items-clause-value c =
@@ -32,7 +33,8 @@ returns-in_err-items-clause-value c =
     let e = c.in_err-items.field-0.0 in
     gives_error _ _ _ _ _ c.from_residual.ensures.1 (stops_on e (items t) (skills t ++ kinds t) c.in_err-items.ensures.value)
 
--- an error in reading the tables of skills is the first fault of `optional_conditions`, or Memory
+-- an error in reading the tables of skills is the first fault of the conditions on items, skills and kinds
+-- (`optional_conditions`), or Memory
 pub returns-in_err-skills-clause-value : goal.returns-in_err-skills-clause-value
 unfolding optional_conditions
 returns-in_err-skills-clause-value c =
@@ -40,7 +42,8 @@ returns-in_err-skills-clause-value c =
     let e = c.in_err-skills.field-0.0 in
     gives_error _ _ _ _ _ c.from_residual-in_err-skills.ensures.1 (stops_after e (items t) (skills t ++ kinds t) c.in_ok-items.ensures.value.0 (stops_on e (skills t) (kinds t) c.in_err-skills.ensures.value))
 
--- an error in reading the tables of kinds is the first fault of `optional_conditions`, or Memory
+-- an error in reading the tables of kinds is the first fault of the conditions on items, skills and kinds
+-- (`optional_conditions`), or Memory
 pub returns-in_err-kinds-clause-value : goal.returns-in_err-kinds-clause-value
 unfolding optional_conditions
 returns-in_err-kinds-clause-value c =
@@ -48,7 +51,7 @@ returns-in_err-kinds-clause-value c =
     let e = c.in_err-kinds.field-0.0 in
     gives_error _ _ _ _ _ c.from_residual-in_err-kinds.ensures.1 (stops_after e (items t) (skills t ++ kinds t) c.in_ok-items.ensures.value.0 (stops_after e (skills t) (kinds t) c.in_ok-skills.ensures.value.0 c.in_err-kinds.ensures.value))
 
--- if all tables are read, no condition on them is broken, and they are those that `optional_tables_of` gives
+-- if all tables are read, no condition on them is broken, and they are those of the document (`optional_tables_of`)
 pub returns-clause-value : goal.returns-clause-value
 unfolding optional_conditions optional_tables_of
 returns-clause-value c =

@@ -31,7 +31,8 @@ kinds all = each (kind_known all) 0 all.kinds
 abbrev regions : WorldDraft → Conditions
 regions all = each (region_known all) 0 all.regions
 
--- an error in looking up the names in the rules is the first fault of `names_are_known`, or Memory
+-- an error in looking up the names in the rules is the first fault of the conditions that names refer to things
+-- (`names_are_known`), or Memory
 pub returns-in_err-rules-clause-value : goal.returns-in_err-rules-clause-value
 unfolding names_are_known
 returns-in_err-rules-clause-value c =
@@ -39,7 +40,8 @@ returns-in_err-rules-clause-value c =
     let e = c.in_err-rules.field-0.0 in
     gives_error _ _ _ _ _ c.from_residual.ensures.1 (stops_on e (rules t) (terrains t ++ (items t ++ (kinds t ++ regions t))) c.in_err-rules.ensures.value)
 
--- an error in looking up the names in terrains is the first fault of `names_are_known`, or Memory
+-- an error in looking up the names in terrains is the first fault of the conditions that names refer to things
+-- (`names_are_known`), or Memory
 pub returns-in_err-terrains-clause-value : goal.returns-in_err-terrains-clause-value
 unfolding names_are_known
 returns-in_err-terrains-clause-value c =
@@ -47,7 +49,8 @@ returns-in_err-terrains-clause-value c =
     let e = c.in_err-terrains.field-0.0 in
     gives_error _ _ _ _ _ c.from_residual-in_err-terrains.ensures.1 (stops_after e (rules t) (terrains t ++ (items t ++ (kinds t ++ regions t))) c.in_ok-rules.ensures.value.0 (stops_on e (terrains t) (items t ++ (kinds t ++ regions t)) (rw c.as_slice.ensures at c.in_err-terrains.ensures.value)))
 
--- an error in looking up the names in items is the first fault of `names_are_known`, or Memory
+-- an error in looking up the names in items is the first fault of the conditions that names refer to things
+-- (`names_are_known`), or Memory
 pub returns-in_err-items-clause-value : goal.returns-in_err-items-clause-value
 unfolding names_are_known
 returns-in_err-items-clause-value c =
@@ -55,7 +58,8 @@ returns-in_err-items-clause-value c =
     let e = c.in_err-items.field-0.0 in
     gives_error _ _ _ _ _ c.from_residual-in_err-items.ensures.1 (stops_after e (rules t) (terrains t ++ (items t ++ (kinds t ++ regions t))) c.in_ok-rules.ensures.value.0 (stops_after e (terrains t) (items t ++ (kinds t ++ regions t)) (rw c.as_slice.ensures at c.in_ok-terrains.ensures.value.0) (stops_on e (items t) (kinds t ++ regions t) (rw c.as_slice-2.ensures at c.in_err-items.ensures.value))))
 
--- an error in looking up the names in kinds is the first fault of `names_are_known`, or Memory
+-- an error in looking up the names in kinds is the first fault of the conditions that names refer to things
+-- (`names_are_known`), or Memory
 pub returns-in_err-kinds-clause-value : goal.returns-in_err-kinds-clause-value
 unfolding names_are_known
 returns-in_err-kinds-clause-value c =
@@ -63,7 +67,8 @@ returns-in_err-kinds-clause-value c =
     let e = c.in_err-kinds.field-0.0 in
     gives_error _ _ _ _ _ c.from_residual-in_err-kinds.ensures.1 (stops_after e (rules t) (terrains t ++ (items t ++ (kinds t ++ regions t))) c.in_ok-rules.ensures.value.0 (stops_after e (terrains t) (items t ++ (kinds t ++ regions t)) (rw c.as_slice.ensures at c.in_ok-terrains.ensures.value.0) (stops_after e (items t) (kinds t ++ regions t) (rw c.as_slice-2.ensures at c.in_ok-items.ensures.value.0) (stops_on e (kinds t) (regions t) (rw c.as_slice-3.ensures at c.in_err-kinds.ensures.value)))))
 
--- an error in looking up the names in regions is the first fault of `names_are_known`, or Memory
+-- an error in looking up the names in regions is the first fault of the conditions that names refer to things
+-- (`names_are_known`), or Memory
 pub returns-in_err-regions-clause-value : goal.returns-in_err-regions-clause-value
 unfolding names_are_known
 returns-in_err-regions-clause-value c =
@@ -71,7 +76,8 @@ returns-in_err-regions-clause-value c =
     let e = c.in_err-regions.field-0.0 in
     gives_error _ _ _ _ _ c.from_residual-in_err-regions.ensures.1 (stops_after e (rules t) (terrains t ++ (items t ++ (kinds t ++ regions t))) c.in_ok-rules.ensures.value.0 (stops_after e (terrains t) (items t ++ (kinds t ++ regions t)) (rw c.as_slice.ensures at c.in_ok-terrains.ensures.value.0) (stops_after e (items t) (kinds t ++ regions t) (rw c.as_slice-2.ensures at c.in_ok-items.ensures.value.0) (stops_after e (kinds t) (regions t) (rw c.as_slice-3.ensures at c.in_ok-kinds.ensures.value.0) (rw c.as_slice-4.ensures at c.in_err-regions.ensures.value)))))
 
--- if all names are found, no condition on them is broken, and the parts are those that `world_parts_of` gives
+-- if all names are found, no condition on them is broken, and the parts are those of the world that the tables describe
+-- (`world_parts_of`)
 pub returns-clause-value : goal.returns-clause-value
 unfolding names_are_known
 returns-clause-value c =

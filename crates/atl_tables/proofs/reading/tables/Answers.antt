@@ -28,7 +28,7 @@ optional_tables doc = optional_conditions doc
 abbrev regions : Format → Members → Conditions
 regions format doc = regions_conditions format doc
 
--- an error in reading the rules is the first fault of `keys_conditions`, or Memory
+-- an error in reading the rules is the first fault of the conditions on keys (`keys_conditions`), or Memory
 pub returns-in_err-rules-clause-value : goal.returns-in_err-rules-clause-value
 unfolding keys_conditions
 returns-in_err-rules-clause-value c =
@@ -36,7 +36,7 @@ returns-in_err-rules-clause-value c =
     let e = c.in_err-rules.field-0.0 in
     gives_error _ _ _ _ _ c.from_residual.ensures.1 (stops_on e (rules t) (terrains t ++ (optional_tables t ++ regions c.args.format t)) c.in_err-rules.ensures.value)
 
--- an error in reading terrains is the first fault of `keys_conditions`, or Memory
+-- an error in reading terrains is the first fault of the conditions on keys (`keys_conditions`), or Memory
 pub returns-in_err-terrains-clause-value : goal.returns-in_err-terrains-clause-value
 unfolding keys_conditions
 returns-in_err-terrains-clause-value c =
@@ -44,7 +44,8 @@ returns-in_err-terrains-clause-value c =
     let e = c.in_err-terrains.field-0.0 in
     gives_error _ _ _ _ _ c.from_residual-in_err-terrains.ensures.1 (stops_after e (rules t) (terrains t ++ (optional_tables t ++ regions c.args.format t)) c.in_ok-rules.ensures.value.0 (stops_on e (terrains t) (optional_tables t ++ regions c.args.format t) c.in_err-terrains.ensures.value))
 
--- an error in reading items, skills or kinds is the first fault of `keys_conditions`, or Memory
+-- an error in reading items, skills or kinds is the first fault of the conditions on keys (`keys_conditions`), or
+-- Memory
 pub returns-in_err-optional_tables-clause-value : goal.returns-in_err-optional_tables-clause-value
 unfolding keys_conditions
 returns-in_err-optional_tables-clause-value c =
@@ -52,7 +53,7 @@ returns-in_err-optional_tables-clause-value c =
     let e = c.in_err-optional_tables.field-0.0 in
     gives_error _ _ _ _ _ c.from_residual-in_err-optional_tables.ensures.1 (stops_after e (rules t) (terrains t ++ (optional_tables t ++ regions c.args.format t)) c.in_ok-rules.ensures.value.0 (stops_after e (terrains t) (optional_tables t ++ regions c.args.format t) c.in_ok-terrains.ensures.value.0 (stops_on e (optional_tables t) (regions c.args.format t) c.in_err-optional_tables.ensures.value)))
 
--- an error in reading regions is the first fault of `keys_conditions`, or Memory
+-- an error in reading regions is the first fault of the conditions on keys (`keys_conditions`), or Memory
 pub returns-in_err-regions-clause-value : goal.returns-in_err-regions-clause-value
 unfolding keys_conditions
 returns-in_err-regions-clause-value c =
@@ -60,7 +61,7 @@ returns-in_err-regions-clause-value c =
     let e = c.in_err-regions.field-0.0 in
     gives_error _ _ _ _ _ c.from_residual-in_err-regions.ensures.1 (stops_after e (rules t) (terrains t ++ (optional_tables t ++ regions c.args.format t)) c.in_ok-rules.ensures.value.0 (stops_after e (terrains t) (optional_tables t ++ regions c.args.format t) c.in_ok-terrains.ensures.value.0 (stops_after e (optional_tables t) (regions c.args.format t) c.in_ok-optional_tables.ensures.value.0 c.in_err-regions.ensures.value)))
 
--- if all tables are read, no condition on their keys is broken, and they are those that `tables_of` gives
+-- if all tables are read, no condition on their keys is broken, and they are those of the document (`tables_of`)
 pub returns-clause-value : goal.returns-clause-value
 unfolding keys_conditions tables_of
 returns-clause-value c =

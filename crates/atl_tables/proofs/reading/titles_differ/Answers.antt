@@ -22,7 +22,8 @@ skills all = no_twins (λ s. s.name) (codes "skill") (codes "name") all.skills
 abbrev kinds : WorldDraft → Conditions
 kinds all = no_twins (λ d. d.name) (codes "kind") (codes "name") all.kinds
 
--- an error in comparing the names of terrains is the first fault of `titles_differ`, or Memory
+-- an error in comparing the names of terrains is the first fault of the conditions on names of things
+-- (`titles_differ`), or Memory
 pub returns-in_err-no_duplicate_names : goal.returns-in_err-no_duplicate_names
 unfolding titles_differ
 returns-in_err-no_duplicate_names c =
@@ -30,7 +31,8 @@ returns-in_err-no_duplicate_names c =
     let e = c.in_err-no_duplicate_names.field-0.0 in
     gives_error _ _ _ _ _ c.from_residual.ensures.1 (stops_on e (terrains t) (items t ++ (skills t ++ kinds t)) (rw c.as_slice.ensures at c.in_err-no_duplicate_names.ensures))
 
--- an error in comparing the names of items is the first fault of `titles_differ`, or Memory
+-- an error in comparing the names of items is the first fault of the conditions on names of things (`titles_differ`),
+-- or Memory
 pub returns-in_err-no_duplicate_names-2 : goal.returns-in_err-no_duplicate_names-2
 unfolding titles_differ
 returns-in_err-no_duplicate_names-2 c =
@@ -38,7 +40,8 @@ returns-in_err-no_duplicate_names-2 c =
     let e = c.in_err-no_duplicate_names-2.field-0.0 in
     gives_error _ _ _ _ _ c.from_residual-in_err-no_duplicate_names-2.ensures.1 (stops_after e (terrains t) (items t ++ (skills t ++ kinds t)) (rw c.as_slice.ensures at c.in_ok-no_duplicate_names.ensures.0) (stops_on e (items t) (skills t ++ kinds t) (rw c.as_slice-2.ensures at c.in_err-no_duplicate_names-2.ensures)))
 
--- an error in comparing the names of skills is the first fault of `titles_differ`, or Memory
+-- an error in comparing the names of skills is the first fault of the conditions on names of things (`titles_differ`),
+-- or Memory
 pub returns-in_err-no_duplicate_names-3 : goal.returns-in_err-no_duplicate_names-3
 unfolding titles_differ
 returns-in_err-no_duplicate_names-3 c =
@@ -47,7 +50,7 @@ returns-in_err-no_duplicate_names-3 c =
     gives_error _ _ _ _ _ c.from_residual-in_err-no_duplicate_names-3.ensures.1 (stops_after e (terrains t) (items t ++ (skills t ++ kinds t)) (rw c.as_slice.ensures at c.in_ok-no_duplicate_names.ensures.0) (stops_after e (items t) (skills t ++ kinds t) (rw c.as_slice-2.ensures at c.in_ok-no_duplicate_names-2.ensures.0) (stops_on e (skills t) (kinds t) (rw c.as_slice-3.ensures at c.in_err-no_duplicate_names-3.ensures))))
 
 -- if the names of terrains, items and skills differ, the check of the kinds' names, the last one, returns Ok or the
--- first fault of `titles_differ`, or Memory
+-- first fault of the conditions on names of things (`titles_differ`), or Memory
 pub returns : goal.returns
 unfolding titles_differ
 returns c =

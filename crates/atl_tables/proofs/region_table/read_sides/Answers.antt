@@ -26,7 +26,8 @@ unfolding side_keys sides_from
 returns-in_err-west c =
     rw (c.in_ok-north.ensures, c.in_ok-south.ensures, c.in_ok-east.ensures) (gives_error _ _ _ _ _ c.from_residual-in_err-west.ensures.1 (stops_first (λ x. x) c.in_err-west.field-0.0 _ _ c.in_err-west.ensures))
 
--- if all four keys are read, no condition on them is broken, and the sides are those that `sides_from` gives
+-- if all four keys are read, no condition on them is broken, and the sides are those that the table gives
+-- (`sides_from`)
 pub returns : goal.returns
 unfolding side_keys sides_from
 returns c = rw (c.in_ok-north.ensures, c.in_ok-south.ensures, c.in_ok-east.ensures, c.in_ok-west.ensures) (refl, refl)

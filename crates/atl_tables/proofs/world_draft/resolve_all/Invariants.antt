@@ -4,8 +4,8 @@ use Rattle.atl_tables.specs.EachIndex.{EachIndex}
 use Rattle.atl_tables.specs.Faults.{first_fault}
 use Rattle.atl_tables.proofs.world_draft.resolve_all.Given as goal
 
--- the first fault of the tables not looked up yet is that of all tables; the records so far, one sound record for each
--- table, followed by those of the tables not looked up yet, are all records
+-- the first fault of the tables not looked up yet is that of all tables; the records so far, one record in its ranges
+-- for each table, followed by those of the tables not looked up yet, are all records
 abbrev pub invariant-loop-i : goal.invariant-loop-i
 invariant-loop-i g l = record {
   faults : first_fault (each (g.D.Draft.unknown l.all) l.i (drop l.i l.drafts)) ≡ first_fault (each (g.D.Draft.unknown l.all) 0 l.drafts);

@@ -16,7 +16,7 @@ returns-in_err-raw-clause-value c =
     let skill = rw (c.as_str-at.ensures, c.in_ok-place.ensures, c.as_slice.ensures) at c.in_ok-skill.ensures.value.0 in
     rw skill (gives_error _ _ _ _ _ c.from_residual-in_err-raw.ensures.1 (stops_here c.in_err-raw.field-0.0 _ _ (rw (c.as_str-at.ensures, c.in_ok-place.ensures, c.as_slice-2.ensures) at c.in_err-raw.ensures.value)))
 
--- if all names are found, no condition on them is broken, and the item is the one that `item_of` gives
+-- if all names are found, no condition on them is broken, and the item is the one that the table describes (`item_of`)
 pub returns-clause-value : goal.returns-clause-value
 unfolding item_known item_of
 returns-clause-value c =

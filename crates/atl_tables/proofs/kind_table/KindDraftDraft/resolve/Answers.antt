@@ -24,7 +24,7 @@ returns-in_err-helps-clause-value c =
     let skill = rw (c.as_str-at.ensures, c.in_ok-place.ensures, c.as_slice-skills.ensures) at c.in_ok-skill.ensures.value.0 in
     rw (material, skill) (gives_error _ _ _ _ _ c.from_residual-in_err-helps.ensures.1 (stops_here c.in_err-helps.field-0.0 _ _ (rw (c.as_str-at.ensures, c.in_ok-place.ensures, c.as_slice-skills.ensures) at c.in_err-helps.ensures.value)))
 
--- if all names are found, no condition on them is broken, and the kind is the one that `kind_of` gives
+-- if all names are found, no condition on them is broken, and the kind is the one that the table describes (`kind_of`)
 pub returns-clause-value : goal.returns-clause-value
 unfolding kind_known kind_of
 returns-clause-value c =

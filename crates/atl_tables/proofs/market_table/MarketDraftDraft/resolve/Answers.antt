@@ -9,7 +9,7 @@ unfolding market_known market_of
 returns-in_err-item-clause-value c =
     gives_error _ _ _ _ _ c.from_residual.ensures.1 (stops_here c.in_err-item.field-0.0 _ _ (rw (c.as_str-at.ensures, c.as_slice.ensures) at c.in_err-item.ensures.value))
 
--- if the item is found, no condition is broken, and the market is the one that `market_of` gives
+-- if the item is found, no condition is broken, and the market is the one that the table describes (`market_of`)
 pub returns-clause-value : goal.returns-clause-value
 unfolding market_known market_of
 returns-clause-value c =

@@ -32,7 +32,7 @@ unfolding market_keys market_from
 returns-in_err-restock-clause-value c =
     rw (c.in_ok-item.ensures, c.in_ok-price.ensures.value, c.in_ok-pays.ensures.value, c.in_ok-limit.ensures.value) (gives_error _ _ _ _ _ c.from_residual-in_err-restock.ensures.1 (stops_first (λ x. x) c.in_err-restock.field-0.0 _ _ c.in_err-restock.ensures.value))
 
--- if all keys are read, no condition on them is broken, and the market is the one that `market_from` gives
+-- if all keys are read, no condition on them is broken, and the market is the one that the table gives (`market_from`)
 pub returns-clause-value : goal.returns-clause-value
 unfolding market_keys market_from
 returns-clause-value c = rw (c.in_ok-item.ensures, c.in_ok-price.ensures.value, c.in_ok-pays.ensures.value, c.in_ok-limit.ensures.value, c.in_ok-restock.ensures.value, c.in_ok-own_path.ensures) (refl, refl)

@@ -13,7 +13,8 @@ pub returns-in_err-sides-clause-value : goal.returns-in_err-sides-clause-value
 unfolding old_region_keys old_region_from
 returns-in_err-sides-clause-value c = rw c.in_ok-basics.ensures.value.0 (gives_error _ _ _ _ _ c.from_residual-in_err-sides.ensures.1 c.in_err-sides.ensures)
 
--- if all keys are read, no condition on them is broken, and the region is the one that `old_region_from` gives
+-- if all keys are read, no condition on them is broken, and the region is the one that the table gives
+-- (`old_region_from`)
 pub returns-clause-value : goal.returns-clause-value
 unfolding old_region_keys old_region_from
 returns-clause-value c = rw (c.in_ok-basics.ensures.value.0, c.in_ok-basics.ensures.value.1, c.in_ok-sides.ensures.0, c.in_ok-sides.ensures.1) (refl, refl)

@@ -32,7 +32,7 @@ unfolding basics_keys basics_from
 returns-in_err-money-clause-value c =
     rw (c.in_ok-number.ensures.value, c.in_ok-name.ensures.value, c.in_ok-terrain.ensures, c.in_ok-peasants.ensures.value) (gives_error _ _ _ _ _ c.from_residual-in_err-money.ensures.1 (stops_first (λ x. x) c.in_err-money.field-0.0 _ _ c.in_err-money.ensures.value))
 
--- if all keys are read, no condition on them is broken, and the basics are those that `basics_from` gives
+-- if all keys are read, no condition on them is broken, and the basics are those that the table gives (`basics_from`)
 pub returns-clause-value : goal.returns-clause-value
 unfolding basics_keys basics_from
 returns-clause-value c = rw (c.in_ok-number.ensures.value, c.in_ok-name.ensures.value, c.in_ok-terrain.ensures, c.in_ok-peasants.ensures.value, c.in_ok-money.ensures.value) (refl, refl)

@@ -22,7 +22,8 @@ returns-in_err-markets-clause-value c =
     let terrain = rw (c.as_str.ensures, c.in_ok-place.ensures, c.as_slice.ensures) at c.in_ok-terrain.ensures.value in
     rw terrain.0 (gives_error _ _ _ _ _ c.from_residual-in_err-markets.ensures.1 (rw c.as_slice-2.ensures at c.in_err-markets.ensures.value))
 
--- if all names are found, no condition on them is broken, and the region is the one that `region_of` gives
+-- if all names are found, no condition on them is broken, and the region is the one that the table describes
+-- (`region_of`)
 pub returns-clause-value : goal.returns-clause-value
 unfolding region_known region_of
 returns-clause-value c =

@@ -14,7 +14,7 @@ pub returns-in_err-markets-clause-value : goal.returns-in_err-markets-clause-val
 unfolding region_keys region_from
 returns-in_err-markets-clause-value c = rw c.in_ok-basics.ensures.value.0 (gives_error _ _ _ _ _ c.from_residual-in_err-markets.ensures.1 c.in_err-markets.ensures.value)
 
--- if all keys are read, no condition on them is broken, and the region is the one that `region_from` gives
+-- if all keys are read, no condition on them is broken, and the region is the one that the table gives (`region_from`)
 pub returns-clause-value : goal.returns-clause-value
 unfolding region_keys region_from old_region_from
 returns-clause-value c =

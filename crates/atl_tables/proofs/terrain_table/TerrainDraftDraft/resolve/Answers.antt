@@ -9,7 +9,8 @@ unfolding terrain_known terrain_of
 returns-in_err-known_keys-clause-value c =
     gives_error _ _ _ _ _ c.from_residual-in_err-known_keys.ensures.1 (rw (c.as_str-2.ensures, c.in_ok-place-2.ensures, c.as_str.ensures, c.in_ok-place.ensures, c.as_slice.ensures) at c.in_err-known_keys.ensures)
 
--- if all names are found, no condition on them is broken, and the terrain is the one that `terrain_of` gives
+-- if all names are found, no condition on them is broken, and the terrain is the one that the table describes
+-- (`terrain_of`)
 pub returns-clause-value : goal.returns-clause-value
 unfolding terrain_known terrain_of
 returns-clause-value c =

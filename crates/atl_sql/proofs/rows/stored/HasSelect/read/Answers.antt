@@ -8,11 +8,12 @@ use Rattle.atl_sql.proofs.RowsLaws.{gives_table}
 use Rattle.atl_sql.proofs.SelectLaws.{reads_part, part_plain}
 use Rattle.atl_sql.proofs.rows.stored.HasSelect.read.Goals as goal
 
--- the read gives the rows that the SELECT of its part shows, or one of the faults that `ReadsRows` allows
+-- the read gives the rows that the SELECT of its part shows, the fault of the SELECT's refusal, OtherType for a value
+-- of another type, or Memory (`ReadsRows`)
 pub returns-clause-select : goal.returns-clause-select
 returns-clause-select g c = rw c.select_of-since.ensures.select at c.read_all.ensures
 
--- under the tables of a campaign, the read gives all rows of its table (`GivesTable`)
+-- under the tables of a campaign and on a clean disk, a read that succeeds gives all rows of its table (`GivesTable`)
 pub returns-clause-table : goal.returns-clause-table
 returns-clause-table g c =
     let part = g.Self.HasSelect.part in
