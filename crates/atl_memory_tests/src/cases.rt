@@ -201,8 +201,8 @@ impl Case {
         are_wanted && (self.call != Call::Close || is_month_right(campaign))
     }
 
-    /// The case of a call, recorded with ample memory in the database of `conn`; None if an outcome
-    /// isn't the wanted one.
+    /// The case of a call, recorded with ample memory in the database of `conn`; None if a step
+    /// fails or an outcome isn't the wanted one.
     fn played<S: Alter + Drop>(alloc: Global, call: Call, conn: Connection<S>) -> Option<Case> {
         let mut case = Case::new(alloc, call).ok()?;
         let mut service = match call {
@@ -217,8 +217,8 @@ impl Case {
         }
     }
 
-    /// The case of a call, recorded in a database in memory; None if an outcome isn't the wanted
-    /// one.
+    /// The case of a call, recorded in a database in memory; None if a step fails or an outcome
+    /// isn't the wanted one.
     pub fn recorded(alloc: Global, call: Call) -> Option<Case> {
         let conn = Connection::open_in_memory(alloc).ok()?;
         Case::played(alloc, call, conn)

@@ -1,5 +1,6 @@
-//! Makes the campaign in which calls are tried, and the commands. Two factions have eleven units
-//! and a boat, and both have sent mail.
+//! Makes the campaign in which calls are tried, and the commands. Two factions, Avalon and Bree,
+//! have eleven units and a boat, and both have sent mail. The island (`ISLE`) and the rows of the
+//! factions, units and boat (`ROWS`) are in atl_test_worlds.
 use atl_service::{Answer, Command, Service, found, open};
 use atl_test_files::old_file;
 use atl_test_worlds::ISLE;
@@ -92,7 +93,8 @@ pub fn founded<S: Alter + Drop>(alloc: Global, conn: Connection<S>) -> Option<Se
     }
 }
 
-/// The service of the island's campaign with the factions, units and boat of `ROWS`, without mail.
+/// The service of the island's campaign with the factions, units and boat of `ROWS`, without mail;
+/// None if a step fails.
 fn filled<S: Alter + Drop>(alloc: Global, conn: Connection<S>) -> Option<Service<S>> {
     let mut conn = founded(alloc, conn)?.end();
     conn.execute_batch(ROWS).ok()?;
@@ -110,7 +112,8 @@ fn is_kept<S: Alter>(service: &mut Service<S>, mail: Result<Command, AllocError>
     }
 }
 
-/// The service of the island's campaign with the rows of `ROWS` and the mail of both factions.
+/// The service of the island's campaign with the rows of `ROWS` and the mail of both factions; None
+/// if a step fails.
 pub fn begun<S: Alter + Drop>(alloc: Global, conn: Connection<S>) -> Option<Service<S>> {
     let mut service = filled(alloc, conn)?;
     let are_kept = is_kept(&mut service, mail(alloc, 1, "pw", OF_AVALON))
@@ -118,7 +121,7 @@ pub fn begun<S: Alter + Drop>(alloc: Global, conn: Connection<S>) -> Option<Serv
     if are_kept { Some(service) } else { None }
 }
 
-/// A database of the first format with the rows of a service's campaign.
+/// A database of the first format with the rows of a service's campaign; None if a step fails.
 pub fn old_of<S: Alter + Drop>(alloc: Global, service: Service<S>) -> Option<Connection<MemStore>> {
     let mut conn = Connection::open_in_memory(alloc).ok()?;
     old_file(&mut conn, ISLE, service.campaign()?).ok()?;

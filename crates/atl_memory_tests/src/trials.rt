@@ -12,7 +12,7 @@ use atl_world::World;
 use sqlite::{Alter, Connection};
 use std::alloc::Global;
 
-/// What a call did with memory short: it answered Memory and left the rows as they were, it had the
+/// What a call did with memory short: it answered Memory and left what it had to leave, it had the
 /// outcome of ample memory, or something else.
 #[derive(Clone, Copy, PartialEq, Eq, Debug)]
 enum Behaviour {
@@ -218,8 +218,8 @@ fn is_still_old<S: Alter + Drop>(alloc: Global, conn: Connection<S>, case: &Case
     }
 }
 
-/// Upgrades a file of the first format with memory short, and judges the result; after Memory it
-/// must still be of the first format.
+/// Upgrades a file of the first format with memory short, and judges the result; after Memory the
+/// file must still be of the first format, and an upgrade must then succeed.
 fn upgrades<S: Alter + Drop>(
     alloc: Global,
     service: Service<S>,
@@ -373,7 +373,8 @@ fn called<S: Alter + Drop>(
     }
 }
 
-/// Tries the call of a case in an empty database with memory short.
+/// Tries the call of a case with memory short in an empty database, which is filled before any call
+/// but a founding.
 fn tried_in<S: Alter + Drop>(
     alloc: Global,
     conn: Connection<S>,

@@ -7,17 +7,19 @@ use Rattle.std.proofs.lemmas.Bool.Decides.{nat_tests}
 use Rattle.std.proofs.lemmas.Bool.{cases_lt}
 use Rattle.atl_shares.specs.Share.{IsNearPart, SplittingKeepsOthers, share_upto, shares, shares_after}
 
--- `total` times what wants that add up to `x` get together (`share_upto`) is at most `pot * x`, and less than `total`
--- below it
+-- `total` times what the first wants, which add up to `x`, get together (`share_upto`) is at most `pot * x`, and less
+-- than `total` below it, if `total` isn't 0
 quotient : (pot total x : ℕ) → 0 < total → (total * share_upto pot total x ≤ pot * x) × (pot * x < total * share_upto pot total x + total)
 quotient pot total x p = (mul-div-le (pot * x) total, omega (arith, lt-mul-div-succ (pot * x) p))
 
--- the first wants get together at least as much where they add up to more
+-- the first wants that add up to `y` get together no less than those that add up to `x`, if `x` is at most `y`, and
+-- `total` isn't 0
 pub upto_mono : (pot total x y : ℕ) → 0 < total → x ≤ y → share_upto pot total x ≤ share_upto pot total y
 upto_mono pot total x y p h =
     (le-div_iff_mul-le p).1 (omega (arith, mul_comm (share_upto pot total x) total, (quotient pot total x p).0, mul-le-mul_left pot h))
 
--- where the pot is at most the sum of all wants, a share, by prefix sums, is no larger than its want
+-- where the pot is at most the sum of all wants, `total`, which isn't 0, a share, by prefix sums, is no larger than its
+-- want
 pub part_le : (pot total before want : ℕ) → 0 < total → pot ≤ total → share_upto pot total (before + want) - share_upto pot total before ≤ want
 part_le pot total before want p h =
     let spread : pot * (before + want) ≡ pot * before + pot * want = mul-add pot before want in
@@ -27,8 +29,9 @@ part_le pot total before want p h =
     let few : share_upto pot total (before + want) < share_upto pot total before + want + 1 = (div-lt_iff_lt-mul p).1 room in
     omega arith
 
--- The shares of wants that come after others, and what those others got, add up to what all of these get together. The
--- sum of the others is `before`.
+-- The shares of wants that come after others, and what those others got, add up to what all of these get together, if
+-- `total` isn't 0.
+-- The sum of the others' wants is `before`.
 pub sum-shares_after : (pot total before : ℕ) → 0 < total → (wants : List ℕ) → sum (shares_after pot total before wants) + share_upto pot total before ≡ share_upto pot total (before + sum wants)
 sum-shares_after pot total before p [] = zero-add (share_upto pot total before) ∙ ap (share_upto pot total) (sym (add-zero before))
 sum-shares_after pot total before p (w ∷ ws) =

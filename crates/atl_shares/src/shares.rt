@@ -18,8 +18,8 @@ fn sum_of(wants: &[u64]) -> u128
     total
 }
 
-/// The share of each want in a pot, in the order of the wants, by one division each with a running
-/// remainder.
+/// The share of each want of a pot, in the order of the wants: the want itself if the pot is enough
+/// for all, else by one division for each share, with a running remainder.
 fn proportional_shares(alloc: Global, pot: u64, wants: &[u64]) -> Result<Vec<u64>, AllocError>
     requires pot { pot ≤ most_amount }
     requires wants { All (λ want. want ≤ most_amount) wants.now }

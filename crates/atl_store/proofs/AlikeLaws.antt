@@ -211,7 +211,7 @@ module _ (things : ℕ) (rows : List Row) (m k : BooksValue) (g : AreBooks thing
         ]
       ]
 
-  -- books `m` and books `k` are equal, if one table `books` has exactly the rows of each
+  -- books `m` and books `k` with equally many things are equal, if one table `books` has exactly the rows of each
   one_books : m ≡ k
   one_books = same_books things m k g h same_amount
 

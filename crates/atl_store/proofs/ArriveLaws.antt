@@ -99,7 +99,8 @@ module _ (c : CampaignValue) (e : BooksEntry) (t : Thing) where
   abbrev row : Row
   row = books_row (entry_index e + 1) (thing_index t) (amount_in c.books e t)
 
-  -- writing the campaign's amount turns the rows of books `A` into those of `B`, if `B` is `A` with this amount in it
+  -- writing the campaign's amount of entry `e` and thing `t` turns the rows of books `A` into those of `B`, if `B` is
+  -- `A` with this amount
   pub settled_rows : (A B : BooksValue) (S : Set) → amount_in B e t ≡ amount_in c.books e t
       → ((f : BooksEntry) (u : Thing) → (entry_index f ≢ entry_index e) ⊎ (thing_index u ≢ thing_index t) → amount_in B f u ≡ amount_in A f u)
       → ((r : Row) → S r ↔ BooksRowsOf A r) → (r : Row) → settled c e t S r ↔ BooksRowsOf B r
@@ -153,7 +154,8 @@ module _ (c : CampaignValue) (e : BooksEntry) (t : Thing) (n k : ℕ) (entry : n
   pub amount_taken : amount_in c.books e t ≡ pos 0 → OfAmount c e t (deletion books_table 2) (books_key n k)
   amount_taken zero = rw (entry, thing) (drops_amount zero)
 
--- the statements that write an amount of the books (`OfAmount`) are among those of a change (`OfChange`)
+-- the statements that write an amount of the books (`OfAmount`) are among those that a write of changes may run
+-- (`OfChange`)
 pub amount_changes : (c : CampaignValue) (e : BooksEntry) (t : Thing) (sql : List ℕ) (params : Row) → OfAmount c e t sql params → OfChange c sql params
 amount_changes c e t sql params (puts_amount some) = changes_row (puts_row Books (λ own. (e, t, some, refl)))
 amount_changes c e t sql params (drops_amount zero) = drops_row Books (

@@ -128,12 +128,13 @@ module _ (marks : FinSet nat_cmp) where
       → of_amounts marks (is_among (map entry_index all_entries)) (is_among (range_with_len 0 things)) r ≡ amount_marked marks r
   all_amounts things few r = accounts_same (λ e t. is_among (map entry_index all_entries) e && (is_among (range_with_len 0 things) t && marked e t)) (is_marked_amount marks) same r
     where
-      -- for `all_amounts`: if an amount's number is below `entry_count * n`, its thing's index is below `n`
+      -- for `all_amounts`: if an amount's number, `entry_count * t + e`, is below `entry_count * n`, the index `t` of
+      -- its thing is below `n`
       inside : (e t n : ℕ) → entry_count * t + e < entry_count * n → t < n
       inside e t n h = omega (arith, h)
 
-      -- for `all_amounts`: the test for an index of an entry, for a thing of the range and for a mark is
-      -- `is_marked_amount`
+      -- for `all_amounts`: `is_marked_amount` chooses `e` and `t` exactly if `e` is an entry's index, `t` is below
+      -- `things`, and their amount is marked
       same : (e t : ℕ)
           → (is_among (map entry_index all_entries) e && (is_among (range_with_len 0 things) t && marked e t)) ≡ is_marked_amount marks e t
       same e t = elim (cases_Bool (marked e t)) [

@@ -36,7 +36,8 @@ use Rattle.atl_store.proofs.MarketLaws.{row_has_stock, stock_has_row}
 
 -- ---- a table whose unmarked rows are the campaign's
 
--- a table whose unmarked rows are the wanted ones has exactly the wanted rows once the marked rows are written
+-- a table whose unmarked rows are the wanted ones (`After`) has exactly the wanted rows once the marked rows are
+-- rewritten
 all_held : (is_marked : Row → Bool) (After : Row → Type 0) (old new : List Row) → ((r : Row) → is_marked r ≡ false → Has old r ↔ After r) → HasExactly new (rows_after_rewrite is_marked After (Has old)) → HasExactly new After
 all_held is_marked After old new rest now r = (λ there. written_is_wanted (is_marked r) refl ((now r).0 there), λ of. (now r).1 (wanted_is_written (is_marked r) refl of))
   where
@@ -156,7 +157,8 @@ amounts_follow one other marks r same not_marked of =
 abbrev head_in : ℕ × (List ℕ × (ℕ × (ℕ × ℕ))) → CampaignRowValue
 head_in row = record { month = row.0; pass = row.1.0; next_faction = row.1.1.0; next_unit = row.1.1.1.0; next_structure = row.1.1.1.1 }
 
--- the campaign row after a write says what the campaign after it says, if it is marked (`b`) or nothing of it changed
+-- the campaign row after a write says what the campaign `after` says, if the row is marked (`b`) or would say the same
+-- of the campaign `before`
 head_held : (b : Bool) (before after : CampaignValue) → (b ≡ false → said_by_campaign_row after ≡ said_by_campaign_row before) → campaign_row_after b after (campaign_row_of before) ≡ campaign_row_of after
 head_held true before after same = refl
 head_held false before after same = ap head_in (sym (same refl))
@@ -200,6 +202,7 @@ covers_unmarked c db text before covers held = record { before = campaign_row_of
         rest_of (stocks_marked c.marks) (MarketRowsOf before.regions) (MarketRowsOf c.value.regions) _ (λ r is. stocks_follow before.regions c.value.regions c.marks r covers.stocks is)
         (λ r is. stocks_follow c.value.regions before.regions c.marks r (λ n item not_marked. sym (covers.stocks n item not_marked)) is) (held.rows Markets)
 
--- tables that hold the campaign before hold the one after, once all marked rows are written
+-- tables that hold the campaign before hold the one after once all marked rows are written, if the marks cover all
+-- changes
 pub changes_held : (c : MarkedCampaign) (old new : Database) → WritesChanges c old new → (text : List ℕ) (before : CampaignValue) → Covers c.marks before c.value → Holds old.trees text before → Holds new.trees text c.value
 changes_held c old new changes text before covers held = unmarked_held c old new changes text (covers_unmarked c old.trees text before covers held)

@@ -1,4 +1,4 @@
--- Laws on a query outside a transaction: it commits nothing and changes nothing.
+-- Laws on a query outside a transaction, as the one that confirms a load: it commits nothing and changes nothing.
 use Rattle.std.proofs.Common.{◌≡◌, ℕ, Bool, true, false, cond, List, [], Result, Ok, Err, IfErr, IsErrAnd, refl, sym, ◌∙◌, subst, inl, inr}
 use Rattle.sqlite.specs.declared.error.Error.{Error}
 use Rattle.sqlite_trees.specs.declared.store.Store.{Ghosts}
@@ -21,7 +21,8 @@ use Rattle.atl_sql.proofs.StreamLaws.{fails_stay}
 
 -- a query that is plain, without RETURNING and not reading the time (`IsPlain`), from the state `old` to `new`
 module _ (sql : List ℕ) (old new : State) (plain : IsPlain (understood old.now.schema sql)) where
-  -- a plain query commits nothing: if `Survives` holds with what the query commits, it holds with nothing committed
+  -- after a plain query a crash leaves only what it could have left before (`Survives`), since such a query commits
+  -- nothing
   pub commits_none : Survives old new (CommitsShowing sql [] old) → Survives old new (λ _. ⊥)
   commits_none = survives_weaker old new _ _ (λ _ db. never_commits sql [] old db plain)
 

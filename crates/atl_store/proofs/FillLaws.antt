@@ -55,7 +55,8 @@ module _ (c : CampaignValue) where
       let now = rows_in (table_of part) new.trees in
       groups_filled lines more m (rows_for own c part) (are own) now was none (subst (λ (l : List (ℕ × V)). HasExactly now (puts (suc more) (groups_of lines l) (Has was))) same made))
 
-  -- putting the rows of all amounts of the books fills the table `books`, if it was empty
+  -- putting the rows of all amounts of the books fills the table `books`, if it was empty and each listed amount is of
+  -- one of the books' things
   pub books_fill : AreBooks c.books.things c.books → (old new : Database) → PutsRows books_table 2 (things_lines c (range_with_len 0 c.books.things)) old new → FillsParts c (Books ∷ []) old new
   books_fill are old new did own = one_changed (Fills c own) Books _ old new did (λ made none. books_filled c are (rows_in books_table new.trees) (rows_in books_table old.trees) none made)
 

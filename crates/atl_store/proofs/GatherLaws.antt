@@ -52,7 +52,7 @@ store_no_memory is = cc
 refused_no_memory : read.Refused ≢ read.Memory
 refused_no_memory is = cc
 
--- where nothing is done, `Survives` holds with nothing committed: each field compares a state with itself
+-- doing nothing commits nothing: a crash then leaves only what it could have left before (`Survives`)
 survives_start : (s : State) → Survives s s (λ _. ⊥)
 survives_start s = record { clean = omega arith; shield = λ k. k; counts = omega arith; limit = refl; closes = λ clean up. inl up; crash = λ clean db may. inl may }
 
@@ -347,7 +347,8 @@ module _ {S : Type 0} (g : Ghosts S) where
   found_with old selects P Q b weaker (Some a) found = (found.0, weaker a found.1)
   found_with old selects P Q b weaker None found = found
 
-  -- if `some` has all rows of the first format's parts, and `others` no row of the other parts, both are of that format
+  -- if `some` has all rows of the first format's parts, and `others` no row of the other parts, both together are rows
+  -- of that format
   of_first : (db : Database) (some others : ReadRows) → AreAllRows db some → map (λ read. read.0) some ≡ other_parts First → AreNone others → map (λ read. read.0) others ≡ second_format_parts → AreOfFormat First db (some ++ others)
   of_first db some others are early none late = record {
     each =
@@ -368,7 +369,8 @@ module _ {S : Type 0} (g : Ghosts S) where
       not_early : (part : Part) → Has second_format_parts part → ¬ Has (parts_in First) part
       not_early part there = not_among (parts_in First) part (no (is_among (parts_in First) part) (test_has (λ p. not (is_among (parts_in First) p)) second_format_parts part refl there))
 
-  -- a read that found all rows of the first format's parts, and no others, is a read of that format (`AreOfFormat`)
+  -- a read that found all rows of the first format's parts, and no row of the other parts, is a read of that format
+  -- (`AreOfFormat`)
   pub reads_first : {A B : Type 0} (selects : List (List ℕ × List Form)) (some : A → ReadRows) (others : B → ReadRows) (old new : Held S) (one : Result (Option A) LoadFault) → ReadsSome g old selects (λ a. AreAllRows (state g old).now (some a)) one new
       → (a : Option A) → one ≡ Ok a → (b : B) → AreNone (others b) → ((a : A) → map (λ read. read.0) (some a) ≡ other_parts First) → map (λ read. read.0) (others b) ≡ second_format_parts
       → (o : Option (A × B)) → o ≡ option_zip a (Some b) → ReadsSome g old selects (λ x. AreOfFormat First (state g old).now (some x.0 ++ others x.1)) (Ok o) new

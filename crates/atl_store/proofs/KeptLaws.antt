@@ -48,12 +48,12 @@ rewritten_as one other P Q same are after before is r =
 -- ---- a part with one row for each number
 
 module _ {V : Type 0} (part : Part) (line : ℕ → V → Row) (values : CampaignValue → FinMap nat_cmp V) (are : (own : Row) (c : CampaignValue) (r : Row) → rows_for own c part r ↔ RowsOf line (values c) r) where
-  -- the upsert of a row of the part is a statement of the campaign's rows (`OfRow`)
+  -- the upsert of a row of the part is a statement that puts a row of the campaign (`OfRow`)
   pub puts_line : key_of part ≡ 1 → (c : CampaignValue) (r : Row) → RowsOf line (values c) r → OfRow c (upsert (table_of part) 1) r
   puts_line key c r is = subst (λ k. OfRow c (upsert (table_of part) k) r) key (puts_row part (λ own. (are own c r).1 is))
 
   module _ (numbered : (n : ℕ) (v : V) → take 1 (line n v) ≡ int n ∷ []) where
-    -- the DELETE of the row of a number that the map lacks is a statement of a change (`OfChange`)
+    -- the DELETE of the row of a number that the map lacks is a statement that a write of changes may run (`OfChange`)
     pub drops_none : key_of part ≡ 1 → (c : CampaignValue) (n : ℕ) → get (values c) n ≡ None → OfChange c (deletion (table_of part) 1) (int n ∷ [])
     drops_none key c n none = subst (λ k. OfChange c (deletion (table_of part) k) (int n ∷ [])) key (drops_row part (
       sym key,

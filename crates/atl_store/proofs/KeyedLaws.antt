@@ -1,4 +1,5 @@
 -- Laws on rows with different numbers in one column: keys of rows, and rowids that rows are read with.
+-- The listing of a part is the rows that its SELECT shows.
 use Rattle.std.proofs.Common.{◌≡◌, ◌≢◌, ◌++◌, ℕ, ℤ, pos, true, false, List, [], ◌∷◌, ◌⊎◌, take, map, Result, Ok, Err, IfErr, IsErrAnd, inl, inr, refl, sym, ap, ◌∙◌, subst, true≢false, arith}
 use Rattle.std.specs.Prelude.{if◌then◌else◌}
 use Rattle.std.specs.List.{AllByRecursion, IsDistinct}
@@ -210,21 +211,23 @@ market_placed = record { values_are = λ s. refl; place_is = λ s. refl }
 
 -- ---- the rows that are to be checked
 
--- The rows of a part that are to be checked are those that were read, without their rowids, which differ.
+-- A part is made of what was read: its rows to be checked are the rows read, without their rowids.
+-- The rowids are integers, no two alike.
 pub record IsMadeAs (p : Parts) (read : Part × List Row) : Type 0 where
   -- the rows to be checked are those that were read, without their rowids
   pub rows : (text : List ℕ) → rows_read text p read.0 ≡ without_ids read.0 read.1
   -- if the part is shown with rowids, these are integers, no two alike
   pub apart : shows_rowids read.0 ≡ true → HaveKeys (width read.0) read.1
 
--- if `p` has a part's rows as they were read, and these show no rowids, they are its rows to be checked (`IsMadeAs`)
+-- a part that is shown without rowids is made of what was read (`IsMadeAs`), if `p` has its rows as they were read
 pub made_whole : {p : Parts} {rows : List Row} (part : Part) → shows_rowids part ≡ false → ((text : List ℕ) → rows_read text p part ≡ rows) → IsMadeAs p (part, rows)
 made_whole {p} {rows} part free are = record {
   rows = λ text. are text ∙ sym (cut_nothing part rows free);
   apart = λ placed. absurd (true≢false (sym placed ∙ free));
 }
 
--- if `p` has a part's rows without the rowids read, and these differ, they are its rows to be checked (`IsMadeAs`)
+-- a part that is shown with rowids is made of what was read (`IsMadeAs`), if `p` has its rows without the rowids, and
+-- the rowids differ
 pub made_placed : {p : Parts} {A : Type 0} {part : Part} {stored : RowWithId A → Row} {values : A → Row} → IsPlacedAs part stored values → shows_rowids part ≡ true → (placed : List (RowWithId A))
     → ((text : List ℕ) → rows_read text p part ≡ map values (map (λ s. s.row) placed)) → AreApart placed → IsMadeAs p (part, map stored placed)
 made_placed {p} {A} {part} {stored} {values} is has placed are apart = record {
@@ -232,7 +235,8 @@ made_placed {p} {A} {part} {stored} {values} is has placed are apart = record {
   apart = λ _. placed_keys is placed apart;
 }
 
--- if each part has the rows that were read of it, all parts are made of what was read (`IsMadeOf`)
+-- if each part but the campaign row is made of what was read, and `head` is the only campaign row of `p`, all parts are
+-- made of what was read (`IsMadeOf`)
 pub made_of : {head : StoredCampaignRow} {reads : ReadRows} {p : Parts} → map (λ read. read.0) reads ≡ other_parts Second → p.campaign ≡ head ∷ [] → AllByRecursion (IsMadeAs p) reads → IsMadeOf head reads p
 made_of {head} {reads} {p} parts campaign all = record {
   parts = parts;
@@ -241,7 +245,8 @@ made_of {head} {reads} {p} parts campaign all = record {
   apart = record { each = λ read there. (all_has (IsMadeAs p) reads read all there).apart };
 }
 
--- a fault of testing the rowids of one part is a fault of testing those of all parts (`FailsWithout`)
+-- a fault of testing the rowids of one part is one of testing those of all parts: Store if two are alike, or Memory
+-- (`FailsWithout`)
 pub lacks_all : {A B : Type 0} {part : Part} {stored : RowWithId A → Row} {values : A → Row} → IsPlacedAs part stored values → shows_rowids part ≡ true → (placed : List (RowWithId A)) (reads : ReadRows) → Has reads (part, map stored placed)
     → (fault : LoadFault) → FailsWithout (AreApart placed) fault → (r : Result B LoadFault) → IsErrAnd r (λ told. told ≡ fault) → IfErr r (FailsWithout (AreAllApart reads))
 lacks_all is has placed reads there fault lacks (Ok b) told = tt

@@ -50,7 +50,8 @@ differs_zero z differs same = grind (ints, arith)
 pub is_differing : (z : ℤ) → z ≢ pos 0 → int_eq z (pos 0) ≡ false
 is_differing z apart = elim (cases_Bool (int_eq z (pos 0))) [ inl same ↦ absurd (apart (grind (ints, arith))) | inr differs ↦ differs ]
 
--- if an amount of the books is not 0, its rows (`amount_lines`) are just the row with its numbers `e` and `t`
+-- an amount of the books that is not 0 has one row (`amount_lines`): that of its entry's number `e` and its thing's
+-- number `t`
 pub amount_is : (c : CampaignValue) (entry : BooksEntry) (thing : Thing) (e t : ℕ) (z : ℤ) → e ≡ entry_index entry + 1 → t ≡ thing_index thing → z ≡ amount_in c.books entry thing → z ≢ pos 0 → amount_lines c entry thing ≡ books_row e t z ∷ []
 amount_is c entry thing e t z entry_is thing_is amount some =
     let place = entry_index entry + 1 in
@@ -137,7 +138,8 @@ module _ (c : CampaignValue) where
       let row = entries_has (thing_at found.0) all_entries r found.2 in
       (row.0, thing_at found.0, row.2, row.3)
 
-  -- an empty table filled with the rows of all things has exactly the books' rows
+  -- an empty table filled with the rows of all things has exactly the books' rows, if each listed amount is of one of
+  -- the books' things
   pub books_filled : AreBooks c.books.things c.books → (rows old : List Row) → old ≡ [] → HasExactly rows (puts 2 (things_lines c (range_with_len 0 c.books.things)) (Has old)) → HasExactly rows (BooksRowsOf c.books)
   books_filled are rows old none made r =
       let places = range_with_len 0 c.books.things in

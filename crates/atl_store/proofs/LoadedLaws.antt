@@ -153,7 +153,8 @@ module _ (f : Format) {S : Type 0} (g : Ghosts S) (old : Held S) (reads : ReadRo
     have_rows text begins own = record { rows = rows_of_part text begins own; none = none_read text }
 
 module _ (f : Format) {S : Type 0} (g : Ghosts S) where
-  -- a campaign row, and rows of all other tables without a value of another type, make what is gathered (`Gathered`)
+  -- if the campaign row was read, and the rows of all other tables, without a value of another type, and `p` is made of
+  -- these rows, all tables were read into `p` (`Gathered`)
   gathered_of : (old : Held S) (own : StoredCampaign) (w : WorldValue) (reads : ReadRows) (p : Parts) → OwnRead g old f own w → AllSelectsShowTyped g old (other_selects f) → AreOfFormat f (state g old).now reads → (head : StoredCampaignRow) → head ≡ own.head → IsMadeOf head reads p → Gathered f g old w p
   gathered_of old own w reads p row typed are head same made = record {
     one = own_kept f g old own w row;
@@ -172,7 +173,7 @@ module _ (f : Format) {S : Type 0} (g : Ghosts S) where
   breaks : (old : Held S) (w : WorldValue) (p : Parts) → Gathered f g old w p → HasTablesOf f old.schema → (rule : Rule) → IsFirstBroken f w p rule → BreaksRule f g old rule
   breaks old w p all begins rule first = record { made = record { begins = begins; keyed = all.keyed begins }; world = w; text = all.text; is_world = all.world; parts = p; rows = all.rows begins; first = first }
 
-  -- if a rule is the first that the gathered rows break, and the schema is the format's, Damaged with it may be
+  -- if a rule is the first that the gathered rows break, and the schema is the format's, Damaged with this rule may be
   -- returned
   damaged : (old : Held S) (w : WorldValue) (p : Parts) → Gathered f g old w p → HasTablesOf f old.schema → (rule : Rule) → IsFirstBroken f w p rule → MayReturnDamaged f g old rule
   damaged old w p all begins OneRow first = absurd (first.broken all.first)
@@ -227,7 +228,8 @@ module _ (f : Format) {S : Type 0} (g : Ghosts S) where
       failed = elim (first.survives.closes clean was_open) [ inl up ↦ absurd (let k = sym up ∙ shut in cc) | inr more ↦ more ];
     }
 
-    -- if the schema after the reads isn't the format's, the tables aren't made as it has them, or the disk failed
+    -- if the schema after the reads isn't the format's, the tables aren't made as the format has them, the disk failed,
+    -- or the campaign row is refused as it is asked for again
     other_schema : ¬ HasTablesOf f mid.schema → (¬ AreMade f g old) ⊎ (FailedMeanwhile g old ⊎ RefusesAgain g old false)
     other_schema other = elim (cases_Bool (state g mid).is_open) [
       | inl up ↦ inl (λ made. other (subst (λ (d : Database). HasTablesOf f d.schema) (sym ((first.stays clean).same up).0) made.begins))

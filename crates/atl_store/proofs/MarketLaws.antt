@@ -73,7 +73,8 @@ module _ (regions : FinMap nat_cmp Region) where
 
 -- ---- the row of one stock
 
--- `of_stock` finds by "`f` or `g`" what it finds by `f` and by `g`, and nothing by a false test (`FindsByNumbers`)
+-- `of_stock` finds rows of `market` by a test of region and item: by "`f` or `g`" exactly the rows that `f` or `g`
+-- finds, and by a test that is always false none (`FindsByNumbers`)
 pub finds_stocks : FindsByNumbers of_stock
 finds_stocks = record { either = either; none = none }
   where

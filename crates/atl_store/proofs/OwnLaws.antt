@@ -1,4 +1,5 @@
 -- Laws on reading the table `campaign`: it has one row that keeps the first rule, or a fault refuses the load.
+-- To judge the rows gives Ok with the row and its world, Damaged by the first rule, or Memory.
 use Rattle.std.proofs.Common.{◌≡◌, ℕ, false, List, [], ◌∷◌, map, length, Result, Ok, Err, IfOk, IfErr, IsPermutation, refl, sym, ap, ◌∙◌, subst, inl, inr, string_bytes}
 use Rattle.std.proofs.lemmas.Str.{IsUtf8-string_bytes}
 use Rattle.sqlite.specs.Held.{Held, state}

@@ -243,7 +243,7 @@ books_held things books are rows read in_table of_them r =
 pub every_part : (part : Part) → Has all_parts part
 every_part = all_among all_parts refl
 
--- a part that the first format lacks is of the second format
+-- a format that has a part which the first format lacks is the second format
 only_second : (f : Format) (part : Part) → is_among (parts_in First) part ≡ false → Has (parts_in f) part → f ≡ Second
 only_second First part late there = absurd (not_among (parts_in First) part late there)
 only_second Second part late there = refl

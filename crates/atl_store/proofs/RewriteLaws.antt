@@ -1,4 +1,5 @@
 -- Laws on rewriting the rows of a table that pass a test, one step after another.
+-- To rewrite is to put the wanted rows (`Wanted`) that pass the test in place of the old ones.
 use Rattle.std.proofs.Common.{◌≡◌, ◌≢◌, ◌⊎◌, ◌↔◌, ◌||◌, ℕ, pos, Bool, true, false, List, [], ◌∷◌, take, Some, None, Less, Equal, Greater, refl, sym, ap, ◌∙◌, subst, inl, inr, true≢false}
 use Rattle.std.specs.Ordering.{nat_cmp, is_eq, eq_by_cmp}
 use Rattle.std.specs.Cmp.{nat_cmp_total}
@@ -27,8 +28,8 @@ use Rattle.atl_store.proofs.WholeLaws.{inside_weaker}
 
 -- ---- one step after another
 
--- for one row: choosing `W` or `M` by the test `p`, and then `W` or that by `q`, is choosing `W` or `M` by "`p` or `q`"
--- (`Chosen`)
+-- for one row: if `N` is `W` or `M` by the test `p`, the choice of `W` or `N` by `q` is that of `W` or `M` by "`p` or
+-- `q`" (`Chosen`)
 chosen_step : (p q : Bool) (W M N : Type 0) → N ↔ Chosen p W M → Chosen q W N ↔ Chosen (p || q) W M
 chosen_step true true W M N same = (λ h. h, λ h. h)
 chosen_step false true W M N same = (λ h. h, λ h. h)

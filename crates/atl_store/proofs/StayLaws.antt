@@ -26,7 +26,7 @@ stored : (db : Database) (text : List ℕ) (c : CampaignValue) → HasTables db 
 stored db text c has rows = record { schema = db.schema; begins = has.begins; sound = has.sound; rows = rows }
 
 module _ (old new : State) (text : List ℕ) (settled : (db : Trees) → IsTrue new.is_open → new.may_leave db → db ≡ new.committed.trees) where
-  -- after a commit the connection keeps the campaign that the transaction wrote
+  -- after a commit the connection keeps the campaign that the transaction wrote, if a crash leaves what was committed
   pub commits_keeps : (Before : Database → Type 0) (Does : Database → Database → Type 0) (after : CampaignValue) → Commits Before Does old new → Before old.now → (Does old.now new.now → Holds new.now.trees text after) → Keeps new text after
   commits_keeps Before Does after done was holds =
       let did = done.does was in
@@ -83,7 +83,8 @@ leaves_spares old new Commits clean off survives idle settled = record {
 
 -- the fault of a creation that an error of the database ended
 module _ {S : Type 0} (g : Ghosts S) (text : List ℕ) (c : CampaignValue) (old new : Held S) (ready : IsReadyToCreate (state g old)) (fails : FailsToCreate g text c old new) where
-  -- if `create` broke off with a fault that isn't NotEmpty, `RefusesToCreate` holds of that fault
+  -- if `create` broke off with a fault other than NotEmpty, this is a fault that `create` may return
+  -- (`RefusesToCreate`)
   refused_by_fault : (fault : CreateFault) → fault ≢ create.NotEmpty → BreaksOffCreation g text c old new fault → RefusesToCreate g text c old new fault
   refused_by_fault create.NotEmpty other breaks = absurd (other refl)
   refused_by_fault create.Store other breaks = (fails, inr breaks)
@@ -98,12 +99,14 @@ module _ {S : Type 0} (g : Ghosts S) (text : List ℕ) (c : CampaignValue) (old 
       go true same = absurd cc
       go false same = absurd cc
 
-  -- if `create` ends with the fault of an error that the database gave, `RefusesToCreate` holds of that fault
+  -- if `create` ends with the fault of an error that the database gave, this is a fault that `create` may return
+  -- (`RefusesToCreate`)
   pub refused_with : (e : Error) (r : Result (Unit {0}) CreateFault) → IsErrAnd r (λ f. f ≡ create_fault e) → (HasCleanDisk (state g new) → Gives g (OfFounding text c) e old new) → IfErr r (RefusesToCreate g text c old new)
   refused_with e (Ok a) told gave = tt
   refused_with e (Err f) told gave = refused_by_fault f (λ none. never_not_empty e (sym told ∙ none)) (record { ready = ready; told = λ clean. (e, told, gave clean) })
 
--- if a write ends with the fault of an error that the database gave, `IsFaultOfError` holds of that fault
+-- if a write ends with the fault of an error that the database gave, the fault is that of an error of a statement of
+-- the write, or of its commit (`IsFaultOfError`)
 pub told_by : {S F A : Type 0} (g : Ghosts S) (own : Statements) (fault_of : Error → F) (old new : Held S) (e : Error) (r : Result A F) → IsErrAnd r (λ f. f ≡ fault_of e) → Gives g own e old new → IfErr r (IsFaultOfError g own fault_of old new)
 told_by g own fault_of old new e (Ok a) told gave = tt
 told_by g own fault_of old new e (Err f) told gave = (e, told, gave)
@@ -116,7 +119,7 @@ not_there g conn schema found shown is none = ap has_campaign (sym shown) ∙ sy
 pub spares_itself : (s : State) → ChangesNothing s s
 spares_itself s = record { same = λ up. (refl, refl, refl); shuts = λ up. inl up }
 
--- after a call (`Survives`) a clean disk was so before, no failure is forgotten, and tested reads stay tested
+-- after a call (`Survives`) a clean disk was clean before, no failure is forgotten, and reads tested by digests stay so
 -- (`IsLater`)
 pub later : (old new : State) (Commits : Trees → Type 0) → Survives old new Commits → IsLater old new
 later old new Commits survives = record { clean = λ clean. omega (arith, survives.clean); counts = survives.counts; shield = survives.shield }

@@ -65,7 +65,8 @@ module _ {S : Type 0} (g : Ghosts S) (text : List ℕ) (old mid : Held S) (alone
     held = subst (λ v. HoldsOld (state g old) v c.value) (sym (bare_before ready.before c ready.loads) ∙ sym ready.same) (loaded_old ready.before c ready.loads);
   }
 
-  -- a new world that differs from the old one in more than markets makes a check fail (`HasOtherWorld`)
+  -- a new world that differs from the old one in more than markets makes a check fail, with the fault Differs
+  -- (`HasOtherWorld`)
   pub other_world : (before w : WorldValue) (c : MarkedCampaign) → LoadsIn First g old mid before c → world_of text ≡ Ok w → ¬ (without_markets w ≡ without_markets before) → HasOtherWorld g text old mid
   other_world before w c loads is differs = record {
     world = w;
@@ -76,7 +77,8 @@ module _ {S : Type 0} (g : Ghosts S) (text : List ℕ) (old mid : Held S) (alone
     differs = λ same. differs (same ∙ sym (bare_before before c loads));
   }
 
-  -- a file with more tables or indexes than those of the first format makes a check fail (`HasMore`)
+  -- a file with more tables or indexes than those of the first format makes a check fail, with the fault Store
+  -- (`HasMore`)
   pub has_more : (w : WorldValue) (c : MarkedCampaign) → IsReadyToUpgrade g text old mid w c → ¬ IsFirstFormatOnly mid.schema → HasMore g text old mid
   has_more w c ready more =
       let stands = ready.loads.stands clean in
@@ -89,7 +91,8 @@ module _ {S : Type 0} (g : Ghosts S) (text : List ℕ) (old mid : Held S) (alone
         more = λ just. more (ap (λ (d : Database). d.schema) same.0 ∙ just);
       }
 
--- after two calls a clean disk was so before, no failure is forgotten, and tested reads stay tested (`IsLater`)
+-- after two calls a clean disk was clean before, no failure is forgotten, and reads tested by digests stay so
+-- (`IsLater`)
 pub later_both : (old mid new : State) (FirstMayLeave SecondMayLeave : Trees → Type 0) → Survives old mid FirstMayLeave → Survives mid new SecondMayLeave → IsLater old new
 later_both old mid new FirstMayLeave SecondMayLeave one two = record { clean = λ clean. omega (arith, one.clean, two.clean, clean); counts = omega (arith, one.counts, two.counts); shield = λ shielded. two.shield (one.shield shielded) }
 
@@ -105,7 +108,8 @@ module _ {S : Type 0} (g : Ghosts S) (text : List ℕ) (old new : Held S) where
   fails_to_load load.OtherFormat refused = refused
   fails_to_load load.Memory refused = inl refused
 
-  -- a fault of the new world text makes a check fail, if the tables held a campaign in the first format (`FailsCheck`)
+  -- if the tables held a campaign in the first format, a fault of the new world text makes a check fail, with World and
+  -- this fault, or with Memory if memory ran out (`FailsCheck`)
   pub fails_to_read : (fault : WorldFault) → Reads (λ (w : WorldValue). w) (Err fault) (world_of text) → HasOld g text old new → FailsCheck g text old new (new_world_fault fault)
   fails_to_read world.NotToml reads was = (was, reads, λ e. absurd cc)
   fails_to_read (world.Missing path) reads was = (was, reads, λ e. absurd cc)
@@ -205,7 +209,7 @@ module _ {S : Type 0} (g : Ghosts S) (text : List ℕ) (old mid new : Held S) (w
     fails_to_write e true is gave clean_mid = broken_off e true is gave clean_mid
     fails_to_write e false is gave clean_mid = broken_off e false is gave clean_mid
 
-    -- an error of the transaction refuses the upgrade
+    -- an error of the transaction refuses the upgrade, with the fault for this error (`RefusesToUpgrade`)
     pub refused_after : (e : Error) → (HasCleanDisk (state g new) → Gives g (OfUpgrade text c.value) e mid new) → RefusesToUpgrade g text old new (upgrade_fault e)
     refused_after e gave = record {
       cause = λ clean. inr (fails_to_write e (is_memory e) refl (gave clean) (before survives clean));

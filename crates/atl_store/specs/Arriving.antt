@@ -73,7 +73,7 @@ pub record AddsJoin (faction : ℕ) (after : CampaignValue) (text : List ℕ) (o
   pub report : (report : List ℕ) → get after.reports faction ≡ Some report → HasPut report_table (report_row faction report) old new
   -- the two amounts under joining, of money and of people, are written
   pub books : HasExactly (rows_in books_table new.trees) (settled after Joining People (settled after Joining Money (Has (rows_in books_table old.trees))))
-  -- the tables of all parts but these five are as they were
+  -- the tables of all parts but the campaign row, factions, units, reports and books are as they were
   pub others : (part : Part) → ¬ Has (Own ∷ Factions ∷ Units ∷ Reports ∷ Books ∷ []) part → new.trees (table_of part).tree ≡ old.trees (table_of part).tree
 
 -- if the table `campaign` held one row, a join is written (`AddsJoin`), whatever that row said

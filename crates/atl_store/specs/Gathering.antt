@@ -63,7 +63,7 @@ rows_or_none (Err read.Refused) = Err Store
 rows_or_none (Err read.Memory) = Err Memory
 rows_or_none (Err read.OtherType) = Ok None
 
--- when a step that needs `P` may return each fault: Store if `P` doesn't hold, and Memory at any time
+-- when a step that needs `P` may return each fault: Store if `P` doesn't hold, Memory at any time, and no other fault
 abbrev pub FailsWithout : Type 0 → LoadFault → Type 0
 FailsWithout P Store = ¬ P
 FailsWithout P (Damaged rule) = ⊥
@@ -99,15 +99,17 @@ Judges Is Nothing (Err Memory) = ⊤
 Judges Is Nothing (Err (Damaged OneRow)) = Nothing
 Judges Is Nothing (Err fault) = ⊥
 
--- the result of reading a world text: the world, Damaged if it reads as none, or Memory
+-- the result of reading a world text: the world, Damaged by the first rule if the text reads as none, or Memory
 abbrev pub ReadsWorld : Format → List ℕ → Result WorldValue LoadFault → Type 0
 ReadsWorld f text r = Judges (λ w. world_by f text ≡ Ok w) ((w : WorldValue) → world_by f text ≢ Ok w) r
 
--- the result of judging the rows of `campaign` that were read: the only row and its world (`IsOwn`), Damaged, or Memory
+-- the result of judging the rows of `campaign` that were read: the only row and its world (`IsOwn`), Damaged by the
+-- first rule if they break it, or Memory
 abbrev pub JudgesOwn : Format → List StoredCampaign → Result (StoredCampaign × WorldValue) LoadFault → Type 0
 JudgesOwn f rows r = Judges (λ both. IsOwn f rows both.0 both.1) ((own : StoredCampaign) (w : WorldValue) → ¬ IsOwn f rows own w) r
 
--- the result of judging the rows that SQL shows of `campaign`: the row and its world (`AreOwnRow`), Damaged, or Memory
+-- the result of judging the rows that SQL shows of `campaign`: the row and its world (`AreOwnRow`), Damaged by the
+-- first rule if they break it, or Memory
 abbrev pub JudgesRows : Format → List Row → Result (StoredCampaign × WorldValue) LoadFault → Type 0
 JudgesRows f rows r = Judges (λ both. AreOwnRow f rows both.0.head (string_bytes both.0.world) both.1) ((h : StoredCampaignRow) (text : List ℕ) (w : WorldValue) → ¬ AreOwnRow f rows h text w) r
 

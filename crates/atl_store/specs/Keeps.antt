@@ -93,7 +93,7 @@ abbrev pub MayLeaveCampaign : State → List ℕ → CampaignValue → State →
 MayLeaveCampaign old text c new = (db : Trees) → new.may_leave db → old.may_leave db ⊎ Stores db text c
 
 -- With Ok of `create` there was no table `campaign`, and the connection holds the campaign, if the disk is clean.
--- It is in no transaction.
+-- The connection is in no transaction.
 pub record Creates {S : Type 0} (g : Ghosts S) (text : List ℕ) (c : CampaignValue) (old new : Held S) : Type 0 where
   -- before `create` there was no table `campaign`
   pub fresh : has_campaign old.schema ≡ false
@@ -125,7 +125,8 @@ pub record BreaksOffCreation {S : Type 0} (g : Ghosts S) (text : List ℕ) (c : 
   pub told : HasCleanDisk (state g new) → IsFaultOfError g (OfFounding text c) create_fault old new fault
 
 -- When `create` may return each fault: NotEmpty if there is a table `campaign`, and Store if the database isn't ready;
--- then nothing at all is changed. Store and Memory also come if it broke off, and leave what `FailsToCreate` says.
+-- then nothing at all is changed. Store and Memory also come if `create` broke off: on a clean disk this changes
+-- nothing, and a crash leaves what it could have left before, or the campaign (`FailsToCreate`).
 abbrev pub RefusesToCreate : {S : Type 0} → Ghosts S → List ℕ → CampaignValue → Held S → Held S → CreateFault → Type 0
 RefusesToCreate g text c old new NotEmpty = IsTrue (has_campaign old.schema) × (new ≡ old)
 RefusesToCreate g text c old new Store = FailsToCreate g text c old new × (((¬ IsReadyToCreate (state g old)) × (new ≡ old)) ⊎ BreaksOffCreation g text c old new Store)

@@ -99,7 +99,7 @@ pub record AreOwnRow (f : Format) (rows : List Row) (h : StoredCampaignRow) (tex
   -- the world text of the campaign row reads as the world `w`
   pub world : world_by f text ≡ Ok w
 
--- the other one of the two formats: a single campaign row of it is OtherFormat, not Damaged
+-- the other one of the two formats; if the only campaign row is of that format, the fault is OtherFormat, not Damaged
 abbrev pub other_format : Format → Format
 other_format First = Second
 other_format Second = First
@@ -151,8 +151,9 @@ pub record Stays (old new : State) : Type 0 where
 pub record AfterReads {S : Type 0} (g : Ghosts S) (old new : Held S) : Type 0 where
   -- after the reads the tables are as they were before, if the disk is clean
   pub stays : HasCleanDisk (state g new) → Stays (state g old) (state g new)
-  -- a disk that isn't clean stays so, no failure is forgotten, and tested reads and the step limit stay; if the disk is
-  -- clean, only a failure closes the connection, and a crash leaves only what it could have left before (`Survives`)
+  -- a disk that isn't clean stays so, no failure is forgotten, reads tested by digests stay so, and the step limit is
+  -- the same; if the disk is clean, only a failure closes the connection, and a crash leaves only what it could have
+  -- left before (`Survives`)
   pub survives : Survives (state g old) (state g new) (λ _. ⊥)
   -- after the reads the connection is in no transaction
   pub idle : new.in_transaction ≡ false
@@ -233,7 +234,7 @@ module _ {S : Type 0} (g : Ghosts S) (old : Held S) where
     pub memory_is : is_memory error ≡ memory
 
   -- When Memory may be returned: in no transaction, if the SELECT of the campaign row lacks memory or is answered.
-  -- For any step after that one may lack memory.
+  -- Any step after this SELECT may lack memory.
   abbrev pub MayReturnMemory : Type 0
   MayReturnMemory = (old.in_transaction ≡ false) × (RefusesToSelect g (selection campaign_table 1) old read.Memory ⊎ ((rows : List Row) × Selects g (selection campaign_table 1) old rows))
 
@@ -329,7 +330,9 @@ module _ (f : Format) {S : Type 0} (g : Ghosts S) (old : Held S) where
   abbrev pub HasOtherFormat : Type 0
   HasOtherFormat = (rows : List Row) × Selects g (selection campaign_table 1) old rows × IsOther f rows
 
-  -- when loading in the format `f` may return each fault
+  -- When loading in the format `f` may return each fault: Store, Damaged and Memory as said above (`MayReturnStore`,
+  -- `MayReturnDamaged`, `MayReturnMemory`); NotACampaign if the SELECT of `campaign` is refused; OtherFormat if this
+  -- shows one row, of the other format.
   abbrev pub RefusesToLoadIn : LoadFault → Type 0
   RefusesToLoadIn Store = MayReturnStore
   RefusesToLoadIn (Damaged rule) = MayReturnDamaged rule
@@ -398,9 +401,9 @@ module _ {S : Type 0} (g : Ghosts S) (old : Held S) where
   pub record LeavesAlone (new : Held S) : Type 0 where
     -- nothing of the connection is changed, if the disk is clean
     pub spares : HasCleanDisk (state g new) → ChangesNothing (state g old) (state g new)
-    -- a disk that isn't clean stays so, no failure is forgotten, and tested reads and the step limit stay; if the disk
-    -- is clean, only a failure closes the connection, and a crash leaves only what it could have left before
-    -- (`Survives`)
+    -- a disk that isn't clean stays so, no failure is forgotten, reads tested by digests stay so, and the step limit is
+    -- the same; if the disk is clean, only a failure closes the connection, and a crash leaves only what it could have
+    -- left before (`Survives`)
     pub survives : Survives (state g old) (state g new) (λ _. ⊥)
     -- the connection is in a transaction exactly if it was in one
     pub mode : new.in_transaction ≡ old.in_transaction

@@ -47,19 +47,21 @@ is_thing owner thing n t = is_number owner n && is_number thing t
 abbrev pub is_of : {V : Type 0} → (owner : ℕ) → FinMap nat_cmp V → ℕ → ℕ → Bool
 is_of owner things n t = is_number owner n && is_some (get things t)
 
--- `finds` tests rows by two of their numbers: by "`f` or `g`" it finds what it finds by `f` and what it finds by `g`.
--- By a test that is always false it finds nothing.
+-- `finds` tests rows by two of their numbers: by "`f` or `g`" it finds exactly the rows that it finds by `f` or by `g`.
+-- By a test that is always false `finds` finds no row.
 pub record FindsByNumbers (finds : (ℕ → ℕ → Bool) → Row → Bool) : Type 0 where
   -- the test "`f` or `g`" finds a row exactly if `f` or `g` finds it
   pub either : (f g : ℕ → ℕ → Bool) (r : Row) → finds (λ n t. f n t || g n t) r ≡ (finds f r || finds g r)
   -- the test that is always false finds no row
   pub none : (r : Row) → finds (λ n t. false) r ≡ false
 
--- the row of one number becomes that of the campaign, or is deleted if the campaign has no row of the number
+-- the row of one number becomes that of the campaign, or is deleted if the campaign has no row of the number; all other
+-- rows and tables stay
 abbrev pub RewritesNumber : {V : Type 0} → Table → (ℕ → V → Row) → FinMap nat_cmp V → ℕ → Database → Database → Type 0
 RewritesNumber table line values n old new = Rewrites table (first_column_passes (is_number n)) (RowsOf line values) old new
 
--- the row of each marked number becomes that of the campaign, or is deleted if the campaign has no row of the number
+-- the row of each marked number becomes that of the campaign, or is deleted if the campaign has no row of the number;
+-- all other rows and tables stay
 abbrev pub RewritesMarked : {V : Type 0} → Table → (ℕ → V → Row) → FinMap nat_cmp V → FinSet nat_cmp → Database → Database → Type 0
 RewritesMarked table line values marks old new = Rewrites table (begins_marked marks) (RowsOf line values) old new
 
@@ -71,7 +73,8 @@ RewritesGroup table Wanted n old new = Rewrites table (first_column_passes (is_n
 abbrev pub RewritesGroups : Table → Set → FinSet nat_cmp → Database → Database → Type 0
 RewritesGroups table Wanted marks old new = Rewrites table (begins_marked marks) Wanted old new
 
--- the rows of `market` of the regions and items that `stocks` chooses become those that the campaign has
+-- the rows of `market` of the regions and items that `stocks` chooses become those that the campaign has; all other
+-- rows and tables stay
 abbrev pub RewritesChosenStocks : CampaignValue → (ℕ → ℕ → Bool) → Database → Database → Type 0
 RewritesChosenStocks c stocks old new = Rewrites market_table (of_stock stocks) (MarketRowsOf c.regions) old new
 
@@ -79,7 +82,8 @@ RewritesChosenStocks c stocks old new = Rewrites market_table (of_stock stocks) 
 abbrev pub RewritesStocks : MarkedCampaign → Database → Database → Type 0
 RewritesStocks c old new = Rewrites market_table (stocks_marked c.marks) (MarketRowsOf c.value.regions) old new
 
--- the rows of `has` of this kind, and of the units and things that `things` chooses, become those of the campaign
+-- the rows of `has` of this kind, and of the units and things that `things` chooses, become those of the campaign; all
+-- other rows and tables stay
 abbrev pub RewritesThings : CampaignValue → ThingKind → (ℕ → ℕ → Bool) → Database → Database → Type 0
 RewritesThings c sort things old new = Rewrites has_table (of_kind sort things) (HasRowsOf c.units) old new
 
@@ -92,7 +96,8 @@ marked_things marks Skill = marks.skills
 abbrev pub RewritesGoods : MarkedCampaign → Database → Database → Type 0
 RewritesGoods c old new = Rewrites has_table (goods_marked c.marks) (HasRowsOf c.value.units) old new
 
--- the rows of `books` of the marked amounts whose entry passes `entries` and thing `things` become the campaign's
+-- the rows of `books` of the marked amounts whose entry passes `entries` and thing `things` become the campaign's; all
+-- other rows and tables stay
 abbrev pub RewritesAmounts : MarkedCampaign → (ℕ → Bool) → (ℕ → Bool) → Database → Database → Type 0
 RewritesAmounts c entries things old new = Rewrites books_table (of_amounts c.marks.books entries things) (BooksRowsOf c.value.books) old new
 

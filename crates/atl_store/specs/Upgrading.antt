@@ -117,7 +117,10 @@ module _ {S : Type 0} (g : Ghosts S) (text : List ℕ) (old new : Held S) where
     -- `world` without markets is not the world `before`
     pub differs : without_markets world ≢ before
 
-  -- When a check before the transaction may return each fault. Memory may also come from reading the new text.
+  -- When a check before the transaction may return each fault. Loading in the first format gives NotACampaign, NotOld,
+  -- Damaged, Store and Memory.
+  -- Once a campaign is loaded, the new text gives World if it is no world, and Memory if memory ran out.
+  -- The next faults are Differs (`HasOtherWorld`), and Store for more tables or indexes than those of the first format.
   abbrev pub FailsCheck : UpgradeFault → Type 0
   FailsCheck NotACampaign = RefusesToLoadIn First g old load.NotACampaign
   FailsCheck NotOld = RefusesToLoadIn First g old load.OtherFormat

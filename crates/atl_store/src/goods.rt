@@ -50,7 +50,7 @@ impl AmountWriter for UnitThings {
     }
 }
 
-/// Puts the rows of a unit's items and skills that are not 0.
+/// Puts the rows of a unit's items and skills whose amount is not 0.
 fn put_goods<S: Alter>(
     tx: &mut Transaction<'_, S>,
     unit: u32,
@@ -71,7 +71,7 @@ fn put_goods<S: Alter>(
     put_amounts(tx, skills, holding.days())
 }
 
-/// Puts the rows of all units' items and skills that are not 0.
+/// Puts the rows of all units' items and skills whose amount is not 0.
 pub(crate) fn put_all_goods<S: Alter>(
     tx: &mut Transaction<'_, S>,
     units: SlotEntries<'_, Unit>,
@@ -108,7 +108,7 @@ impl Grouped for Unit {
         campaign.marked_goods()
     }
 
-    /// Puts the rows of the unit's items and skills that are not 0 into `has`.
+    /// Puts the rows of the unit's items and skills whose amount is not 0 into `has`.
     fn put_rows<S: Alter>(&self, tx: &mut Transaction<'_, S>, number: u32) -> Result<(), Error> {
         put_goods(tx, number, &self.holding)
     }

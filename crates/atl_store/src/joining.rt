@@ -126,10 +126,10 @@ fn write_joining<S: Alter>(
 
 /// Writes a join into a store that holds the campaign before it, in one transaction: the campaign
 /// row, the faction, its unit and its report, and what joining booked. The campaign is the one
-/// after the join, with the faction's first report stored. With Ok the store holds it, and no other
-/// row is touched. Memory where the database says that it has none, Store where it gives another
-/// error; then the store holds the campaign before while the connection is open, and a crash leaves
-/// the one before or the one after. See docs/FORMATS.md, "Tables".
+/// after the join, with the faction's first report stored. With Ok the store holds this campaign,
+/// and no other row is touched. Memory where the database says that it has none, Store where it
+/// gives another error; then the store holds the campaign before while the connection is open, and
+/// a crash leaves the one before or the one after. See docs/FORMATS.md, "Tables".
 pub fn write_join<S: Alter>(
     conn: &mut Connection<S>,
     campaign: &Campaign,

@@ -89,7 +89,8 @@ pub(crate) fn load_as<S: Alter>(
 /// Damaged: the rows break this rule of the tables, and none before it; a value of another type in
 /// the campaign row breaks the first, one in another table the second. Store: the connection is in
 /// a transaction, a table can't be read, the tables or indexes are not made as `create` makes them,
-/// there is a view or a trigger, or the disk fails. See docs/FORMATS.md, "Rules of the tables".
+/// two rows of `has`, `books` or `market` have the same rowid, there is a view or a trigger, or the
+/// disk fails. Memory: memory runs out. See docs/FORMATS.md, "Rules of the tables".
 pub fn load<S: Alter>(
     alloc: Global,
     conn: &mut Connection<S>,

@@ -151,12 +151,13 @@ impl WrittenPart for UnitRows {
 impl WrittenPart for UnitGoods {
     ghost parts = { Goods ∷ [] };
 
-    /// Puts the rows of all items and skills that are not 0 into `has`, which has no row.
+    /// Puts the rows of all items and skills whose amount is not 0 into `has`, which has no row.
     fn fill<S: Alter>(tx: &mut Transaction<'_, S>, campaign: &Campaign) -> Result<(), Error> {
         put_all_goods(tx, campaign.units())
     }
 
-    /// Puts the rows of the marked goods into `has`, and deletes the rows of those that are 0.
+    /// Puts the rows of the marked goods into `has`, and deletes the rows of those whose amount is
+    /// 0.
     fn rewrite<S: Alter>(tx: &mut Transaction<'_, S>, campaign: &Campaign) -> Result<(), Error> {
         rewrite_goods(tx, campaign)
     }

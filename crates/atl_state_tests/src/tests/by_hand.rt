@@ -1,5 +1,5 @@
 //! Builds the rows of the tables of a campaign by hand, so that tests of `check` can put one wrong
-//! value in.
+//! value in. The island is the world `ISLE_WITH_MARKET` of atl_test_worlds.
 use atl_campaign::parts::{
     Parts, StoredBooks, StoredCampaignRow, StoredFaction, StoredHas, StoredMarket, StoredRegion,
     StoredReport, StoredStructure, StoredUnit,
@@ -17,6 +17,7 @@ pub(crate) struct Rows {
     pub(crate) format: i64,
     /// The moderator's pass text.
     pub(crate) pass: &'static str,
+    /// The number that the next unit gets, as the row of `campaign` says.
     pub(crate) next_unit: i64,
     /// Peasants and money of region 1.
     pub(crate) peasants: i64,

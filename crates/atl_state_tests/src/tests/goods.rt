@@ -10,7 +10,7 @@ const GOODS: Ask = Ask::Goods(1, 7, 3);
 
 /// Steps that set single items and skills, and what is marked after each. A unit counts as one
 /// part, however many of its items and skills are marked. An item that becomes 0 is marked too; one
-/// that is set to what the unit has of it already isn't.
+/// that is set to what the unit has of it already isn't, nor is one of a unit that isn't there.
 static ONE_BY_ONE: [Row; 13] = [
     (Step::Unmark, GOODS, "0, 0 days", "0"),
     (
@@ -67,7 +67,8 @@ static ONE_BY_ONE: [Row; 13] = [
 const WHOLE: &str = "1, units [1], rows [1], goods [1], item 7 of unit 1, skill 3 of unit 1";
 
 /// Steps that set an item and a skill of unit 1, and then change its money through `unit_mut`,
-/// which lends its holding, or remove it. Both mark the unit as a whole besides.
+/// which lends its holding, or remove it. Lending or removing the unit marks it as a whole besides.
+/// A skill is marked even if it is set to the days that the unit has.
 static AS_A_WHOLE: [Row; 8] = [
     (
         Step::Unit(1, OfUnit::Item(7, 4)),

@@ -12,7 +12,8 @@ use std::process::Abort;
 use std::test::Fail;
 
 /// Calls that add a unit, begin a structure, change a unit through `unit_mut` (which lends its
-/// holding), and remove a unit; and what each marks. Avalon has just joined.
+/// holding), set money of a unit and of a region, and remove a unit; and what is marked after each.
+/// The faction Avalon has just joined.
 static CALLS: [Row; 14] = [
     // The faction, its unit, its money and its man in the books, and the campaign's row.
     (
@@ -83,7 +84,8 @@ static CALLS: [Row; 14] = [
     (Step::Unmark, Ask::Unit(1), "none", "0"),
 ];
 
-/// Asserts the numbers that Avalon gets on joining, and what each call of `CALLS` marks.
+/// Asserts that nothing is marked after the founding, that Avalon joins as faction 1 with unit 1,
+/// and what is marked after each call of `CALLS`.
 fn comes_and_goes(rt: &impl Abort, alloc: Global, world: &World) -> Result<(), Fail> {
     let mut campaign = founded_in(alloc, world)?;
     assert_count(rt, campaign.marks(), 0);

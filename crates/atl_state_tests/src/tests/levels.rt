@@ -1,4 +1,5 @@
-//! Tests of levels, and of what units weigh and carry (docs/RULES.md, "Levels and loads").
+//! Tests of levels, and of what units weigh and carry (docs/RULES.md, "Levels and loads"). The
+//! island is the world `ISLE` of atl_test_worlds.
 use super::compare::assert_row;
 use super::making::one_man;
 use atl_campaign::{Holding, carry, goods, level, load};

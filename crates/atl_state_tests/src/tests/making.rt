@@ -1,4 +1,5 @@
-//! Makes the campaigns, units and structures that the tests start from.
+//! Makes the campaigns, units and structures that the tests start from. The island is the world
+//! `ISLE` of atl_test_worlds.
 ghost use Rattle.std.specs.Prelude.{IfOk};
 ghost use Rattle.atl_campaign.specs.Good.{IsGood};
 
@@ -24,7 +25,7 @@ pub(crate) fn founded_in(alloc: Global, world: &World) -> Result<Campaign, Fail>
     Ok(founded(alloc, world, b"gm")?)
 }
 
-/// Avalon joins, with 1 as the word of the dice; returns the numbers of its faction and its unit.
+/// The faction Avalon joins, with 1 as the word of the dice; returns its number and its unit's.
 pub(crate) fn avalon_joins(world: &World, campaign: &mut Campaign) -> Result<(u32, u32), Fail>
     requires { IsGood world.now campaign.old.value }
 {

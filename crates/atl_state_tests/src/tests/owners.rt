@@ -1,4 +1,5 @@
-//! Tests of where units are, and of who owns the structures that they enter and leave.
+//! Tests of where units are, and of who owns the structures that they enter and leave. The island
+//! is the world `ISLE` of atl_test_worlds.
 use super::compare::{assert_numbers, assert_row};
 use super::making::{BOAT, LODGE, founded_by};
 use super::steps::{OfStructure, OfUnit, Step, does, does_all};
@@ -8,9 +9,8 @@ use std::alloc::Global;
 use std::process::Abort;
 use std::test::Fail;
 
-/// A step, and what is wanted after it: who owns both structures, and which units are where. These
-/// are the units inside each structure, in region 3 and of faction 1. The last number is how many
-/// parts the step marked.
+/// A step, and what is wanted after it: who owns each of the two structures, which units are inside
+/// each structure, in region 3 and of faction 1, and how many parts the step marked.
 struct Case {
     step: Step,
     owners: (u32, u32),

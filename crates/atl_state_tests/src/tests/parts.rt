@@ -8,7 +8,8 @@ use std::alloc::Global;
 use std::process::Abort;
 use std::test::Fail;
 
-/// Steps that give Avalon a lodge, 12 wood, 60 days of sailing, a guard, a mailing and a report.
+/// Steps that begin a lodge, give its owner, unit 1 of the faction Avalon, 12 wood and 60 days of
+/// sailing, set the unit's guard flag, and store a mailing and a report of the faction.
 static SETTLING: [Step; 7] = [
     Step::Begins(LODGE, 1),
     Step::Structure(1, OfStructure::Owner(1)),

@@ -52,7 +52,7 @@ fn counts_text(alloc: Global, campaign: &Campaign) -> Result<String, Fail> {
     Ok(format!(in alloc; "{counts:?}, next {next:?}")?)
 }
 
-/// A faction's names and pass text, and whether it is gone.
+/// A faction's names and pass text, and whether it is gone; `none` if there is no such faction.
 fn faction_text(alloc: Global, campaign: &Campaign, number: u32) -> Result<String, Fail> {
     match campaign.faction(number) {
         Some(faction) => {
@@ -84,7 +84,7 @@ fn report_text(alloc: Global, campaign: &Campaign, faction: u32) -> Result<Strin
     Ok(format!(in alloc; "{text} of {count}")?)
 }
 
-/// A region's peasants and money.
+/// A region's peasants and money; `none` if there is no such region.
 fn region_text(alloc: Global, campaign: &Campaign, number: u32) -> Result<String, Fail> {
     match campaign.region(number) {
         Some(region) => {
@@ -95,7 +95,7 @@ fn region_text(alloc: Global, campaign: &Campaign, number: u32) -> Result<String
     }
 }
 
-/// A region's stock of an item, and how many stocks it lists.
+/// A region's stock of an item, and how many stocks it lists; `nowhere` if there is no such region.
 fn stock_text(alloc: Global, campaign: &Campaign, number: u32, item: u32) -> Result<String, Fail> {
     let stock = campaign.stock(number, item);
     match campaign.region(number) {
@@ -117,7 +117,8 @@ fn units_text(alloc: Global, campaign: &Campaign) -> Result<String, Fail> {
     Ok(format!(in alloc; "{numbers:?}")?)
 }
 
-/// A unit's name, men, money, guard flag, faction, region and structure.
+/// A unit's name, men, money, guard flag, faction, region and structure; `none` if there is no such
+/// unit.
 fn unit_text(alloc: Global, campaign: &Campaign, number: u32) -> Result<String, Fail> {
     let Some(unit) = campaign.unit(number) else {
         return none(alloc);
@@ -129,7 +130,7 @@ fn unit_text(alloc: Global, campaign: &Campaign, number: u32) -> Result<String, 
     Ok(format!(in alloc; "{name}: {men} men, {money} money, guard: {guard}, {places:?}")?)
 }
 
-/// How much a unit has of an item, and its days of a skill.
+/// How much a unit has of an item, and its days of a skill; `none` if there is no such unit.
 fn goods_text(
     alloc: Global,
     campaign: &Campaign,
@@ -146,7 +147,8 @@ fn goods_text(
     }
 }
 
-/// A structure's name, kind, region, how much is built, and its owner.
+/// A structure's name, kind, region, how much is built, and its owner; `none` if there is no such
+/// structure.
 fn structure_text(alloc: Global, campaign: &Campaign, number: u32) -> Result<String, Fail> {
     let Some(structure) = campaign.structure(number) else {
         return none(alloc);
@@ -262,8 +264,8 @@ fn marked_singles(campaign: &Campaign, index: usize) -> Entries<'_, Numbered<()>
     }
 }
 
-/// Appends to `text` the amounts of one kind that are marked by themselves, of one unit or region
-/// `owner`; `numbers` are the numbers of their items or skills.
+/// Appends to `text` the amounts of one kind that are marked by themselves, of the unit or region
+/// `owner`; `numbers` are the numbers of the items or skills.
 fn add_singles(
     alloc: Global,
     text: &mut String,

@@ -12,8 +12,9 @@ const ALL_WOOD: Ask = Ask::Total(Thing::Item(0));
 /// The question how much wood region 1 has in stock.
 const STOCK: Ask = Ask::Stock(1, 0);
 
-/// Steps that set stocks, each of which marks its stock alone. Setting the same amount marks
-/// nothing, an amount of 0 is not listed, and without a region nothing changes.
+/// Steps that give unit 1 wood and then set stocks of wood: setting a stock marks this stock alone.
+/// Setting the same amount marks nothing, an amount of 0 is not listed, and in a region that isn't
+/// there nothing changes.
 static WOOD: [Row; 11] = [
     (Step::Unmark, ALL_WOOD, "0", "0"),
     (

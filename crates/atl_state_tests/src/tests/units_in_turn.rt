@@ -79,7 +79,8 @@ static MARKS: [Row; 6] = [
 /// the same units, and no mark.
 static AGAIN: [Row; 1] = [(Step::Nothing, Ask::Units, "[1, 12, 14, 15]", "0")];
 
-/// Asserts `AGAIN` on the campaign made from the rows of `first`.
+/// Asserts `AGAIN` on the campaign made from the rows of `first`, and that four units are in region
+/// Far.
 fn come_back(rt: &impl Abort, alloc: Global, world: &World, first: &Campaign) -> Result<(), Fail> {
     let mut again = checked(alloc, world, first.parts()?)?;
     assert_count(rt, again.in_region(FAR).len(), 4);

@@ -19,8 +19,8 @@ use atl_world::{Format, Sequence};
 use sqlite::{Alter, Connection};
 use std::alloc::{AllocError, Global};
 
-/// The rows of one table, or of several, which are read whole, one table after another.
-/// All are read before a value of another type is reported, so another fault comes first.
+/// The rows of one table, or of several, which are read whole, one table after another. All tables
+/// are read before a value of another type is reported, so another fault comes first.
 pub(crate) trait AllRows: Drop + Sized {
     // The parts that the tables are of.
     ghost parts: { List Part };

@@ -101,7 +101,8 @@ fn own_of(alloc: Global, rows: &[Row], format: Format) -> Result<(StoredCampaign
     }
 }
 
-/// The other one of the two formats: a single campaign row of it is OtherFormat, not Damaged.
+/// The other one of the two formats: if the only campaign row is of that format, the fault is
+/// OtherFormat, not Damaged.
 fn other_format(format: Format) -> Format
     ensures { result ≡ other_format format }
 {
@@ -139,8 +140,8 @@ fn own_in(alloc: Global, rows: &[Row], format: Format) -> Result<(StoredCampaign
     own_of(alloc, rows, format)
 }
 
-/// Reads the campaign row and its world, or gives the fault of the row. Whether the row is of the
-/// other format is tested before the types of its values.
+/// Reads the campaign row and its world, or gives the fault of the SELECT or of the row. Whether the
+/// row is of the other format is tested before the types of its values.
 pub(crate) fn read_own<S: Alter>(
     alloc: Global,
     conn: &mut Connection<S>,

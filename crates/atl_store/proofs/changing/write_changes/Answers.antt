@@ -37,11 +37,13 @@ returns-clause-others g c clean = commits_spares (state g.S.Store c.args.conn.no
 pub returns-in_err-write_marked-clause-others : goal.returns-in_err-write_marked-clause-others
 returns-in_err-write_marked-clause-others g c clean = leaves_others (state g.S.Store c.args.conn.now) (state g.S.Store c.write_marked.new.conn) (c.in_err-write_marked.ensures.err clean)
 
--- after Ok a disk that is clean was clean before, no failure is forgotten, and tested reads stay tested (`IsLater`)
+-- after Ok a disk that is clean was clean before, no failure is forgotten, and reads tested by digests stay so
+-- (`IsLater`)
 pub returns-clause-later : goal.returns-clause-later
 returns-clause-later g c = later (state g.S.Store c.args.conn.now) (state g.S.Store c.write_marked.new.conn) _ c.write_marked.ensures.crash
 
--- after a fault a clean disk was clean before, no failure is forgotten, and tested reads stay tested (`IsLater`)
+-- after a fault a disk that is clean was clean before, no failure is forgotten, and reads tested by digests stay so
+-- (`IsLater`)
 pub returns-in_err-write_marked-clause-later : goal.returns-in_err-write_marked-clause-later
 returns-in_err-write_marked-clause-later g c = later (state g.S.Store c.args.conn.now) (state g.S.Store c.write_marked.new.conn) _ c.write_marked.ensures.crash
 

@@ -42,10 +42,12 @@ returns-then-not-is_ready-clause-err g c = (
   inl (λ ready. true≢false (sym (c.is_ready.ensures.ready.1 ready) ∙ c.if-not-is_ready.true), refl),
 )
 
--- after Ok a disk that is clean was clean before, no failure is forgotten, and tested reads stay tested (`IsLater`)
+-- after Ok a disk that is clean was clean before, no failure is forgotten, and reads tested by digests stay so
+-- (`IsLater`)
 pub returns-clause-later : goal.returns-clause-later
 returns-clause-later g c = later (state g.S.Store c.args.conn.now) (state g.S.Store c.write_founding.new.conn) _ c.write_founding.ensures.crash
 
--- after an error a clean disk was clean before, no failure is forgotten, and tested reads stay tested (`IsLater`)
+-- after an error a disk that is clean was clean before, no failure is forgotten, and reads tested by digests stay so
+-- (`IsLater`)
 pub returns-in_err-write_founding-clause-later : goal.returns-in_err-write_founding-clause-later
 returns-in_err-write_founding-clause-later g c = later (state g.S.Store c.args.conn.now) (state g.S.Store c.write_founding.new.conn) _ c.write_founding.ensures.crash

@@ -38,11 +38,13 @@ returns-clause-others g c clean = commits_spares (state g.S.Store c.args.conn.no
 pub returns-in_err-write_joining-clause-others : goal.returns-in_err-write_joining-clause-others
 returns-in_err-write_joining-clause-others g c clean = leaves_others (state g.S.Store c.args.conn.now) (state g.S.Store c.write_joining.new.conn) (c.in_err-write_joining.ensures.err clean)
 
--- after Ok a disk that is clean was clean before, no failure is forgotten, and tested reads stay tested (`IsLater`)
+-- after Ok a disk that is clean was clean before, no failure is forgotten, and reads tested by digests stay so
+-- (`IsLater`)
 pub returns-clause-later : goal.returns-clause-later
 returns-clause-later g c = later (state g.S.Store c.args.conn.now) (state g.S.Store c.write_joining.new.conn) _ c.write_joining.ensures.crash
 
--- after a fault a clean disk was clean before, no failure is forgotten, and tested reads stay tested (`IsLater`)
+-- after a fault a disk that is clean was clean before, no failure is forgotten, and reads tested by digests stay so
+-- (`IsLater`)
 pub returns-in_err-write_joining-clause-later : goal.returns-in_err-write_joining-clause-later
 returns-in_err-write_joining-clause-later g c = later (state g.S.Store c.args.conn.now) (state g.S.Store c.write_joining.new.conn) _ c.write_joining.ensures.crash
 

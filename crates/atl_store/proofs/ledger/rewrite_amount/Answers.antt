@@ -9,7 +9,7 @@ use Rattle.atl_store.proofs.RewriteLaws.{none_chosen}
 use Rattle.atl_sql.proofs.WriteLaws.{begins, weaker, among}
 use Rattle.atl_store.proofs.ledger.rewrite_amount.Goals as goal
 
--- writing a marked amount rewrites its row alone (`RewritesAmounts`), with a statement of a change
+-- writing a marked amount rewrites its row alone (`RewritesAmounts`), by a statement that a write of changes may run
 pub returns-then-is_amount_marked : goal.returns-then-is_amount_marked
 returns-then-is_amount_marked g c = weaker g.S.Store (settle_done c.args.campaign.now c.args.entry c.args.thing (sym c.is_amount_marked.ensures ∙ c.if-is_amount_marked.true))
     (among g.S.Store (amount_changes c.args.campaign.now.value c.args.entry c.args.thing) c.settle_amount.ensures)

@@ -32,11 +32,13 @@ returns-clause-others g c clean = commits_spares (state g.S.Store c.args.conn.no
 pub returns-in_err-write_mailing-clause-others : goal.returns-in_err-write_mailing-clause-others
 returns-in_err-write_mailing-clause-others g c clean = leaves_others (state g.S.Store c.args.conn.now) (state g.S.Store c.write_mailing.new.conn) (c.in_err-write_mailing.ensures.err clean)
 
--- after Ok a disk that is clean was clean before, no failure is forgotten, and tested reads stay tested (`IsLater`)
+-- after Ok a disk that is clean was clean before, no failure is forgotten, and reads tested by digests stay so
+-- (`IsLater`)
 pub returns-clause-later : goal.returns-clause-later
 returns-clause-later g c = later (state g.S.Store c.args.conn.now) (state g.S.Store c.write_mailing.new.conn) _ c.write_mailing.ensures.crash
 
--- after a fault a clean disk was clean before, no failure is forgotten, and tested reads stay tested (`IsLater`)
+-- after a fault a disk that is clean was clean before, no failure is forgotten, and reads tested by digests stay so
+-- (`IsLater`)
 pub returns-in_err-write_mailing-clause-later : goal.returns-in_err-write_mailing-clause-later
 returns-in_err-write_mailing-clause-later g c = later (state g.S.Store c.args.conn.now) (state g.S.Store c.write_mailing.new.conn) _ c.write_mailing.ensures.crash
 

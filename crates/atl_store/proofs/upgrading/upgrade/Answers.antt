@@ -42,10 +42,12 @@ returns-clause-ok g c =
     upgrades g.S.Store c.args.new_world.now c.args.conn.now c.world_and_campaign.new.conn c.write_upgrade.new.conn c.in_ok-world.world c.in_ok-world.campaign c.world_and_campaign.ensures.alone c.in_ok-world.ensures.ok
     (λ db up. g.met.S.Store.settled c.write_upgrade.new.conn.store db up) (sym c.schema.ensures.value ∙ c.is_first_format_only.ensures.0 c.if-not-is_first_format_only.false) c.in_ok-write_upgrade.ensures.ok c.write_upgrade.ensures.crash c.write_upgrade.ensures.idle
 
--- after Ok a disk that is clean was clean before, no failure is forgotten, and tested reads stay tested (`IsLater`)
+-- after Ok a disk that is clean was clean before, no failure is forgotten, and reads tested by digests stay so
+-- (`IsLater`)
 pub returns-clause-later : goal.returns-clause-later
 returns-clause-later g c = later_both (state g.S.Store c.args.conn.now) (state g.S.Store c.world_and_campaign.new.conn) (state g.S.Store c.write_upgrade.new.conn) _ _ c.world_and_campaign.ensures.alone.survives c.write_upgrade.ensures.crash
 
--- after an error a clean disk was clean before, no failure is forgotten, and tested reads stay tested (`IsLater`)
+-- after an error a disk that is clean was clean before, no failure is forgotten, and reads tested by digests stay so
+-- (`IsLater`)
 pub returns-in_err-write_upgrade-clause-later : goal.returns-in_err-write_upgrade-clause-later
 returns-in_err-write_upgrade-clause-later g c = later_both (state g.S.Store c.args.conn.now) (state g.S.Store c.world_and_campaign.new.conn) (state g.S.Store c.write_upgrade.new.conn) _ _ c.world_and_campaign.ensures.alone.survives c.write_upgrade.ensures.crash

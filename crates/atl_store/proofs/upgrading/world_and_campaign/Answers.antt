@@ -4,7 +4,8 @@ use Rattle.atl_store.specs.Upgrading.{FailsCheck}
 use Rattle.atl_store.proofs.UpgradedLaws.{fails_to_read, loaded_old, other_world, holds_of_error, fails_to_load}
 use Rattle.atl_store.proofs.upgrading.world_and_campaign.Goals as goal
 
--- a fault of loading in the first format makes a check of the upgrade fail (`FailsCheck`)
+-- a fault of loading in the first format makes a check of the upgrade fail, with `upgrade`'s fault for it
+-- (`FailsCheck`)
 pub returns-in_err-old_world-clause-err : goal.returns-in_err-old_world-clause-err
 returns-in_err-old_world-clause-err g c clean =
     let old = c.args.conn.now in
@@ -13,7 +14,8 @@ returns-in_err-old_world-clause-err g c clean =
     let fault = c.in_err-old_world.field-0.0 in
     holds_of_error (FailsCheck g.S.Store text old mid) c.from_residual.result (first_fault fault) c.from_residual.ensures.1 (fails_to_load g.S.Store text old mid fault (c.in_err-old_world.ensures.err clean))
 
--- a fault of the new world text makes a check of the upgrade fail (`FailsCheck`)
+-- a fault of the new world text makes a check of the upgrade fail, with World and this fault, or with Memory if memory
+-- ran out (`FailsCheck`)
 pub returns-in_err-world-clause-err : goal.returns-in_err-world-clause-err
 returns-in_err-world-clause-err g c clean =
     let old = c.args.conn.now in
