@@ -140,8 +140,8 @@ fn own_in(alloc: Global, rows: &[Row], format: Format) -> Result<(StoredCampaign
     own_of(alloc, rows, format)
 }
 
-/// Reads the campaign row and its world, or gives the fault of the SELECT or of the row. Whether the
-/// row is of the other format is tested before the types of its values.
+/// Reads the campaign row and its world, or gives the fault of the SELECT or of the row. Whether
+/// the row is of the other format is tested before the types of its values.
 pub(crate) fn read_own<S: Alter>(
     alloc: Global,
     conn: &mut Connection<S>,
