@@ -89,8 +89,8 @@ first_digit : (b : ℕ) (p : List ℕ) (t : Bool) → is_ascii_digit b ≡ t →
 first_digit b p true e h = grind (arith, nat_tests)
 first_digit b p false e h = cc
 
--- looking up a text that isn't empty in the row of a parameter finds the row's key, if the text has no slash and doesn't
--- begin with `param_token`, the sign for a parameter in the router's rows
+-- looking up a text that isn't empty in the row of a parameter finds the row's key, if the text has no slash and
+-- doesn't begin with `param_token`, the sign for a parameter in the router's rows
 key_found : (key b : ℕ) (p : List ℕ) → (param_token == b) ≡ false → has_slash (b ∷ p) ≡ false → first (number_row key) (b ∷ p) ≡ Some key
 unfolding seek
 key_found key b p e h =

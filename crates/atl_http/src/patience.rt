@@ -74,7 +74,8 @@ impl<'a, C: Clock> Drop for Peer<'a, C> {
     }
 }
 
-/// Reads from the peer, for at most 10 seconds, and subtracts the time from that of the connection.
+/// Reads from the peer, for at most 10 seconds, and subtracts the time that this took from the time
+/// left for the connection.
 impl<'a, C: Clock> Read for Peer<'a, C> {
     /// Reads once, and returns the number of bytes; TimedOut once no time is left.
     fn read(&mut self, buf: &mut [u8]) -> io::Result<usize> {
@@ -87,7 +88,8 @@ impl<'a, C: Clock> Read for Peer<'a, C> {
     }
 }
 
-/// Writes to the peer, for at most 10 seconds, and subtracts the time from that of the connection.
+/// Writes to the peer, for at most 10 seconds, and subtracts the time that this took from the time
+/// left for the connection.
 impl<'a, C: Clock> Write for Peer<'a, C> {
     /// Writes once, and returns the number of bytes taken; TimedOut once no time is left.
     fn write(&mut self, buf: &[u8]) -> io::Result<usize> {

@@ -1,8 +1,8 @@
 //! Appends a line for a number or a text that changed.
 use std::alloc::{AllocError, Global};
 
-/// Appends a line with the new value of a number, unless the number is unchanged. In the line `unit
-/// 3 money 52`, `of` is `unit 3`, `what` is `money`, and `after` is 52.
+/// Appends a line with the new value of a number, unless the number is unchanged. The line has the
+/// text `of`, as `unit 3`, the text `what`, as `money`, and the number `after`.
 pub(crate) fn number(
     alloc: Global,
     of: &str,
@@ -18,8 +18,8 @@ pub(crate) fn number(
     told.push_str(line.as_str())
 }
 
-/// Appends a line with the new value of a text, unless the text is unchanged. In the line `unit 3
-/// name Guards`, `of` is `unit 3`, `what` is `name`, and `after` is `Guards`.
+/// Appends a line with the new value of a text, unless the text is unchanged. The line has the text
+/// `of`, as `unit 3`, the text `what`, as `name`, and the text `after`.
 pub(crate) fn text(
     alloc: Global,
     of: &str,

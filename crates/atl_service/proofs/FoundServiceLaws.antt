@@ -101,7 +101,8 @@ module _ {S : Type 0} (g : Ghosts S) where
       gives_among g (OfFounding text c) (FoundsBy text pass) (λ sql params own. (w, made.world, subst (λ (d : CampaignValue). OfFounding text d sql params) made.campaign own)) told.0 old new told.2,
     )
 
-    -- if creating the tables fails, founding refuses with the cause of the same name (`RefusesFounding`)
+    -- if creating the tables fails, founding refuses with the cause of the same name as the fault, and leaves what this
+    -- cause allows (`RefusesFounding`)
     pub refused_by_store : (fault : CreateFault) → RefusesToCreate g text c old new fault → RefusesFounding g old text pass (of_creation fault) new
     refused_by_store NotEmpty refused = record { cause = ((w, made.world), made.pass_is_good, refused.0); leaves = refused.1; later = later }
     refused_by_store Store refused = record { cause = ((w, made.world), made.pass_is_good, refused.0.fresh); leaves = (failed refused.0, store_refuses refused.1); later = later }

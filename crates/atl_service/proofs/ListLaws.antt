@@ -1,5 +1,6 @@
 -- Laws on lists of commands: if each command runs as promised (`Runs`), so does the list (`RunsAll`), which implies the
--- main theorem (`Headline`). A disk is clean if each read has returned what was written (docs/PROVED.md, "Premises").
+-- main theorem (`Headline`). Promised is that the answers are those of `step` up to the first fault, and Closed after
+-- it. A disk is clean if each read has returned what was written (docs/PROVED.md, "Premises").
 use Rattle.std.proofs.Common.{◌≡◌, ◌⊎◌, ◌≤◌, ◌<◌, ◌+◌, ◌++◌, ◌∷◌, [], ℕ, List, map, drop, length, get_or, Option, Some, None, IfSome, refl, sym, ap, ap₂, ◌∙◌, subst, inl, inr, append_assoc, append-nil, arith}
 use native.Mathlib.Numerals.{unary_clauses}
 use Rattle.std.proofs.lemmas.List.{drop_more, drop_all}

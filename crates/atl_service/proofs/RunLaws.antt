@@ -23,7 +23,8 @@ use Rattle.atl_service.specs.Causes.{OfCommand, HasCause}
 use Rattle.atl_service.specs.Runs.{Runs, RunsOpen, Closes}
 
 module _ {S : Type 0} (g : Ghosts S) where
-  -- the value of a service with these fields, as contracts see it: without a campaign if it is closed
+  -- the value of a service as contracts see it, with this connection and this world, and with this campaign if it is
+  -- open (`is_open`), else without one
   abbrev pub shown : Held S → WorldValue → CampaignValue → Bool → ServiceValue S
   shown conn w c is_open = record { conn = conn; world = w; campaign = cond is_open (Some c) None }
 
@@ -66,8 +67,8 @@ module _ {S : Type 0} (g : Ghosts S) where
     runs_open (Refused r) stands leaves done = (done.step_is ∙ ap (λ d. (d, Refused r)) done.same.0, ap₂ (λ h d. shown h w d true) done.same.1 done.same.0)
     runs_open (Fault f) stands leaves done = absurd done.no_fault
 
-    -- what `run` may give (`Runs`): the answer of a command that ended without a fault (`Answered`), in a consistent
-    -- service whose field `is_open` is true
+    -- the answer to a command that ended without a fault (`Answered`), in a consistent service whose field `is_open` is
+    -- true, is one that `run` may give (`Runs`)
     pub runs_on : (old : ServiceValue S) (answer : Answer) (is_open : Bool) → shown conn w c is_open ≡ old → is_open ≡ true → IsConsistent g conn w c is_open → LeavesIdle g conn conn' → Answered answer → Runs g old command answer (shown conn' w c' is_open)
     runs_on old answer true seen up stands leaves done = subst (λ e. Runs g e command answer (shown conn' w c' true)) seen (runs_open answer stands leaves done)
     runs_on old answer false seen up stands leaves done = absurd (false≢true up)

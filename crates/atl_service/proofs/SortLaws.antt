@@ -31,8 +31,8 @@ same_list sorted q r h = ap (events_of sorted) (equal q r h)
     equal : (q r : ℕ) → (r == q) ≡ true → r ≡ q
     equal q r h = grind (arith, nat_tests)
 
--- a faction's list followed by its unsorted events is the same after the first unsorted event is added to its
--- faction's list
+-- a faction's list followed by the faction's unsorted events is the same after the first unsorted event is added to the
+-- list of the event's own faction
 event_goes_on : (sorted : FinMap nat_cmp (List Event)) (e : Event) (es : List Event) (n : ℕ)
     → events_of (with_event sorted e) n ++ own_events n es ≡ events_of sorted n ++ own_events n (e ∷ es)
 event_goes_on sorted e es n =

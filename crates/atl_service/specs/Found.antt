@@ -22,7 +22,7 @@ use Rattle.atl_service.specs.Causes.{FoundsBy, GivesOtherError, LacksMemory}
 use Rattle.atl_service.specs.Service.{ServiceValue, text_in}
 
 -- A campaign was founded: the service is open with the text's world and the founded campaign, and, if the disk is
--- clean, its tables hold both. There was no table `campaign`.
+-- clean, its tables hold the text and this campaign. There was no table `campaign`.
 pub record Founds {S : Type 0} (g : Ghosts S) (old : Held S) (text pass : List ℕ) (made : ServiceValue S) : Type 0 where
   -- before the founding there was no table `campaign`
   pub fresh : has_campaign old.schema ≡ false
@@ -94,7 +94,8 @@ LeavesByCause g old text pass new Differs = ⊥
 LeavesByCause g old text pass new Store = FailsToFound g old text pass new × RefusesToWrite g (FoundsBy text pass) old new
 LeavesByCause g old text pass new Memory = FailsToFound g old text pass new × LacksMemory g (FoundsBy text pass) old new
 
--- A founding was refused: its cause is the first check that fails, and the connection is left as that cause allows.
+-- A founding was refused: its cause is the first check that fails, Store or Memory, and the connection is left as this
+-- cause allows.
 pub record RefusesFounding {S : Type 0} (g : Ghosts S) (old : Held S) (text pass : List ℕ) (why : Cause) (new : Held S) : Type 0 where
   -- founding may fail with this cause (`MayBeCause`)
   pub cause : MayBeCause text pass (has_campaign old.schema) why

@@ -27,8 +27,8 @@ pub(crate) fn breaks_off(
     assert_number(rt, service.next_faction(), 2);
 }
 
-/// Asserts what `breaks_off` asserts, in a new campaign and with a writer that takes `most` bytes;
-/// then it fails if `fails`, and takes none otherwise.
+/// Asserts WriteFault, the bytes written, and that the faction has joined, in a new campaign. The
+/// writer takes `most` bytes; then it fails if `fails`, and takes none otherwise.
 fn is_broken(rt: &impl Abort, alloc: Global, most: usize, fails: bool) -> Result<(), Fail> {
     let mut service = begun(alloc)?;
     let mut writer = Narrow::of(alloc, most, fails);

@@ -217,7 +217,8 @@ pub(crate) fn follow(
     Ok(())
 }
 
-/// Founds a campaign in memory, runs the steps, and asserts what the tables hold at the end.
+/// Founds a campaign in memory, runs the steps and asserts what they want, and asserts what the
+/// tables hold at the end.
 pub(crate) fn plays(
     rt: &impl Abort,
     alloc: Global,

@@ -173,7 +173,7 @@ const SENDS_EARLY: [Step; 2] = [
     Step::Mailed(Asked::Mail(1, "pw", SELLS), 1, &[]),
 ];
 
-/// SQL that gives unit 1 4 wood, booked under Joining.
+/// SQL that gives 4 wood to unit 1, booked under Joining.
 const HAS_WOOD: &str = "INSERT INTO has VALUES (1, 0, 0, 4); INSERT INTO books VALUES (2, 2, 4)";
 
 /// Avalon's report on month 1: 3 wood are sold to the market, and 20 more come into stock.

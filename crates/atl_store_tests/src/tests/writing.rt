@@ -216,9 +216,9 @@ SELECT stock FROM market WHERE region = 1 AND item = 1 -> 2";
     play_new(&rt, rt.alloc(), script)
 }
 
-/// Only items whose amounts changed are written. Both items are changed by hand; then one is set to
-/// what the campaign has of it, and an item that the unit lacks to 0, which marks nothing. Last the
-/// one is set to another amount, and the other keeps what was set by hand.
+/// Only items whose amounts changed are written. Items 1 and 2 are changed by hand; then item 2 is
+/// set to what the campaign has of it, and item 0, which the unit lacks, to 0, which marks nothing.
+/// Last item 2 is set to another amount, and item 1 keeps what was set by hand.
 #[test]
 fn only_changed_items_are_written(rt: HostRuntime) -> Result<(), Fail> {
     let script = "create small
