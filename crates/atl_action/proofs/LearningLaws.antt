@@ -1,4 +1,5 @@
--- Laws of `learners`: exactly the units are listed that learn by an order of STUDY that counts.
+-- Laws of `learners`, the map of the skills that units learn, by the units' numbers: it has exactly the units that
+-- learn by an order of STUDY that counts.
 use Rattle.std.proofs.Common.{◌≡◌, ℕ, true, List, [], ◌∷◌, Option, Some, None, refl, sym, subst}
 use Rattle.std.specs.Prelude.{fold, if◌then◌else◌}
 use Rattle.std.specs.List.{AllByRecursion, Contains}
@@ -35,8 +36,8 @@ module _ (w : WorldValue) (c : CampaignValue) where
       by_skill None says = same
       by_skill (Some s) says = cond_both (learns w s t.faction (get c.units t.unit)) (insert learning t.unit s) learning Q (added s says) (λ _. same)
 
-  -- P holds of each unit and skill in the map once the units of some orders are added. It has to hold of those that
-  -- were in the map, and of those that learn by one of the orders.
+  -- if P holds of all units and skills in the map, and of those that learn by some orders, P holds of all once the
+  -- units of these orders are added
   only_all : (P : ℕ → ℕ → Type 0) (ts : List Task) (learning : Learning) → AllByRecursion (IfLearns P) ts → Every P learning → Every P (fold (with_learner w c) learning ts)
   only_all P [] learning so old = old
   only_all P (t ∷ ts) learning so old =
@@ -60,8 +61,8 @@ module _ (w : WorldValue) (c : CampaignValue) where
       let next = with_learner w c learning t in
       ((λ s says can. kept ts next t.unit (added t learning s says can)), each_all ts next)
 
--- Each unit that learns by an order of STUDY that counts learns the order's skill as `IsLearning` says:
--- it has men, and the fee for all of them.
+-- each unit that learns by an order of STUDY that counts has men, and the fee for all of them, and learns the skill
+-- that the order names (`IsLearning`)
 each_so : (w : WorldValue) (c : CampaignValue) (m : MonthValue) (ts : List Task) → AllByRecursion (Contains (study_tasks m)) ts → AllByRecursion (IfLearns w c (IsLearning w c m)) ts
 each_so w c m [] among = tt
 each_so w c m (t ∷ ts) among = ((λ s says can. record { order = t; stands = among.0; for_unit = refl; says = says; can = can }), each_so w c m ts among.1)

@@ -1,5 +1,6 @@
--- Laws of units that change only region, structure and guard flag:
--- their number, their factions and what they hold together stay the same.
+-- Laws of units that change only region, structure and guard flag: their number, their factions and what they hold
+-- together stay the same. The units are then called the same people. A unit goes elsewhere if it is put into region
+-- `to` and structure `structure`, and its guard flag is cleared.
 use Rattle.std.proofs.Common.{◌≡◌, ◌==◌, ℕ, ◌+◌, Bool, true, false, Option, Some, None, refl, sym, ap, ◌∙◌, arith}
 use Rattle.std.specs.Prelude.{if◌then◌else◌}
 use Rattle.std.specs.Ordering.{nat_cmp}

@@ -1,4 +1,6 @@
--- Laws of SAIL: a ship goes with all units inside, no other unit changes, and the campaign stays steady.
+-- Laws of SAIL: a ship goes with all units inside, no other unit changes, and the campaign stays steady. A campaign is
+-- as begun if it is steady, no unit changed structures since the phase began, and the structure of unit `number` with
+-- all units inside is as it was.
 use Rattle.std.proofs.Common.{◌≡◌, ◌≢◌, ◌==◌, ◌&&◌, ◌||◌, ℕ, Bool, true, false, not, List, [], ◌∷◌, sum_by, Option, Some, None, refl, sym, ap, subst, ◌∙◌, inl, inr, arith, rules}
 use Rattle.std.specs.Prelude.{fold, is_some, nat_lt, option_map, unwrap_or, if◌then◌else◌}
 use Rattle.std.specs.List.{AllByRecursion, list_any}
@@ -252,7 +254,8 @@ module _ (w : WorldValue) (c : CampaignValue) (ship to : ℕ) (steady : IsSteady
           (steady.owners q y there).ownerless none m u was (sym (carried m u).structure ∙ ap (λ (z : Unit). z.structure) same ∙ inside)
 
   module _ (floats : is_ship w x ≡ true) (whole : x.done ≡ size_of w x.kind) (there_to : HasValue c.regions to) where
-    -- each unit is in a region that is there, and in a structure of that region, after the ship sailed (`IsPut`)
+    -- each unit is in a region that is there, and inside a structure of that region or none, after the ship sailed
+    -- (`IsPut`)
     put : (k : ℕ) (v : Unit) → get c.units k ≡ Some v → IsPut w c units structures f g (f k v)
     put k v there =
         cond_both (v.structure == ship) (gone ship to v) v (IsPut w c units structures f g) (λ _. record { region = there_to; structure = λ some. (shifted x, at_ship, refl) })

@@ -1,4 +1,5 @@
--- Laws of STUDY: after the phase a unit is as its own order of STUDY alone makes it.
+-- Laws of STUDY: after the phase a unit is as its own order of STUDY alone makes it. An own order is one that the
+-- faction of the unit wrote.
 use Rattle.std.proofs.Common.{◌≡◌, ◌≢◌, ◌==◌, ℕ, suc, zero, ◌-◌, ◌*◌, ◌<◌, true, false, List, [], ◌∷◌, length, Option, Some, None, refl, sym, ap, subst, ◌∙◌, arith, rules}
 use Rattle.std.specs.Prelude.{fold, if◌then◌else◌}
 use Rattle.std.proofs.lemmas.Option.{same_Some}
@@ -150,8 +151,8 @@ module _ (w : WorldValue) (taught : TaughtMen) (n : ℕ) (u : Unit) where
           let v : Unit = record u { holding = with_study u.holding skill (fee_of w skill * u.holding.men) days } in
           (v, get-insert_same c.units n v, refl))
 
-      -- After all orders of STUDY unit n is as its own order alone makes it.
-      -- Its own order is among them, and no two orders share a slot.
+      -- After some orders of STUDY unit n is as its own order alone makes it. This supposes that its own order is one
+      -- of them, and that no two of them share a slot.
       alone : (ts : List Task) (p : CampaignValue × MonthValue) → get p.0.units n ≡ Some u → p.0.structures ≡ c.structures → IsDistinct share_slot ts → AllByRecursion Studies ts
           → (k : ℕ) → k < length ts → slice_index_or ts k order ≡ order → get (fold step p ts).0.units n ≡ get (deed c u).0.units n
       unfolding IsDistinct

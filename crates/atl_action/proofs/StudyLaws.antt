@@ -1,4 +1,5 @@
--- Laws of STUDY: the campaign stays steady, the fee is booked, and a unit without an own order of STUDY is unchanged.
+-- Laws of STUDY: the campaign stays steady, the fee is booked, and a unit without an own order of STUDY (one from its
+-- faction) is unchanged.
 use Rattle.std.proofs.Common.{◌≡◌, ◌≢◌, ◌==◌, ℕ, ◌+◌, ◌-◌, ◌*◌, ◌≤◌, ◌<◌, Bool, false, cond, [], ◌∷◌, length, Option, Some, None, refl, sym, ap, subst, ◌∙◌, arith}
 use Rattle.std.specs.Prelude.{pos, neg_ℤ, ◌+ℤ◌, IfSome, nat_lt}
 use Rattle.std.specs.FinMap.{get}
@@ -160,8 +161,8 @@ study_cases P w taught c n s u same learned =
     by_fault days done most (Some fault) e = same
     by_fault days done most None e = learned days (payable_fee u.holding (fee_of w s * u.holding.men) e) most
 
--- An order of STUDY keeps a steady campaign steady, with the same month, reports and set of factions, and with balanced
--- books still balanced (`StepsWell`).
+-- An order of STUDY of a skill of the world keeps a steady campaign steady, with the same month, reports and set of
+-- factions, and with balanced books still balanced (`StepsWell`).
 study_well : (w : WorldValue) (taught : ℕ) (c : CampaignValue) (n s : ℕ) (u : Unit) → get c.units n ≡ Some u → IsSteady w c → s < length w.skills → StepsWell IsSteady study_reserve w c (study w taught n s c u).0
 study_well w taught c n s u is steady known =
     study_cases (λ d. StepsWell IsSteady study_reserve w c d) w taught c n s u (well_same w c steady)

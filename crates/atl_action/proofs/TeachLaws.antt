@@ -72,15 +72,16 @@ module _ (c : CampaignValue) (taught after : TaughtMen) (n given : ℕ) (here : 
         ap (sum_by (untaught_men c taught)) (before_cons (λ j. k == j) n ns ∙ ap (λ b. if b then [] else n ∷ before) (other_number k n apart)) ∙ sum_by-cons (untaught_men c taught) n before in
         grind (arith, away k apart, same_sum before others_before, more, other_number k n apart, is)
 
-    -- unit n's part and then a lesson to the others, for the places left, teach the same men as the whole lesson
+    -- unit n's part and then a lesson to the others, for the places left, leave as many men of each unit taught as the
+    -- whole lesson
     pub rest_taught : (k : ℕ) → after k + taught_in_lesson c after (places - given) ns k ≡ taught k + taught_in_lesson c taught places (n ∷ ns) k
     rest_taught k = elim (cases_eq k n) [
       | inl same ↦ subst (λ j. after j + taught_in_lesson c after (places - given) ns j ≡ taught j + taught_in_lesson c taught places (n ∷ ns) j) (sym same) at_first
       | inr apart ↦ at_other k apart
     ]
 
--- With `left` places left, the men taught so far and those whom these places allow to be taught make `total`. They
--- still do after the first unit, which has `want` untaught men, got `given` of the places.
+-- With `left` places left, the men taught so far and those whom these places allow to be taught make `total`. The sum
+-- is the same after the first unit, which has `want` untaught men, got `given` of the places.
 pub men_so_far : (places left given want rest total : ℕ) → left ≤ places → given ≡ min left want → (places - left) + min (want + rest) left ≡ total
     → (places - (left - given)) + min rest (left - given) ≡ total
 men_so_far places left given want rest total few is all = grind (arith, few, is, all)

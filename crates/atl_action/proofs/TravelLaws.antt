@@ -1,5 +1,5 @@
 -- Laws of steady campaigns: a campaign stays steady when units change region, structure and guard flag, and structures
--- change region and owner. The campaign after that is called the travelled one.
+-- change region and owner. The campaign after these changes is called the travelled campaign.
 use Rattle.std.proofs.Common.{◌≡◌, ◌≢◌, ℕ, ◌*◌, ◌≤◌, true, false, Some, None, sym, ap, subst, ◌∙◌}
 use Rattle.std.specs.Prelude.{IsTrue, option_map}
 use Rattle.std.specs.Ordering.{nat_cmp}
@@ -53,8 +53,8 @@ module _ (w : WorldValue) (c : CampaignValue) (units : FinMap nat_cmp Unit) (str
     pub structure : u.structure ≢ 0 → (s : Structure) × (get structures u.structure ≡ Some s) × (s.region ≡ u.region)
 
   -- The units and structures are what f and g make of those of c, and keep all that a steady campaign needs of them.
-  -- Each unit is in a region that is there and in a structure of this region, each structure has its right owner,
-  -- and units that still guard are as they were.
+  -- Each unit is in a region that is there, and inside a structure of this region or none. Each structure has its right
+  -- owner, and units that still guard are as they were.
   pub record AreTravelled : Type 0 where
     -- each unit of `units` is what `f` makes of the unit of that number in campaign c
     pub units_at : (k : ℕ) → get units k ≡ option_map (f k) (get c.units k)
@@ -114,8 +114,9 @@ module _ (w : WorldValue) (c : CampaignValue) (units : FinMap nat_cmp Unit) (str
         (h.0, record { men = rw s.men h.1.men; money = rw s.money h.1.money; items = rw s.items h.1.items })))
         (every_structure (λ k x. (1 ≤ x.done) × (x.done ≤ size_of w x.kind)) (λ k y was. let s = are.same_structures k y was in rw (s.done, s.kind) (old.structures k y was))) old
 
-    -- if all that campaign c refers to exists (`AreKnown`), then in the travelled campaign each unit's faction, region
-    -- and structure are there, and its items and skills are of the world (`IsPlaced`)
+    -- If all that campaign c refers to exists (`AreKnown`), then in the travelled campaign each unit's faction and
+    -- region are there, and its items and skills are of the world. Each unit's structure, unless 0 (none), is there in
+    -- the unit's region (`IsPlaced`).
     placed_kept : AreKnown w c → Every (λ k x. IsPlaced w travelled x) units
     placed_kept old = every_unit (λ k x. IsPlaced w travelled x) (λ k u was.
         let s = are.same_units k u was in
@@ -123,7 +124,8 @@ module _ (w : WorldValue) (c : CampaignValue) (units : FinMap nat_cmp Unit) (str
         let q = are.put k u was in
         record { faction = rw s.faction p.faction; region = q.region; structure = q.structure; items = rw s.items p.items; skills = rw s.days p.skills })
 
-    -- in the travelled campaign each structure's kind is of the world, and its region and owner are there (`IsBuilt`)
+    -- if all that campaign c refers to exists (`AreKnown`), in the travelled campaign each structure's kind is of the
+    -- world, and its region and owner, if any, are there (`IsBuilt`)
     built_kept : AreKnown w c → Every (λ k x. IsBuilt w travelled x) structures
     built_kept old = every_structure (λ k x. IsBuilt w travelled x) (λ k y was.
         let s = are.same_structures k y was in
@@ -133,7 +135,8 @@ module _ (w : WorldValue) (c : CampaignValue) (units : FinMap nat_cmp Unit) (str
           owner = λ some. let (v, here, inside) = (are.owned k y was).owned some in (v, here);
         })
 
-    -- in the travelled campaign factions, units and structures are numbered as the rule says (`AreNumbered`)
+    -- in the travelled campaign factions and structures are numbered from 1 without a gap, and units below the next
+    -- unit number (`AreNumbered`), if they are in c
     next_kept : AreNumbered c → AreNumbered travelled
     next_kept = numbered_replaced c units structures are.structure_count no_unit no_structure
 
@@ -151,7 +154,7 @@ module _ (w : WorldValue) (c : CampaignValue) (units : FinMap nat_cmp Unit) (str
     abbrev Agree : Unit → Unit → Type 0
     Agree x y = guards x ≡ true → guards y ≡ true → x.region ≡ y.region → x.faction ≡ y.faction
 
-    -- in the travelled campaign all units that guard a region are of one faction
+    -- in the travelled campaign all units that guard a region are of one faction, if they are in c
     guards_kept : AreOfOneFaction guards c → AreOfOneFaction guards travelled
     guards_kept old =
         every_unit (λ k x. Every (λ m y. Agree x y) units) (λ k u here.
@@ -164,7 +167,7 @@ module _ (w : WorldValue) (c : CampaignValue) (units : FinMap nat_cmp Unit) (str
         agree : {x u y v : Unit} → x ≡ u → y ≡ v → Agree u v → Agree x y
         agree one two same = rw (one, two) same
 
-    -- a steady campaign stays steady with the units and structures of `AreTravelled`
+    -- the travelled campaign is steady, if campaign c is
     pub steady-travelled : IsSteady w c → IsSteady w travelled
     steady-travelled old = record {
       numbers = numbers_kept old.numbers;

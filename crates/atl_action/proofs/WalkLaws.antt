@@ -1,4 +1,6 @@
--- Laws of MOVE: a campaign stays steady, and a unit without an own order of MOVE is no worse off.
+-- Laws of MOVE: a campaign stays steady, and a unit without an own order of MOVE (one from its faction) is no worse
+-- off. A walk out of a structure has two handovers: of this structure to its next owner, and of structure 0, which
+-- isn't there.
 use Rattle.std.proofs.Common.{◌≡◌, ◌≢◌, ◌==◌, ◌&&◌, ℕ, ◌≤◌, Bool, true, false, not, List, [], ◌∷◌, Option, Some, None, refl, sym, ap, subst, ◌∙◌, arith}
 use Rattle.std.specs.Prelude.{IfSome, nat_lt, option_map, unwrap_or, if◌then◌else◌}
 use Rattle.std.specs.List.{AllByRecursion}
@@ -102,7 +104,8 @@ module _ (w : WorldValue) (c : CampaignValue) (n : ℕ) (u : Unit) (to : ℕ) (i
   not_first q y there zero = none_some y (sym steady.next.structures.first ∙ ap (get c.structures) (sym zero) ∙ there)
 
   module _ (structures : FinMap nat_cmp Structure) where
-    -- the campaign after the walk, given its structures: unit n is in region `to`
+    -- the campaign with the given structures after the walk: unit n is in region `to`, inside no structure, with its
+    -- guard flag cleared
     abbrev behind : CampaignValue
     behind = travelled w c units structures f (λ q y. y)
 
@@ -118,11 +121,11 @@ module _ (w : WorldValue) (c : CampaignValue) (n : ℕ) (u : Unit) (to : ℕ) (i
     -- g gives the structures, which stay in their regions
     module _ (g : ℕ → Structure → Structure) (at : (k : ℕ) → get structures k ≡ option_map (g k) (get c.structures k)) (count : len structures ≡ len c.structures)
         (same : Every (λ k y. IsSameStructure y (g k y) × ((g k y).region ≡ y.region)) c.structures) (owned : Every (λ k y. IsOwned behind k (g k y)) c.structures) where
-      -- each structure of c is in the campaign after the walk, as g makes it
+      -- each structure of c is in the campaign after the walk, as what `g` makes of it
       forth : (k : ℕ) (y : Structure) → get c.structures k ≡ Some y → get structures k ≡ Some (g k y)
       forth k y there = at k ∙ ap (option_map (g k)) there
 
-      -- each unit is in a region that is there, and in a structure of that region, after the walk (`IsPut`)
+      -- each unit is in a region that is there, and inside a structure of that region or none, after the walk (`IsPut`)
       put_by : (k : ℕ) (x : Unit) → get c.units k ≡ Some x → (b : Bool) → IsPut w c units structures f g (gone_if 0 to b x)
       put_by k x there true = record { region = (steady.known.regions to).1 (land_is_there w to land); structure = λ some. absurd (some refl) }
       put_by k x there false =

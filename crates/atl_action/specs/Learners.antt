@@ -44,7 +44,7 @@ abbrev pub with_learner : WorldValue → CampaignValue → Learning → Task →
 with_learner w c learning t =
     option_map_or (λ s. if learns w s t.faction (get c.units t.unit) then insert learning t.unit s else learning) (skill_of t.order_value.operands) learning
 
--- the orders of STUDY of a month that count, by unit, line and faction
+-- the orders of STUDY of a month that count, sorted by unit, line and faction
 abbrev pub study_tasks : MonthValue → List Task
 study_tasks = orders_by_unit is_studying
 
@@ -55,8 +55,8 @@ learners w c m = fold (with_learner w c) empty (study_tasks m)
 
 -- ---- a law: which units are learning
 
--- Unit n learns this skill by an order of STUDY that counts, from its own faction.
--- It has men, and the fee for all of them.
+-- unit n, which has men and the fee for all of them, learns this skill by an order of STUDY that counts, from its own
+-- faction
 pub record IsLearning (w : WorldValue) (c : CampaignValue) (m : MonthValue) (n skill : ℕ) : Type 0 where
   -- the order of STUDY by which the unit learns
   pub order : Task

@@ -54,7 +54,8 @@ crew_needed = of_kind (λ k. k.crew)
 abbrev pub capacity : WorldValue → Option Structure → ℕ
 capacity = of_kind (λ k. k.capacity)
 
--- what the men of a unit are worth as a crew: their number times the unit's level in the world's skill of sailing
+-- what the men of a unit are worth as a crew: their number times the unit's level in the world's skill of sailing; 0
+-- where the world names no such skill
 abbrev pub crew_of : WorldValue → HoldingValue → ℕ
 crew_of w h = h.men * level_in_any h w.rules.sailing
 
@@ -68,8 +69,8 @@ sum_inside f c s = sum_by (λ n. option_map_or (λ u. f u.holding) (get c.units 
 abbrev pub is_way : WorldValue → (from : ℕ) → (neighbour : Option ℕ) → Bool
 is_way w from neighbour = option_map_or (λ to. is_some (get w.regions to) && not (is_land_at w from && is_land_at w to)) neighbour false
 
--- why unit n can't sail the ship that it is inside to region `to`, None where it can.
--- The fault is NoMen, NotInside, NotOwner, NotComplete, NoWay, NoCrew or TooHeavy.
+-- Why unit n can't sail the ship that it is inside to region `to`; None where it can. The fault is the first that fits
+-- of NoMen, NotInside, NotOwner, NotComplete, NoWay, NoCrew and TooHeavy.
 abbrev pub sail_fault : WorldValue → CampaignValue → (n : ℕ) → Unit → Option Structure → (to : Option ℕ) → Option EventFault
 sail_fault w c n u ship to = first_fault (
     (u.holding.men == 0, NoMen)

@@ -67,7 +67,7 @@ first_mentions (n ∷ ns) = n ∷ filter (λ k. not (k == n)) (first_mentions ns
 abbrev pub men_at : CampaignValue → (n : ℕ) → ℕ
 men_at c n = option_map_or (λ u. u.holding.men) (get c.units n) 0
 
--- how many men of unit n weren't taught yet in this month
+-- how many men of unit n weren't taught yet in this month; 0 where the unit isn't there
 abbrev pub untaught_men : CampaignValue → TaughtMen → (n : ℕ) → ℕ
 untaught_men c taught n = men_at c n - taught n
 
@@ -84,7 +84,8 @@ lesson c taught places ns = ((λ n. taught n + taught_in_lesson c taught places 
 
 -- ---- TEACH
 
--- why the unit of an order can't teach: NotYours, NoMen, NotLearning or CannotTeach; None where it can
+-- why the unit of an order can't teach its pupils, of which those in `below` have a lower level: NotYours, NoMen,
+-- NotLearning or CannotTeach; None where it can
 abbrev pub teach_fault : CampaignValue → Task → (pupils below : List ℕ) → Option EventFault
 teach_fault c t pupils below = first_fault (
     (not (is_own c t), NotYours)

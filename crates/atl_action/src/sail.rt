@@ -206,8 +206,8 @@ impl OrderPhase for SailPhase {
     fn is_orderly(&self) {}
 }
 
-/// Carries out the orders of SAIL (`carry_out_orders`), and does nothing else. It isn't a
-/// `PlainPhase`, since it keeps more than its steps say one by one.
+/// Carries out the orders of SAIL (`carry_out_orders`), and does nothing else. SAIL isn't a
+/// `PlainPhase`, since the phase keeps more than its steps say one by one.
 impl Phase for SailPhase {
     ghost meaning = { sail_spec.meaning };
 

@@ -109,8 +109,8 @@ fn below_of(
     Ok(list)
 }
 
-/// The listed numbers without repetitions, each where it is first listed.
-/// It takes n log n steps for n numbers.
+/// The listed numbers without repetitions, each where it is first listed. Takes n log n steps for n
+/// numbers.
 fn first_mentions(alloc: Global, numbers: &[u32]) -> Result<Vec<u32>, AllocError>
     ensures { IfOk result (λ list. list.items ≡ first_mentions numbers.now) }
 {
@@ -192,8 +192,8 @@ fn give_lesson(
     Ok(Outcome::Done(u64::from(men)))
 }
 
-/// Why the unit of an order can't teach: NotYours, NoMen, NotLearning or CannotTeach; None where it
-/// can.
+/// Why the unit of an order can't teach its pupils, of which those in `below` have a lower level:
+/// NotYours, NoMen, NotLearning or CannotTeach; None where it can.
 fn teach_fault(
     campaign: &Campaign,
     order: PhaseOrder<'_>,

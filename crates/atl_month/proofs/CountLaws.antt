@@ -1,4 +1,4 @@
--- The law that two maps of the same size have the same numbers, if one has each number of the other.
+-- The law that two maps of the same size have the same numbers (keys), if one has each number of the other.
 use Rattle.std.proofs.Common.{◌≡◌, ℕ, suc, zero, ◌-◌, ◌≤◌, cond, List, [], ◌∷◌, length, Option, Some, None, refl, sym, ap, ◌∙◌, arith}
 use Rattle.std.specs.Prelude.{is_some}
 use Rattle.std.specs.Ordering.{nat_cmp}

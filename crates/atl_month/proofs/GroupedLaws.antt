@@ -1,4 +1,4 @@
--- The law of a value that is set in a map of maps.
+-- The law of a value that is set in a map of maps, whose inner maps are called groups.
 use Rattle.std.proofs.Common.{◌≡◌, ◌==◌, ◌&&◌, ℕ, Bool, true, false, cond, Some, refl, ap, ◌∙◌}
 use Rattle.std.specs.Prelude.{unwrap_or}
 use Rattle.std.specs.Ordering.{nat_cmp}

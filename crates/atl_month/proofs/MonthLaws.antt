@@ -63,7 +63,8 @@ module _ (w : WorldValue) (c d : CampaignValue) (moving : BookBound) (little : I
   bound_grows : (a b f g : ℕ) → b ≡ a → g ≡ f → (200000000000000 * (a + 1) + 1000000000 * f) + 200000000000000 ≤ 200000000000000 * ((b + 1) + 1) + 1000000000 * g
   bound_grows a b f g month count = omega (arith, month, count)
 
-  -- if each amount of the books is within the bound of its campaign (`AreAmountsWithin`), each is so after the month
+  -- if each amount of the books is within the bound of its campaign (`AreAmountsWithin`), each is within the bound of
+  -- the campaign after the month
   amounts_within : AreAmountsWithin c → AreAmountsWithin (after_month d)
   amounts_within old e t =
       near_within (amount_in c.books e t) (amount_in d.books e t) (moving e t) (amount_bound c) (amount_bound (after_month d)) (little e t)
@@ -90,7 +91,8 @@ module _ (w : WorldValue) (c d : CampaignValue) (moving : BookBound) (little : I
 -- ---- what a month leaves of the books and of the factions
 
 module _ {leaves : Condition} (w : WorldValue) (c d : CampaignValue) (well : LeavesWell leaves phases_moving w c d) where
-  -- the phases of a month move each amount of the books by at most the bound of a month (`month_moves`)
+  -- the phases of a month move each amount of the books by at most 10^14 - 1 for each phase that may move it
+  -- (`month_moves`)
   pub books_near : BooksAreNear month_moves c d
   books_near e t = near_more (phases_moving e t) (month_moves e t) (amount_in c.books e t) (amount_in d.books e t) (month_within e t) (well.near e t)
 
@@ -142,8 +144,8 @@ none_read f ms none = get-from_entries nat_cmp_total (map (λ r. (r.faction, r))
           | Greater ↦ λ o. not_found ms none.1
         ] refl
 
--- After phases of `ClosesUnmailed` each unit of a faction without a mailing has its items and all men but those whom
--- the events report as starved (`IsLeft`). This supposes that the month begins without events.
+-- Phases of `ClosesUnmailed` leave units of factions without a mailing their items, and their men less the starved. If
+-- the month begins without events, its events report these men; a unit all of whose men starved may be gone (`IsLeft`).
 left_behind : (phases : Meaning) (keeps : Frame) → ClosesUnmailed phases keeps → (w : WorldValue) (c d : CampaignValue) (m : MonthValue) (events : List Event) → m.events ≡ [] → ◌≡◌ {A = CampaignValue × List Event} (d, events) ((phases w c m).0, (phases w c m).1.events) → keeps w m c d
     → Every (λ n u. get m.readings u.faction ≡ None → IsLeft (starved_in events n) d n u) c.units
 left_behind phases keeps closes w c d m events begins is kept n u there none some =
@@ -154,8 +156,8 @@ left_behind phases keeps closes w c d m events begins is kept n u there none som
     subst (λ k. IsUnaffected (IsLessBy k) d n u) so_many (subst (λ s. IsUnaffected (IsLessBy (starved_in (phases w c m).1.events n - starved_in m.events n)) s n u) (sym state)
     (closes.left w c m (subst (keeps w m c) state kept) n u there none (subst (λ k. k < u.holding.men) (sym so_many) some)))
 
--- After a month each unit of a faction without a mailing has its name, its items and all men who didn't starve
--- (`UnmailedAreLeft`).
+-- after a month each unit of a faction without a mailing, unless all its men starved, has its name, no less of any
+-- item, and all men who didn't starve (`UnmailedAreLeft`)
 pub unmailed_left : (w : WorldValue) (c d : CampaignValue) (ms : List Mailing) (words : List ℕ) (events : List Event) → (d, events) ≡ month_of w c (by_faction (map reading_of ms)) words
     → month_keeps w (new_month (by_faction (map reading_of ms)) words) c d → UnmailedAreLeft ms events c d
 unfolding month_of

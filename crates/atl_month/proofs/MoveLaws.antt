@@ -28,7 +28,7 @@ later_move = each_also (λ phase (is : IsPhase phase). is.moves) later_phases la
 pub each_little : PhasesMoveLittle
 each_little = (early_move, later_move, last_move)
 
--- the phases of a month together move no amount further than `month_moves`
+-- the phases of a month together move each amount by at most 10^14 - 1 for each phase that may move it (`month_moves`)
 pub month_within : IsBoundWithin phases_moving month_moves
 month_within e t =
     omega (arith, moved_within early_phases early_move e t, moved_within later_phases later_move e t, moved_within last_phases last_move e t)
@@ -45,6 +45,6 @@ two_at_most e Money = few (moving_phases e Money) (each_entry (λ k. nat_le (mov
 two_at_most e People = few (moving_phases e People) (each_entry (λ k. nat_le (moving_phases k People) 2) refl e)
 two_at_most e (Item i) = few (moving_phases e (Item i)) (each_entry (λ k. nat_le (moving_phases k (Item i)) 2) refl e)
 
--- the phases of a month together move no amount further than `moves_in_month`
+-- the phases of a month together move each amount by at most 2*10^14 (`moves_in_month`)
 pub phases_little : IsBoundWithin phases_moving moves_in_month
 phases_little e t = omega (arith, month_within e t, two_at_most e t)

@@ -218,7 +218,7 @@ module _ (w : WorldValue) (c : CampaignValue) (n k : ℕ) (apart : n ≢ k) (ste
   all_left : (t : Thing) (amount : ℕ) → Passed t amount (with_lost c t amount) → Passed t amount (with_lost c t (amount - 0))
   all_left t amount lost = let same : amount ≡ amount - 0 = omega arith in subst (λ a. Passed t amount (with_lost c t a)) same lost
 
-  -- the campaign after money went to unit `k`, if it is there; what it doesn't take is booked as lost
+  -- the campaign after unit `k`, if it is there, took money up to its room; the rest is booked as lost
   abbrev money_to : (amount : ℕ) → Option Unit → CampaignValue
   money_to amount o =
       let taken = option_map_or (λ v. accepted_of amount v.holding.money) o 0 in
@@ -253,7 +253,7 @@ module _ (w : WorldValue) (c : CampaignValue) (n k : ℕ) (apart : n ≢ k) (ste
   more_item h i n People = grind (arith, nat_tests)
   more_item h i n (Item j) = more_amount h.items i n j
 
-  -- the campaign after an item went to unit `k`, if it is there; what it doesn't take is booked as lost
+  -- the campaign after unit `k`, if it is there, took an item up to its room; the rest is booked as lost
   abbrev item_to : (i amount : ℕ) → Option Unit → CampaignValue
   item_to i amount o =
       let taken = option_map_or (λ v. accepted_of amount (amount_of v.holding.items i)) o 0 in
@@ -302,7 +302,8 @@ module _ (w : WorldValue) (c : CampaignValue) (n k : ℕ) (apart : n ≢ k) (ste
 
 -- ---- all that a unit has
 
--- giving items to unit `k` in turn, each up to its room, with the rest booked as lost, passes all on (`PassesOn`)
+-- Items of the world that go in turn to unit `k`, up to the unit's room, with the rest booked as lost, are passed on
+-- from unit `n` (`PassesOn`). This supposes that the campaign is steady, and that `n` isn't `k`.
 pub pass_items : (w : WorldValue) (c : CampaignValue) (n k : ℕ) → n ≢ k → (es : List (ℕ × ℕ)) → EachEntry (λ i a. i < length w.items) es → IsSteady w c
     → PassesOn w n (held_in_items es) (moving_items es) c (fold (after_passing_item k) c es)
 pass_items w c n k apart [] known steady = passes-refl w n c steady

@@ -127,8 +127,8 @@ infixr 5 ◌▹◌
 ◌▹◌ : {A B : Type 0} → A → B → A × B
 one ▹ others = (one, others)
 
--- each phase from FORM to RECRUIT moves its own entries alone, and leaves units without a mailing their items, and
--- their men less the starved
+-- each phase from FORM to RECRUIT moves its own entries alone, and leaves units of factions without a mailing their
+-- items, and their men less the starved (`IsPhase`)
 pub early_are : EachPhase IsPhase early_phases
 early_are =
     is_phase form_spec (moves_nothing_alone no_moved_entries) form_leaves
@@ -142,8 +142,8 @@ early_are =
     ▹ is_phase recruit_spec (money_alone entries.Recruiting) recruit_leaves
     ▹ tt
 
--- each phase from GUARD 1 to PRODUCE moves its own entries alone, and leaves units without a mailing their items, and
--- their men less the starved
+-- each phase from GUARD 1 to PRODUCE moves its own entries alone, and leaves units of factions without a mailing their
+-- items, and their men less the starved (`IsPhase`)
 pub later_are : EachPhase IsPhase later_phases
 later_are =
     is_phase guard_spec (moves_nothing_alone no_moved_entries) guard_leaves

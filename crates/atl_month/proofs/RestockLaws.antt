@@ -141,7 +141,7 @@ module _ (w : WorldValue) (c : CampaignValue) (n i : ℕ) (m : Market) (r : Regi
       ∙ sym (booked-after_booking c.books Stocked (Item i) (pos more) t)
     where
       -- For `balanced`: if the total of a thing is what the books account for, it still is with the new goods added to
-      -- both. They are added only where the thing is the item (`b`).
+      -- both. The goods are added only where the thing is the item (`b`).
       added : (b : Bool) (x : ℕ) (z : ℤ) → pos x ≡ z → pos (x + cond b more 0) ≡ z +ℤ cond b (pos more) (pos 0)
       added b x z e = grind (arith, ints, e)
 
@@ -171,7 +171,7 @@ module _ (w : WorldValue) (n : ℕ) (there : HasValue w.regions n) where
   one_leaves_well c x of steady = let (r, here) = (steady.known.regions n).1 there in market_leaves_well w c n x.0 x.1 r here of.0 of.1 steady
 
   -- New goods of a region's markets, in turn, keep a steady campaign steady and its books balanced, and book at most
-  -- `stocking`.
+  -- 999,999,999 of each market's item (`stocking`).
   all_leave_well : (xs : List (ℕ × Market)) → EachEntry (IsMarketOf w n) xs → (c : CampaignValue) → IsSteady w c → LeavesWell IsSteady (stocking xs) w c (after_restock n c xs)
   all_leave_well [] each c steady = well_unchanged (stocking []) w c steady
   all_leave_well (x ∷ xs) each c steady =

@@ -124,7 +124,8 @@ module _ (w : WorldValue) (c : CampaignValue) (n : ℕ) (r : Region) (born earne
       (booked-near one_booked Income Money (pos earned) most_amount (within-pos earned most_amount m) e t))
 
   -- Births and income that leave a region at most 999,999,999 peasants and as much money keep a steady campaign steady
-  -- and its books balanced, and book at most `grows_by`.
+  -- and its books balanced. Births of people and Income of money move by at most 999,999,999 each (`grows_by`), and no
+  -- other amount does.
   pub growth_leaves_well : r.peasants + born ≤ most_amount → r.money + earned ≤ most_amount → IsSteady w c → LeavesWell IsSteady (grows_by most_amount) w c (with_growth c n r.peasants r.money born earned)
   growth_leaves_well p m steady = record {
     leaves_it = growth_steady p m steady;
@@ -163,8 +164,8 @@ limits_fit w n t world is = terrain_in w (get w.regions n) t world is
 
 -- ---- the season of a region, and of all
 
--- Births and income of a region that is there keep a steady campaign steady and its books balanced, and book at most
--- `grows_by`.
+-- Births and income of a region that is there keep a steady campaign steady and its books balanced. Births of people
+-- and Income of money move by at most 999,999,999 each (`grows_by`), and no other amount does.
 pub region_grows_well : (w : WorldValue) → IsWorld w → (c : CampaignValue) (n word : ℕ) (t : Terrain) (r : Region) → terrain_of w n ≡ Some t → get c.regions n ≡ Some r → IsSteady w c
     → LeavesWell IsSteady (grows_by most_amount) w c (with_growth c n r.peasants r.money (births w.rules.growth t.peasant_limit word r.peasants) (income w.rules.income t.money_limit (r.peasants + births w.rules.growth t.peasant_limit word r.peasants) r.money))
 region_grows_well w world c n word t r here is steady =
@@ -175,8 +176,8 @@ region_grows_well w world c n word t r here is steady =
     (births_fit w.rules.growth t.peasant_limit word r.peasants peasant_limit within.peasants)
     (income_fits w.rules.income t.money_limit (r.peasants + born) r.money money_limit within.money) steady
 
--- The season of one region keeps a steady campaign steady and its books balanced, and books at most what one region may
--- (`season_moves`).
+-- The season of one region keeps a steady campaign steady and its books balanced. The season moves Births, Income, and
+-- Stocked of each item by at most 999,999,999 each (`season_moves`).
 pub season_at_leaves_well : (w : WorldValue) → IsWorld w → (c : CampaignValue) (x : ℕ × ℕ) → IsSteady w c → LeavesWell IsSteady (season_moves most_amount) w c (season_at w c x)
 unfolding season_at
 season_at_leaves_well w world c (n, word) steady = by_terrain (terrain_of w n) refl

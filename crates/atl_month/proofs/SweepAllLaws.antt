@@ -1,5 +1,5 @@
 -- Laws of the whole sweep: each unit then has men, factions without units are gone, and nothing is taken from units
--- with men.
+-- with men. Sweeping a unit removes it if it has no men; sweeping a faction sets it to gone if it has no unit.
 use Rattle.std.proofs.Common.{◌≡◌, ◌≢◌, ◌==◌, ℕ, ◌≤◌, not, Bool, true, false, List, [], ◌∷◌, length, filter, Option, Some, None, refl, sym, ap, subst, ◌∙◌, inl, inr, arith}
 use Rattle.std.specs.Prelude.{pos, fold, if◌then◌else◌}
 use Rattle.std.proofs.lemmas.Bool.Decides.{nat_tests}
@@ -59,8 +59,8 @@ module _ (c : CampaignValue) (n : ℕ) where
       by_unit (Some u) is = by_men u is (u.holding.men == 0) refl
 
 module _ (w : WorldValue) (c : CampaignValue) (n : ℕ) (steady : IsSteady w c) where
-  -- Sweeping a unit keeps a steady campaign steady and its books balanced, and books at most what one unit may lose
-  -- (`loses_by`).
+  -- Sweeping a unit keeps a steady campaign steady and its books balanced, and books as lost at most 999,999,999 of
+  -- money and of each item (`loses_by`).
   pub swept_at_leaves_well : LeavesWell IsSteady (loses_by most_amount) w c (after_sweeping_unit c n)
   swept_at_leaves_well =
       by_sweeping c n (LeavesWell IsSteady (loses_by most_amount) w c) (λ some. well_unchanged (loses_by most_amount) w c steady)
@@ -109,7 +109,8 @@ module _ (w : WorldValue) where
       let (apart, (x, was, kept)) = units_left_were_there w c n steady m v there in
       behind_it m n ns (apart none) (listed m x was (sym kept.men ∙ none)))
 
-  -- sweeping several units takes nothing from units with men
+  -- in a steady campaign, after several units were swept each unit that had men is there, and nothing was taken from it
+  -- (`IsKept`)
   pub all_keep : (ns : List ℕ) (c : CampaignValue) → IsSteady w c → Every (λ m x. 1 ≤ x.holding.men → (v : Unit) × (get (fold after_sweeping_unit c ns).units m ≡ Some v) × IsKept x v) c.units
   all_keep [] c steady m x there some = (x, there, kept-refl x)
   all_keep (n ∷ ns) c steady m x there some =
@@ -231,8 +232,8 @@ module _ (w : WorldValue) (c : CampaignValue) (steady : IsSteady w c) where
   are_gone : UnitlessAreGone (sweep c)
   are_gone = all_are_gone (active units_swept) units_swept (λ m f there none stays. passing_listed (λ (x : Faction). not x.gone) units_swept.factions m f there (ap not stays))
 
-  -- The sweep of a steady campaign leaves it as `IsSwept` says, with its books balanced, and moves each amount by less
-  -- than 10^14.
+  -- After the sweep of a steady campaign it is steady, each unit has men, and each faction without units is gone
+  -- (`IsSwept`). Books that balanced still do, and each amount moves by less than 10^14.
   pub sweep_leaves_well : LeavesWell IsSwept (loses_by most_moved) w c (sweep c)
   sweep_leaves_well = record {
     leaves_it = record { steady = both_well.leaves_it; men = have_men; gone = are_gone };

@@ -44,7 +44,8 @@ use Rattle.atl_instant.specs.Quit.{loss_under}
 abbrev owing_all : HoldingValue → Thing → ℕ
 owing_all h s = part_of s Money h.money + held_in_items (entries h.items) s
 
--- the bound on what passing on all of a holding books: Lost of its money and of each item
+-- the bound on what passing on all of a holding books: Lost of its money and of each item, each by at most as much as
+-- it has
 abbrev pub moving_all : HoldingValue → BookBound
 moving_all h = both_move (moves_only h.money Lost Money) (moving_items (entries h.items))
 
@@ -58,8 +59,8 @@ all_owed h none (Item j) =
 
 -- ---- how far it moves the books
 
--- What a unit without men has of a thing, under the entry for losses of that thing, is within the sweep's bound for one
--- unit.
+-- a unit without men whose money and items are within their limits has of each thing at most what sweeping one unit may
+-- book as lost (`loses_by`)
 little_lost : (h : HoldingValue) → h.men ≡ 0 → h.money ≤ holding_limit → ((i : ℕ) → amount_of h.items i ≤ holding_limit) → (e : BooksEntry) (s : Thing)
     → loss_under e s h ≤ loses_by most_amount e s
 little_lost h none money items e Money = grind arith
@@ -101,7 +102,7 @@ module _ (w : WorldValue) (c : CampaignValue) (n : ℕ) (u : Unit) (is : get c.u
   abbrev passed : CampaignValue
   passed = after_passing_all c receiver_of_n u
 
-  -- what unit `n` has is passed on as `PassesOn` says: to the receiver, or booked as lost
+  -- what unit `n` has goes to its receiver or is booked as lost, and nothing is taken from any unit (`PassesOn`)
   passing : PassesOn w n (owing_all u.holding) (moving_all u.holding) c passed
   passing =
       let apart = receiver_apart u.region u.faction in
@@ -136,7 +137,8 @@ module _ (w : WorldValue) (c : CampaignValue) (n : ℕ) (u : Unit) (is : get c.u
       rest : (a h b o : ℕ) (z : ℤ) → a + h ≡ b → o ≡ h → pos b ≡ z +ℤ pos (0 + o) → pos a ≡ z
       rest a h b o z e f g = omega (arith, ints, e, f, g)
 
-  -- passing on what the unit has moves the books within the sweep's bound for one unit
+  -- passing on what the unit has moves Lost of money and of each item by at most 999,999,999, and nothing else
+  -- (`loses_by`)
   pub moves_little : (e : BooksEntry) (s : Thing) → moving_all u.holding e s ≤ loses_by most_amount e s
   moves_little e s =
       within (moves_only u.holding.men Left People e s) (moving_all u.holding e s) (loss_under e s u.holding) (loses_by most_amount e s) (moves_what_leaves u.holding e s)
@@ -146,8 +148,8 @@ module _ (w : WorldValue) (c : CampaignValue) (n : ℕ) (u : Unit) (is : get c.u
       within : (m a b d : ℕ) → m + a ≤ b → b ≤ d → a ≤ d
       within m a b d k l = omega arith
 
-  -- Sweeping unit `n` keeps the campaign steady and its books balanced, and books at most what one unit may lose
-  -- (`loses_by`).
+  -- Sweeping unit `n` keeps the campaign steady and its books balanced, and books as lost at most 999,999,999 of money
+  -- and of each item (`loses_by`).
   pub swept_leaves_well : LeavesWell IsSteady (loses_by most_amount) w c swept
   swept_leaves_well =
       let only = only_reduced w passed n u there_still in
@@ -183,8 +185,8 @@ module _ (w : WorldValue) (c : CampaignValue) (n : ℕ) (u : Unit) (is : get c.u
 
 -- ---- an item that is passed on
 
--- setting unit `to`'s amount of an item to what it had plus what it accepts, and booking the rest as lost, is passing
--- the item on (`after_passing_item`)
+-- if unit `to` is there, adding what it accepts of an item to what it has, and booking the rest as lost, is passing the
+-- item on (`after_passing_item`)
 pub passed_item_is : (c : CampaignValue) (to item amount : ℕ) (v : Unit) → get c.units to ≡ Some v
     → with_lost (with_item c to item (amount_of v.holding.items item + accepted_of amount (amount_of v.holding.items item))) (Item item) (amount - accepted_of amount (amount_of v.holding.items item))
     ≡ after_passing_item to c (item, amount)

@@ -93,7 +93,7 @@ module _ (w : WorldValue) (h : HoldingValue) (left : ℕ) (fewer : left ≤ h.me
           let (known, _, most) = days k had there in
           (known, some, subst (λ n. n ≤ most_days * left) (sym said) (part w left h.men fewer had most))
 
-  -- a holding with `left` men, days that they may have, and its name, guard flag and items as they were
+  -- a holding has `left` men, days that these may have, and the name, guard flag and items of holding `h`
   abbrev IsWithMen : HoldingValue → Type 0
   IsWithMen k = (k.men ≡ left) × Every (IsStudied w left) k.days × (k.name ≡ h.name) × (k.guard ≡ h.guard) × (k.items ≡ h.items)
 
@@ -148,7 +148,8 @@ module _ (w : WorldValue) (c : CampaignValue) (s : UpkeepResult) (u : Unit) (is 
   guard_kept : guards (record u { holding = now }) ≡ true → guards u ≡ true
   guard_kept is = let (men, _, _, guard, _) = with_less in grind (arith, nat_tests, men, guard, is)
 
-  -- the unit may hold what its upkeep leaves it
+  -- what upkeep leaves the unit is within the limits and of the world's items and skills, and guards only if the unit
+  -- did (`MayHaveWithoutNewGuard`)
   may_hold : MayHaveWithoutNewGuard w u now
   may_hold =
       let place = steady.known.units s.unit u is in
@@ -222,7 +223,8 @@ module _ (w : WorldValue) (c : CampaignValue) (s : UpkeepResult) (u : Unit) (is 
   pub few_starved : s.starved ≤ most_amount
   few_starved = omega (arith, spare.starved, (steady.numbers.units s.unit u is).1.men)
 
-  -- the unit's upkeep moves the books within the bound of upkeep for one unit
+  -- the unit's upkeep moves Upkeep of money and Starved of people by at most 999,999,999 each, and nothing else
+  -- (`takes_up_to`)
   upkeep_near : (e : BooksEntry) (t : Thing) → IsNear (takes_up_to most_amount e t) (amount_in c.books e t) (amount_in after.books e t)
   upkeep_near e t =
       near_twice (moves_only most_amount Upkeep Money e t) (moves_only most_amount Starved People e t) _ _ _
@@ -231,8 +233,8 @@ module _ (w : WorldValue) (c : CampaignValue) (s : UpkeepResult) (u : Unit) (is 
       (booked-near one_booked Starved People (neg_ℤ (pos s.starved)) most_amount
       (within-neg s.starved most_amount few_starved) e t)
 
-  -- The upkeep of a unit that can pay keeps the campaign steady and its books balanced, and books at most what one unit
-  -- may (`takes_up_to`).
+  -- The upkeep of a unit that can pay keeps the campaign steady and its books balanced. The upkeep moves Upkeep of
+  -- money and Starved of people by at most 999,999,999 each (`takes_up_to`).
   unit_leaves_well : LeavesWell IsSteady (takes_up_to most_amount) w c after
   unit_leaves_well = record {
     leaves_it = after_steady;
@@ -248,8 +250,8 @@ pub upkeep_at_is : (c : CampaignValue) (s : UpkeepResult) (u : Unit) → get c.u
 unfolding upkeep_at
 upkeep_at_is c s u is = ap (upkeep_in c s) is
 
--- Upkeep by a result that can be paid keeps the campaign steady and its books balanced, and books at most what one unit
--- may (`takes_up_to`).
+-- Upkeep by a result that can be paid keeps the campaign steady and its books balanced. The upkeep moves Upkeep of
+-- money and Starved of people by at most 999,999,999 each (`takes_up_to`).
 pub upkeep_at_leaves_well : (w : WorldValue) (c : CampaignValue) (s : UpkeepResult) → CanPayUpkeep w c s
     → LeavesWell IsSteady (takes_up_to most_amount) w c (upkeep_at c s)
 upkeep_at_leaves_well w c s can = rw (upkeep_at_is c s can.unit can.there) (unit_leaves_well w c s can.unit can.there can.spare can.steady)
@@ -280,7 +282,7 @@ abbrev pub settled_each : ℕ → (all : List UpkeepInput) → List (ℕ × Unit
 settled_each m all es = map (settled_one m all) (map upkeep_input_of es)
 
 module _ (w : WorldValue) (some : 1 ≤ w.rules.maintenance) (all : List UpkeepInput) where
-  -- the bound on what the upkeep of one unit books
+  -- the bound on what the upkeep of one unit books: Upkeep of money and Starved of people, each by at most 999,999,999
   abbrev step_moves : BookBound
   step_moves = takes_up_to most_amount
 
@@ -288,8 +290,8 @@ module _ (w : WorldValue) (some : 1 ≤ w.rules.maintenance) (all : List UpkeepI
   abbrev each_of : List (ℕ × Unit) → List UpkeepResult
   each_of es = settled_each w.rules.maintenance all es
 
-  -- The upkeep of some units can be paid in turn, if the campaign has them as listed, and its books have room for the
-  -- upkeep of all.
+  -- The upkeep of some units, sorted by their numbers, can be paid in turn. This supposes that the campaign is steady
+  -- and has the units as listed, and that its books have room for the upkeep of all.
   settled_in_turn : (es : List (ℕ × Unit)) (c : CampaignValue) → Rise es → EachEntry (λ n u. get c.units n ≡ Some u) es
       → IsSteady w c → HaveRoom (moved_times (length (each_of es)) step_moves) c → CanInTurn (CanPayUpkeep w) upkeep_at c (each_of es)
   settled_in_turn [] c rise there steady room = tt
@@ -408,8 +410,8 @@ days_set left h listed =
         by_option None is = refl
         by_option (Some d) is = cc
 
--- Setting the men, the money and the days of each skill to what upkeep leaves gives the holding after upkeep
--- (`after_upkeep`).
+-- if some men of a unit starve, at most all, setting its men, its money and its days of each skill to what upkeep
+-- leaves gives the holding after upkeep (`after_upkeep`)
 pub starved_supplied : (s : UpkeepResult) (h : HoldingValue) → 1 ≤ s.starved → s.starved ≤ h.men → Every (λ k d. 1 ≤ d) h.days
     → record h { men = h.men - s.starved; money = h.money - s.paid; days = with_days h.days (staying_list (h.men - s.starved) h.men h.days) } ≡ after_upkeep s h
 starved_supplied s h some fewer listed =
@@ -440,7 +442,8 @@ module _ (m : ℕ) (all : List UpkeepInput) where
   abbrev IsSettled : CampaignValue → ℕ → Unit → Type 0
   IsSettled after n u = get after.units n ≡ Some (unit_after_upkeep (settled_one m all (upkeep_input_of (n, u))) u)
 
-  -- after the upkeep of some units in turn, each of them has what its upkeep among all units leaves it
+  -- after the upkeep of some units in the order of their numbers, which the campaign has as listed, each of them has
+  -- what its upkeep among all units leaves it
   each_settled : (es : List (ℕ × Unit)) (c : CampaignValue) → Rise es → EachEntry (λ n u. get c.units n ≡ Some u) es
       → EachEntry (IsSettled (fold upkeep_at c (settled_each m all es))) es
   each_settled [] c rise there = tt

@@ -1,4 +1,6 @@
 -- Laws of the accounts of upkeep: what the code computes with them for each unit in turn is what the definition says.
+-- An account has the money that a faction's units in a region have left and are short of, and how much of it was given
+-- and covered so far.
 use Rattle.std.proofs.Common.{◌≡◌, ◌++◌, ℕ, zero, suc, ◌+◌, ◌-◌, ◌*◌, ◌≤◌, ◌<◌, min, Bool, true, false, cond, List, [], ◌∷◌, length, get_or, take, filter, sum_by, unwrap_or, refl, sym, ap, ◌∙◌, mul_comm, add-zero, arith, Some}
 use Rattle.std.specs.Prelude.{All, nat_lt}
 use Rattle.std.specs.Ordering.{nat_cmp}
@@ -182,8 +184,8 @@ module _ (m : ℕ) (all before : List UpkeepInput) (p : UpkeepInput) (accounts :
   abbrev amount : ℕ
   amount = given_among m peers
 
-  -- After a unit had its turn, each account is as `account_of` says for the units that had their turn before and this
-  -- one.
+  -- after a unit had its turn, each account is that of all units, of which those before it and it had their turn
+  -- (`account_of`)
   pub settled_more : (a : Account) → a ≡ account_after m (account_at accounts p.region p.faction) p
       → (s g : ℕ) → account_at (with_account accounts p.region p.faction a) s g ≡ account_of m all (before ++ p ∷ []) s g
   settled_more a is =
@@ -196,12 +198,14 @@ module _ (m : ℕ) (all before : List UpkeepInput) (p : UpkeepInput) (accounts :
       (sym (ap (λ n. min n (given_among m (peers_of s g all))) (more_other (left_of m) before p s g apart)))
       (sym (ap (λ n. min n (given_among m (peers_of s g all))) (more_other (short_of m) before p s g apart))))
 
-  -- the peers of a unit with lower numbers are the peers among the units that had their turn before it
+  -- if the units that had their turn before a unit are those with lower numbers, its peers with lower numbers are its
+  -- peers among them
   before_among : filter (is_lower p.unit) all ≡ before → filter (is_lower p.unit) peers ≡ peers_of p.region p.faction before
   before_among first =
       filters_swap (is_input_of p.region p.faction) (is_lower p.unit) all ∙ ap (peers_of p.region p.faction) first
 
-  -- what upkeep takes from a unit by its account is what it takes by the definition (`upkeep_result_among`)
+  -- if the units that had their turn before a unit are those with lower numbers, upkeep takes from it by its account
+  -- what the definition says (`upkeep_result_among`)
   pub settled_is : filter (is_lower p.unit) all ≡ before → upkeep_result_by m (account_at accounts p.region p.faction) p ≡ upkeep_result_among m peers p
   settled_is first =
       ap (λ b. upkeep_result_by m b p) (each p.region p.faction)

@@ -53,7 +53,7 @@ upkeep_result_by maintenance a input = record {
   starved = starved_of maintenance (short_of maintenance input - min (to_give a - a.covered) (short_of maintenance input));
 }
 
--- the account after a unit's turn: what it gave and what it was covered by are added
+-- an account to which is added what one more unit gave to others in its turn, and what it got from others
 abbrev pub account_after : ℕ → Account → UpkeepInput → Account
 account_after maintenance a input = record a {
   given = a.given + min (to_give a - a.given) (left_of maintenance input);

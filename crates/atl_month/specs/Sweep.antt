@@ -50,8 +50,8 @@ after_passing_money c to amount =
     let given = at_unit c to (λ v. with_money c to (v.holding.money + taken)) in
     with_lost given Money (amount - taken)
 
--- A campaign after an amount of an item went to unit `to`, up to its room; the rest is booked as lost, all where it
--- isn't there.
+-- A campaign after an amount of an item went to unit `to`, up to its room; the rest is booked as lost, all of it where
+-- the unit isn't there.
 unfoldable pub after_passing_item : ℕ → CampaignValue → ℕ × ℕ → CampaignValue
 after_passing_item to c (item, amount) =
     let taken =
@@ -61,7 +61,8 @@ after_passing_item to c (item, amount) =
 
 -- ---- units without men
 
--- a campaign after the money and then each item that unit `u` holds went to unit `to`, or are lost
+-- a campaign after the money and then each item that unit `u` holds went to unit `to`, up to its room; the rest is
+-- booked as lost
 abbrev pub after_passing_all : CampaignValue → ℕ → Unit → CampaignValue
 after_passing_all c to u = fold (after_passing_item to) (after_passing_money c to u.holding.money) (entries u.holding.items)
 

@@ -31,7 +31,8 @@ with_men_left left h =
     if left == h.men then h
     else record h { men = left; days = amounts_for (going_of left h) (keys h.days) }
 
--- a holding after the upkeep of its unit: without the money paid and the men who starved
+-- a holding after the upkeep of its unit: without the money paid, and with the men who are left and their part of the
+-- days
 abbrev pub after_upkeep : UpkeepResult → HoldingValue → HoldingValue
 after_upkeep s h = record (with_men_left (h.men - s.starved) h) { money = h.money - s.paid }
 

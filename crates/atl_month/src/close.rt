@@ -23,14 +23,14 @@ use atl_phase::{Month, Phase};
 use atl_world::World;
 use std::alloc::{AllocError, Global};
 
-/// Closes a month: runs its phases over a good campaign, and returns the campaign and the events.
-/// It takes the mailings of the factions and one word of the dice for each region. The month isn't
-/// counted and the mail is still there: with these done the campaign is good again. A unit whose
-/// faction sent no mailing is there afterwards with its name, no less of any item, and all its men
-/// but those in its Starved event. It is gone only where all its men starved. The factions and the
-/// reports stay. No amount of the books moves further than the phases may move it; founding and
-/// joining stay. AllocError without memory; the campaign is then given up. See docs/RULES.md,
-/// "Closing a month".
+/// Closes a month: runs its phases over a good campaign that has a month left, and returns the
+/// campaign and the events. Takes mailings read with this world, at most one of a faction, and one
+/// word of the dice for each region. The month isn't counted yet, and the mail isn't removed; once
+/// both are done, the campaign is good again. A unit whose faction sent no mailing is there
+/// afterwards with its name, no less of any item, and all its men but those in its Starved event.
+/// Such a unit is gone only where all its men starved. The factions and the reports stay. No amount
+/// of the books moves further than the phases may move it; founding and joining stay. AllocError
+/// without memory; the campaign is then given up. See docs/RULES.md, "Closing a month".
 pub fn close_month(
     alloc: Global,
     world: &World,
@@ -80,8 +80,8 @@ pub fn phases_move_little()
 {}
 
 /// The law that books of which no amount passes 9*10^18 in size have room for one phase that moves
-/// each amount by less than 10^14, as each phase of a month does. It says nothing of two phases,
-/// which together may move an amount further. Does nothing.
+/// each amount by less than 10^14, as each phase of a month does. The law says nothing of two
+/// phases, which together may move an amount further. Does nothing.
 pub fn one_phase_has_room()
     ensures { OnePhaseHasRoom }
 {}

@@ -19,9 +19,10 @@ use atl_phase::{Month, Phase, PhaseResult, book_taken, items_of};
 use atl_world::World;
 use std::alloc::{AllocError, Global};
 
-/// The sweep: each unit without men leaves its money and items to a unit of its faction in its
-/// region and is removed; what that one has no room for is lost. Then factions without units are
-/// gone. See docs/RULES.md, "Sweep".
+/// The sweep: each unit without men leaves its money and items to its receiver, the lowest-numbered
+/// unit with men of its faction in its region, and is removed. What the receiver has no room for is
+/// lost, or all where there is no receiver. Then factions without units are gone. See
+/// docs/RULES.md, "Sweep".
 #[derive(Drop, Clone, Copy)]
 pub struct SweepPhase;
 
@@ -86,7 +87,8 @@ fn pass_item(
     Ok(())
 }
 
-/// Gives each of some items to a unit, up to its room; the rest is lost.
+/// Gives each of some items to a unit, up to its room; the rest is lost, all of it where the unit
+/// isn't there.
 fn pass_items(
     world: &World,
     campaign: &mut Campaign,
@@ -106,7 +108,8 @@ fn pass_items(
     Ok(())
 }
 
-/// Removes a unit, if it has no men, after it passed its money and items to its receiver.
+/// Removes a unit, if it has no men, after it passed its money and items to its receiver. What the
+/// receiver has no room for is lost, or all where there is no receiver.
 #[tactic(auto, unfolding(crate::specs::Sweep::after_sweeping_unit))]
 fn sweep_unit(
     alloc: Global,

@@ -54,8 +54,8 @@ fn days_with(alloc: Global, left: u32, holding: &Holding) -> Result<Vec<(u32, u3
     Ok(list)
 }
 
-/// Takes from a unit the money that it pays and the men who starve, with their days. It marks none
-/// of its items.
+/// Takes from a unit the money that it pays and the men who starve, with their days. No item is
+/// marked.
 fn starve(alloc: Global, campaign: &mut Campaign, settled: &UpkeepResult) -> Result<(), AllocError>
     requires can { (w : WorldValue) × CanPayUpkeep w campaign.old.value settled.now }
     requires some { 1 ≤ settled.now.starved }
@@ -74,7 +74,7 @@ fn starve(alloc: Global, campaign: &mut Campaign, settled: &UpkeepResult) -> Res
 }
 
 /// Takes from a unit the money that it pays for upkeep and the men who starve, without booking
-/// them. It marks none of the unit's items, and where nobody starves none of its goods.
+/// them. No item is marked, and where nobody starves no days of a skill.
 fn take_upkeep(
     alloc: Global,
     campaign: &mut Campaign,
@@ -100,8 +100,8 @@ fn take_upkeep(
     Ok(())
 }
 
-/// Takes from a unit the money that it pays for upkeep and the men who starve, and books both. It
-/// marks none of the unit's items, and where nobody starves none of its goods.
+/// Takes from a unit the money that it pays for upkeep and the men who starve, and books both. No
+/// item is marked, and where nobody starves no days of a skill.
 fn charge_upkeep(
     alloc: Global,
     campaign: &mut Campaign,

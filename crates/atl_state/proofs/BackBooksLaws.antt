@@ -27,12 +27,14 @@ use Rattle.atl_campaign.proofs.HasLaws.{same}
 
 -- ---- each row
 
--- if P holds for the row of each account and amount of a list, it holds for each of the list's rows (`amounts_rows`)
+-- if P holds for the row of each account and its amount in a list, P holds for each row of `amounts_rows`, the list of
+-- these rows
 rows_each : (P : StoredBooks → Type 0) (es : List (Account × ℤ)) → AllByRecursion (λ x. P (books_row x.0.0 x.0.1 x.1)) es → AllByRecursion P (amounts_rows es)
 rows_each P [] h = tt
 rows_each P (x ∷ es) h = (h.0, rows_each P es h.1)
 
--- if P holds for each row of a list of accounts and amounts (`amounts_rows`), it holds for the row of each account
+-- if P holds for each row of `amounts_rows`, the list of the rows of some accounts and amounts, P holds for the row of
+-- each account and its amount
 each_row : (P : StoredBooks → Type 0) (es : List (Account × ℤ)) → AllByRecursion P (amounts_rows es) → AllByRecursion (λ x. P (books_row x.0.0 x.0.1 x.1)) es
 each_row P [] h = tt
 each_row P (x ∷ es) h = (h.0, each_row P es h.1)
@@ -104,7 +106,8 @@ entries_apart [] h = tt
 entries_apart (x ∷ es) h = let parts = and_parts (below_all account_cmp x.0 es) (is_sorted account_cmp es) h in (others_apart x es parts.0, entries_apart es parts.1)
 
 module _ (things : ℕ) (few : things ≤ 4294967294) (books : BooksValue) (are : AreBooks things books) where
-  -- each row of books over `things` things is read as an account (an entry and a thing), its amount not 0 (IsBooked)
+  -- each row of books over `things` things is read as an account of one of these things, and its amount is not 0
+  -- (`IsBooked`)
   pub lines_booked : AllByRecursion (IsBooked things) (books_rows books)
   lines_booked =
       lines_each books (IsBooked things) (λ e t z is.
@@ -125,7 +128,8 @@ module _ (things : ℕ) (few : things ≤ 4294967294) (books : BooksValue) (are 
     pub books_keys : HaveDistinctKeys books_key rows
     books_keys = keys_permuted books_key (books_rows books) rows h (entries_apart (entries books.amounts) (amounts_sorted books.amounts))
 
-    -- each row of the books, in any order, is read as an account (an entry and a thing), its amount not 0 (IsBooked)
+    -- each row of the books, in any order, is read as an account of one of the `things` things, and its amount is not 0
+    -- (`IsBooked`)
     pub all_booked : AllByRecursion (IsBooked things) rows
     all_booked = each_permuted (IsBooked things) (books_rows books) rows h lines_booked
 

@@ -71,7 +71,7 @@ module _ {R : Type 0} (none : R → Bool) (row : ℕ → ℕ → R) (m : FinMap 
 -- ---- the amounts of a group
 
 module _ {R : Type 0} (thing amount : R → ℕ) (mine : R → Bool) (m : FinMap nat_cmp ℕ) (listed rows : List R) (same : IsPermutation listed rows) where
-  -- a map of amounts has the row's amount under the row's thing
+  -- a map of amounts has, under the thing that a row names, the amount of the row
   abbrev IsIn : FinMap nat_cmp ℕ → R → Type 0
   IsIn k r = get k (thing r) ≡ Some (amount r)
 

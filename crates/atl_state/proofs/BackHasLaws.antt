@@ -1,4 +1,5 @@
--- Laws of reading back what units have: the rows of `has`, in any order, give each unit its items and days again.
+-- Laws of reading back what units have: the rows of `has`, in any order, give each unit its goods again. Goods are here
+-- items (sort 0) and days of study (sort 1).
 use Rattle.std.proofs.Common.{◌≡◌, ◌==◌, ℕ, zero, suc, ◌≤◌, ◌<◌, ◌&&◌, List, [], ◌∷◌, Bool, true, false, Some, refl, sym, ap, ◌∙◌, arith}
 use Rattle.std.specs.Prelude.{pos}
 use Rattle.std.specs.List.{AllByRecursion, IsDistinct}
@@ -79,7 +80,7 @@ module _ (units : FinMap nat_cmp Unit) where
       (λ e. append_each (λ r. r.unit ≡ pos e.0) (rows_of_sort e.0 0 (entries e.1.holding.items)) (rows_of_sort e.0 1 (entries e.1.holding.days)) (lines_each none (has_row e.0 0) e.1.holding.items (λ r. r.unit ≡ pos e.0) (λ i a is some. refl)) (lines_each none (has_row e.0 1) e.1.holding.days (λ r. r.unit ≡ pos e.0) (λ i a is some. refl)))
       (λ e. held_apart e.0 e.1) (entries units) (entries_rise units)
 
-  -- the numbers of units, items and skills fit 32 bits, and each amount that a unit has of these is from 1 to most_u32
+  -- the numbers of units, items and skills fit 32 bits, and each amount of an item or of days is from 1 to most_u32
   pub record AreHad : Type 0 where
     -- the numbers of units fit 32 bits
     pub numbers : Every (λ n u. n ≤ most_u32) units
@@ -121,7 +122,7 @@ module _ (units : FinMap nat_cmp Unit) where
         let both = and_parts (as_u32 (pos k) == n) (as_u32 (pos s) == sort) e in
         record { unit = sym (read_whole k few) ∙ is_same (as_u32 (pos k)) n both.0; kind = sym (read_whole s (omega arith)) ∙ is_same (as_u32 (pos s)) sort both.1 }
 
-    -- a row of `has` made for unit n, of 32 bits, and sort s is read as one of unit n and sort s
+    -- a row of `has` made for unit n and sort s is read as one of them, if n fits 32 bits and s is 0 or 1
     of_itself : (n s i a : ℕ) → n ≤ most_u32 → s < 2 → is_of_unit_and_sort n s (has_row n s i a) ≡ true
     of_itself n s i a few l =
         let unit : (as_u32 (pos n) == n) ≡ true = let e = read_whole n few in grind (arith, nat_tests) in

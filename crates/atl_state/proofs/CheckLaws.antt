@@ -90,7 +90,8 @@ module _ (f : Format) (w : WorldValue) (p : Parts) where
   pub first_broken : (r : Rule) (b : Bool) → KeepsRulesBelow f w p (rule_number r) → Decides b (KeepsRule f w p r) → b ≡ false → IsFirstBroken f w p r
   first_broken r b before d e = record { before = before; broken = λ holds. false≢true (sym e ∙ d.1 holds) }
 
-  -- rows that keep rules 1 to 11 keep all that makes them the rows of the campaign read from them (RowsKeep)
+  -- if the world keeps the rules of worlds, rows that keep rules 1 to 11 keep those by which they are just the rows of
+  -- the campaign read from them (`RowsKeep`)
   pub rows_keep : IsWorld w → KeepsRulesBelow f w p 12 → RowsKeep f w p
   rows_keep world k = record {
     world = world;

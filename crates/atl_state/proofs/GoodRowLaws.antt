@@ -76,7 +76,7 @@ faction_back n f few is =
     let gone = flag_back f.gone in
     λ i. record { number = number i; joined_as = f.joined_as; name = f.name; pass = f.pass; gone = gone i }
 
--- a region is read back from its row and its stocks, if its numbers fit 32 bits
+-- a region is read back from its row and the rows of its stocks, if its number, peasants and money fit 32 bits
 region_back : (markets : List StoredMarket) (n : ℕ) (r : Region) → n ≤ most_u32 → r.peasants ≤ most_u32 → r.money ≤ most_u32 → stocks_of n markets ≡ r.stocks → region_of markets (region_row n r) ≡ r
 region_back markets n r few p m stocks =
     let peasants = read_whole r.peasants p in
@@ -117,7 +117,7 @@ pub record UnitFits (u : Unit) : Type 0 where
   -- the unit's money fits 32 bits
   pub money : u.holding.money ≤ most_u32
 
--- a unit is read back from its row and its goods, if its numbers fit 32 bits
+-- a unit is read back from its row and the rows of its items and days, if its numbers fit 32 bits (`UnitFits`)
 unit_back : (has : List StoredHas) (n : ℕ) (u : Unit) → n ≤ most_u32 → UnitFits u → things_had n 0 has ≡ u.holding.items → things_had n 1 has ≡ u.holding.days → unit_of has (unit_row n u) ≡ u
 unit_back has n u few h items days =
     let faction = read_whole u.faction h.faction in
@@ -181,8 +181,8 @@ structure_small_enough w world s k r d o =
     let size = small_size w world s.kind in
     record { kind = omega (arith, k, kinds); region = omega (arith, r); done = omega (arith, d, size); owner = omega (arith, o) }
 
--- A unit's items and skills have numbers of 32 bits, and amounts from 1 to most_u32. This supposes that they are of the
--- world, and that its men, amounts of items and days of skills are within their limits.
+-- A unit's items and skills have numbers of 32 bits, and amounts from 1 to most_u32. This supposes that the items and
+-- skills are of the world, and that the unit's men, amounts of items and days of skills are within their limits.
 few_goods : (w : WorldValue) → IsWorld w → (u : Unit) → Every (λ i a. i < length w.items) u.holding.items → Every (λ i a. i < length w.skills) u.holding.days → AreAmounts u.holding.items → u.holding.men ≤ men_limit
     → Every (λ i a. (1 ≤ a) × (a ≤ most_days * u.holding.men)) u.holding.days → (s : ℕ) → s < 2 → Every (λ i a. (i ≤ most_u32) × (1 ≤ a) × (a ≤ most_u32)) (goods_of s u)
 few_goods w world u items skills amounts men days zero l i a is =
@@ -251,7 +251,8 @@ module _ (w : WorldValue) (world : IsWorld w) (c : CampaignValue) (good : IsGood
       let holding = (good.sound.steady.numbers.units n u is).1 in
       few_goods w world u placed.items placed.skills holding.items holding.men (good.sound.steady.days n u is)
 
-  -- in a good campaign the numbers of units and their goods fit 32 bits, each amount is from 1 to most_u32 (AreHad)
+  -- in a good campaign the numbers of units, items and skills fit 32 bits, and each amount of an item or of days is
+  -- from 1 to most_u32 (`AreHad`)
   pub had : AreHad c.units
   had = record { numbers = small_enough c.units last_unit (omega arith) few_units; goods = goods_few }
 

@@ -128,7 +128,7 @@ module _ (f : Format) (w : WorldValue) (world : IsWorld w) (c : CampaignValue) (
 
   -- ---- ranges
 
-  -- a good campaign's rows of each table have distinct keys
+  -- in each table but `campaign` the rows of a good campaign have distinct keys
   keys : HaveDistinctKeysByTable p
   keys = record {
     factions = row.table_keys faction_row (λ r. r.number) faction_of (λ n f. refl) c.factions (row.factions_whole w world c good f fits p rows) p.factions (row.factions_listed w world c good f fits p rows);
@@ -328,7 +328,8 @@ module _ (f : Format) (w : WorldValue) (world : IsWorld w) (c : CampaignValue) (
   keeps Books = (of_books, said Balances good.sound.balances)
   keeps Mail = (said IsMail good.sound.mail, said AreReported good.reported)
 
--- an answer that `Checks` allows is, for the rows of a good campaign, that campaign or Memory (`GivesBack`)
+-- an answer that `check_as` may give (`Checks`) is, for the rows of a good campaign that the format can hold, this
+-- campaign or Memory (`GivesBack`)
 pub gives_back : (f : Format) (w : WorldValue) → IsWorld w → (p : Parts) (r : Result MarkedCampaign CheckFault) → Checks f w p r → GivesBack f w p r
 gives_back f w world p (Ok m) h = λ c good fits rows. sym (row.state_back w world m.value h.good f h.fits p h.rows) ∙ row.state_back w world c good f fits p rows
 gives_back f w world p (Err (Damaged r)) h = λ c good fits rows. h.broken (keeps f w world c good fits p rows r)

@@ -1,4 +1,6 @@
--- Laws of the rule of guards: checking each region's list of units decides whether its guards are of one faction.
+-- Laws of the rule of guards: checking each region's list of units decides whether its guards are of one faction. A
+-- list of numbers passes `one_holder` if the factions of its numbers, where they have one, are all the same, and are
+-- the holder if one is given.
 use Rattle.std.proofs.Common.{◌≡◌, ◌==◌, ◌⊎◌, inl, inr, ℕ, suc, ◌<◌, Bool, true, false, cond, List, [], ◌∷◌, length, get_or, map, filter, Option, Some, None, option_and_then, refl, sym, ap, ◌∙◌, subst, arith}
 use Rattle.std.proofs.lemmas.Bool.{and_parts}
 use Rattle.std.proofs.lemmas.Bool.Decides.{Decides-eqb}
@@ -80,7 +82,8 @@ module _ (faction : ℕ → Option ℕ) where
   abbrev Alike : List ℕ → Type 0
   Alike ns = (n k x y : ℕ) → In n ns → In k ns → faction n ≡ Some x → faction k ≡ Some y → x ≡ y
 
-  -- if a list passes one_holder with the first number's faction, each of its numbers that has a faction has that one
+  -- if a list passes one_holder with its first number's faction, this is the faction of each number of the list that
+  -- has one
   first_holds : (m z : ℕ) (ms : List ℕ) → faction m ≡ Some z → one_holder faction (Some z) ms ≡ true → (n x : ℕ) → In n (m ∷ ms) → faction n ≡ Some x → x ≡ z
   first_holds m z ms first h n x (inl same) is = same_value x z (sym is ∙ ap faction same ∙ first)
   first_holds m z ms first h n x (inr mine) is = like_holder z ms h n x mine is
@@ -103,7 +106,8 @@ module _ (faction : ℕ → Option ℕ) where
   abbrev Fits : Option ℕ → List ℕ → Type 0
   Fits holder ns = (n x y : ℕ) → In n ns → faction n ≡ Some x → holder ≡ Some y → x ≡ y
 
-  -- if the list `m ∷ ms` is Alike and Fits a holder, `ms` Fits that holder, or m's faction if there is no holder
+  -- if the numbers of `m ∷ ms` are of one faction (Alike), the holder's if any (Fits), those of `ms` are of the
+  -- holder's faction, or of m's without a holder
   fits_on : (holder : Option ℕ) (m : ℕ) (ms : List ℕ) → Alike (m ∷ ms) → Fits holder (m ∷ ms) → Fits (option_or holder (faction m)) ms
   fits_on None m ms same fits n x y mine is first = same n m x y (inr mine) (inl refl) is first
   fits_on (Some z) m ms same fits n x y mine is held = fits n x y (inr mine) is held

@@ -55,7 +55,8 @@ module _ (m : FinMap nat_cmp Faction) where
   abbrev Found : StoredFaction → Type 0
   Found r = get m (number r) ≡ Some (faction_of r)
 
-  -- a row that is `Found` has the joined name of the faction that the map `m` has under the row's number
+  -- if the map `m` has the faction read from a row under the row's number (`Found`), the row has the joined name of the
+  -- faction that `m` has there
   its_name : (r : StoredFaction) (n : ℕ) (f : Faction) → Found r → number r ≡ n → get m n ≡ Some f → r.joined_as ≡ f.joined_as
   its_name r n f found e is = ap (λ (x : Faction). x.joined_as) (some_same (faction_of r) f (sym found ∙ ap (get m) e ∙ is))
 

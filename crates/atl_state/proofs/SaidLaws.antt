@@ -211,7 +211,7 @@ no_rows [] h = refl
 no_rows (r ∷ rows) h = absurd (grind (arith, nat_tests))
 
 module _ (f : Format) (w : WorldValue) (p : Parts) (k : RowsKeep f w p) where
-  -- the campaign row and all rows of each table pass the test of their ranges
+  -- the campaign row and all rows of the other tables, but for mail and reports, pass the test of their ranges
   pub ranges : NumberRanges w p
   ranges = number_ranges w p k.range.numbers
 
@@ -498,7 +498,8 @@ module _ (f : Format) (w : WorldValue) (p : Parts) (k : RowsKeep f w p) where
   abbrev KeyedPlaced : StoredHas → Type 0
   KeyedPlaced h = HasWholeKey h × Placed h
 
-  -- a row of `has` that is KeyedPlaced and IsFound is exact (IsExact): its numbers fit 32 bits, its amount is not 0
+  -- A row of `has` that is in range, has a unit that exists and a key of 32 bits (`KeyedPlaced`), and whose amount is
+  -- found (`IsFound`) is exact (`IsExact`). The numbers of an exact row fit 32 bits, and its amount is not 0.
   exact : (h : StoredHas) → KeyedPlaced h → ((n : ℕ) → (sort : ℕ) → is_of_unit_and_sort n sort h ≡ true → IsFound n sort h) → IsExact h
   exact h (keys, (there, range)) found = let amount = exact_of h there (sort_of h range).1 found in record { keys = keys; amount = amount.0; some = amount.1 }
 
@@ -555,7 +556,8 @@ module _ (f : Format) (w : WorldValue) (p : Parts) (k : RowsKeep f w p) where
   pub none_in_first : f ≡ First → p.markets ≡ []
   none_in_first is = no_rows p.markets (ap (λ g. are_of_format g p.markets) (sym is) ∙ k.format)
 
-  -- the stocks assembled from the rows are written as just the rows of `market`, in some order (First: none)
+  -- the stocks assembled from the rows are written as just the rows of `market`, in some order; in the first format
+  -- there are none
   markets_said : IsPermutation (market_rows f (entries regions)) p.markets
   markets_said = elim f as (λ g. f ≡ g → IsPermutation (market_rows g (entries regions)) p.markets) [
     | First ↦ λ is. subst (λ rows. IsPermutation [] rows) (sym (none_in_first is)) (IsPermutation-refl [])

@@ -69,7 +69,8 @@ pub record IsWithoutMarkets (c : CampaignValue) : Type 0 where
   -- no amount is booked under the entries of markets
   pub entries : (e : BooksEntry) (t : Thing) → first_entry_count ≤ entry_index e → amount_in c.books e t ≡ pos 0
 
--- the tables of the format can hold the campaign: the first format if it is `IsWithoutMarkets`, the second always
+-- the tables of the format can hold the campaign: the first format if it uses no markets (`IsWithoutMarkets`), the
+-- second always
 abbrev pub Fits : Format → CampaignValue → Type 0
 Fits First c = IsWithoutMarkets c
 Fits Second c = ⊤

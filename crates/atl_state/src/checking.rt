@@ -280,11 +280,10 @@ fn check_parts(
     Ok(campaign)
 }
 
-/// The campaign that rows of a format say, with nothing marked, or the first rule that they break,
-/// or Memory. The rows may be in any order, each counts once, and the campaign is good. Those of a
-/// good campaign break no rule, in the first format where it has no stocks and no amounts under the
-/// entries of markets.
-/// See docs/FORMATS.md, "Rules of the tables".
+/// Checks the rows of a format by the twelve rules. Ok has the good campaign whose rows are just
+/// these, in any order, with nothing marked; Err has the first rule that they break, or Memory. The
+/// rows of a good campaign break no rule; in the first format this needs a campaign without stocks,
+/// and without amounts under the entries of markets. See docs/FORMATS.md, "Rules of the tables".
 pub fn check_as(
     alloc: Global,
     world: &World,
@@ -298,8 +297,9 @@ pub fn check_as(
     answer
 }
 
-/// The campaign that rows of the second format say, with nothing marked, or the first rule that
-/// they break, or Memory.
+/// Checks the rows of the second format by the twelve rules. Ok has the good campaign whose rows
+/// are just these, in any order, with nothing marked; Err has the first rule that they break, or
+/// Memory.
 pub fn check(alloc: Global, world: &World, parts: Parts) -> Result<Campaign, CheckFault>
     ensures rules { Checks Second world.now parts result }
     ensures whole { IsWorld world.now → GivesBack Second world.now parts result }

@@ -136,8 +136,8 @@ fn are_sorted<K: Ord + Drop>(keys: &[K]) -> bool
     true
 }
 
-/// Whether no two of the values are equal. Where they aren't sorted, it takes memory for each, and
-/// n log n steps.
+/// Whether no two of the values are equal. Where the values don't rise, the test takes memory for
+/// each of them, and n log n steps.
 pub fn are_distinct<K: Ord + Copy + Drop>(alloc: Global, keys: &[K]) -> Result<bool, AllocError>
     ensures { IfOk result (λ yes. IsTrue yes ↔ (IsDistinct (eq_by_cmp K.cmp) keys.now)) }
 {

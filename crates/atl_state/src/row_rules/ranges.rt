@@ -64,7 +64,8 @@ fn has_in_range(row: &StoredHas) -> bool
     is_from(1, 1, row.sort) || is_from(0, 0, row.sort) && is_from(1, HOLDING_LIMIT, row.amount)
 }
 
-/// Whether a structure's number is 1 to MOST_STRUCTURES, and `done` is 1 to the size of its kind.
+/// Whether a structure's number is 1 to MOST_STRUCTURES, and how much of it is done 1 to its kind's
+/// size, or to MOST_SIZE where the world lacks the kind.
 fn structure_in_range(world: &World, row: &StoredStructure) -> bool
     ensures { result ≡ structure_in_range world.now row.now }
 {

@@ -52,7 +52,8 @@ fn are_people_balanced(campaign: &Campaign) -> bool
 }
 
 /// Whether the total of each thing over all units and regions equals the sum booked of it under all
-/// entries. All items held must be the world's, and all stocks of its markets. It takes no memory.
+/// entries. All items held must be the world's, and all stocks of the world's markets. Takes no
+/// memory.
 pub(crate) fn are_balanced(world: &World, campaign: &Campaign) -> bool
     requires few { IsCountable campaign.now.value }
     requires books { AreBooks (things_of world.now) campaign.now.value.books }

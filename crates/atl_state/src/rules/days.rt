@@ -17,7 +17,7 @@ fn has_days(holding: &Holding) -> bool
 }
 
 /// Whether each skill listed of each unit has at least 1 day, and at most MOST_DAYS for each man.
-/// It takes no memory.
+/// Takes no memory.
 pub(crate) fn are_days(campaign: &Campaign) -> bool
     ensures { IsTrue result ↔ (AreDays campaign.now.value) }
 {

@@ -15,8 +15,7 @@ fn is_gone_without(campaign: &Campaign, number: u32, faction: &Faction) -> bool
     faction.gone == campaign.of_faction(number).is_empty()
 }
 
-/// Whether each faction without units is gone, and each faction with units is not. It takes no
-/// memory.
+/// Whether each faction without units is gone, and each faction with units is not. Takes no memory.
 pub(crate) fn are_gone(campaign: &Campaign) -> bool
     ensures { IsTrue result ↔ (GoneHaveNone campaign.now.value × UnitlessAreGone campaign.now.value) }
 {

@@ -259,9 +259,9 @@ fn are_posts_known(campaign: &Campaign) -> bool
     are_mail_known(campaign) && are_reports_known(campaign)
 }
 
-/// Whether all that the campaign names by number exists, its regions are exactly the world's, each
-/// item in stock has a market in its region, and each unit's structure is in the unit's region. It
-/// takes no memory.
+/// Whether all that the campaign names by number exists, and its regions are exactly the world's.
+/// Each item in stock must have a market in its region, and each unit's structure, unless 0 (none),
+/// be in the unit's region. Takes no memory.
 pub(crate) fn are_known(world: &World, campaign: &Campaign) -> bool
     ensures { IsTrue result ↔ (AreKnown world.now campaign.now.value) }
 {

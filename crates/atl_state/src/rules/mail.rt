@@ -26,7 +26,7 @@ fn is_mailing_of_active(campaign: &Campaign, number: u32, text: &Sequence<u8>) -
 }
 
 /// Whether each mail is of a faction that is not gone, is not too long and has a header that names
-/// the faction. It takes no memory.
+/// the faction. Takes no memory.
 pub(crate) fn are_mailings(campaign: &Campaign) -> bool
     ensures { IsTrue result ↔ (IsMail campaign.now.value) }
 {

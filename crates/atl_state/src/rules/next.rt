@@ -50,7 +50,7 @@ fn are_units_before(campaign: &Campaign) -> bool
 }
 
 /// Whether factions and structures are numbered from 1 to one below their next number, without a
-/// gap, and units below the next unit number. It takes no memory.
+/// gap, and units below the next unit number. Takes no memory.
 pub(crate) fn are_numbered(campaign: &Campaign) -> bool
     ensures { IsTrue result ↔ (AreNumbered campaign.now.value) }
 {

@@ -9,7 +9,8 @@ use Rattle.atl_action.specs.Sail.{after_sailing}
 use Rattle.atl_action.specs.Walk.{with_unit_moved}
 use Rattle.atl_action.proofs.sail.put_there.Goals as goal
 
--- the loop's invariant still holds after one more unit went along
+-- after one more unit went along, taking along the units still to come still makes what taking all along makes, and all
+-- that changed is marked
 pub loop-unit-preserved : goal.loop-unit-preserved
 loop-unit-preserved c =
     let so_far = c.loop-unit in
@@ -18,7 +19,8 @@ loop-unit-preserved c =
       marks = marks-trans c.args.campaign.now so_far.campaign _ so_far.invariant.marks c.in_ok-put_unit.ensures.marks;
     }
 
--- after the loop, and once the ship goes too, the campaign is the one that `after_sailing` gives
+-- after the loop, and once the ship goes too, the ship and all units inside it are in the new region, as the definition
+-- says (`after_sailing`)
 pub returns-clause-what : goal.returns-clause-what
 unfolding after_sailing
 returns-clause-what c =

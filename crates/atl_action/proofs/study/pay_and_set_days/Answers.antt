@@ -9,7 +9,8 @@ use Rattle.atl_action.proofs.study.pay_and_set_days.Goals as goal
 pub returns-in_default : goal.returns-in_default
 returns-in_default c = nobody_changes c.args.campaign.now c.args.unit (λ h. with_study h c.args.skill c.args.cost c.args.days) (sym c.in_default.ensures)
 
--- where the unit is there, its money and its days change as `with_study` says (`ChangesHolding`)
+-- where the unit is there, it pays the cost and has the new days of the skill, and nothing else changes
+-- (`ChangesHolding`)
 pub returns : goal.returns
 returns c =
     let old = c.args.campaign.now in

@@ -21,7 +21,8 @@ book_taken-requires-clause-room c =
     rw (ap (λ (d : CampaignValue). d.books) c.in_ok-pay_and_set_days.ensures.value)
     (cost_room c.args.world.now c.args.campaign.now.value c.args.unit u c.args.skill c.args.cost c.args.days is c.requires.steady payable c.requires.room)
 
--- after the booking the campaign is the one that `after_study` gives
+-- after the booking the unit has paid and has its new days, and the cost is booked, as the definition says
+-- (`after_study`)
 pub returns-clause-what : goal.returns-clause-what
 returns-clause-what c = λ u is.
     c.book_taken.ensures.what

@@ -16,7 +16,7 @@ use Rattle.atl_action.proofs.teach.teach_all.Goals as goal
 nobody_yet : amount_of empty ≡ (λ n. 0)
 nobody_yet = fun_ext (λ n. ap (λ (o : Option ℕ). unwrap_or o 0) (get-empty nat_cmp n))
 
--- the loop's invariant holds at first, where nobody was taught and there are no events
+-- before the loop nobody was taught, there are no events of TEACH, and all orders are still to come
 pub loop-order-init : goal.loop-order-init
 loop-order-init c =
     let step = teach_order c.args.campaign.now.value c.args.learning.now in
@@ -25,7 +25,8 @@ loop-order-init c =
     ap (λ t. fold (λ p o. step p (task_of o)) (t, with_events m c.new-events.result.items) xs) (ap amount_of c.new-taught.ensures ∙ nobody_yet)
     ∙ ap (λ es. fold (λ p o. step p (task_of o)) ((λ n. 0), with_events m es) xs) c.new-events.ensures.items
 
--- the loop's invariant still holds after one more order of TEACH
+-- after one more order of TEACH, carrying out the orders still to come still makes the men taught and the month that
+-- carrying out all orders makes
 pub loop-order-preserved : goal.loop-order-preserved
 loop-order-preserved c =
     let step = teach_order c.args.campaign.now.value c.args.learning.now in

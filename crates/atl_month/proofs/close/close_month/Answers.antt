@@ -22,7 +22,7 @@ returns-clause-same c = c.in_ok-campaign.ensures.leaves.same_month
 pub returns-clause-factions : goal.returns-clause-factions
 returns-clause-factions c = factions_stay c.args.world.now c.args.campaign.value c.in_ok-campaign.campaign.value c.in_ok-campaign.ensures.leaves
 
--- no amount of the books moves further than its bound for a month
+-- each amount of the books moves by at most 10^14 - 1 for each phase that may move it (`month_moves`)
 pub returns-clause-books : goal.returns-clause-books
 returns-clause-books c = books_near c.args.world.now c.args.campaign.value c.in_ok-campaign.campaign.value c.in_ok-campaign.ensures.leaves
 
@@ -58,7 +58,8 @@ returns-clause-definition c =
     month_is c.args.world.now c.args.campaign.value c.in_ok-campaign.campaign.value c.new-month.result c.in_ok-campaign.month (by_faction (map reading_of c.args.mailings.items)) c.args.words.now c.into_events.result.items
     c.in_ok-campaign.ensures.meaning is c.into_events.ensures
 
--- each unit of a faction without a mailing has its name, its items and all men who didn't starve (`UnmailedAreLeft`)
+-- each unit of a faction without a mailing, unless all its men starved, has its name, no less of any item, and all men
+-- who didn't starve (`UnmailedAreLeft`)
 pub returns-clause-unmailed : goal.returns-clause-unmailed
 returns-clause-unmailed c =
     unmailed_left c.args.world.now c.args.campaign.value c.in_ok-campaign.campaign.value c.args.mailings.items c.args.words.now c.into_events.result.items (returns-clause-definition c) (returns-clause-keeps c)

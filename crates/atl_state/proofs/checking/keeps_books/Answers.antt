@@ -12,7 +12,8 @@ use Rattle.atl_state.proofs.checking.keeps_books.Goals as goal
 pub are_balanced-requires-clause-few : goal.are_balanced-requires-clause-few
 are_balanced-requires-clause-few c = subst IsCountable (sym c.requires.what) (few-said c.args.format c.args.world.now c.args.parts.now c.requires.before)
 
--- what `are_balanced` requires: the books have as many things as the world, and each listed amount is of one and not 0
+-- what `are_balanced` requires: the books have as many things as the world, and each listed amount is of one of these
+-- things and not 0
 pub are_balanced-requires-clause-books : goal.are_balanced-requires-clause-books
 are_balanced-requires-clause-books c = subst (λ (s : CampaignValue). AreBooks (things_of c.args.world.now) s.books) (sym c.requires.what) (books-said c.args.format c.args.world.now c.args.parts.now c.requires.before)
 
