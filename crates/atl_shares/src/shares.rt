@@ -19,7 +19,7 @@ fn sum_of(wants: &[u64]) -> u128
 }
 
 /// The share of each want of a pot, in the order of the wants: the want itself if the pot is enough
-/// for all, else by one division for each share, with a running remainder.
+/// for all. Else each share takes one division, with a running remainder.
 fn proportional_shares(alloc: Global, pot: u64, wants: &[u64]) -> Result<Vec<u64>, AllocError>
     requires pot { pot ≤ most_amount }
     requires wants { All (λ want. want ≤ most_amount) wants.now }

@@ -153,8 +153,8 @@ module _ (f : Format) {S : Type 0} (g : Ghosts S) (old : Held S) (reads : ReadRo
     have_rows text begins own = record { rows = rows_of_part text begins own; none = none_read text }
 
 module _ (f : Format) {S : Type 0} (g : Ghosts S) where
-  -- if the campaign row was read, and the rows of all other tables, without a value of another type, and `p` is made of
-  -- these rows, all tables were read into `p` (`Gathered`)
+  -- if the campaign row was read, and all other tables without a value of another type, and `p` is made of these rows,
+  -- all tables were read into `p` (`Gathered`)
   gathered_of : (old : Held S) (own : StoredCampaign) (w : WorldValue) (reads : ReadRows) (p : Parts) → OwnRead g old f own w → AllSelectsShowTyped g old (other_selects f) → AreOfFormat f (state g old).now reads → (head : StoredCampaignRow) → head ≡ own.head → IsMadeOf head reads p → Gathered f g old w p
   gathered_of old own w reads p row typed are head same made = record {
     one = own_kept f g old own w row;
@@ -229,7 +229,7 @@ module _ (f : Format) {S : Type 0} (g : Ghosts S) where
     }
 
     -- if the schema after the reads isn't the format's, the tables aren't made as the format has them, the disk failed,
-    -- or the campaign row is refused as it is asked for again
+    -- or asking for the campaign row again is refused
     other_schema : ¬ HasTablesOf f mid.schema → (¬ AreMade f g old) ⊎ (FailedMeanwhile g old ⊎ RefusesAgain g old false)
     other_schema other = elim (cases_Bool (state g mid).is_open) [
       | inl up ↦ inl (λ made. other (subst (λ (d : Database). HasTablesOf f d.schema) (sym ((first.stays clean).same up).0) made.begins))

@@ -73,8 +73,8 @@ module _ (regions : FinMap nat_cmp Region) where
 
 -- ---- the row of one stock
 
--- `of_stock` finds rows of `market` by a test of region and item: by "`f` or `g`" exactly the rows that `f` or `g`
--- finds, and by a test that is always false none (`FindsByNumbers`)
+-- `of_stock` finds rows of `market` by region and item: a test "`f` or `g`" finds what `f` or `g` finds, and a test
+-- that is always false finds nothing (`FindsByNumbers`)
 pub finds_stocks : FindsByNumbers of_stock
 finds_stocks = record { either = either; none = none }
   where

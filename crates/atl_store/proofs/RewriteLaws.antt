@@ -28,8 +28,8 @@ use Rattle.atl_store.proofs.WholeLaws.{inside_weaker}
 
 -- ---- one step after another
 
--- for one row: if `N` is `W` or `M` by the test `p`, the choice of `W` or `N` by `q` is that of `W` or `M` by "`p` or
--- `q`" (`Chosen`)
+-- for one row: if `N` is `W` or `M` by the test `p`, then `W` or `N` by the test `q` is `W` or `M` by "`p` or `q`"
+-- (`Chosen`)
 chosen_step : (p q : Bool) (W M N : Type 0) → N ↔ Chosen p W M → Chosen q W N ↔ Chosen (p || q) W M
 chosen_step true true W M N same = (λ h. h, λ h. h)
 chosen_step false true W M N same = (λ h. h, λ h. h)

@@ -105,8 +105,8 @@ module _ {S : Type 0} (g : Ghosts S) (text : List ℕ) (c : CampaignValue) (old 
   refused_with e (Ok a) told gave = tt
   refused_with e (Err f) told gave = refused_by_fault f (λ none. never_not_empty e (sym told ∙ none)) (record { ready = ready; told = λ clean. (e, told, gave clean) })
 
--- if a write ends with the fault of an error that the database gave, the fault is that of an error of a statement of
--- the write, or of its commit (`IsFaultOfError`)
+-- if a write ends with the fault of an error of the database, this is the error of a statement of the write, or of its
+-- commit (`IsFaultOfError`)
 pub told_by : {S F A : Type 0} (g : Ghosts S) (own : Statements) (fault_of : Error → F) (old new : Held S) (e : Error) (r : Result A F) → IsErrAnd r (λ f. f ≡ fault_of e) → Gives g own e old new → IfErr r (IsFaultOfError g own fault_of old new)
 told_by g own fault_of old new e (Ok a) told gave = tt
 told_by g own fault_of old new e (Err f) told gave = (e, told, gave)

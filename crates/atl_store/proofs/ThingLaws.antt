@@ -20,8 +20,8 @@ use Rattle.atl_store.proofs.HasTableLaws.{three_same, row_has_amount, amount_has
 use Rattle.atl_store.proofs.RewriteLaws.{equal_by_order, is_itself, rewrites_key, kept_only}
 use Rattle.atl_store.proofs.WholeLaws.{inside_weaker}
 
--- `of_kind` finds rows of `has` by a test of unit and thing: by "`f` or `g`" exactly the rows that `f` or `g` finds,
--- and by a test that is always false none (`FindsByNumbers`)
+-- `of_kind` finds rows of `has` by unit and thing: a test "`f` or `g`" finds what `f` or `g` finds, and a test that is
+-- always false finds nothing (`FindsByNumbers`)
 pub finds_things : (sort : ThingKind) → FindsByNumbers (of_kind sort)
 finds_things sort = record { either = either; none = none }
   where

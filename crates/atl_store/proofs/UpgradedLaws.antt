@@ -109,7 +109,7 @@ module _ {S : Type 0} (g : Ghosts S) (text : List ℕ) (old new : Held S) where
   fails_to_load load.Memory refused = inl refused
 
   -- if the tables held a campaign in the first format, a fault of the new world text makes a check fail, with World and
-  -- this fault, or with Memory if memory ran out (`FailsCheck`)
+  -- this fault, or with Memory (`FailsCheck`)
   pub fails_to_read : (fault : WorldFault) → Reads (λ (w : WorldValue). w) (Err fault) (world_of text) → HasOld g text old new → FailsCheck g text old new (new_world_fault fault)
   fails_to_read world.NotToml reads was = (was, reads, λ e. absurd cc)
   fails_to_read (world.Missing path) reads was = (was, reads, λ e. absurd cc)

@@ -79,8 +79,8 @@ only_of [] = None
 only_of (own ∷ []) = Some own
 only_of (own ∷ other ∷ rows) = None
 
--- The rows read of `campaign` are one row, `own`, which keeps the first rule.
--- Its id is 1, its format is `f`, and its world text reads as the world `w`.
+-- The rows read of `campaign` are one row, `own`, which keeps the first rule: its id is 1, its format is `f`, and its
+-- world text reads as the world `w`.
 pub record IsOwn (f : Format) (rows : List StoredCampaign) (own : StoredCampaign) (w : WorldValue) : Type 0 where
   -- `own` is the only row that was read of `campaign`
   pub only : rows ≡ own ∷ []
@@ -113,7 +113,8 @@ JudgesOwn f rows r = Judges (λ both. IsOwn f rows both.0 both.1) ((own : Stored
 abbrev pub JudgesRows : Format → List Row → Result (StoredCampaign × WorldValue) LoadFault → Type 0
 JudgesRows f rows r = Judges (λ both. AreOwnRow f rows both.0.head (string_bytes both.0.world) both.1) ((h : StoredCampaignRow) (text : List ℕ) (w : WorldValue) → ¬ AreOwnRow f rows h text w) r
 
--- the result of judging the rows of `campaign`: OtherFormat if they are one row of the other format, else `JudgesRows`
+-- the result of judging the rows of `campaign`: OtherFormat if they are one row of the other format, else what judging
+-- them by the first rule gives (`JudgesRows`)
 abbrev pub JudgesFormat : Format → List Row → Result (StoredCampaign × WorldValue) LoadFault → Type 0
 JudgesFormat f rows r = (IsOther f rows × (r ≡ Err OtherFormat)) ⊎ ((¬ IsOther f rows) × JudgesRows f rows r)
 

@@ -53,7 +53,7 @@ abbrev pub HoldsCampaign : {S : Type 0} → Ghosts S → Held S → List ℕ →
 HoldsCampaign g conn text c = HasCleanDisk (state g conn) → Keeps (state g conn) text c
 
 -- After a fault the connection, while it is open, keeps the campaign `before`.
--- It is shut only if the disk failed again. A crash leaves the campaign `before` or `after`, never a part.
+-- The connection is shut only if the disk failed again. A crash leaves the campaign `before` or `after`, never a part.
 -- `faults` counts the failures of the disk before the call.
 pub record LeavesAfterFault (faults : ℕ) (s : State) (text : List ℕ) (before after : CampaignValue) : Type 0 where
   -- while the connection is open it keeps the campaign `before`

@@ -86,7 +86,7 @@ pub record HaveRows (f : Format) (db : Trees) (text : List ℕ) (p : Parts) : Ty
 -- ---- the first rule
 
 -- The rows that SQL shows of `campaign` keep the first rule: there is one row, its id is 1, and its format is `f`.
--- Its world text is UTF-8 and reads as the world `w`.
+-- The world text of the row is UTF-8 and reads as the world `w`.
 pub record AreOwnRow (f : Format) (rows : List Row) (h : StoredCampaignRow) (text : List ℕ) (w : WorldValue) : Type 0 where
   -- the SELECT of `campaign` shows one row, whose first columns show `h` and the world text
   pub shown : map (first_columns (length campaign_forms)) rows ≡ own_stored text h ∷ []
@@ -151,9 +151,10 @@ pub record Stays (old new : State) : Type 0 where
 pub record AfterReads {S : Type 0} (g : Ghosts S) (old new : Held S) : Type 0 where
   -- after the reads the tables are as they were before, if the disk is clean
   pub stays : HasCleanDisk (state g new) → Stays (state g old) (state g new)
-  -- a disk that isn't clean stays so, no failure is forgotten, reads tested by digests stay so, and the step limit is
-  -- the same; if the disk is clean, only a failure closes the connection, and a crash leaves only what it could have
-  -- left before (`Survives`)
+  -- A disk that isn't clean stays so, no failure is forgotten, reads tested by digests stay so, and the step limit is
+  -- the same.
+  -- If the disk is clean, only a failure closes the connection, and a crash leaves only what it could have left before
+  -- (`Survives`).
   pub survives : Survives (state g old) (state g new) (λ _. ⊥)
   -- after the reads the connection is in no transaction
   pub idle : new.in_transaction ≡ false
@@ -316,7 +317,7 @@ module _ (f : Format) {S : Type 0} (g : Ghosts S) (old : Held S) where
   CannotRead = RefusesOne g old (other_selects f) read.Store ⊎ RefusesOne g old (other_selects f) read.Refused
 
   -- All tables but `campaign` are read, each value of its column's form, but the tables can't be confirmed.
-  -- They aren't made as the format has them (`AreMade`), or the disk failed meanwhile.
+  -- The tables aren't made as the format has them (`AreMade`), or the disk failed meanwhile.
   -- Or the SELECT of the campaign row, asked again, is refused for another cause than memory.
   abbrev pub CannotConfirm : Type 0
   CannotConfirm = AllSelectsShowTyped g old (other_selects f) × ((¬ AreMade) ⊎ (FailedMeanwhile g old ⊎ RefusesAgain g old false))
@@ -330,9 +331,9 @@ module _ (f : Format) {S : Type 0} (g : Ghosts S) (old : Held S) where
   abbrev pub HasOtherFormat : Type 0
   HasOtherFormat = (rows : List Row) × Selects g (selection campaign_table 1) old rows × IsOther f rows
 
-  -- When loading in the format `f` may return each fault: Store, Damaged and Memory as said above (`MayReturnStore`,
-  -- `MayReturnDamaged`, `MayReturnMemory`); NotACampaign if the SELECT of `campaign` is refused; OtherFormat if this
-  -- shows one row, of the other format.
+  -- When loading in the format `f` may return each fault. NotACampaign: the SELECT of `campaign` is refused.
+  -- OtherFormat: this SELECT shows one row, of the other format.
+  -- Store, Damaged and Memory: as said above (`MayReturnStore`, `MayReturnDamaged`, `MayReturnMemory`).
   abbrev pub RefusesToLoadIn : LoadFault → Type 0
   RefusesToLoadIn Store = MayReturnStore
   RefusesToLoadIn (Damaged rule) = MayReturnDamaged rule
@@ -401,9 +402,10 @@ module _ {S : Type 0} (g : Ghosts S) (old : Held S) where
   pub record LeavesAlone (new : Held S) : Type 0 where
     -- nothing of the connection is changed, if the disk is clean
     pub spares : HasCleanDisk (state g new) → ChangesNothing (state g old) (state g new)
-    -- a disk that isn't clean stays so, no failure is forgotten, reads tested by digests stay so, and the step limit is
-    -- the same; if the disk is clean, only a failure closes the connection, and a crash leaves only what it could have
-    -- left before (`Survives`)
+    -- A disk that isn't clean stays so, no failure is forgotten, reads tested by digests stay so, and the step limit is
+    -- the same.
+    -- If the disk is clean, only a failure closes the connection, and a crash leaves only what it could have left
+    -- before (`Survives`).
     pub survives : Survives (state g old) (state g new) (λ _. ⊥)
     -- the connection is in a transaction exactly if it was in one
     pub mode : new.in_transaction ≡ old.in_transaction

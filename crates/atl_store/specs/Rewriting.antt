@@ -106,7 +106,7 @@ abbrev pub RewritesBooks : MarkedCampaign → Database → Database → Type 0
 RewritesBooks c old new = Rewrites books_table (amount_marked c.marks.books) (BooksRowsOf c.value.books) old new
 
 -- If `campaign` held one row, this row then says what the campaign says if it is marked, else what it said before.
--- Its world text stays, and every other table is as it was.
+-- The world text of the row stays, and every other table is as it was.
 abbrev pub RewritesCampaignRow : MarkedCampaign → Database → Database → Type 0
 RewritesCampaignRow c old new = (before : CampaignRowValue) (text : List ℕ) → HasExactly (rows_in campaign_table old.trees) (λ r. r ≡ campaign_row before text) → Alters campaign_table (λ r. r ≡ own_after c before text) old new
 

@@ -35,7 +35,7 @@ pub record HoldsOld (s : State) (w : WorldValue) (c : CampaignValue) : Type 0 wh
   pub good : IsGood w c
 
 -- The new text is of the world `w`, and the tables hold the campaign in the first format.
--- Their text is of `w` without markets (`HoldsOld`).
+-- The text that the tables hold is of `w` without markets (`HoldsOld`).
 pub record Matches (s : State) (text : List ℕ) (w : WorldValue) (c : CampaignValue) : Type 0 where
   -- the new text reads as the world `w`
   pub world : world_of text ≡ Ok w
@@ -143,7 +143,8 @@ module _ {S : Type 0} (g : Ghosts S) (text : List ℕ) (old new : Held S) where
   pub record RefusesToUpgrade (fault : UpgradeFault) : Type 0 where
     -- if the disk is clean, a check failed and nothing is changed, or the transaction broke off with this fault
     pub cause : HasCleanDisk (state g new) → (FailsCheck fault × LeavesAlone g old new) ⊎ FailsInTransaction fault
-    -- if the disk is clean, the tables are as they were while the connection is open
+    -- if the disk is clean, nothing is changed: while the connection is open the tables are as they were
+    -- (`ChangesNothing`)
     pub spares : HasCleanDisk (state g new) → ChangesNothing (state g old) (state g new)
     -- if the disk is clean, a crash leaves what it could have left before, or the upgraded campaign
     pub crash : HasCleanDisk (state g new) → MayUpgrade (state g old) text (state g new)

@@ -173,8 +173,8 @@ fn assert_island(rt: &impl Abort, campaign: &Campaign) {
 /// The only row of the table `market` that the campaign of `GOOD` gives, as `Debug` prints it.
 const STOCK: &str = "[StoredMarket { region: 1, item: 0, stock: 20 }]";
 
-/// Asserts that `check` makes of the rows of campaign `first` in the second format a campaign as
-/// `assert_island` wants it, and that the rows in the first format leave out the stock.
+/// Asserts that the rows of campaign `first` in the second format give a campaign as
+/// `assert_island` wants it, and that the rows in the first format have no stock.
 fn comes_back(rt: &impl Abort, alloc: Global, world: &World, first: &Campaign) -> Result<(), Fail> {
     let old = first.parts_as(Format::First)?;
     assert_rows(rt, alloc, old.markets.as_slice(), "[]")?;

@@ -11,9 +11,9 @@ use std::alloc::Global;
 use std::process::Abort;
 use std::test::Fail;
 
-/// Calls that add a unit, begin a structure, change a unit through `unit_mut` (which lends its
-/// holding), set money of a unit and of a region, and remove a unit; and what is marked after each.
-/// The faction Avalon has just joined.
+/// Calls that add a unit, begin a structure, lend a unit's holding (`unit_mut`), set money of a
+/// unit and of a region, and remove a unit; and what is marked after each. The faction Avalon has
+/// just joined.
 static CALLS: [Row; 14] = [
     // The faction, its unit, its money and its man in the books, and the campaign's row.
     (

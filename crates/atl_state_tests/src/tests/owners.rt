@@ -9,8 +9,8 @@ use std::alloc::Global;
 use std::process::Abort;
 use std::test::Fail;
 
-/// A step, and what is wanted after it: who owns each of the two structures, which units are inside
-/// each structure, in region 3 and of faction 1, and how many parts the step marked.
+/// A step, and what is wanted after it: the owners of both structures, the units inside each
+/// structure, in region 3 and of faction 1, and how many parts the step marked.
 struct Case {
     step: Step,
     owners: (u32, u32),

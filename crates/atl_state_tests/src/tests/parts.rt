@@ -8,8 +8,8 @@ use std::alloc::Global;
 use std::process::Abort;
 use std::test::Fail;
 
-/// Steps that begin a lodge, give its owner, unit 1 of the faction Avalon, 12 wood and 60 days of
-/// sailing, set the unit's guard flag, and store a mailing and a report of the faction.
+/// Steps that begin a lodge, give its owner, unit 1 of the faction Avalon, 12 wood, 60 days of
+/// sailing and the guard flag, and store a mailing and a report of Avalon.
 static SETTLING: [Step; 7] = [
     Step::Begins(LODGE, 1),
     Step::Structure(1, OfStructure::Owner(1)),

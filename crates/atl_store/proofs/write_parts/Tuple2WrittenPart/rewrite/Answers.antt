@@ -8,6 +8,6 @@ use Rattle.atl_store.proofs.write_parts.Tuple2WrittenPart.rewrite.Goals as goal
 pub returns : goal.returns
 returns g c = then_done g.S.Store (in_turn_then (RewritesPart c.args.campaign.now) g.X.WrittenPart.parts g.Y.WrittenPart.parts) c.in_ok-rewrite.ensures c.rewrite-2.ensures
 
--- if the parts of `X` can't be rewritten, the write of both ends with this error
+-- if the parts of `X` can't be rewritten, the write of the parts of `X` and `Y` ends with this error
 pub returns-in_err-rewrite : goal.returns-in_err-rewrite
 returns-in_err-rewrite g c = stops g.S.Store c.in_err-rewrite.ensures c.from_residual.ensures
