@@ -57,9 +57,9 @@ module _ {R V : Type 0} (owner : R → ℕ) (more : R → V → V) where
       ]
 
   -- adding rows to a map of values adds to each value the rows of its number (`value_with_rows`)
-  get-give : (rows : List R) (m : FinMap nat_cmp V) (n : ℕ) → get (with_rows_added owner more rows m) n ≡ option_map (value_with_rows n rows) (get m n)
-  get-give [] m n = map_none (get m n)
-  get-give (r ∷ rows) m n = get-give rows (changed (more r) m (owner r)) n ∙ ap (option_map (value_with_rows n rows)) (get-changed r m n) ∙ map_twice (value_with_rows n rows) (λ v. cond (owner r == n) (more r v) v) (get m n)
+  get-with_rows_added : (rows : List R) (m : FinMap nat_cmp V) (n : ℕ) → get (with_rows_added owner more rows m) n ≡ option_map (value_with_rows n rows) (get m n)
+  get-with_rows_added [] m n = map_none (get m n)
+  get-with_rows_added (r ∷ rows) m n = get-with_rows_added rows (changed (more r) m (owner r)) n ∙ ap (option_map (value_with_rows n rows)) (get-changed r m n) ∙ map_twice (value_with_rows n rows) (λ v. cond (owner r == n) (more r v) v) (get m n)
 
   module _ {T : Type 0} (number : T → ℕ) (before after : T → V) (rows : List R) (each : (t : T) → value_with_rows (number t) rows (before t) ≡ after t) where
     -- both maps have the same numbers, and the second has each value of the first with the rows of its number added
@@ -86,10 +86,10 @@ module _ {R V : Type 0} (owner : R → ℕ) (more : R → V → V) where
 
     -- if `after` gives each of ts its value by `before` with the rows added, adding all rows to the map of ts by
     -- `before` gives the map by `after`
-    pub give_all : (ts : List T) → with_rows_added owner more rows (by_number number before ts) ≡ by_number number after ts
-    give_all ts =
+    pub with_rows_added-by_number : (ts : List T) → with_rows_added owner more rows (by_number number before ts) ≡ by_number number after ts
+    with_rows_added-by_number ts =
         let none : Becomes empty empty = λ n. ap (option_map (value_with_rows n rows)) (get-empty nat_cmp n) ∙ sym (get-empty nat_cmp n) in
-        same_map nat_cmp_total nat_cmp-IsAntisymmetric _ _ (λ n. get-give rows (by_number number before ts) n ∙ put_each ts empty empty none n)
+        same_map nat_cmp_total nat_cmp-IsAntisymmetric _ _ (λ n. get-with_rows_added rows (by_number number before ts) n ∙ put_each ts empty empty none n)
 
 -- ---- units
 
@@ -128,7 +128,7 @@ unit_given r n (h ∷ has) items days =
 
 -- units without goods (bare_unit), once all rows of `has` are added, are the units assembled with these rows (unit_of)
 pub units_given : (has : List StoredHas) (rows : List StoredUnit) → with_rows_added (λ h. as_u32 h.unit) with_has_row has (by_number (λ r. as_u32 r.number) bare_unit rows) ≡ by_number (λ r. as_u32 r.number) (unit_of has) rows
-units_given has rows = give_all (λ (h : StoredHas). as_u32 h.unit) with_has_row (λ (r : StoredUnit). as_u32 r.number) bare_unit (unit_of has) has (λ r. unit_given r (as_u32 r.number) has empty empty) rows
+units_given has rows = with_rows_added-by_number (λ (h : StoredHas). as_u32 h.unit) with_has_row (λ (r : StoredUnit). as_u32 r.number) bare_unit (unit_of has) has (λ r. unit_given r (as_u32 r.number) has empty empty) rows
 
 -- ---- regions
 
@@ -161,4 +161,4 @@ region_given r n (m ∷ markets) stocks =
 -- (region_of)
 pub regions_given : (markets : List StoredMarket) (rows : List StoredRegion)
     → with_rows_added (λ m. as_u32 m.region) with_market_row markets (by_number (λ r. as_u32 r.number) bare_region rows) ≡ by_number (λ r. as_u32 r.number) (region_of markets) rows
-regions_given markets rows = give_all (λ (m : StoredMarket). as_u32 m.region) with_market_row (λ (r : StoredRegion). as_u32 r.number) bare_region (region_of markets) markets (λ r. region_given r (as_u32 r.number) markets empty) rows
+regions_given markets rows = with_rows_added-by_number (λ (m : StoredMarket). as_u32 m.region) with_market_row (λ (r : StoredRegion). as_u32 r.number) bare_region (region_of markets) markets (λ r. region_given r (as_u32 r.number) markets empty) rows

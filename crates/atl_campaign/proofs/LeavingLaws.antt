@@ -190,8 +190,8 @@ module _ (w : WorldValue) (c : CampaignValue) (n : ℕ) (u : Unit) (is : get c.u
 
     -- if unit n does not own the structure that it is inside, each structure still has its owner inside, or no unit
     -- inside, once n is removed (AreReowned)
-    as_they_were : is_owned_by (get c.structures u.structure) n ≡ false → AreReowned c.structures
-    as_they_were free = record {
+    AreReowned-unchanged : is_owned_by (get c.structures u.structure) n ≡ false → AreReowned c.structures
+    AreReowned-unchanged free = record {
       count = refl;
       back = λ k x there. (x, x.owner, there, refl);
       forth = λ k y there. (y.owner, there);
@@ -310,12 +310,12 @@ module _ (w : WorldValue) (c : CampaignValue) (n : ℕ) (u : Unit) (is : get c.u
       by_test s here true t =
           subst (λ (m : FinMap nat_cmp Structure). IsSteady w (reduced m)) (sym (changed-known (owned_by (heir c u.structure n)) c.structures u.structure s here))
           (steady_left (insert c.structures u.structure (owned_by (heir c u.structure n) s)) (as_handed_on old.owners low s here (is_no_zero c.structures c.next_structure old.next.structures u.structure s here)) old)
-      by_test s here false t = steady_left c.structures (as_they_were old.owners low t) old
+      by_test s here false t = steady_left c.structures (AreReowned-unchanged old.owners low t) old
 
       -- for steady_handed: without unit n the campaign stays steady, whether the structure that n is inside is there
       -- (o) or not
       by_owner : (o : Option Structure) → get c.structures u.structure ≡ o → IsSteady w (if is_owned_by o n then with_owner gone_from u.structure (heir c u.structure n) else gone_from)
-      by_owner None here = steady_left c.structures (as_they_were old.owners low (ap (λ o. is_owned_by o n) here)) old
+      by_owner None here = steady_left c.structures (AreReowned-unchanged old.owners low (ap (λ o. is_owned_by o n) here)) old
       by_owner (Some s) here = by_test s here (is_owned_by (Some s) n) (ap (λ o. is_owned_by o n) here)
 
   -- a steady campaign stays steady when a unit is removed

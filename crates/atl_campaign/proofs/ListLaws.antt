@@ -124,8 +124,8 @@ AreListsBut0 some all = (k : ℕ) → list_of some k ≡ cond (k == 0) [] (list_
 
 -- if `some` has the lists of `all`, but none under 0 (AreListsBut0), it still does once f changes the list of a key in
 -- both, or in `all` alone where the key is 0
-bare_put : (f : List ℕ → List ℕ) (some all : FinMap nat_cmp (List ℕ)) (key : ℕ) → AreListsBut0 some all → AreListsBut0 (cond (key == 0) some (insert some key (f (list_of some key)))) (insert all key (f (list_of all key)))
-bare_put f some all key bare =
+AreListsBut0-changed : (f : List ℕ → List ℕ) (some all : FinMap nat_cmp (List ℕ)) (key : ℕ) → AreListsBut0 some all → AreListsBut0 (cond (key == 0) some (insert some key (f (list_of some key)))) (insert all key (f (list_of all key)))
+AreListsBut0-changed f some all key bare =
     elim (cases_eq key 0) [
       | inl none ↦ rw none (by_key all 0 (f (list_of all 0)) (λ r xs. list_of some r ≡ cond (r == 0) [] xs) (bare 0) (λ r _. bare r))
       | inr there ↦ rw (other_number key 0 there)
@@ -149,9 +149,9 @@ module _ (units : FinMap nat_cmp Unit) (lists : FinMap nat_cmp (List ℕ)) (are 
   whole_listed = by_key lists 0 outside (λ r xs. xs ≡ numbers_where (λ u. u.structure == r) units) refl (λ r ne. rw (other_number r 0 (λ e. ne (sym e))) at (are r))
 
   -- the lists by structure (`lists`) are those of `whole`, but under 0, where they have none (AreListsBut0)
-  whole_bare : AreListsBut0 lists whole
+  AreListsBut0-whole : AreListsBut0 lists whole
   unfolding whole
-  whole_bare = by_key lists 0 outside (λ r xs. list_of lists r ≡ cond (r == 0) [] xs) (are 0) (λ r ne. rw (other_number r 0 (λ e. ne (sym e))) refl)
+  AreListsBut0-whole = by_key lists 0 outside (λ r xs. list_of lists r ≡ cond (r == 0) [] xs) (are 0) (λ r ne. rw (other_number r 0 (λ e. ne (sym e))) refl)
 
 -- lists with just the units of each structure number, but none under 0, are lists of the units inside (AreInsideLists)
 bare_inside : (units : FinMap nat_cmp Unit) (some all : FinMap nat_cmp (List ℕ)) → AreListsBut0 some all → AreLists (λ u. u.structure) units all → AreInsideLists units some
@@ -164,7 +164,7 @@ module _ (units : FinMap nat_cmp Unit) (old new : FinMap nat_cmp (List ℕ)) (n 
   AreInsideLists-came fresh put is =
       let all = whole units old is in
       rw put
-      (bare_inside (insert units n u) _ (insert all key (put_number n (list_of all key))) (bare_put (put_number n) old all key (whole_bare units old is))
+      (bare_inside (insert units n u) _ (insert all key (put_number n (list_of all key))) (AreListsBut0-changed (put_number n) old all key (AreListsBut0-whole units old is))
       (AreLists-came (λ v. v.structure) units all _ n key u own fresh refl (whole_listed units old is)))
 
   -- the lists by structure still have just the units inside (AreInsideLists) once a unit is removed and taken out of
@@ -173,13 +173,13 @@ module _ (units : FinMap nat_cmp Unit) (old new : FinMap nat_cmp (List ℕ)) (n 
   AreInsideLists-went there same is k =
       let all = whole units old is in
       same k
-      ∙ bare_inside (remove units n) _ (insert all key (take_number n (list_of all key))) (bare_put (take_number n) old all key (whole_bare units old is))
+      ∙ bare_inside (remove units n) _ (insert all key (take_number n (list_of all key))) (AreListsBut0-changed (take_number n) old all key (AreListsBut0-whole units old is))
       (AreLists-went (λ v. v.structure) units all _ n key u own there (λ r. refl) (whole_listed units old is)) k
 
 -- the lists by structure still have just the units inside (AreInsideLists) when a unit changes, but not its structure
 AreInsideLists-kept : (units : FinMap nat_cmp Unit) (lists : FinMap nat_cmp (List ℕ)) (n : ℕ) (u v : Unit) → get units n ≡ Some u → u.structure ≡ v.structure → AreInsideLists units lists → AreInsideLists (insert units n v) lists
 AreInsideLists-kept units lists n u v there same is =
-    bare_inside (insert units n v) lists (whole units lists is) (whole_bare units lists is) (AreLists-kept (λ w. w.structure) units _ n u v there same (whole_listed units lists is))
+    bare_inside (insert units n v) lists (whole units lists is) (AreListsBut0-whole units lists is) (AreLists-kept (λ w. w.structure) units _ n u v there same (whole_listed units lists is))
 
 -- ---- nobody is listed
 
@@ -281,7 +281,7 @@ AreInsideLists-relisted units old new n from to u v is own goes same lists =
           let all = whole units old lists in
           let put = insert all to (put_number n (list_of all to)) in
           let taken = insert put from (take_number n (list_of put from)) in
-          let bare = bare_put (take_number n) (listed_apart old n to 0) put from (bare_put (put_number n) old all to (whole_bare units old lists)) in
+          let bare = AreListsBut0-changed (take_number n) (listed_apart old n to 0) put from (AreListsBut0-changed (put_number n) old all to (AreListsBut0-whole units old lists)) in
           λ k.
           same k ∙ rw (other_number from to apart)
           (bare_inside (insert units n v) _ taken bare

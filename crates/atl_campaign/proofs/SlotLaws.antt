@@ -43,17 +43,17 @@ module _ {V : Type 0} where
   find_entry_step n q None rest h = absurd (false≢true h)
   find_entry_step n q (Some v) rest h = refl
 
-  -- for find_lodged: the value in slot k or that in slot o (`value_in_slot`), as b chooses, is the value in the chosen
-  -- slot
+  -- for find_slot_entry: the value in slot k or that in slot o (`value_in_slot`), as b chooses, is the value in the
+  -- chosen slot
   value_in_slot_cond : (b : Bool) (s : slab.Slab V) (k : ℕ) (o : Option ℕ) → cond b (slab.get s k) (value_in_slot s o) ≡ value_in_slot s (cond b (Some k) o)
   value_in_slot_cond true s k o = refl
   value_in_slot_cond false s k o = refl
 
   -- a look-up of a number among the entries with values gives the value in the slot that the index entries have for it
-  find_lodged : (s : slab.Slab V) (q : ℕ) (es : List (ℕ × ℕ)) → AreInUse es s → find nat_cmp q (slot_entries es s) ≡ value_in_slot s (find nat_cmp q es)
-  find_lodged s q [] h = refl
-  find_lodged s q (e ∷ es) h =
-      find_entry_step e.0 q (slab.get s e.1) (slot_entries es s) h.0 ∙ ap (cond (eq_by_cmp nat_cmp q e.0) (slab.get s e.1)) (find_lodged s q es h.1)
+  find_slot_entry : (s : slab.Slab V) (q : ℕ) (es : List (ℕ × ℕ)) → AreInUse es s → find nat_cmp q (slot_entries es s) ≡ value_in_slot s (find nat_cmp q es)
+  find_slot_entry s q [] h = refl
+  find_slot_entry s q (e ∷ es) h =
+      find_entry_step e.0 q (slab.get s e.1) (slot_entries es s) h.0 ∙ ap (cond (eq_by_cmp nat_cmp q e.0) (slab.get s e.1)) (find_slot_entry s q es h.1)
       ∙ value_in_slot_cond (eq_by_cmp nat_cmp q e.0) s e.1 (find nat_cmp q es)
 
   -- each slot that a number of the index leads to is in use
@@ -64,7 +64,7 @@ module _ {V : Type 0} where
   pub get_values : (i : FinMap nat_cmp ℕ) (s : slab.Slab V) → HaveOwnSlots i s → (q : ℕ) → get (values_of i s) q ≡ value_in_slot s (get i q)
   get_values i s held q =
       get-from_entries nat_cmp_total (slot_entries (entries i) s) q
-      ∙ find_lodged s q (entries i) (all_in_use i s held)
+      ∙ find_slot_entry s q (entries i) (all_in_use i s held)
       ∙ ap (value_in_slot s) (sym (get-entries i q))
 
   -- the value in the slot that a number leads to (`value_in_slot`) is the number's value in the map of values
@@ -90,9 +90,9 @@ module _ {V : Type 0} where
   vacant_slot s j k same vacant h = false≢true (sym (ap is_some (ap (slab.get s) same ∙ vacant)) ∙ h)
 
   -- two slabs with the same values give the same numbers with values (slot_entries) for the same index entries
-  lodged_same : (es : List (ℕ × ℕ)) (s t : slab.Slab V) → slab.SameValues s t → slot_entries es t ≡ slot_entries es s
-  lodged_same [] s t same = refl
-  lodged_same (e ∷ es) s t same = ap (λ o. slot_entry_at e.0 o (slot_entries es t)) (same e.1) ∙ ap (slot_entry_at e.0 (slab.get s e.1)) (lodged_same es s t same)
+  slot_entries_same : (es : List (ℕ × ℕ)) (s t : slab.Slab V) → slab.SameValues s t → slot_entries es t ≡ slot_entries es s
+  slot_entries_same [] s t same = refl
+  slot_entries_same (e ∷ es) s t same = ap (λ o. slot_entry_at e.0 o (slot_entries es t)) (same e.1) ∙ ap (slot_entry_at e.0 (slab.get s e.1)) (slot_entries_same es s t same)
 
   -- a number that leads to a slot other than the updated one keeps its value
   kept : (s t : slab.Slab V) (k : ℕ) (x : Option V) (o : Option ℕ) → slab.Updates s t k x → ((j : ℕ) → o ≡ Some j → j ≢ k) → value_in_slot t o ≡ value_in_slot s o
@@ -180,7 +180,7 @@ module _ {V : Type 0} where
 
   -- an index leads to the same map of values in two slabs with the same values
   pub nothing_changed : (i : FinMap nat_cmp ℕ) (s t : slab.Slab V) → slab.SameValues s t → values_of i t ≡ values_of i s
-  nothing_changed i s t same = ap from_entries (lodged_same (entries i) s t same)
+  nothing_changed i s t same = ap from_entries (slot_entries_same (entries i) s t same)
 
   -- the numbers of an index lead to distinct slots in use (HaveOwnSlots) in slab t too, if t has the same values as s
   pub HaveOwnSlots-same : (i : FinMap nat_cmp ℕ) (s t : slab.Slab V) → slab.SameValues s t → HaveOwnSlots i s → HaveOwnSlots i t
@@ -284,17 +284,17 @@ module _ {V : Type 0} (s : slab.Slab V) where
 
   -- the numbers of the entries with values (slot_entries) are those of the index entries es, if all their slots are in
   -- use
-  keys_lodged : (es : List (ℕ × ℕ)) → AreInUse es s → keys_of (slot_entries es s) ≡ keys_of es
-  keys_lodged [] h = refl
-  keys_lodged (e ∷ es) h = key_step e.0 (slab.get s e.1) (slot_entries es s) h.0 ∙ ap (λ ns. e.0 ∷ ns) (keys_lodged es h.1)
+  keys_of_slot_entries : (es : List (ℕ × ℕ)) → AreInUse es s → keys_of (slot_entries es s) ≡ keys_of es
+  keys_of_slot_entries [] h = refl
+  keys_of_slot_entries (e ∷ es) h = key_step e.0 (slab.get s e.1) (slot_entries es s) h.0 ∙ ap (λ ns. e.0 ∷ ns) (keys_of_slot_entries es h.1)
 
   -- the entries of the map of values are those of the index, with values for slots (slot_entries)
   pub entries_values : (i : FinMap nat_cmp ℕ) → HaveOwnSlots i s → entries (values_of i s) ≡ slot_entries (entries i) s
-  entries_values i held = entries_of (slot_entries (entries i) s) (rw (keys_lodged (entries i) (all_in_use i s held)) (keys_rise (entries i) (sorted i)))
+  entries_values i held = entries_of (slot_entries (entries i) s) (rw (keys_of_slot_entries (entries i) (all_in_use i s held)) (keys_rise (entries i) (sorted i)))
 
   -- the map of values has as many values as the index has numbers
   pub len_values : (i : FinMap nat_cmp ℕ) → HaveOwnSlots i s → len (values_of i s) ≡ len i
   len_values i held =
       len-entries (values_of i s) ∙ ap length (entries_values i held)
-      ∙ sym (length-map (slot_entries (entries i) s) (λ (e : ℕ × V). e.0)) ∙ ap length (keys_lodged (entries i) (all_in_use i s held)) ∙ length-map (entries i) (λ (e : ℕ × ℕ). e.0)
+      ∙ sym (length-map (slot_entries (entries i) s) (λ (e : ℕ × V). e.0)) ∙ ap length (keys_of_slot_entries (entries i) (all_in_use i s held)) ∙ length-map (entries i) (λ (e : ℕ × ℕ). e.0)
       ∙ sym (len-entries i)

@@ -9,16 +9,16 @@ use Rattle.atl_campaign.proofs.OrderedLaws.{put_number-cons, put_number-nil, tak
 use Rattle.atl_campaign.proofs.MapOfRowsLaws.{each_so}
 
 -- if x is at most each number of a list, it is at most the one at index i
-least : (x : ℕ) (xs : List ℕ) (i d : ℕ) → AllByRecursion (λ y. x ≤ y) xs → i < length xs → x ≤ get_or xs i d
-least x [] i d h l = absurd (omega arith)
-least x (y ∷ xs) zero d h l = h.0
-least x (y ∷ xs) (suc i) d h l = least x xs i d h.1 (omega arith)
+at_most_indexed : (x : ℕ) (xs : List ℕ) (i d : ℕ) → AllByRecursion (λ y. x ≤ y) xs → i < length xs → x ≤ get_or xs i d
+at_most_indexed x [] i d h l = absurd (omega arith)
+at_most_indexed x (y ∷ xs) zero d h l = h.0
+at_most_indexed x (y ∷ xs) (suc i) d h l = at_most_indexed x xs i d h.1 (omega arith)
 
 -- of two indices of a sorted list, the later has a number at least as great
 rises : (xs : List ℕ) (i j d : ℕ) → IsSorted xs → i ≤ j → j < length xs → get_or xs i d ≤ get_or xs j d
 rises [] i j d h le l = absurd (omega arith)
 rises (x ∷ xs) zero zero d h le l = omega arith
-rises (x ∷ xs) zero (suc j) d h le l = least x xs j d h.0 (omega arith)
+rises (x ∷ xs) zero (suc j) d h le l = at_most_indexed x xs j d h.0 (omega arith)
 rises (x ∷ xs) (suc i) zero d h le l = absurd (omega arith)
 rises (x ∷ xs) (suc i) (suc j) d h le l = rises xs i j d h.1 (omega arith) (omega arith)
 

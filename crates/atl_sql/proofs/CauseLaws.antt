@@ -50,20 +50,20 @@ module _ (old new : State) where
   by_failure too_big e failed = by_cause too_big e failed.0 failed.1 failed.2
 
   -- an error of an executed statement, other than lack of memory, has a cause (`Caused`)
-  by_execution : (sql : List ℕ) (params : Row) (e : Error) → ExecutesIn false sql params old new (Err e) → is_memory e ≡ false → Caused e
+  execution_caused : (sql : List ℕ) (params : Row) (e : Error) → ExecutesIn false sql params old new (Err e) → is_memory e ≡ false → Caused e
   unfolding ExecutesIn IsNotRun
-  by_execution sql params e (inl (inl refused)) other = inr (inr refused.1)
-  by_execution sql params e (inl (inr failed)) other = by_failure _ e failed other
-  by_execution sql params e (inr ran) other = elim (cases_Bool (shows_rows false ran.0)) [
+  execution_caused sql params e (inl (inl refused)) other = inr (inr refused.1)
+  execution_caused sql params e (inl (inr failed)) other = by_failure _ e failed other
+  execution_caused sql params e (inr ran) other = elim (cases_Bool (shows_rows false ran.0)) [
     | inl shows ↦ inr (inr (rw shows at ran.2).1)
     | inr runs ↦ elim (rw runs at ran.2) [ inl refused ↦ inr (inr refused.1) | inr failed ↦ by_failure _ e failed other ]
   ]
 
   -- an error of a statement or of the commit (`IsGiven`), other than lack of memory, has a cause (`Caused`)
-  by_call : (own : Statements) (e : Error) → IsGiven own e old new → is_memory e ≡ false → Caused e
-  by_call own e (inl ran) other = elim ran.3 [ inl whole ↦ by_execution ran.0 ran.1 e whole.0 other | inr ends ↦ inr (inr ends.2) ]
-  by_call own e (inr (inside, inl failed)) other = by_failure _ e failed other
-  by_call own e (inr (inside, inr late)) other = inr (inr late.2)
+  call_caused : (own : Statements) (e : Error) → IsGiven own e old new → is_memory e ≡ false → Caused e
+  call_caused own e (inl ran) other = elim ran.3 [ inl whole ↦ execution_caused ran.0 ran.1 e whole.0 other | inr ends ↦ inr (inr ends.2) ]
+  call_caused own e (inr (inside, inl failed)) other = by_failure _ e failed other
+  call_caused own e (inr (inside, inr late)) other = inr (inr late.2)
 
 -- ---- one statement after another
 
@@ -111,7 +111,7 @@ module _ {S : Type 0} (g : Ghosts S) (own : Statements) (e : Error) where
 
   -- an error that a statement or the commit gave inside a transaction is one that the transaction gave (`Gives`)
   pub gives : (old new : Held S) → IsTrue (state g old).in_transaction → IsGiven own e (state g old) (state g new) → Gives g own e old new
-  gives old new inside given = record { before = old; after = new; reached = (0, as_begun old inside); kept = record { was_open = λ up. up; committed = λ _. refl }; given = given; cause = by_call (state g old) (state g new) own e given }
+  gives old new inside given = record { before = old; after = new; reached = (0, as_begun old inside); kept = record { was_open = λ up. up; committed = λ _. refl }; given = given; cause = call_caused (state g old) (state g new) own e given }
 
   -- an error that a transaction gives from `mid` on is one that it gives from `old` on (`Gives`), if statements lead
   -- from `old` to `mid` on a clean disk, and commit nothing

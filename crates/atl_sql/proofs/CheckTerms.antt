@@ -51,11 +51,11 @@ constant below (Binary op a b) says = absurd (cc)
 constant below (Case t a b) says = absurd (cc)
 
 -- the default for a node that a list of nodes doesn't have, which is no part of the term "id = 1"
-abbrev past : Op
-past = Literal Null
+abbrev no_node : Op
+no_node = Literal Null
 
--- a node that is not the default (`past`) is in the list at its index
-there : (ops : List Op) (at : ℕ) (op : Op) → op ≢ past → get_or ops at past ≡ op → slice_get ops at ≡ Some op
+-- a node that is not the default (`no_node`) is in the list at its index
+there : (ops : List Op) (at : ℕ) (op : Op) → op ≢ no_node → get_or ops at no_node ≡ op → slice_get ops at ≡ Some op
 there [] at op other is = absurd (other (sym is))
 there (x ∷ ops) zero op other is = ap Some is
 there (x ∷ ops) (suc at) op other is = there ops at op other is
@@ -63,12 +63,12 @@ there (x ∷ ops) (suc at) op other is = there ops at op other is
 -- the node at an index whose term is the column `id` is this column
 number_at : (ops : List Op) (depth at : ℕ) → term_to ops depth at ≡ col 1 0 → slice_get ops at ≡ Some (Column 1 0)
 number_at ops zero at says = absurd (cc)
-number_at ops (suc depth) at says = there ops at (Column 1 0) (λ same. absurd (cc)) (numbering (term_to ops depth) (get_or ops at past) says)
+number_at ops (suc depth) at says = there ops at (Column 1 0) (λ same. absurd (cc)) (numbering (term_to ops depth) (get_or ops at no_node) says)
 
 -- the node at an index whose term is the number 1 is this literal
 one_at : (ops : List Op) (depth at : ℕ) → term_to ops depth at ≡ lit one → slice_get ops at ≡ Some (Literal one)
 one_at ops zero at says = absurd (cc)
-one_at ops (suc depth) at says = there ops at (Literal one) (λ same. absurd (cc)) (constant (term_to ops depth) (get_or ops at past) says)
+one_at ops (suc depth) at says = there ops at (Literal one) (λ same. absurd (cc)) (constant (term_to ops depth) (get_or ops at no_node) says)
 
 -- ---- the term and the three nodes
 
@@ -80,11 +80,11 @@ Says ops root a b = (slice_get ops root ≡ Some (Binary equals a b)) × (slice_
 says_to : (ops : List Op) (depth root : ℕ) → term_to ops depth root ≡ is_one → (a : ℕ) × (b : ℕ) × Says ops root a b
 says_to ops zero root says = absurd (cc)
 says_to ops (suc depth) root says =
-    let (a, b, is, number, constant) = comparing (term_to ops depth) (get_or ops root past) says in
+    let (a, b, is, number, constant) = comparing (term_to ops depth) (get_or ops root no_node) says in
     (a, b, (there ops root (Binary equals a b) (λ same. absurd (cc)) is, number_at ops depth a number, one_at ops depth b constant))
 
 -- if the root compares the column `id` with the number 1, the term of the root is "id = 1"
-read_off : (ops : List Op) (root a b : ℕ) → get_or ops root past ≡ Binary equals a b → get_or ops a past ≡ Column 1 0 → get_or ops b past ≡ Literal one → term_in ops root ≡ is_one
+read_off : (ops : List Op) (root a b : ℕ) → get_or ops root no_node ≡ Binary equals a b → get_or ops a no_node ≡ Column 1 0 → get_or ops b no_node ≡ Literal one → term_in ops root ≡ is_one
 read_off [] root a b first second third = absurd (cc)
 read_off (x ∷ []) zero zero b first second third = absurd (cc)
 read_off (x ∷ []) zero (suc a) b first second third = absurd (cc)
@@ -94,7 +94,7 @@ read_off (x ∷ y ∷ ops) root a b first second third = rw (first, second, thir
 -- the comparison, the column `id` and the number 1 (`Says`) make the term "id = 1"
 said : (ops : List Op) (root a b : ℕ) → Says ops root a b → term_in ops root ≡ is_one
 said ops root a b (first, second, third) =
-    read_off ops root a b (get_or_from_slice_get ops root _ past first) (get_or_from_slice_get ops a _ past second) (get_or_from_slice_get ops b _ past third)
+    read_off ops root a b (get_or_from_slice_get ops root _ no_node first) (get_or_from_slice_get ops a _ no_node second) (get_or_from_slice_get ops b _ no_node third)
 
 -- ---- what is tested
 

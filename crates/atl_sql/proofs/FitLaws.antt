@@ -103,15 +103,15 @@ module _ (tree : ℕ) (name key_name : List ℕ) (columns : List Column) (unique
     width = length values
 
     -- the row of the number and the values as it is stored
-    abbrev its_row : Row
-    its_row = int n ∷ Null ∷ values
+    abbrev stored_row : Row
+    stored_row = int n ∷ Null ∷ values
 
     -- the terms that read the parameters after the first, which is the number, give the values
     of_parameters : (more : Row) (rows : List Row) → eval_all (map (col 0) (range_with_len 1 width)) ((int n ∷ (values ++ more)) ∷ rows) ≡ values
     of_parameters more rows = map-map (λ (t : Term). eval t ((int n ∷ (values ++ more)) ∷ rows)) (col 0) (range_with_len 1 width) ∙ each_later (int n) values more
 
     -- the terms of the INSERT make the row of the number and the values
-    source_is : value_rows ((int n ∷ values) ++ []) (width + 2) (length (given_row width) / (width + 2)) (given_row width) ≡ its_row ∷ []
+    source_is : value_rows ((int n ∷ values) ++ []) (width + 2) (length (given_row width) / (width + 2)) (given_row width) ≡ stored_row ∷ []
     source_is =
         let counted : length (given_row width) ≡ width + 2 = omega (arith, length-map-range_with_len (col 0) 1 width) in
         let once : length (given_row width) / (width + 2) ≡ 1 = ap (λ (n : ℕ). n / (width + 2)) counted ∙ div_self {n = width + 2} (omega arith) in
@@ -119,21 +119,21 @@ module _ (tree : ℕ) (name key_name : List ℕ) (columns : List Column) (unique
         ap (λ (count : ℕ). value_rows ((int n ∷ values) ++ []) (width + 2) count (given_row width)) once ∙ ap (λ (l : List Term). eval_all l (((int n ∷ values) ++ []) ∷ []) ∷ []) all ∙ ap (λ (l : Row). (int n ∷ Null ∷ l) ∷ []) (of_parameters [] [])
 
     -- SQL shows the row as its number and its values
-    shown_is : visible t its_row ≡ int n ∷ values
+    shown_is : visible t stored_row ≡ int n ∷ values
     shown_is =
         let alone : map (column values) (range_with_len 0 width) ≡ values = subst (λ l. map (column l) (range_with_len 0 width) ≡ values) (append-nil values) (each_column values []) in
-        let behind : map (λ k. column its_row (place_of t k)) (range_with_len 1 width) ≡ values = shifted (λ k. column its_row (place_of t k)) (column values) second 0 width ∙ alone in
-        ap (λ l. int n ∷ l) (subst (λ w. map (λ k. column its_row (place_of t k)) (range_with_len 1 w) ≡ values) (fits_length columns values fits) behind)
+        let behind : map (λ k. column stored_row (place_of t k)) (range_with_len 1 width) ≡ values = shifted (λ k. column stored_row (place_of t k)) (column values) second 0 width ∙ alone in
+        ap (λ l. int n ∷ l) (subst (λ w. map (λ k. column stored_row (place_of t k)) (range_with_len 1 w) ≡ values) (fits_length columns values fits) behind)
       where
         -- for `shown_is`: column `k + 1` of the stored row, as SQL shows it, is value `k` of `values`
-        second : (k : ℕ) → column its_row (place_of t (k + 1)) ≡ column values k
+        second : (k : ℕ) → column stored_row (place_of t (k + 1)) ≡ column values k
         second k =
             let apart : nat_eq 0 (k + 1) ≡ false = grind (arith, nat_tests) in
             let place : place_of t (k + 1) ≡ suc (suc k) = rw apart (omega arith) in
-            ap (column its_row) place
+            ap (column stored_row) place
 
     -- SQL's casts leave the row of the number and the values unchanged
-    casted_is : cast_row t its_row ≡ its_row
+    casted_is : cast_row t stored_row ≡ stored_row
     casted_is = rw (cast_int (pos n), cast_null, fits_cast columns values fits) refl
 
     -- the terms for as many columns as there are values make the row of the number and the values (`MakesRow`)

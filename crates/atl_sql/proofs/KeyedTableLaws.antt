@@ -83,8 +83,8 @@ given width = lit Null ∷ map (col 0) (range_with_len 0 width)
 
 -- the terms of the UPDATE of a row of `width` columns: it keeps the first `key`, its key, and takes the parameters for
 -- the others
-abbrev taken_over : ℕ → ℕ → List Term
-taken_over key width = map (col 1) (range_with_len 0 (key + 1)) ++ map (col 0) (range_with_len key (width - key))
+abbrev update_terms : ℕ → ℕ → List Term
+update_terms key width = map (col 1) (range_with_len 0 (key + 1)) ++ map (col 0) (range_with_len key (width - key))
 
 -- the filter of a DELETE: the first `count` columns of the key equal the parameters
 abbrev of_key : ℕ → List Term
@@ -93,7 +93,7 @@ of_key count = map (λ at. op2 (Compare Eq Binary) (col 1 (at + 1)) (col 0 at)) 
 -- what the three texts of a part mean: the upsert, the DELETE by the whole key, and the DELETE by its first number
 record StatementMeanings (part : Part) : Type 0 where
   -- the upsert's text means an INSERT of a row, with an UPDATE of the row that has its key
-  puts : IsPutUnder (table_of part).tree (place_in part) (table_of part).primary (upsert (table_of part) (key_of part)) (width_of part + 1) (given (width_of part)) (width_of part) (taken_over (key_of part) (width_of part))
+  puts : IsPutUnder (table_of part).tree (place_in part) (table_of part).primary (upsert (table_of part) (key_of part)) (width_of part + 1) (given (width_of part)) (width_of part) (update_terms (key_of part) (width_of part))
   -- the upsert has no RETURNING and doesn't read the time
   puts_plain : AlwaysPlain (upsert (table_of part) (key_of part))
   -- the text of the DELETE by the whole key means the DELETE of the rows with this key
@@ -114,7 +114,7 @@ means k = record { puts = λ more indexes. refl; puts_plain = λ more indexes. (
 -- ---- a row is put
 
 -- the terms of the upsert of `has` make the row of these four numbers
-makes_has : (unit sort thing amount : ℕ) → MakesValues has_table has_unique 5 (given 4) 4 (taken_over 3 4) (has_row unit sort thing amount)
+makes_has : (unit sort thing amount : ℕ) → MakesValues has_table has_unique 5 (given 4) 4 (update_terms 3 4) (has_row unit sort thing amount)
 makes_has unit sort thing amount = record {
   source = refl;
   casted = rw (cast_null, cast_int (pos unit), cast_int (pos sort), cast_int (pos thing), cast_int (pos amount)) refl;
@@ -133,19 +133,19 @@ makes_has unit sort thing amount = record {
 pub puts_has : (unit sort thing amount : ℕ) → PutsRow has_table 3 (has_row unit sort thing amount)
 puts_has unit sort thing amount =
     let is = means InHas in
-    puts_keyed has_table.tree _ _ has_unique 4 (key_is InHas) (upsert has_table 3) 5 4 (given 4) (taken_over 3 4) is.puts is.puts_plain (has_row unit sort thing amount) (makes_has unit sort thing amount)
+    puts_keyed has_table.tree _ _ has_unique 4 (key_is InHas) (upsert has_table 3) 5 4 (given 4) (update_terms 3 4) is.puts is.puts_plain (has_row unit sort thing amount) (makes_has unit sort thing amount)
 
 -- the upsert of `books` that ran put the row of this entry, thing and amount
 pub puts_books : (entry thing : ℕ) (amount : ℤ) → PutsRow books_table 2 (books_row entry thing amount)
 puts_books entry thing amount =
     let is = means InBooks in
-    puts_keyed books_table.tree _ _ books_unique 8 (key_is InBooks) (upsert books_table 2) 4 3 (given 3) (taken_over 2 3) is.puts is.puts_plain (books_row entry thing amount) (makes_pair 10 (codes "books") (codes "entry") (codes "thing") (codes "amount") entry thing amount)
+    puts_keyed books_table.tree _ _ books_unique 8 (key_is InBooks) (upsert books_table 2) 4 3 (given 3) (update_terms 2 3) is.puts is.puts_plain (books_row entry thing amount) (makes_pair 10 (codes "books") (codes "entry") (codes "thing") (codes "amount") entry thing amount)
 
 -- the upsert of `market` that ran put the row of this region, item and stock
 pub puts_market : (region item stock : ℕ) → PutsRow market_table 2 (market_row region item stock)
 puts_market region item stock =
     let is = means InMarket in
-    puts_keyed market_table.tree _ _ market_unique 9 (key_is InMarket) (upsert market_table 2) 4 3 (given 3) (taken_over 2 3) is.puts is.puts_plain (market_row region item stock) (makes_pair 12 (codes "market") (codes "region") (codes "item") (codes "stock") region item (pos stock))
+    puts_keyed market_table.tree _ _ market_unique 9 (key_is InMarket) (upsert market_table 2) 4 3 (given 3) (update_terms 2 3) is.puts is.puts_plain (market_row region item stock) (makes_pair 12 (codes "market") (codes "region") (codes "item") (codes "stock") region item (pos stock))
 
 -- ---- rows are deleted
 

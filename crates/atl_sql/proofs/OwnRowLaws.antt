@@ -43,12 +43,12 @@ abbrev pub own_terms : List Term
 own_terms = lit (Int (pos 1)) ∷ lit Null ∷ lit (Int (pos 2)) ∷ col 0 0 ∷ col 0 1 ∷ col 0 2 ∷ col 0 3 ∷ col 0 4 ∷ col 0 5 ∷ []
 
 -- the stored campaign row that the INSERT makes of these values and this world text
-abbrev src : CampaignRowValue → List ℕ → Row
-src head world = int 1 ∷ Null ∷ int 2 ∷ campaign_row_values head world
+abbrev stored_own_row : CampaignRowValue → List ℕ → Row
+stored_own_row head world = int 1 ∷ Null ∷ int 2 ∷ campaign_row_values head world
 
 -- what SQL shows of the row that the UPDATE by these terms makes of a row of `campaign` that is there
 abbrev pub changed_to : List Term → CampaignRowValue → List ℕ → Row → Row
-changed_to project head world r = visible campaign_table (cast_row campaign_table (eval_all project ((campaign_row_values head world ++ rowid r ∷ shown campaign_table (src head world)) ∷ r ∷ [])))
+changed_to project head world r = visible campaign_table (cast_row campaign_table (eval_all project ((campaign_row_values head world ++ rowid r ∷ shown campaign_table (stored_own_row head world)) ∷ r ∷ [])))
 
 -- an upsert of `campaign` inserts the row where there is none, or changes the one that is there by the terms `project`
 pub record PutsOwn (project : List Term) (head : CampaignRowValue) (world : List ℕ) (old new : Database) : Type 0 where
@@ -76,7 +76,7 @@ puts_own sql project means old new head world count has ran =
     let sound = sound_under old.now has in
     let none = unlinked has.begins.tables has.begins.indexes campaign_table.tree has.begins.free in
     let v = campaign_row_values head world in
-    let src = src head world in
+    let src = stored_own_row head world in
     let w = runs_as sql v old new schema has.begins.made_of _ (means.is has.begins.tables has.begins.indexes) (means.plain has.begins.tables has.begins.indexes) count ran.0 in
     let keyed = sound.keyed campaign_table ours in
     let up = upserting schema campaign_table.tree _ _ _ _ _ _ 0 refl none old.step_limit v (0 ∷ []) 6 project (λ db. refl) (statement_of sql (understood schema sql)) own_terms 9 src

@@ -20,15 +20,15 @@ Reads f sql in_table count = (old new : State) (rows : List Row) → Shown sql [
 
 -- if the connection `old` has the tables of a format, so has `before`, the connection as the SELECT finds it
 -- (`IsAsked`)
-pub asked_begins : (f : Format) (old before : State) → IsAsked old before → HasTablesOf f old.now.schema → HasTablesOf f before.now.schema
-asked_begins f old before select_of has = subst (λ (d : Database). HasTablesOf f d.schema) (sym select_of.same) has
+pub asked_has_tables : (f : Format) (old before : State) → IsAsked old before → HasTablesOf f old.now.schema → HasTablesOf f before.now.schema
+asked_has_tables f old before select_of has = subst (λ (d : Database). HasTablesOf f d.schema) (sym select_of.same) has
 
 -- if `old` has the tables of the format, a SELECT of a whole table (`Reads`), asked on a connection with the tables of
 -- `old` (`IsAsked`), shows all rows that the table has in `old`
 pub asked_rows : (f : Format) (sql : List ℕ) (in_table : Trees → List Row) (count : ℕ) → Reads f sql in_table count → (old before during : State) (rows : List Row) → IsAsked old before → Shown sql [] before during rows → HasTablesOf f old.now.schema
     → IsPermutation (in_table old.now.trees) (map (first_columns count) rows)
 asked_rows f sql in_table count means old before during rows select_of shown has =
-    subst (λ (d : Database). IsPermutation (in_table d.trees) (map (first_columns count) rows)) select_of.same (means before during rows shown (asked_begins f old before select_of has))
+    subst (λ (d : Database). IsPermutation (in_table d.trees) (map (first_columns count) rows)) select_of.same (means before during rows shown (asked_has_tables f old before select_of has))
 
 module _ {S A Z : Type 0} (g : Ghosts S) (sql : List ℕ) (old new : Held S) (forms : List Form) (shown : A → Row) (r : Result (Vec A Z) ReadFault) where
   -- on a clean disk, under the tables of the format, a read by a SELECT of a whole table (`Reads`) gives all rows of

@@ -48,14 +48,14 @@ abbrev first : Table → ℕ → List Term
 first t count = map (λ at. col 1 (place_of t at)) (range_with_len 0 count)
 
 -- the term that reads the rowid of a stored row
-abbrev kept_at : Term
-kept_at = col 1 0
+abbrev rowid_term : Term
+rowid_term = col 1 0
 
 -- the terms of a part's SELECT: all columns of the table, and the rowid after them if the key isn't the row's number
 abbrev columns_of : Part → List Term
-columns_of Goods = first has_table 4 ++ kept_at ∷ []
-columns_of Books = first books_table 3 ++ kept_at ∷ []
-columns_of Markets = first market_table 3 ++ kept_at ∷ []
+columns_of Goods = first has_table 4 ++ rowid_term ∷ []
+columns_of Books = first books_table 3 ++ rowid_term ∷ []
+columns_of Markets = first market_table 3 ++ rowid_term ∷ []
 columns_of part = first (table_of part) (length (table_of part).columns)
 
 -- the number of columns of the key of a part's table

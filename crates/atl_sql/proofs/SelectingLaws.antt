@@ -73,13 +73,13 @@ module _ {S : Type 0} (g : Ghosts S) (sql : List ℕ) (old begun mid end : Held 
       }
 
   -- the SELECT after BEGIN is asked of the tables as they were before BEGIN (`IsAsked`)
-  select_of : IsAsked (state g old) (state g begun)
-  select_of = subst (λ h. IsAsked (state g old) (state g h)) (sym begins) (record { was_open = λ up. up; is_open = λ up. up; same = refl; limit = refl; faults = no_fewer (state g old).faults })
+  asked_after_begin : IsAsked (state g old) (state g begun)
+  asked_after_begin = subst (λ h. IsAsked (state g old) (state g h)) (sym begins) (record { was_open = λ up. up; is_open = λ up. up; same = refl; limit = refl; faults = no_fewer (state g old).faults })
 
   -- if the SELECT showed rows before the rollback, these are the result of asking it (`Asks`)
   pub showed : {Z : Type 0} (rows : Vec Row Z) → (HasCleanDisk (state g mid) → Shown sql [] (state g begun) (state g mid) rows.items) → Asks g sql old {Z = Z} (Ok rows) end
   showed rows ok = record {
-    rows = λ clean. (begun, mid, select_of, ok (omega (arith, two.clean)));
+    rows = λ clean. (begun, mid, asked_after_begin, ok (omega (arith, two.clean)));
     refused = λ _. tt;
     rests = rests (λ before. shown_keeps _ _ begun_inside sql [] rows.items (ok before));
     survives = survived;
@@ -96,7 +96,7 @@ module _ {S : Type 0} (g : Ghosts S) (sql : List ℕ) (old begun mid end : Held 
   was_refused : {Z : Type 0} (e : Error) (fault : ReadFault) → fault ≡ read_fault e → (HasCleanDisk (state g mid) → FailsToQuery sql [] (state g begun) (state g mid) e ⊎ IsTooLate sql [] (state g begun) (state g mid) e) → Asks g sql old {Z = Z} (Err fault) end
   was_refused e fault is err = record {
     rows = λ _. tt;
-    refused = λ clean. (begun, mid, e, select_of, not_late e (err (omega (arith, two.clean))), is);
+    refused = λ clean. (begun, mid, e, asked_after_begin, not_late e (err (omega (arith, two.clean))), is);
     rests = rests (λ before. refused_keeps _ _ begun_inside sql [] e (err before));
     survives = survived;
     idle = ended;

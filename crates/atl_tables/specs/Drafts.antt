@@ -115,7 +115,7 @@ pub record IsItemDraft (d : ItemDraft) : Type 0 where
   -- the level of the skill that making the item takes, and the count of its raw items, are in their ranges
   pub making : IsRecipe d.making
 
--- the size of a kind of structure, and the level of the skill that building it takes, are in their ranges
+-- what it takes to build a structure of any kind, ships too, is in its range: its size, and the level of the skill
 pub record IsBuilding (b : Building) : Type 0 where
   -- the material of a complete structure is at least 1
   pub size_least : 1 ≤ b.size
