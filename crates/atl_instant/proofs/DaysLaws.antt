@@ -36,9 +36,9 @@ module _ (days : FinMap nat_cmp ℕ) (f : ℕ → ℕ → ℕ) (s : ℕ) where
       ∙ by_key (eq_by_cmp nat_cmp s k) refl
     where
       -- for `by_key`: a choice between x and x, by any test b, is x
-      both : (b : Bool) (x : ℕ) → cond b x x ≡ x
-      both true x = refl
-      both false x = refl
+      choice_of_same : (b : Bool) (x : ℕ) → cond b x x ≡ x
+      choice_of_same true x = refl
+      choice_of_same false x = refl
 
       -- for `set_among`: skill s has f of its days if it is among the entries, and else what it had, whether the first
       -- entry is for s (`b`) or not
@@ -46,7 +46,7 @@ module _ (days : FinMap nat_cmp ℕ) (f : ℕ → ℕ → ℕ) (s : ℕ) where
       by_key true is =
           let same : s ≡ k = alike k s is in
           let here : f k v ≡ f s (amount_of days s) = ap (f k) (sym one) ∙ ap (λ j. f j (amount_of days j)) (sym same) in
-          ap (cond (is_among es) (f s (amount_of days s))) here ∙ both (is_among es) (f s (amount_of days s))
+          ap (cond (is_among es) (f s (amount_of days s))) here ∙ choice_of_same (is_among es) (f s (amount_of days s))
       by_key false is = refl
 
   -- after each skill that the map `days` lists is set to f of its days, skill s has f of its days in `days`; if these

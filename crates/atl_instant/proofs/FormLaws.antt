@@ -58,12 +58,12 @@ still_there m k q v x free is = get-insert_other m k q v (λ same. none_some x (
 
 -- for `room`: if the test for the unit limit is false of a count u of units and a next number n, u is below 100,000,
 -- and n at most 999,999,999
-few : (u n : ℕ) → (nat_le most_units u || nat_lt last_unit n) ≡ false → (u < most_units) × (n ≤ last_unit)
-few u n h = (grind (arith, nat_tests), grind (arith, nat_tests))
+below_limits : (u n : ℕ) → (nat_le most_units u || nat_lt last_unit n) ≡ false → (u < most_units) × (n ≤ last_unit)
+below_limits u n h = (grind (arith, nat_tests), grind (arith, nat_tests))
 
 -- if the unit limit isn't reached, there are fewer units than 100,000, and the next number is at most 999,999,999
 pub room : (c : CampaignValue) → is_unit_limit c ≡ false → (len c.units < most_units) × (c.next_unit ≤ last_unit)
-room c h = few (len c.units) c.next_unit h
+room c h = below_limits (len c.units) c.next_unit h
 
 module _ (w : WorldValue) (c : CampaignValue) (p : ℕ) (u : Unit) (is : get c.units p ≡ Some u) (early : IsEarly w c) where
   -- the unit that unit p forms
@@ -245,32 +245,34 @@ module _ (w : WorldValue) (c : CampaignValue) (early : IsEarly w c) where
 
     -- campaign d, which an order of FORM makes of c, is early and in balance, nothing is booked (`StepsWell`), and each
     -- unit of c is unchanged
-    abbrev Fine : CampaignValue → Type 0
-    Fine d = StepsWell IsEarly nothing_remaining w c d × Every (λ k v. get d.units k ≡ Some v) c.units
+    abbrev IsEarlyAndKeepsUnits : CampaignValue → Type 0
+    IsEarlyAndKeepsUnits d = StepsWell IsEarly nothing_remaining w c d × Every (λ k v. get d.units k ≡ Some v) c.units
 
-    -- an unchanged campaign stays early and leaves each unit as it was (`Fine`)
-    same_fine : Fine c
+    -- an unchanged campaign stays early and leaves each unit as it was (`IsEarlyAndKeepsUnits`)
+    same_fine : IsEarlyAndKeepsUnits c
     same_fine = (well_same w c early, λ k v there. there)
 
-    -- below the unit limit, forming a unit keeps the campaign early and the other units as they were (`Fine`)
-    formed_fine : (u : Unit) → get c.units n ≡ Some u → (u.faction ≡ f) → is_unit_limit c ≡ false → Fine (with_formed_unit c f n)
-    formed_fine u is own limit = subst Fine (sym (formed_is u is own)) (begun_well w c n u is early limit, begun_stays w c n u is early)
+    -- below the unit limit, forming a unit keeps the campaign early and the other units as they were
+    -- (`IsEarlyAndKeepsUnits`)
+    formed_fine : (u : Unit) → get c.units n ≡ Some u → (u.faction ≡ f) → is_unit_limit c ≡ false → IsEarlyAndKeepsUnits (with_formed_unit c f n)
+    formed_fine u is own limit = subst IsEarlyAndKeepsUnits (sym (formed_is u is own)) (begun_well w c n u is early limit, begun_stays w c n u is early)
 
-    -- FORM for a unit that is there keeps the campaign early and the other units as they were (`Fine`),
+    -- FORM for a unit that is there keeps the campaign early and the other units as they were (`IsEarlyAndKeepsUnits`),
     -- whatever the unit's faction is and whether the unit limit is reached
     by_limit : (u : Unit) → get c.units n ≡ Some u → (a b : Bool) → is_of_faction f (Some u) ≡ a → is_unit_limit c ≡ b
-        → Fine (unless c (first_fault ((not a, NotYours) ∷ (b, UnitLimit) ∷ [])) (with_formed_unit c f n, Done c.next_unit)).0
+        → IsEarlyAndKeepsUnits (unless c (first_fault ((not a, NotYours) ∷ (b, UnitLimit) ∷ [])) (with_formed_unit c f n, Done c.next_unit)).0
     by_limit u is false b own limit = same_fine
     by_limit u is true true own limit = same_fine
     by_limit u is true false own limit = formed_fine u is (is_equal u.faction f own) limit
 
-    -- FORM keeps the campaign early and the other units as they were (`Fine`), whether unit n is there or not
-    by_unit : (o : Option Unit) → get c.units n ≡ o → Fine (unless c (first_fault ((not (is_of_faction f o), NotYours) ∷ (is_unit_limit c, UnitLimit) ∷ [])) (with_formed_unit c f n, Done c.next_unit)).0
+    -- FORM keeps the campaign early and the other units as they were (`IsEarlyAndKeepsUnits`), whether unit n is there
+    -- or not
+    by_unit : (o : Option Unit) → get c.units n ≡ o → IsEarlyAndKeepsUnits (unless c (first_fault ((not (is_of_faction f o), NotYours) ∷ (is_unit_limit c, UnitLimit) ∷ [])) (with_formed_unit c f n, Done c.next_unit)).0
     by_unit None is = same_fine
     by_unit (Some u) is = by_limit u is (is_of_faction f (Some u)) (is_unit_limit c) refl refl
 
-    -- an order of FORM keeps the campaign early and the other units as they were (`Fine`)
-    form_fine : Fine (form_by c f n).0
+    -- an order of FORM keeps the campaign early and the other units as they were (`IsEarlyAndKeepsUnits`)
+    form_fine : IsEarlyAndKeepsUnits (form_by c f n).0
     form_fine = by_unit (get c.units n) refl
 
   -- FORM, carried out by a copy of the order, keeps an early campaign early, in its month and balanced (`StepsWell`)

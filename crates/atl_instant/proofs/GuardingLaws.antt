@@ -83,7 +83,7 @@ module _ (w : WorldValue) (c : CampaignValue) (n : ℕ) (u : Unit) (is : get c.u
 
   -- the campaign's total of each thing stays the same with the unit's other name and guard flag
   pub total-labelled : (t : Thing) → total (with_holding_at c n labelled (Some u)) t ≡ total c t
-  total-labelled t = same (total (with_holding_at c n labelled (Some u)) t) (total c t) (unit_amount t u.holding) (unit_amount t labelled) (total-unit_amount w c n u labelled is t) (held_same t)
+  total-labelled t = equal_by_sums (total (with_holding_at c n labelled (Some u)) t) (total c t) (unit_amount t u.holding) (unit_amount t labelled) (total-unit_amount w c n u labelled is t) (held_same t)
     where
       -- the unit holds as much of each thing under its other name, and with its other flag
       held_same : (s : Thing) → unit_amount s labelled ≡ unit_amount s u.holding
@@ -93,8 +93,8 @@ module _ (w : WorldValue) (c : CampaignValue) (n : ℕ) (u : Unit) (is : get c.u
 
       -- for `total-labelled`: totals a and b are equal, if a + x is b + y, and x and y, what the unit holds with the
       -- one and the other name and flag, are equal
-      same : (a b x y : ℕ) → a + x ≡ b + y → y ≡ x → a ≡ b
-      same a b x y e f = omega arith
+      equal_by_sums : (a b x y : ℕ) → a + x ≡ b + y → y ≡ x → a ≡ b
+      equal_by_sums a b x y e f = omega arith
 
 -- ---- the campaign after the flag is set
 

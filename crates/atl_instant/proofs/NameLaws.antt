@@ -44,8 +44,8 @@ name_other w n text other a b = refl
 module _ (fit : Type 0) (w : WorldValue) (c : CampaignValue) (n : ℕ) (u : Unit) (is : get c.units n ≡ Some u) where
   -- campaign d, which an order for unit n makes of c, is early and in balance if c is and the order fits the world
   -- (`fit`), and no unit but n is worse off in d (`Keeps`)
-  abbrev Kept : CampaignValue → Type 0
-  Kept d = Keeps IsEarly fit w c n u.faction d
+  abbrev KeepsOthersByName : CampaignValue → Type 0
+  KeepsOthersByName d = Keeps IsEarly fit w c n u.faction d
 
   -- ---- the unit's name and its flag
 
@@ -58,14 +58,14 @@ module _ (fit : Type 0) (w : WorldValue) (c : CampaignValue) (n : ℕ) (u : Unit
       (unbooked_well w c (with_holding_at c n h (Some u)) (early-having w c n u h is (may_label w c n u is name flag ok early.steady) old early) (same_month_by refl) refl (total-labelled w c n u is name flag))
 
   -- naming the unit keeps the campaign early, and other units no worse off (`Keeps`), if the name follows the name rule
-  unit_named : (name : List ℕ) → (fit → IsTrue (name_ok name)) → Kept (with_unit_name c n name)
+  unit_named : (name : List ℕ) → (fit → IsTrue (name_ok name)) → KeepsOthersByName (with_unit_name c n name)
   unit_named name ok =
       keeps_others w c n u.faction (with_unit_name c n name)
       (λ early fits. label_well name u.holding.guard (ok fits) (λ g. g) early (with_unit_name c n name) (changed_held (λ h. record h { name = name }) c (with_unit_name c n name) n refl u is))
       (others_held (λ (x : Unit). record x { holding = record x.holding { name = name } }) c n)
 
   -- clearing the unit's guard flag keeps the campaign early, and other units no worse off (`Keeps`)
-  flag_cleared : Kept (with_guard c n false)
+  flag_cleared : KeepsOthersByName (with_guard c n false)
   flag_cleared =
       keeps_others w c n u.faction (with_guard c n false)
       (λ early fits. label_well u.holding.name false (early.steady.names.units n u is) (λ g. false_true g) early (with_guard c n false) (changed_held (λ h. record h { guard = false }) c (with_guard c n false) n refl u is))
@@ -74,7 +74,7 @@ module _ (fit : Type 0) (w : WorldValue) (c : CampaignValue) (n : ℕ) (u : Unit
   -- ---- the names of its faction and of a structure
 
   -- naming the unit's faction keeps the campaign early, and units no worse off (`Keeps`), if the name follows the rule
-  faction_named : (name : List ℕ) → (fit → IsTrue (name_ok name)) → Kept (with_faction_name c u.faction name)
+  faction_named : (name : List ℕ) → (fit → IsTrue (name_ok name)) → KeepsOthersByName (with_faction_name c u.faction name)
   faction_named name ok =
       keeps_others w c n u.faction (with_faction_name c u.faction name) (λ early fits.
       let (x, there) = (early.steady.known.units n u is).faction in
@@ -109,7 +109,7 @@ module _ (fit : Type 0) (w : WorldValue) (c : CampaignValue) (n : ℕ) (u : Unit
 
   -- an order to name structure k keeps the campaign early, and units no worse off (`Keeps`), with a fault or without,
   -- if the name follows the name rule
-  structure_named : (k : ℕ) (ship : Bool) (name : List ℕ) → (fit → IsTrue (name_ok name)) → Kept (structure_name_result w c n k ship name).0
+  structure_named : (k : ℕ) (ship : Bool) (name : List ℕ) → (fit → IsTrue (name_ok name)) → KeepsOthersByName (structure_name_result w c n k ship name).0
   structure_named k ship name ok =
       keeps_unless w c n u.faction (structure_fault w n ship (get c.structures k)) (with_structure_name c k name) (Done 0) (λ none.
       keeps_others w c n u.faction (with_structure_name c k name) (λ early fits. structure_well k name (ok fits) early) (λ j apart. refl))
@@ -117,7 +117,7 @@ module _ (fit : Type 0) (w : WorldValue) (c : CampaignValue) (n : ℕ) (u : Unit
   -- ---- an order
 
   -- NAME, whatever it names, keeps the campaign early, and units no worse off (`Keeps`), if the name follows the rule
-  named : (what : NameKind) (name : List ℕ) → (fit → IsTrue (name_ok name)) → Kept (name_result w c n u.faction u.structure what name).0
+  named : (what : NameKind) (name : List ℕ) → (fit → IsTrue (name_ok name)) → KeepsOthersByName (name_result w c n u.faction u.structure what name).0
   named kinds.Unit name ok = unit_named name ok
   named kinds.Faction name ok = faction_named name ok
   named kinds.Building name ok = structure_named u.structure false name ok
@@ -136,11 +136,11 @@ name_keeps w a c t x own = by_operands t.order_value.operands
 -- NAME and GUARD 0 keep an early campaign early and book nothing, and a unit is no worse off unless its own faction
 -- wrote one of these orders for it (`IsOrderly`)
 pub name_orderly : IsOrderly name_step IsEarly nothing_remaining moves_nothing name_concerns IsNoWorse
-name_orderly = orderly_by name_keeps (λ w a t n f own other. passed w t.unit t.order_value.operands (λ names. other (own, names)))
+name_orderly = orderly_by name_keeps (λ w a t n f own other. passes_over_guard w t.unit t.order_value.operands (λ names. other (own, names)))
   where
     -- for `name_orderly`: the phase passes over GUARD 1, given as an order for which other operands than those of GUARD
     -- 1 are impossible
-    passed : (w : WorldValue) (n : ℕ) (o : OperandsValue) → (o ≢ operands.Flag true → ⊥) → name_effect w n o ≡ None
-    passed w n (operands.Name what name) other = absurd (other (λ same. cc))
-    passed w n (operands.Flag false) other = absurd (other (λ same. cc))
-    passed w n o other = refl
+    passes_over_guard : (w : WorldValue) (n : ℕ) (o : OperandsValue) → (o ≢ operands.Flag true → ⊥) → name_effect w n o ≡ None
+    passes_over_guard w n (operands.Name what name) other = absurd (other (λ same. cc))
+    passes_over_guard w n (operands.Flag false) other = absurd (other (λ same. cc))
+    passes_over_guard w n o other = refl

@@ -51,13 +51,13 @@ place_other w a f n text other l b d = refl
 module _ (fit : Type 0) (w : WorldValue) (c : CampaignValue) (n : ℕ) (u : Unit) (is : get c.units n ≡ Some u) where
   -- campaign d, which an order for unit n makes of c, is early and in balance if c is and the order fits the world
   -- (`fit`), and no unit but n is worse off in d (`Keeps`)
-  abbrev Kept : CampaignValue → Type 0
-  Kept d = Keeps IsEarly fit w c n u.faction d
+  abbrev KeepsOthersByPlace : CampaignValue → Type 0
+  KeepsOthersByPlace d = Keeps IsEarly fit w c n u.faction d
 
   -- ---- LEAVE
 
   -- LEAVE for unit n keeps the campaign early, and all other units no worse off (`Keeps`)
-  left : Kept (leave w n c u).0
+  left : KeepsOthersByPlace (leave w n c u).0
   unfolding leave
   left =
       keeps_unless w c n u.faction (leave_fault w u) (with_place c n u.region 0) (Done 0) (λ none.
@@ -71,7 +71,7 @@ module _ (fit : Type 0) (w : WorldValue) (c : CampaignValue) (n : ℕ) (u : Unit
 
   -- ENTER without a fault keeps the campaign early, and other units no worse off (`Keeps`), whether unit n is already
   -- inside structure s or not
-  entered_by : (s : ℕ) (o : Option Structure) → get c.structures s ≡ o → (b : Bool) → (u.structure == s) ≡ b → not (is_in u.region o) ≡ false → Kept (if b then c else with_place c n u.region s)
+  entered_by : (s : ℕ) (o : Option Structure) → get c.structures s ≡ o → (b : Bool) → (u.structure == s) ≡ b → not (is_in u.region o) ≡ false → KeepsOthersByPlace (if b then c else with_place c n u.region s)
   entered_by s None there b same near = absurd (true≢false near)
   entered_by s (Some x) there true same near = keeps_all w c n u.faction
   entered_by s (Some x) there false same near =
@@ -81,7 +81,7 @@ module _ (fit : Type 0) (w : WorldValue) (c : CampaignValue) (n : ℕ) (u : Unit
       (λ k apart. place_stays c n u.region s k apart)
 
   -- ENTER for unit n keeps the campaign early, and all other units no worse off (`Keeps`)
-  entered : (s : ℕ) → Kept (enter n s c u).0
+  entered : (s : ℕ) → KeepsOthersByPlace (enter n s c u).0
   unfolding enter
   entered s =
       keeps_unless w c n u.faction (enter_fault c s u) (with_unit_inside c n u.region u.structure s) (Done 0) (λ none.
@@ -122,7 +122,7 @@ module _ (fit : Type 0) (w : WorldValue) (c : CampaignValue) (n : ℕ) (u : Unit
       owned q y false here old = old
 
   -- PROMOTE by unit n keeps the campaign early, and all other units no worse off (`Keeps`)
-  promoted : (to : ℕ) → Kept (promote n to c u).0
+  promoted : (to : ℕ) → KeepsOthersByPlace (promote n to c u).0
   unfolding promote
   promoted to =
       let owns = is_owned_by (get c.structures u.structure) n in

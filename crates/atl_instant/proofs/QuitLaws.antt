@@ -366,13 +366,13 @@ module _ (w : WorldValue) (c : CampaignValue) (n : ℕ) (u : Unit) (is : get c.u
   balanced old t =
       let only = only_reduced w booked_off n u there in
       let totals : total booked_off t ≡ total c t = ap (λ s. total s t) all_is_booked.same ∙ total_books c booked_off.books t in
-      rest (total after_leave t) (unit_amount t u.holding) (total booked_off t) (total c t) (held_of_thing u.holding t) (booked c.books t) (booked booked_off.books t) (total-without w booked_off n u there t) totals (held_is_unit_amount u.holding t) (old t) (all_is_booked.sum_falls t)
+      total_stays_booked (total after_leave t) (unit_amount t u.holding) (total booked_off t) (total c t) (held_of_thing u.holding t) (booked c.books t) (booked booked_off.books t) (total-without w booked_off n u there t) totals (held_is_unit_amount u.holding t) (old t) (all_is_booked.sum_falls t)
       ∙ ap (λ (books : BooksValue). booked books t) (sym only.books)
     where
       -- for `balanced`: the total a after the unit left is the books' sum y of the thing, since total (b, d) and books
       -- (z) were equal before, and both fell by what the unit held (h, o)
-      rest : (a h b d o : ℕ) (z y : ℤ) → a + h ≡ b → b ≡ d → o ≡ h → pos d ≡ z → z ≡ y +ℤ pos o → pos a ≡ y
-      rest a h b d o z y e f g k l = omega (arith, ints, e, f, g, k, l)
+      total_stays_booked : (a h b d o : ℕ) (z y : ℤ) → a + h ≡ b → b ≡ d → o ≡ h → pos d ≡ z → z ≡ y +ℤ pos o → pos a ≡ y
+      total_stays_booked a h b d o z y e f g k l = omega (arith, ints, e, f, g, k, l)
 
   -- no amount of the books moves further than its remaining bound falls as the unit leaves
   uses_bound : (e : BooksEntry) (t : Thing) → UsesBound (quit_reserve c e t) (quit_reserve after_leave e t) (amount_in c.books e t) (amount_in after_leave.books e t)

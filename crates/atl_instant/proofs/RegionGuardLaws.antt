@@ -112,12 +112,12 @@ module _ (c : CampaignValue) where
 any_listed : (p : ℕ → Bool) (ns : List ℕ) (k : ℕ) → IsListed k ns → p k ≡ true → list_any p ns ≡ true
 any_listed p [] k listed t = absurd listed
 any_listed p (n ∷ ns) k (inl same) t = ap (λ b. b || list_any p ns) (ap p (sym same) ∙ t)
-any_listed p (n ∷ ns) k (inr rest) t = either (p n) (any_listed p ns k rest t)
+any_listed p (n ∷ ns) k (inr rest) t = passes_later (p n) (any_listed p ns k rest t)
   where
     -- for `any_listed`: if the rest ns of a list has an element that passes p, so has the list
-    either : (b : Bool) → list_any p ns ≡ true → (b || list_any p ns) ≡ true
-    either true t = refl
-    either false t = t
+    passes_later : (b : Bool) → list_any p ns ≡ true → (b || list_any p ns) ≡ true
+    passes_later true t = refl
+    passes_later false t = t
 
 -- if no element of a list passes a test, the test of the whole list fails
 any_none : (p : ℕ → Bool) (ns : List ℕ) → ((k : ℕ) → IsListed k ns → p k ≡ false) → list_any p ns ≡ false

@@ -164,7 +164,7 @@ may_have_more w n other h room from may = record {
   skills = λ s d there. let (some, is) = each_said (raised_of n other h) (keys h.days ++ keys other.days) s d there in known s (some_of (amount_of h.days s) (going_of n other s) d is some);
   days = λ s d there.
       let (some, is) = each_said (raised_of n other h) (keys h.days ++ keys other.days) s d there in
-      (some, subst (λ x. x ≤ most_days * (h.men + n)) (sym is) (both most_days h.men n (amount_of h.days s) (going_of n other s) (days_may w h s may) (going_most n other.men (amount_of other.days s) (days_may w other s from))));
+      (some, subst (λ x. x ≤ most_days * (h.men + n)) (sym is) (sum_of_days_within most_days h.men n (amount_of h.days s) (going_of n other s) (days_may w h s may) (going_most n other.men (amount_of other.days s) (days_may w other s from))));
 }
   where
     -- for `may_have_more`: if d days of a skill, a of the receiver's and g that came, are at least 1, a or g is
@@ -186,10 +186,10 @@ may_have_more w n other h room from may = record {
 
     -- for `may_have_more`: if a days are at most k for each of m men, and b at most k for each of n, a + b are at most
     -- k for each of both
-    both : (k m n a b : ℕ) → a ≤ k * m → b ≤ k * n → a + b ≤ k * (m + n)
-    both k m n a b f g = rw (spread k m n) (omega (arith, f, g))
+    sum_of_days_within : (k m n a b : ℕ) → a ≤ k * m → b ≤ k * n → a + b ≤ k * (m + n)
+    sum_of_days_within k m n a b f g = rw (spread k m n) (omega (arith, f, g))
       where
-        -- for `both`: k days for each of s + n men are k for each of the s, and k for each of the n
+        -- for `sum_of_days_within`: k days for each of s + n men are k for each of the s, and k for each of the n
         spread : (k s n : ℕ) → k * (s + n) ≡ k * s + k * n
         spread k s n = grind arith
 

@@ -35,9 +35,9 @@ after P Q (Ok x) f h g = g x h
 after P Q (Err e) f h g = tt
 
 -- if P holds of an option's value, P holds of the result that has this value, or a fault if there is no value
-found : {X : Type 0} (P : X → Type 0) (fault : LineFault) (o : Option X) → ((x : X) → o ≡ Some x → P x) → Holds P (or_fault fault o)
-found P fault None g = tt
-found P fault (Some x) g = g x refl
+value_or_fault : {X : Type 0} (P : X → Type 0) (fault : LineFault) (o : Option X) → ((x : X) → o ≡ Some x → P x) → Holds P (or_fault fault o)
+value_or_fault P fault None g = tt
+value_or_fault P fault (Some x) g = g x refl
 
 -- a condition that is always true (`Unit`) holds of every result: for a step of reading whose value has no bounds
 anything : {X : Type 0} (r : Result X LineFault) → Holds (λ _. Unit {0}) r
@@ -57,7 +57,7 @@ from_one most (Some k) n f h = let m : k ≤ most = f k refl in (grind (arith, n
 
 -- the number that a word is read as, with `most` as the limit and 0 as a fault, is from 1 to `most`
 word_number : (most : ℕ) (fault : LineFault) (w : WordText) → Holds (IsWithin most) (or_fault fault (not_zero (number_of most w.bytes)))
-word_number most fault w = found (IsWithin most) fault (not_zero (number_of most w.bytes)) (λ n h. from_one most (number_of most w.bytes) n (number_within most w.bytes) h)
+word_number most fault w = value_or_fault (IsWithin most) fault (not_zero (number_of most w.bytes)) (λ n h. from_one most (number_of most w.bytes) n (number_within most w.bytes) h)
 
 -- a number that was read, and the words after it
 abbrev pub Counted : Type 0
@@ -117,7 +117,7 @@ index_within title (x ∷ xs) word quoted i h = (position-Some (λ thing. str_eq
 -- an item that is read is one of the world's items
 item_holds : (world : WorldValue) (ws : List WordText) → Holds (λ i. i < length world.items) (item_at world ws)
 item_holds world [] = tt
-item_holds world (w ∷ ws) = found _ UnknownThing _ (λ i h. index_within _ world.items w.bytes w.quoted i h)
+item_holds world (w ∷ ws) = value_or_fault _ UnknownThing _ (λ i h. index_within _ world.items w.bytes w.quoted i h)
 
 -- what is read as goods: an amount, and the number of an item
 abbrev Goods : Type 0
@@ -132,12 +132,12 @@ goods_hold world ws =
 -- a skill that is read is one of the world's skills
 skill_holds : (world : WorldValue) (ws : List WordText) → Holds (λ i. i < length world.skills) (skill_at world ws)
 skill_holds world [] = tt
-skill_holds world (w ∷ ws) = found _ UnknownThing _ (λ i h. index_within _ world.skills w.bytes w.quoted i h)
+skill_holds world (w ∷ ws) = value_or_fault _ UnknownThing _ (λ i h. index_within _ world.skills w.bytes w.quoted i h)
 
 -- a kind of structure that is read is one of the world's kinds
 kind_holds : (world : WorldValue) (ws : List WordText) → Holds (λ i. i < length world.kinds) (kind_at world ws)
 kind_holds world [] = tt
-kind_holds world (w ∷ ws) = found _ UnknownThing _ (λ i h. index_within _ world.kinds w.bytes w.quoted i h)
+kind_holds world (w ∷ ws) = value_or_fault _ UnknownThing _ (λ i h. index_within _ world.kinds w.bytes w.quoted i h)
 
 -- ---- what the words after a verb name
 
@@ -157,26 +157,26 @@ module _ (world : WorldValue) where
       after _ (AreOperandsOf world) (or_fault BadNumber (number_of 1 w.0.bytes)) _ (anything (or_fault BadNumber (number_of 1 w.0.bytes))) (λ n _. tt))
 
   -- a list has one unit or more, and all have their number or alias in range
-  abbrev Units : List UnitRef → Type 0
-  Units units = (0 < length units) × All IsUnitRef units
+  abbrev AreSomeUnits : List UnitRef → Type 0
+  AreSomeUnits units = (0 < length units) × All IsUnitRef units
 
   -- a unit in range in front of units in range makes a list of one unit or more, all in range
-  more_units : (unit : Result UnitRef LineFault) (units : Result (List UnitRef) LineFault) → Holds IsUnitRef unit → Holds (All IsUnitRef) units → Holds Units (and_then_units unit units)
-  more_units unit units h k = after IsUnitRef Units unit _ h (λ u p. after (All IsUnitRef) Units units _ k (λ us q. (omega arith, All-cons IsUnitRef u us p q)))
+  more_units : (unit : Result UnitRef LineFault) (units : Result (List UnitRef) LineFault) → Holds IsUnitRef unit → Holds (All IsUnitRef) units → Holds AreSomeUnits (and_then_units unit units)
+  more_units unit units h k = after IsUnitRef AreSomeUnits unit _ h (λ u p. after (All IsUnitRef) AreSomeUnits units _ k (λ us q. (omega arith, All-cons IsUnitRef u us p q)))
 
-  -- if the words up to the line's end are read as a list of units, it has one or more, all in range (`Units`)
-  some_hold : (ws : List WordText) → Holds Units (some_units_at ws)
+  -- if the words up to the line's end are read as a list of units, it has one or more, all in range (`AreSomeUnits`)
+  some_hold : (ws : List WordText) → Holds AreSomeUnits (some_units_at ws)
   unfolding units_of
   some_hold [] = tt
-  some_hold (w ∷ []) = cond_both (is_word (codes "NEW") w) _ _ (Holds Units) (λ _. tt) (λ _. more_units (numbered w) (Ok []) (numbered_holds w) (All-nil IsUnitRef))
+  some_hold (w ∷ []) = cond_both (is_word (codes "NEW") w) _ _ (Holds AreSomeUnits) (λ _. tt) (λ _. more_units (numbered w) (Ok []) (numbered_holds w) (All-nil IsUnitRef))
   some_hold (w ∷ v ∷ ws) =
-      cond_both (is_word (codes "NEW") w) _ _ (Holds Units)
+      cond_both (is_word (codes "NEW") w) _ _ (Holds AreSomeUnits)
       (λ _. more_units (new_unit_ref v) (units_of ws) (named_holds v) (units_hold ws))
       (λ _. more_units (numbered w) (units_of (v ∷ ws)) (numbered_holds w) (units_hold (v ∷ ws)))
 
   -- if words are read as a list of units, it has one unit or more, all in range (`AreSound`)
   units_sound : (ws : List WordText) → AreSound world (read_units ws)
-  units_sound ws = after Units (AreOperandsOf world) (some_units_at ws) _ (some_hold ws) (λ us h. h)
+  units_sound ws = after AreSomeUnits (AreOperandsOf world) (some_units_at ws) _ (some_hold ws) (λ us h. h)
 
   -- if words are read as a unit and a number, both are in range (`AreSound`)
   unit_and_number_sound : (ws : List WordText) → AreSound world (read_unit_and_number ws)

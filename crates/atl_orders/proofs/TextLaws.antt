@@ -23,12 +23,12 @@ IsNoHeader line = is_header line ≡ false
 
 -- lines from the number n on have no header, and `header_from` gives NoHeader; or they have a first header, and
 -- `header_from` gives what this header gives
-data Found (n : ℕ) (all : List (List ℕ)) : Type 0 where
+data HasHeaderOrNone (n : ℕ) (all : List (List ℕ)) : Type 0 where
   -- the lines have no header, and `header_from` gives NoHeader
-  none : HaveNoHeader all → header_from n all ≡ Err NoHeader → Found n all
+  none : HaveNoHeader all → header_from n all ≡ Err NoHeader → HasHeaderOrNone n all
   -- the lines have a first header, and `header_from` gives what this header gives
   one : (above : List (List ℕ)) (header : List ℕ) (below : List (List ℕ)) → HaveHeader all above header below
-      → header_from n all ≡ header_line (length above + n) below (faction_of (words header)) → Found n all
+      → header_from n all ≡ header_line (length above + n) below (faction_of (words header)) → HasHeaderOrNone n all
 
 -- k + (n + 1) is (k + 1) + n: k lines after line n + 1 is k + 1 lines after line n
 later : (n k : ℕ) → k + (n + 1) ≡ suc k + n
@@ -38,22 +38,23 @@ later n k = omega arith
 from_none : (n : ℕ) → 0 + n ≡ n
 from_none n = omega arith
 
--- if lines have no header or a first one, as `header_from` gives it (`Found`), so have they with a line that is no
--- header in front
-with_line_above : (n : ℕ) (line : List ℕ) (rest : List (List ℕ)) → IsNoHeader line → header_from n (line ∷ rest) ≡ header_from (n + 1) rest → Found (n + 1) rest → Found n (line ∷ rest)
+-- if lines have no header or a first one, as `header_from` gives it (`HasHeaderOrNone`), so have they with a line that
+-- is no header in front
+with_line_above : (n : ℕ) (line : List ℕ) (rest : List (List ℕ)) → IsNoHeader line → header_from n (line ∷ rest) ≡ header_from (n + 1) rest → HasHeaderOrNone (n + 1) rest → HasHeaderOrNone n (line ∷ rest)
 with_line_above n line rest h e (none a f) = none (All-cons IsNoHeader line rest h a) (e ∙ f)
 with_line_above n line rest h e (one above header below is f) =
     one (line ∷ above) header below (record { whole = ap (λ l. line ∷ l) is.whole; leads = is.leads; first = All-cons IsNoHeader line above h is.first })
     (e ∙ f ∙ ap (λ k. header_line k below (faction_of (words header))) (later n (length above)))
 
--- lines have no header or a first one (`Found`), whether their first line, line n, is a header or not, if this holds of
--- the lines after it
-with_first_line : (t : Bool) (n : ℕ) (line : List ℕ) (rest : List (List ℕ)) → is_header line ≡ t → header_from n (line ∷ rest) ≡ cond t (header_line n rest (faction_of (words line))) (header_from (n + 1) rest) → Found (n + 1) rest → Found n (line ∷ rest)
+-- lines have no header or a first one (`HasHeaderOrNone`), whether their first line, line n, is a header or not, if
+-- this holds of the lines after it
+with_first_line : (t : Bool) (n : ℕ) (line : List ℕ) (rest : List (List ℕ)) → is_header line ≡ t → header_from n (line ∷ rest) ≡ cond t (header_line n rest (faction_of (words line))) (header_from (n + 1) rest) → HasHeaderOrNone (n + 1) rest → HasHeaderOrNone n (line ∷ rest)
 with_first_line true n line rest h e f = one [] line rest (record { whole = refl; leads = h; first = All-nil IsNoHeader }) (e ∙ ap (λ k. header_line k rest (faction_of (words line))) (sym (from_none n)))
 with_first_line false n line rest h e f = with_line_above n line rest h e f
 
--- any lines have no header or a first one, and `header_from` gives NoHeader or what that header gives (`Found`)
-has_header_or_none : (n : ℕ) (all : List (List ℕ)) → Found n all
+-- any lines have no header or a first one, and `header_from` gives NoHeader or what that header gives
+-- (`HasHeaderOrNone`)
+has_header_or_none : (n : ℕ) (all : List (List ℕ)) → HasHeaderOrNone n all
 unfolding header_from
 has_header_or_none n [] = none (All-nil IsNoHeader) refl
 has_header_or_none n (line ∷ rest) = with_first_line (is_header line) n line rest refl refl (has_header_or_none (n + 1) rest)
@@ -84,7 +85,7 @@ module _ (world : WorldValue) (text : List ℕ) where
       rw (numbered (length above)) (mailing s above header below is faction f _ _ (body_fits world (length above + 2) Nowhere no_alias below) refl)
 
   -- the rules (`TextSays`) allow the result for a text of at most most_bytes bytes, whether it has a header or not
-  found_fits : length text ≤ most_bytes → Found 1 (lines text) → TextSays world text (after_header world (header_from 1 (lines text)))
+  found_fits : length text ≤ most_bytes → HasHeaderOrNone 1 (lines text) → TextSays world text (after_header world (header_from 1 (lines text)))
   found_fits s (none a e) = rw e (no_header s a refl)
   found_fits s (one above header below is e) = rw e (headed_fits (faction_of (words header)) s above header below is refl)
 

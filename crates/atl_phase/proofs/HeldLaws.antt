@@ -22,11 +22,11 @@ use Rattle.atl_phase.specs.Meaning.{most_moved}
 pub sum_within : {V : Type 0} (f : V → ℕ) (most : ℕ) (es : List (ℕ × V)) → EachEntry (λ n v. f v ≤ most) es → sum_by (λ e. f e.1) es ≤ length es * most
 sum_within f most [] each = omega arith
 sum_within {V} f most (e ∷ es) each =
-    more (sum_by (λ (d : ℕ × V). f d.1) (e ∷ es)) (f e.1) (sum_by (λ (d : ℕ × V). f d.1) es) (length (e ∷ es) * most) (length es * most) most (sum_by-cons (λ (d : ℕ × V). f d.1) e es) (suc-mul (length es) most) each.0 (sum_within f most es each.1)
+    sum_step (sum_by (λ (d : ℕ × V). f d.1) (e ∷ es)) (f e.1) (sum_by (λ (d : ℕ × V). f d.1) es) (length (e ∷ es) * most) (length es * most) most (sum_by-cons (λ (d : ℕ × V). f d.1) e es) (suc-mul (length es) most) each.0 (sum_within f most es each.1)
   where
     -- for `sum_within`: if x is at most m, and the sum y of the others at most b, all together (s) are at most a: b + m
-    more : (s x y a b m : ℕ) → s ≡ x + y → a ≡ b + m → x ≤ m → y ≤ b → s ≤ a
-    more s x y a b m e f k l = omega (arith, e, f, k, l)
+    sum_step : (s x y a b m : ℕ) → s ≡ x + y → a ≡ b + m → x ≤ m → y ≤ b → s ≤ a
+    sum_step s x y a b m e f k l = omega (arith, e, f, k, l)
 
 -- a holding within its limits (`IsHolding`) has at most `holding_limit` (999,999,999) of each thing
 within_limit : (t : Thing) (h : HoldingValue) → IsHolding h → unit_amount t h ≤ holding_limit
@@ -37,11 +37,11 @@ within_limit (Item i) h is = amount_within h i is
 -- in a steady campaign all units together hold less than 10^14 of each thing
 pub all_held_within : (w : WorldValue) (c : CampaignValue) → IsSteady w c → (t : Thing) → sum_over (λ (u : Unit). unit_amount t u.holding) c.units ≤ most_moved
 all_held_within w c steady t =
-    few (sum_over (λ (u : Unit). unit_amount t u.holding) c.units) (length (entries c.units))
+    sum_of_few_units (sum_over (λ (u : Unit). unit_amount t u.holding) c.units) (length (entries c.units))
     (sum_within (λ (u : Unit). unit_amount t u.holding) holding_limit (entries c.units) (each-from_every (λ n u. unit_amount t u.holding ≤ holding_limit) c.units (λ n u is. within_limit t u.holding (steady.numbers.units n u is).1)))
     (omega (arith, len-entries c.units, steady.numbers.few_units))
   where
     -- for `all_held_within`: a sum s of at most `holding_limit` for each of n units, at most `most_units`, is at most
     -- `most_moved`
-    few : (s n : ℕ) → s ≤ n * holding_limit → n ≤ most_units → s ≤ most_moved
-    few s n l m = omega (arith, l, m)
+    sum_of_few_units : (s n : ℕ) → s ≤ n * holding_limit → n ≤ most_units → s ≤ most_moved
+    sum_of_few_units s n l m = omega (arith, l, m)

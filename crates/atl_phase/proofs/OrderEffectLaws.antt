@@ -173,13 +173,13 @@ module _ (w : WorldValue) where
   entry_fit r k e fit is = (fit_at r.entries k e (recursion_from_All (IsEntry w) r.entries fit.entries) is).order
 
   module _ (aliases : Aliases) (readings : FinMap nat_cmp Reading) (fit : AreFit w readings) where
-    -- an order in a mailing can be read with the world, if the readings can be
-    in_mailing_fit : (t : Task) → IsInMailing aliases readings t → IsOrderOf w t.order_value
-    in_mailing_fit t h = subst (IsOrderOf w) h.says (entry_fit h.reading t.place h.entry (fit t.faction h.reading h.of_faction) h.at_place)
+    -- an order in a mailing is in bounds for the world (`IsOrderOf`), if each faction's reading is (`AreFit`)
+    in_mailing_in_bounds : (t : Task) → IsInMailing aliases readings t → IsOrderOf w t.order_value
+    in_mailing_in_bounds t h = subst (IsOrderOf w) h.says (entry_fit h.reading t.place h.entry (fit t.faction h.reading h.of_faction) h.at_place)
 
     -- each order of a phase can be read with the world, if the mailings can
     pub orders_fit : (is_of : Verb → Bool) → All (λ t. IsOrderOf w t.order_value) (values (orders_of is_of ByUnit aliases readings))
-    orders_fit is_of k d l = in_mailing_fit _ (orders_are_in_mailings is_of ByUnit aliases readings k d l)
+    orders_fit is_of k d l = in_mailing_in_bounds _ (orders_are_in_mailings is_of ByUnit aliases readings k d l)
 
 -- ---- the mailings stay
 

@@ -58,8 +58,8 @@ module _ (w : WorldValue) (c : CampaignValue) (n : ℕ) (u : Unit) (s : ℕ) (is
   old_place = u.structure
 
   -- the next owner of the structure that unit n leaves; 0 where no other unit is inside
-  abbrev next : ℕ
-  next = heir c old_place n
+  abbrev next_owner : ℕ
+  next_owner = heir c old_place n
 
   -- unit n as it is inside structure s
   abbrev moved : Unit
@@ -71,7 +71,7 @@ module _ (w : WorldValue) (c : CampaignValue) (n : ℕ) (u : Unit) (s : ℕ) (is
 
   -- the campaign with unit n inside structure s, after a handover of the structure that the unit left to its next owner
   abbrev after_leaving : CampaignValue
-  after_leaving = after_handover begun old_place n next
+  after_leaving = after_handover begun old_place n next_owner
 
   -- the campaign after unit n went: the structure that unit n left has its next owner, and the one that unit n entered
   -- is owned by unit n if nobody owned it
@@ -81,7 +81,7 @@ module _ (w : WorldValue) (c : CampaignValue) (n : ℕ) (u : Unit) (s : ℕ) (is
   -- structure q after unit n went, with its owner after both handovers: of the structure that it left, and of the one
   -- that it entered
   abbrev owner_behind : ℕ → Structure → Structure
-  owner_behind q y = handed_on s 0 n q (handed_on old_place n next q y)
+  owner_behind q y = handed_on s 0 n q (handed_on old_place n next_owner q y)
 
   -- the campaign after unit n went, given as a refit: unit n inside structure s, and each structure with its new owner
   abbrev pub behind : CampaignValue
@@ -96,7 +96,7 @@ module _ (w : WorldValue) (c : CampaignValue) (n : ℕ) (u : Unit) (s : ℕ) (is
   -- the campaign that the two handovers make (`after_entering`) is `behind`, the same campaign given as a refit
   behind_is : after_entering ≡ behind
   behind_is =
-      handed_is after_leaving s 0 n ∙ ap (λ (d : CampaignValue). record d { structures = after_entering.structures }) (handed_is begun old_place n next)
+      handed_is after_leaving s 0 n ∙ ap (λ (d : CampaignValue). record d { structures = after_entering.structures }) (handed_is begun old_place n next_owner)
       ∙ ap (λ m. record c { units = m; structures = after_entering.structures }) (changed-known (λ (x : Unit). record x { region = u.region; structure = s }) c.units n u is)
 
   -- putting unit n inside structure s (`with_place`) makes the campaign `behind`, which is given as a refit
@@ -104,22 +104,22 @@ module _ (w : WorldValue) (c : CampaignValue) (n : ℕ) (u : Unit) (s : ℕ) (is
   place_is = placed_is ∙ behind_is
 
   -- a look-up of a structure after both handovers finds what was there before, with its owner after both
-  at : (q : ℕ) → get after_entering.structures q ≡ option_map (λ y. handed_on s 0 n q (handed_on old_place n next q y)) (get c.structures q)
+  at : (q : ℕ) → get after_entering.structures q ≡ option_map (λ y. handed_on s 0 n q (handed_on old_place n next_owner q y)) (get c.structures q)
   at q =
-      get-after_handover after_leaving s 0 n q ∙ ap (option_map (handed_on s 0 n q)) (get-after_handover begun old_place n next q)
-      ∙ mapped_twice (handed_on s 0 n q) (handed_on old_place n next q) (get c.structures q)
+      get-after_handover after_leaving s 0 n q ∙ ap (option_map (handed_on s 0 n q)) (get-after_handover begun old_place n next_owner q)
+      ∙ mapped_twice (handed_on s 0 n q) (handed_on old_place n next_owner q) (get c.structures q)
 
   -- a structure is the same but for its owner after both handovers
-  same : (q : ℕ) (y : Structure) → IsRelabelled y (handed_on s 0 n q (handed_on old_place n next q y))
-  same q y =
-      let x = handed_on old_place n next q y in
-      relabelled_twice y x (handed_on s 0 n q x) (relabelled_if (q == old_place && y.owner == n) next y) (relabelled_if (q == s && x.owner == 0) n x)
+  same_but_owner : (q : ℕ) (y : Structure) → IsRelabelled y (handed_on s 0 n q (handed_on old_place n next_owner q y))
+  same_but_owner q y =
+      let x = handed_on old_place n next_owner q y in
+      relabelled_twice y x (handed_on s 0 n q x) (relabelled_if (q == old_place && y.owner == n) next_owner y) (relabelled_if (q == s && x.owner == 0) n x)
 
   -- ---- the owners of the structures after the move
 
   -- each unit of campaign c has a number of at least 1
-  low : Every (λ k v. 1 ≤ k) c.units
-  low k v there = (steady.numbers.units k v there).0
+  numbered_from_one : Every (λ k v. 1 ≤ k) c.units
+  numbered_from_one k v there = (steady.numbers.units k v there).0
 
   -- after unit n went, every other unit is as it was before
   away : (k : ℕ) → k ≢ n → get behind.units k ≡ get c.units k
@@ -139,20 +139,20 @@ module _ (w : WorldValue) (c : CampaignValue) (n : ℕ) (u : Unit) (s : ℕ) (is
   entered_owned : (q : ℕ) (y : Structure) → get c.structures q ≡ Some y → q ≢ old_place → q ≡ s → (z : Bool) → (y.owner == 0) ≡ z → IsOwned behind q (if z then owned_by n y else y)
   entered_owned q y there other here true t = record {
     owned = λ some. (moved, get-insert_same c.units n moved, sym here);
-    ownerless = λ none. let least = low n u is in absurd (omega (arith, none, least));
+    ownerless = λ none. let least = numbered_from_one n u is in absurd (omega (arith, none, least));
   }
   entered_owned q y there other here false t = still_owned q y there (owns_no_other w c n u is steady q y there other) (λ none. absurd (true≢false (sym (equal_passes y.owner 0 none) ∙ t)))
 
   -- a structure with its owner after both handovers, by whether it is the one left (`a`), was unit n's own (`e`),
   -- and is the one entered (`b`)
-  abbrev given : (a e b : Bool) → Structure → Structure
-  given a e b y = let x = if a && e then owned_by next y else y in if b && x.owner == 0 then owned_by n x else x
+  abbrev after_handovers : (a e b : Bool) → Structure → Structure
+  after_handovers a e b y = let x = if a && e then owned_by next_owner y else y in if b && x.owner == 0 then owned_by n x else x
 
   -- each structure q has its right owner after both handovers, whether or not it is the one left (`a`), was unit n's
   -- own (`e`), and is the one entered (`b`)
-  by_tests : (q : ℕ) (y : Structure) → get c.structures q ≡ Some y → (a e b : Bool) → (q == old_place) ≡ a → (y.owner == n) ≡ e → (q == s) ≡ b → IsOwned behind q (given a e b y)
+  by_tests : (q : ℕ) (y : Structure) → get c.structures q ≡ Some y → (a e b : Bool) → (q == old_place) ≡ a → (y.owner == n) ≡ e → (q == s) ≡ b → IsOwned behind q (after_handovers a e b y)
   by_tests q y there true e true p r t = absurd (apart (sym (is_equal q old_place p) ∙ is_equal q s t))
-  by_tests q y there true true false p r t = subst (λ k. IsOwned behind k (owned_by next y)) (sym (is_equal q old_place p)) (heir_owns c behind n away old_place (λ zero. is_no_zero c.structures c.next_structure steady.next.structures q y there (is_equal q old_place p ∙ zero)) low (λ v here inside. apart (sym inside ∙ stands v here)) y)
+  by_tests q y there true true false p r t = subst (λ k. IsOwned behind k (owned_by next_owner y)) (sym (is_equal q old_place p)) (heir_owns c behind n away old_place (λ zero. is_no_zero c.structures c.next_structure steady.next.structures q y there (is_equal q old_place p ∙ zero)) numbered_from_one (λ v here inside. apart (sym inside ∙ stands v here)) y)
   by_tests q y there true false false p r t = still_owned q y there (is_unequal y.owner n r) (λ none here. is_unequal q s t (sym here))
   by_tests q y there false e true p r t = entered_owned q y there (is_unequal q old_place p) (is_equal q s t) (y.owner == 0) refl
   by_tests q y there false e false p r t = still_owned q y there (owns_no_other w c n u is steady q y there (is_unequal q old_place p)) (λ none here. is_unequal q s t (sym here))
@@ -164,8 +164,8 @@ module _ (w : WorldValue) (c : CampaignValue) (n : ℕ) (u : Unit) (s : ℕ) (is
     refit : IsRefit w c n u s is after_entering.structures owner_behind
     refit = record {
       at = at;
-      count = len-after_handover after_leaving s 0 n ∙ len-after_handover begun old_place n next;
-      same = λ q y there. same q y;
+      count = len-after_handover after_leaving s 0 n ∙ len-after_handover begun old_place n next_owner;
+      same = λ q y there. same_but_owner q y;
       owned = λ q y there. by_tests q y there (q == old_place) (y.owner == n) (q == s) refl refl refl;
       inside = inside;
       afloat = afloat;

@@ -35,17 +35,17 @@ module _ (lines : Lines) (k u line : ℕ) where
       ap (λ o. max (unwrap_or o 0) n) (get-insert nat_cmp_total (group_of lines k) u (max (line_in lines k u) line) unit)
       ∙ ap (λ b. max (unwrap_or (cond b (Some (max (line_in lines k u) line)) (get (group_of lines k) unit)) 0) n) (sym (unsigned_ties unit u) ∙ equal_turned unit u)
       ∙ elim (u == unit) as (λ b. (u == unit) ≡ b → max (unwrap_or (cond b (Some (max (line_in lines k u) line)) (get (group_of lines k) unit)) 0) n ≡ max (line_in lines k unit) (max (if b && true then line else 0) n)) [
-        | true ↦ λ e. let here : line_in lines k u ≡ line_in lines k unit = ap (line_in lines k) (is_equal u unit e) in three (line_in lines k u) (line_in lines k unit) line n here
-        | false ↦ λ _. two (line_in lines k unit) n
+        | true ↦ λ e. let here : line_in lines k u ≡ line_in lines k unit = ap (line_in lines k) (is_equal u unit e) in max_regrouped (line_in lines k u) (line_in lines k unit) line n here
+        | false ↦ λ _. max_with_zero (line_in lines k unit) n
       ] refl
     where
       -- for `in_group`: of the noted line a (which is b), the line, and n, the greatest is the same in either grouping
-      three : (a b line n : ℕ) → a ≡ b → max (max a line) n ≡ max b (max line n)
-      three a b line n h = omega arith
+      max_regrouped : (a b line n : ℕ) → a ≡ b → max (max a line) n ≡ max b (max line n)
+      max_regrouped a b line n h = omega arith
 
       -- for `in_group`: for another unit the new line counts as 0, which leaves the greater of a and n
-      two : (a n : ℕ) → max a n ≡ max a (max 0 n)
-      two a n = omega arith
+      max_with_zero : (a n : ℕ) → max a n ≡ max a (max 0 n)
+      max_with_zero a n = omega arith
 
   -- once a line of slot k and unit u is noted, the greatest line is for k and u the greater of this line and the old
   -- one, and otherwise the old one

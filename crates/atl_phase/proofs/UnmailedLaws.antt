@@ -207,10 +207,10 @@ UnmailedAre spares m before after = Every (λ n u. get m.readings u.faction ≡ 
 
 -- if a phase leaves the number x of starved men as it is (y), a unit that keeps its faction, men and name, and no less
 -- of any item, has y - x men less (`IsLessBy`), which is 0
-whole : (x y : ℕ) (u v : Unit) → y ≡ x → HasItsMen u v → HasItsItems u v → IsLessBy (y - x) u v
-whole x y u v same men items = record { faction = men.faction; name = items.name; men = nobody u.holding.men v.holding.men men.men; items = items.items }
+none_less : (x y : ℕ) (u v : Unit) → y ≡ x → HasItsMen u v → HasItsItems u v → IsLessBy (y - x) u v
+none_less x y u v same men items = record { faction = men.faction; name = items.name; men = nobody u.holding.men v.holding.men men.men; items = items.items }
   where
-    -- for `whole`: the men b of a unit that keeps its men a are a less y - x, which is 0
+    -- for `none_less`: the men b of a unit that keeps its men a are a less y - x, which is 0
     nobody : (a b : ℕ) → b ≡ a → b ≡ a - (y - x)
     nobody a b e = omega (arith, same)
 
@@ -228,7 +228,7 @@ module _ {meaning : Meaning} {keeps : Frame} (readings : (w : WorldValue) (c : C
         let one = men w c m h n u there none in
         let two = items w c m h n u there none in
         let unit : two.unit ≡ one.unit = same_Some _ _ (sym two.there ∙ one.there) in
-        record { unit = one.unit; there = one.there; spared = whole _ _ u one.unit (nobody w c m n) one.spared (subst (HasItsItems u) unit two.spared) };
+        record { unit = one.unit; there = one.there; spared = none_less _ _ u one.unit (nobody w c m n) one.spared (subst (HasItsItems u) unit two.spared) };
   }
 
 -- ---- a phase whose orders are carried out one by one

@@ -101,8 +101,8 @@ abbrev added_under : BooksEntry → ℤ → BooksEntry → ℤ
 added_under e n f = cond (entry_index f == entry_index e) n (pos 0)
 
 -- an amount plus 0 is the amount: for amounts to which a booking adds nothing
-nothing : (z : ℤ) → z ≡ z +ℤ pos 0
-nothing z = omega (arith, ints)
+plus_zero : (z : ℤ) → z ≡ z +ℤ pos 0
+plus_zero z = omega (arith, ints)
 
 -- (x + y) + (z + w) is (x + z) + (y + w): for `sum_of-raised`
 regroup : (x y z w : ℤ) → (x +ℤ y) +ℤ (z +ℤ w) ≡ (x +ℤ z) +ℤ (y +ℤ w)
@@ -110,7 +110,7 @@ regroup x y z w = omega (arith, ints)
 
 -- the sum of a e + b e over a list of entries e is the sum of a e plus the sum of b e
 sum_of-raised : (a b : BooksEntry → ℤ) (es : List BooksEntry) → sum_of (map (λ e. a e +ℤ b e) es) ≡ sum_of (map a es) +ℤ sum_of (map b es)
-sum_of-raised a b [] = nothing (pos 0)
+sum_of-raised a b [] = plus_zero (pos 0)
 sum_of-raised a b (e ∷ es) = ap (λ z. (a e +ℤ b e) +ℤ z) (sum_of-raised a b es) ∙ regroup (a e) (b e) (sum_of (map a es)) (sum_of (map b es))
 
 -- what a booking of n under entry e adds to the amounts under all entries (`added_under`), summed over them, is n
@@ -130,7 +130,7 @@ module _ (books : BooksValue) (e : BooksEntry) (u : Thing) (n : ℤ) where
             ∙ ap (λ (a : Account). amount_in books a.0 a.1 +ℤ n) (sym at) ∙ ap (λ b. amount_in books f u +ℤ cond b n (pos 0)) (sym tested)
         | inr apart ↦
             let tested : (entry_index f == entry_index e) ≡ false = grind (arith, nat_tests) in
-            other_amount books e u (amount_in books e u +ℤ n) f u (apart_entries (f, u) (e, u) apart) ∙ nothing (amount_in books f u)
+            other_amount books e u (amount_in books e u +ℤ n) f u (apart_entries (f, u) (e, u) apart) ∙ plus_zero (amount_in books f u)
             ∙ ap (λ b. amount_in books f u +ℤ cond b n (pos 0)) (sym tested)
       ]
 
@@ -153,7 +153,7 @@ module _ (books : BooksValue) (e : BooksEntry) (u : Thing) (n : ℤ) where
         | inr apart ↦
             let tested : (thing_index t == thing_index u) ≡ false = grind (arith, nat_tests) in
             let each : (f : BooksEntry) → amount_in (after_booking books e u n) f t ≡ amount_in books f t = λ f. other_amount books e u (amount_in books e u +ℤ n) f t (apart_things (f, t) (e, u) apart) in
-            (λ i. sum_of (map (λ f. each f i) all_entries)) ∙ nothing (booked books t) ∙ ap (λ b. booked books t +ℤ cond b n (pos 0)) (sym tested)
+            (λ i. sum_of (map (λ f. each f i) all_entries)) ∙ plus_zero (booked books t) ∙ ap (λ b. booked books t +ℤ cond b n (pos 0)) (sym tested)
       ]
 
   -- a booking of n changes each amount of the books by n, or not at all

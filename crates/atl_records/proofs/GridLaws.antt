@@ -153,8 +153,8 @@ as_books-replicate things =
 
 module _ (rows : List (List ℤ)) (grid : IsGrid rows) (e : BooksEntry) (t : Thing) (z : ℤ) (there : thing_index t < length rows) where
   -- the row of thing t with z as the amount in the column of entry e
-  abbrev new : List ℤ
-  new = set (row_of rows t) (entry_index e) z
+  abbrev row_with_amount : List ℤ
+  row_with_amount = set (row_of rows t) (entry_index e) z
 
   -- the row of thing t has an amount for each entry
   wide : length (row_of rows t) ≡ entry_count
@@ -164,12 +164,12 @@ module _ (rows : List (List ℤ)) (grid : IsGrid rows) (e : BooksEntry) (t : Thi
   pub IsGrid-with_cell : IsGrid (with_cell rows e t z)
   IsGrid-with_cell =
       record {
-        few = let size = length-set rows (thing_index t) new in omega (arith, size, grid.few);
+        few = let size = length-set rows (thing_index t) row_with_amount in omega (arith, size, grid.few);
         wide = λ k d h.
-            let lt : k < length rows = omega (arith, h, length-set rows (thing_index t) new) in
+            let lt : k < length rows = omega (arith, h, length-set rows (thing_index t) row_with_amount) in
             elim (cases_eq k (thing_index t)) [
-              | inl same ↦ ap (λ i. length (get_or (set rows (thing_index t) new) i d)) same ∙ ap length (get_or-set_same rows (thing_index t) new d there) ∙ length-set (row_of rows t) (entry_index e) z ∙ wide
-              | inr apart ↦ ap length (get_or-set_other rows (thing_index t) k new d apart) ∙ grid.wide k d lt
+              | inl same ↦ ap (λ i. length (get_or (set rows (thing_index t) row_with_amount) i d)) same ∙ ap length (get_or-set_same rows (thing_index t) row_with_amount d there) ∙ length-set (row_of rows t) (entry_index e) z ∙ wide
+              | inr apart ↦ ap length (get_or-set_other rows (thing_index t) k row_with_amount d apart) ∙ grid.wide k d lt
             ];
       }
 
@@ -179,23 +179,23 @@ module _ (rows : List (List ℤ)) (grid : IsGrid rows) (e : BooksEntry) (t : Thi
       let choice = λ (b : Bool). cond b z (cell rows a) in
       elim (cases_eq (thing_index a.1) (thing_index t)) [
         | inl same ↦
-            let row : row_of (with_cell rows e t z) a.1 ≡ new = ap (λ k. get_or (with_cell rows e t z) k []) same ∙ get_or-set_same rows (thing_index t) new [] there in
+            let row : row_of (with_cell rows e t z) a.1 ≡ row_with_amount = ap (λ k. get_or (with_cell rows e t z) k []) same ∙ get_or-set_same rows (thing_index t) row_with_amount [] there in
             let at_row = ap (λ r. get_or r (entry_index a.0) (pos 0)) row in
             elim (cases_eq (entry_index a.0) (entry_index e)) [
               | inl at ↦
                   let is = ap (λ b. eq_by_cmp account_cmp b (e, t)) (same_account a.0 e a.1 t at same) ∙ account_itself (e, t) in
-                  at_row ∙ ap (λ k. get_or new k (pos 0)) at ∙ get_or-set_same (row_of rows t) (entry_index e) z (pos 0) (omega (arith, wide, entry_small e)) ∙ sym (ap choice is)
+                  at_row ∙ ap (λ k. get_or row_with_amount k (pos 0)) at ∙ get_or-set_same (row_of rows t) (entry_index e) z (pos 0) (omega (arith, wide, entry_small e)) ∙ sym (ap choice is)
               | inr apart ↦
                   at_row ∙ get_or-set_other (row_of rows t) (entry_index e) (entry_index a.0) z (pos 0) apart ∙ ap (λ k. get_or (get_or rows k []) (entry_index a.0) (pos 0)) (sym same) ∙ sym (ap choice (apart_entries a (e, t) apart))
             ]
         | inr apart ↦
-            ap (λ r. get_or r (entry_index a.0) (pos 0)) (get_or-set_other rows (thing_index t) (thing_index a.1) new [] apart) ∙ sym (ap choice (apart_things a (e, t) apart))
+            ap (λ r. get_or r (entry_index a.0) (pos 0)) (get_or-set_other rows (thing_index t) (thing_index a.1) row_with_amount [] apart) ∙ sym (ap choice (apart_things a (e, t) apart))
       ]
 
   -- rows with z written into a cell stand for the books with z set under the cell's entry and thing
   pub as_books-with_cell : as_books (with_cell rows e t z) ≡ with_amount (as_books rows) e t z
   as_books-with_cell =
-      same_value (as_books (with_cell rows e t z)) (with_amount (as_books rows) e t z) (things-as_books (with_cell rows e t z) ∙ length-set rows (thing_index t) new ∙ sym (things-as_books rows))
+      same_value (as_books (with_cell rows e t z)) (with_amount (as_books rows) e t z) (things-as_books (with_cell rows e t z) ∙ length-set rows (thing_index t) row_with_amount ∙ sym (things-as_books rows))
       (same_map account_total account_same (as_books (with_cell rows e t z)).amounts (with_amount (as_books rows) e t z).amounts (λ a.
       get-as_books (with_cell rows e t z) a ∙ ap listed (cell-with_cell a) ∙ elim (eq_by_cmp account_cmp a (e, t)) as (λ b. listed (cond b z (cell rows a)) ≡ cond b (listed z) (listed (cell rows a))) [ true ↦ refl | false ↦ refl ]
       ∙ sym (get-with_amount (as_books rows) e t z a ∙ ap (cond (eq_by_cmp account_cmp a (e, t)) (listed z)) (get-as_books rows a))))

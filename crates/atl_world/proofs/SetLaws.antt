@@ -46,9 +46,9 @@ contains_inserted s n = set.contains-insert nat_cmp_total s n n ∙ ap (λ b. b 
 -- ---- how many
 
 -- if a set t of n numbers has some number k in it, then n is at least 1
-some : (n : ℕ) (t : set.FinSet nat_cmp) (k : ℕ) → set.len t ≡ n → set.contains t k ≡ true → 1 ≤ n
-some zero t k e h = absurd (false≢true (sym (set.contains-empty nat_cmp k) ∙ ap (λ u. set.contains u k) (sym (set.empty_of_len t e)) ∙ h))
-some (suc n) t k e h = omega arith
+len-some : (n : ℕ) (t : set.FinSet nat_cmp) (k : ℕ) → set.len t ≡ n → set.contains t k ≡ true → 1 ≤ n
+len-some zero t k e h = absurd (false≢true (sym (set.contains-empty nat_cmp k) ∙ ap (λ u. set.contains u k) (sym (set.empty_of_len t e)) ∙ h))
+len-some (suc n) t k e h = omega arith
 
 -- if "not a, and b" holds, a is false: a number of a set from which k was taken out (b) is not k (a)
 pub without_first : (a b : Bool) → (not a && b) ≡ true → a ≡ false
@@ -60,14 +60,14 @@ pub rest_holds : (a b : Bool) → a ≡ false → (a || b) ≡ true → b ≡ tr
 rest_holds true b e h = absurd (false≢true (sym e))
 rest_holds false b e h = h
 
--- "not a, and b" holds, if a is false and b true: for `fewer`, where a says whether a number is k, and b whether t has
--- it
+-- "not a, and b" holds, if a is false and b true: for `len-within_by`, where a says whether a number is k, and b
+-- whether t has it
 both_hold : (a b : Bool) → a ≡ false → b ≡ true → (not a && b) ≡ true
 both_hold true b e h = absurd (false≢true (sym e))
 both_hold false b e h = h
 
 -- if a implies b, b implies 1 ≤ n, and m (less 1 if a is true) is at most n (less 1 if b is true), then m ≤ n: for
--- `fewer`, where a and b say whether sets of m and n numbers have k
+-- `len-within_by`, where a and b say whether sets of m and n numbers have k
 less_step : (a b : Bool) (m n : ℕ) → (a ≡ true → b ≡ true) → (b ≡ true → 1 ≤ n) → cond a (m - 1) m ≤ cond b (n - 1) n → m ≤ n
 less_step true true m n f g h = let l : 1 ≤ n = g refl in omega arith
 less_step true false m n f g h = absurd (false≢true (f refl))
@@ -76,23 +76,23 @@ less_step false false m n f g h = h
 
 -- `len-within` by recursion over a list `ks` that has all numbers of s: if t has all numbers of s, then s has no more
 -- numbers than t
-fewer : (ks : List ℕ) (s t : set.FinSet nat_cmp) → ((q : ℕ) → set.contains s q ≡ true → list_any (eq_by_cmp nat_cmp q) ks ≡ true) → ((q : ℕ) → set.contains s q ≡ true → set.contains t q ≡ true) → set.len s ≤ set.len t
-fewer [] s t all h =
+len-within_by : (ks : List ℕ) (s t : set.FinSet nat_cmp) → ((q : ℕ) → set.contains s q ≡ true → list_any (eq_by_cmp nat_cmp q) ks ≡ true) → ((q : ℕ) → set.contains s q ≡ true → set.contains t q ≡ true) → set.len s ≤ set.len t
+len-within_by [] s t all h =
     let none : s ≡ set.empty = same s set.empty (λ q. false_from_ne_true _ (λ e. false≢true (all q e)) ∙ sym (set.contains-empty nat_cmp q)) in
     let nothing : set.len s ≡ 0 = ap set.len none ∙ set.len-empty nat_cmp in
     omega (arith, nothing)
-fewer (k ∷ ks) s t all h =
+len-within_by (k ∷ ks) s t all h =
     let parts : (q : ℕ) → set.contains (set.remove s k) q ≡ true → (not (eq_by_cmp nat_cmp q k) && set.contains s q) ≡ true = λ q e. sym (set.contains-remove nat_cmp_total s k q) ∙ e in
     let other : (q : ℕ) → set.contains (set.remove s k) q ≡ true → eq_by_cmp nat_cmp q k ≡ false = λ q e. without_first _ _ (parts q e) in
     let was : (q : ℕ) → set.contains (set.remove s k) q ≡ true → set.contains s q ≡ true = λ q e. (and_parts _ _ (parts q e)).1 in
-    let rest : set.len (set.remove s k) ≤ set.len (set.remove t k) = fewer ks (set.remove s k) (set.remove t k)
+    let rest : set.len (set.remove s k) ≤ set.len (set.remove t k) = len-within_by ks (set.remove s k) (set.remove t k)
     (λ q e. rest_holds _ _ (other q e) (all q (was q e)))
     (λ q e. set.contains-remove nat_cmp_total t k q ∙ both_hold _ _ (other q e) (h q (was q e))) in
-    less_step (set.contains s k) (set.contains t k) (set.len s) (set.len t) (h k) (some (set.len t) t k refl) (rw (set.len-remove nat_cmp_total s k, set.len-remove nat_cmp_total t k) at rest)
+    less_step (set.contains s k) (set.contains t k) (set.len s) (set.len t) (h k) (len-some (set.len t) t k refl) (rw (set.len-remove nat_cmp_total s k, set.len-remove nat_cmp_total t k) at rest)
 
 -- if a set t has all numbers of a set s, then s has no more numbers than t
 pub len-within : (s t : set.FinSet nat_cmp) → ((q : ℕ) → set.contains s q ≡ true → set.contains t q ≡ true) → set.len s ≤ set.len t
-len-within s t h = fewer (set.items s) s t (λ q e. sym (set.contains-items s q) ∙ e) h
+len-within s t h = len-within_by (set.items s) s t (λ q e. sym (set.contains-items s q) ∙ e) h
 
 -- "b or false" is b: no number is in the empty set or the empty list
 pub nothing_more : (b : Bool) → (b || false) ≡ b

@@ -84,9 +84,9 @@ rising-remove xs i s within = sorted_from_strictly_increasing (remove xs i) (λ 
 -- ---- how many numbers the set of a list has
 
 -- a number that is less than all numbers of a list is not in the list
-apart : (x : ℕ) (xs : List ℕ) → AllByRecursion (λ y. nat_cmp x y ≡ Less) xs → list_any (eq_by_cmp nat_cmp x) xs ≡ false
-apart x [] h = refl
-apart x (y ∷ xs) h = ap (λ r. is_eq r || list_any (eq_by_cmp nat_cmp x) xs) h.0 ∙ apart x xs h.1
+lesser_not_listed : (x : ℕ) (xs : List ℕ) → AllByRecursion (λ y. nat_cmp x y ≡ Less) xs → list_any (eq_by_cmp nat_cmp x) xs ≡ false
+lesser_not_listed x [] h = refl
+lesser_not_listed x (y ∷ xs) h = ap (λ r. is_eq r || list_any (eq_by_cmp nat_cmp x) xs) h.0 ∙ lesser_not_listed x xs h.1
 
 -- if b is false and m is n, then the choice of m (for b true) or m + 1 (for b false) is n + 1: for `len-rising`, where
 -- b says whether the set of m numbers has the next number already
@@ -99,21 +99,21 @@ pub len-rising : (xs : List ℕ) → IsRising xs → set.len {R = nat_cmp} (set.
 len-rising [] s = set.len-empty nat_cmp
 len-rising (x ∷ xs) s =
     set.len-insert nat_cmp_total (set.from_list xs) x
-    ∙ one_more _ _ _ (set.contains-from_list nat_cmp_total xs x ∙ apart x xs (sorted_head nat_cmp x xs s)) (len-rising xs (sorted_tail nat_cmp x xs s))
+    ∙ one_more _ _ _ (set.contains-from_list nat_cmp_total xs x ∙ lesser_not_listed x xs (sorted_head nat_cmp x xs s)) (len-rising xs (sorted_tail nat_cmp x xs s))
 
 -- ---- which numbers the set of a list has
 
 -- lists that are permutations of each other have the same set
-moved : (xs ys : List ℕ) → IsPermutation xs ys → set.from_list {R = nat_cmp} xs ≡ set.from_list ys
-moved xs ys p = same _ _ (λ q. set.contains-from_list nat_cmp_total xs q ∙ list_any-IsPermutation (eq_by_cmp nat_cmp q) xs ys p ∙ sym (set.contains-from_list nat_cmp_total ys q))
+from_list-permutation : (xs ys : List ℕ) → IsPermutation xs ys → set.from_list {R = nat_cmp} xs ≡ set.from_list ys
+from_list-permutation xs ys p = same _ _ (λ q. set.contains-from_list nat_cmp_total xs q ∙ list_any-IsPermutation (eq_by_cmp nat_cmp q) xs ys p ∙ sym (set.contains-from_list nat_cmp_total ys q))
 
 -- the set of a list with n inserted is the set of the list with n put in
 pub from_list-insert : (xs : List ℕ) (n i : ℕ) → set.from_list {R = nat_cmp} (insert xs i n) ≡ set.insert (set.from_list xs) n
-from_list-insert xs n i = sym (moved (n ∷ xs) (insert xs i n) (IsPermutation-insert xs i n))
+from_list-insert xs n i = sym (from_list-permutation (n ∷ xs) (insert xs i n) (IsPermutation-insert xs i n))
 
 -- the set of a list is the set of the list without its i-th element n, with n put in
 from_list-put_back : (xs : List ℕ) (n i : ℕ) → IsAt xs n i → set.from_list {R = nat_cmp} xs ≡ set.insert (set.from_list (remove xs i)) n
-from_list-put_back xs n i h = moved xs (n ∷ remove xs i) (IsPermutation-remove xs i n h.within (sym (get_or_default xs i n 0 h.within ∙ h.number_there)))
+from_list-put_back xs n i h = from_list-permutation xs (n ∷ remove xs i) (IsPermutation-remove xs i n h.within (sym (get_or_default xs i n 0 h.within ∙ h.number_there)))
 
 -- the number n at an index of a list is in the set of the list
 pub contains-stands : (xs : List ℕ) (n i : ℕ) → IsAt xs n i → set.contains {R = nat_cmp} (set.from_list xs) n ≡ true

@@ -15,8 +15,8 @@ swapped : (a b : ℕ) → a + b ≡ b + a
 swapped a b = omega arith
 
 -- if b is c + d, then a + b is (a + c) + d: for `put_new`, where the new entry is put behind one that counts a
-later : (a b c d : ℕ) → b ≡ c + d → a + b ≡ (a + c) + d
-later a b c d h = omega arith
+sum_behind : (a b c d : ℕ) → b ≡ c + d → a + b ≡ (a + c) + d
+sum_behind a b c d h = omega arith
 
 -- (a + c) + b is (b + c) + a: for `put_either`, where a and b are what f gives for the two values
 exchanged : (a b c : ℕ) → (a + c) + b ≡ (b + c) + a
@@ -24,8 +24,8 @@ exchanged a b c = omega arith
 
 -- two equal sums stay equal if e is added to the first addend of each: for `put_either`, with an entry in front that
 -- counts e
-under : (e a b c d : ℕ) → a + b ≡ c + d → (e + a) + b ≡ (e + c) + d
-under e a b c d h = omega arith
+equal_sums_in_front : (e a b c d : ℕ) → a + b ≡ c + d → (e + a) + b ≡ (e + c) + d
+equal_sums_in_front e a b c d h = omega arith
 
 module _ {X : Type 0} where
   -- a choice by b between x, and what the same b chooses of y and z, is that between x and z: for `put_over`, what the
@@ -74,7 +74,7 @@ module _ {X : Type 0} where
       elim (nat_cmp k e.0) as (λ r. cond (is_eq r) (Some e.1) (find nat_cmp k es) ≡ None → weighed f (by_order r ((k, v) ∷ e ∷ es) ((e.0, v) ∷ es) (e ∷ put nat_cmp k v es)) ≡ weighed f (e ∷ es) + f v) [
         | Less ↦ λ _. more (k, v) (e ∷ es) ∙ swapped (f v) _
         | Equal ↦ λ g. absurd (none-some e.1 (sym g))
-        | Greater ↦ λ g. more e (put nat_cmp k v es) ∙ later (f e.1) _ (weighed f es) (f v) (put_new f k v es g) ∙ ap (λ n. n + f v) (sym (more e es))
+        | Greater ↦ λ g. more e (put nat_cmp k v es) ∙ sum_behind (f e.1) _ (weighed f es) (f v) (put_new f k v es g) ∙ ap (λ n. n + f v) (sym (more e es))
       ] h
 
   -- the sum of f over entries with v put in under k, plus f u, is the sum with u put in under k, plus f v
@@ -85,7 +85,7 @@ module _ {X : Type 0} where
       elim (nat_cmp k e.0) as (λ r. weighed f (by_order r ((k, v) ∷ e ∷ es) ((e.0, v) ∷ es) (e ∷ put nat_cmp k v es)) + f u ≡ weighed f (by_order r ((k, u) ∷ e ∷ es) ((e.0, u) ∷ es) (e ∷ put nat_cmp k u es)) + f v) [
         | Less ↦ ap (λ n. n + f u) (more (k, v) (e ∷ es)) ∙ exchanged (f v) (f u) _ ∙ ap (λ n. n + f v) (sym (more (k, u) (e ∷ es)))
         | Equal ↦ ap (λ n. n + f u) (more (e.0, v) es) ∙ exchanged (f v) (f u) _ ∙ ap (λ n. n + f v) (sym (more (e.0, u) es))
-        | Greater ↦ ap (λ n. n + f u) (more e (put nat_cmp k v es)) ∙ under (f e.1) _ (f u) _ (f v) (put_either f k u v es) ∙ ap (λ n. n + f v) (sym (more e (put nat_cmp k u es)))
+        | Greater ↦ ap (λ n. n + f u) (more e (put nat_cmp k v es)) ∙ equal_sums_in_front (f e.1) _ (f u) _ (f v) (put_either f k u v es) ∙ ap (λ n. n + f v) (sym (more e (put nat_cmp k u es)))
       ]
 
   -- a value v put in under a new number adds f v to the sum of f over a map
