@@ -53,8 +53,8 @@ module _ (w : WorldValue) (taught n s : ℕ) (c d : CampaignValue) (u : Unit) (i
   same_days = ap (λ (o : Option Structure). days_after u.holding.men (amount_of u.holding.days s) taught (is_helpful w s o)) (ap (λ m. get m u.structure) structures)
 
   -- unit u after it paid the fee, with the given days of the skill
-  abbrev put : ℕ → Unit
-  put days = record u { holding = with_study u.holding s cost days }
+  abbrev after_paying_with_days : ℕ → Unit
+  after_paying_with_days days = record u { holding = with_study u.holding s cost days }
 
   -- an order of STUDY changes a unit alike in two campaigns in which the unit and the structures are the same
   study_alike : get (study w taught n s d u).0.units n ≡ get (study w taught n s c u).0.units n
@@ -65,7 +65,7 @@ module _ (w : WorldValue) (taught n s : ℕ) (c d : CampaignValue) (u : Unit) (i
       by_fault : (o : Option EventFault) (x y : Outcome) → get (unless d o (after_study d n u s cost (days_in d), x)).0.units n ≡ get (unless c o (after_study c n u s cost (days_in c), y)).0.units n
       by_fault (Some fault) x y = in_d ∙ sym in_c
       by_fault None x y =
-          get-insert_same d.units n (put (days_in d)) ∙ ap (λ k. Some (put k)) same_days ∙ sym (get-insert_same c.units n (put (days_in c)))
+          get-insert_same d.units n (after_paying_with_days (days_in d)) ∙ ap (λ k. Some (after_paying_with_days k)) same_days ∙ sym (get-insert_same c.units n (after_paying_with_days (days_in c)))
 
 -- ---- all orders
 

@@ -101,12 +101,12 @@ module _ (w : WorldValue) (c : CampaignValue) (n : ℕ) (u : Unit) (s cost days 
   less : sum_over (λ (x : Unit). x.holding.money) behind.units + cost ≡ sum_over (λ (x : Unit). x.holding.money) c.units
   less =
       let money = λ (x : Unit). x.holding.money in
-      sum (sum_over money behind.units) (sum_over money c.units) u.holding.money (sum_over-insert_known money c.units n u (record u { holding = learned }) is) payable
+      total_falls_by_cost (sum_over money behind.units) (sum_over money c.units) u.holding.money (sum_over-insert_known money c.units n u (record u { holding = learned }) is) payable
     where
       -- for `less`: the total a after the payment is the total b before it less the cost, where m is the unit's money
       -- before it
-      sum : (a b m : ℕ) → a + m ≡ b + (m - cost) → cost ≤ m → a + cost ≡ b
-      sum a b m e l = omega (arith, e, l)
+      total_falls_by_cost : (a b m : ℕ) → a + m ≡ b + (m - cost) → cost ≤ m → a + cost ≡ b
+      total_falls_by_cost a b m e l = omega (arith, e, l)
 
   -- books with room for the money of all units have room for the cost
   pub cost_room : HaveRoom (study_reserve c) c → HasRoom cost (amount_in c.books Study Money)

@@ -194,17 +194,17 @@ module _ (w : WorldValue) (c : CampaignValue) (n : ℕ) (u : Unit) (to : ℕ) (i
 
   -- A structure with its owner after both handovers. Tests `a` and `b` say whether its number is that of the structure
   -- which the unit left, and whether it is 0; `e`, whether the unit owned it.
-  abbrev given : (a e b : Bool) → Structure → Structure
-  given a e b y = let x = if a && e then owned_by next y else y in if b && x.owner == 0 then owned_by n x else x
+  abbrev with_both_handovers : (a e b : Bool) → Structure → Structure
+  with_both_handovers a e b y = let x = if a && e then owned_by next y else y in if b && x.owner == 0 then owned_by n x else x
 
   -- a structure whose number isn't 0 is the same but for its owner after both handovers
-  given_same : (a e b : Bool) (y : Structure) → b ≡ false → IsSameStructure y (given a e b y) × ((given a e b y).region ≡ y.region)
+  given_same : (a e b : Bool) (y : Structure) → b ≡ false → IsSameStructure y (with_both_handovers a e b y) × ((with_both_handovers a e b y).region ≡ y.region)
   given_same true true b y high = rw high (record { kind = refl; done = refl; name = refl }, refl)
   given_same true false b y high = rw high (record { kind = refl; done = refl; name = refl }, refl)
   given_same false e b y high = rw high (record { kind = refl; done = refl; name = refl }, refl)
 
   -- each structure but 0 has its right owner (`IsOwned`) after both handovers, if the unit was inside a structure
-  given_owned : old_place ≢ 0 → (q : ℕ) (y : Structure) → get c.structures q ≡ Some y → (a e b : Bool) → (q == old_place) ≡ a → (y.owner == n) ≡ e → b ≡ false → IsOwned (behind gone_off.structures) q (given a e b y)
+  given_owned : old_place ≢ 0 → (q : ℕ) (y : Structure) → get c.structures q ≡ Some y → (a e b : Bool) → (q == old_place) ≡ a → (y.owner == n) ≡ e → b ≡ false → IsOwned (behind gone_off.structures) q (with_both_handovers a e b y)
   given_owned some q y there true true b p r high = rw high (subst (λ k. IsOwned (behind gone_off.structures) k (owned_by next y)) (sym (is_equal q old_place p)) (left_owned gone_off.structures some y))
   given_owned some q y there true false b p r high = rw high (still_owned gone_off.structures q y there (is_unequal y.owner n r))
   given_owned some q y there false e b p r high = rw high (still_owned gone_off.structures q y there (owns_no_other w c n u is steady q y there (is_unequal q old_place p)))

@@ -27,7 +27,7 @@ risen_above n [] h k is = absurd is
 risen_above n (m ∷ ns) h k (inl same) = subst (λ j. n < j) (sym same) h.0
 risen_above n (m ∷ ns) h k (inr rest) = risen_above n ns h.1 k rest
 
--- for `narrowed`: a number of the list `n ∷ ns` that is above `n` is one of `ns`
+-- for `listed_above`: a number of the list `n ∷ ns` that is above `n` is one of `ns`
 another : (k n : ℕ) (ns : List ℕ) → n < k → IsListed k (n ∷ ns) → IsListed k ns
 another k n ns above is = elim is [ inl same ↦ absurd (omega (arith, above, same)) | inr rest ↦ rest ]
 
@@ -55,13 +55,14 @@ module _ (draws : Drawers) where
   module _ (amount : ℕ → ℕ) where
     -- if the unit of a pair (unit, share) draws from the pot, the unit is on a list, and the share is what `amount` has
     -- for it
-    abbrev pub Listed : List ℕ → ℕ × ℕ → Type 0
-    Listed ns e = draws e.0 ≡ true → IsListed e.0 ns × (amount e.0 ≡ e.1)
+    abbrev pub DrawsItsAmount : List ℕ → ℕ × ℕ → Type 0
+    DrawsItsAmount ns e = draws e.0 ≡ true → IsListed e.0 ns × (amount e.0 ≡ e.1)
 
-    -- units above `n` that draw and are on the list `n ∷ ns`, with their amounts as shares (`Listed`), are on `ns`
-    narrowed : (n : ℕ) (ns : List ℕ) (es : List (ℕ × ℕ)) → AllByRecursion (λ f. n < f.0) es → AllByRecursion (Listed (n ∷ ns)) es → AllByRecursion (Listed ns) es
-    narrowed n ns [] above all = tt
-    narrowed n ns (f ∷ es) above all = (λ draws. let (is, same) = all.0 draws in (another f.0 n ns above.0 is, same), narrowed n ns es above.1 all.1)
+    -- units above `n` that draw and are on the list `n ∷ ns`, with their amounts as shares (`DrawsItsAmount`), are on
+    -- `ns`
+    listed_above : (n : ℕ) (ns : List ℕ) (es : List (ℕ × ℕ)) → AllByRecursion (λ f. n < f.0) es → AllByRecursion (DrawsItsAmount (n ∷ ns)) es → AllByRecursion (DrawsItsAmount ns) es
+    listed_above n ns [] above all = tt
+    listed_above n ns (f ∷ es) above all = (λ draws. let (is, same) = all.0 draws in (another f.0 n ns above.0 is, same), listed_above n ns es above.1 all.1)
 
     -- for `with_first`: if the units of all shares have numbers above `k`, their numbers are above each `n` that is at
     -- most `k`
@@ -73,8 +74,8 @@ module _ (draws : Drawers) where
     none_first : (rest : ℕ) → rest ≡ 0 → 0 + rest ≡ 0
     none_first rest h = omega (arith, h)
 
-    -- if only units of the empty list may draw from the pot (`Listed []`), nothing is drawn
-    nothing_drawn : (es : List (ℕ × ℕ)) → AllByRecursion (Listed []) es → drawn es ≡ 0
+    -- if only units of the empty list may draw from the pot (`DrawsItsAmount []`), nothing is drawn
+    nothing_drawn : (es : List (ℕ × ℕ)) → AllByRecursion (DrawsItsAmount []) es → drawn es ≡ 0
     nothing_drawn [] all = refl
     nothing_drawn (e ∷ es) all =
         elim (draws e.0) as (λ b. draws e.0 ≡ b → cond b e.1 0 + drawn es ≡ 0) [
@@ -96,25 +97,25 @@ module _ (draws : Drawers) where
     skipped : (drawing others first all : ℕ) → drawing ≤ others → all ≡ first + others → drawing ≤ all
     skipped drawing others first all h e = omega (arith, h, e)
 
-    -- if the drawing units of sorted shares are on the sorted list `ns`, with their amounts as shares (`Listed`), they
-    -- draw at most the sum of the amounts of `ns`
-    abbrev Bounded : List ℕ → Type 0
-    Bounded ns = (es : List (ℕ × ℕ)) → IsRisen ns → Rise es → AllByRecursion (Listed ns) es → drawn es ≤ sum (map amount ns)
+    -- if the drawing units of sorted shares are on the sorted list `ns`, with their amounts as shares
+    -- (`DrawsItsAmount`), they draw at most the sum of the amounts of `ns`
+    abbrev DrawAtMostTheirAmounts : List ℕ → Type 0
+    DrawAtMostTheirAmounts ns = (es : List (ℕ × ℕ)) → IsRisen ns → Rise es → AllByRecursion (DrawsItsAmount ns) es → drawn es ≤ sum (map amount ns)
 
     -- the units of a list with one more unit in front draw at most the sum of their amounts, if those of the list do
-    with_first : (n : ℕ) (ns : List ℕ) → Bounded ns → (es : List (ℕ × ℕ)) → IsRisen (n ∷ ns) → Rise es → AllByRecursion (Listed (n ∷ ns)) es → drawn es ≤ sum (map amount (n ∷ ns))
+    with_first : (n : ℕ) (ns : List ℕ) → DrawAtMostTheirAmounts ns → (es : List (ℕ × ℕ)) → IsRisen (n ∷ ns) → Rise es → AllByRecursion (DrawsItsAmount (n ∷ ns)) es → drawn es ≤ sum (map amount (n ∷ ns))
     with_first n ns rest [] up rise all = omega arith
     with_first n ns rest (e ∷ es) up rise all =
         let split : sum (map amount (n ∷ ns)) ≡ amount n + sum (map amount ns) = sum_by-cons (λ x. x) (amount n) (map amount ns) in
         elim (draws e.0) as (λ b. draws e.0 ≡ b → cond b e.1 0 + drawn es ≤ sum (map amount (n ∷ ns))) [
           | true ↦ λ is. elim (cases_eq e.0 n) [
             | inl same ↦
-                let tail = narrowed n ns es (lower n e.0 es (omega (arith, same)) rise.0) all.1 in
+                let tail = listed_above n ns es (lower n e.0 es (omega (arith, same)) rise.0) all.1 in
                 both e.1 (drawn es) (sum (map amount ns)) (sum (map amount (n ∷ ns))) (rest es up.1 rise.1 tail) (split ∙ ap (λ a. a + sum (map amount ns)) (ap amount (sym same) ∙ (all.0 is).1))
             | inr apart ↦
                 let here = not_this e.0 n ns apart (all.0 is).0 in
                 let low : n < e.0 = risen_above n ns up.0 e.0 here in
-                let tail = narrowed n ns es (lower n e.0 es (omega (arith, low)) rise.0) all.1 in
+                let tail = listed_above n ns es (lower n e.0 es (omega (arith, low)) rise.0) all.1 in
                 let less = rest (e ∷ es) up.1 rise (λ _. (here, (all.0 is).1), tail) in
                 skipped (e.1 + drawn es) (sum (map amount ns)) (amount n) (sum (map amount (n ∷ ns))) (subst (λ b. cond b e.1 0 + drawn es ≤ sum (map amount ns)) is less) split
           ]
@@ -122,7 +123,7 @@ module _ (draws : Drawers) where
         ] refl
 
     -- the units of a sorted list draw at most the sum of their amounts
-    pub drawn_among : (ns : List ℕ) → Bounded ns
+    pub drawn_among : (ns : List ℕ) → DrawAtMostTheirAmounts ns
     drawn_among [] es up rise all = let none = nothing_drawn es all in omega (arith, none)
     drawn_among (n ∷ ns) es up rise all = with_first n ns (drawn_among ns) es up rise all
 
@@ -241,7 +242,7 @@ module _ (pot_of : ℕ → ℕ) (wants : FinMap nat_cmp ℕ) (c : CampaignValue)
   DrawShares = (n share : ℕ) → get given n ≡ Some share → draws n ≡ true → (get (pot_shares pot_of wants c) n ≡ Some share) × (is_in_region r (get c.units n) ≡ true)
 
   -- each unit with a share that draws from the pot is one of the region's units with a want, and gets its amount
-  listed : DrawShares → (n share : ℕ) → get given n ≡ Some share → Listed draws amount takers (n, share)
+  listed : DrawShares → (n share : ℕ) → get given n ≡ Some share → DrawsItsAmount draws amount takers (n, share)
   listed shared n share found drawing =
       let (is, stands) = shared n share found drawing in
       let (want, u, wanted, low, at, region) = only_takers_get pot_of wants c n share is in
@@ -256,7 +257,7 @@ module _ (pot_of : ℕ → ℕ) (wants : FinMap nat_cmp ℕ) (c : CampaignValue)
   pub shares_are_enough : DrawShares → HasValue c.regions r → drawn draws (entries given) ≤ pot_of r
   shares_are_enough shared there =
       let drawing = drawn draws (entries given) in
-      let each = all_pairs (Listed draws amount takers) (entries given) (each-from_every (λ n share. Listed draws amount takers (n, share)) given (listed shared)) in
+      let each = all_pairs (DrawsItsAmount draws amount takers) (entries given) (each-from_every (λ n share. DrawsItsAmount draws amount takers (n, share)) given (listed shared)) in
       let few = drawn_among draws amount takers (entries given) (takers_risen wants c.units r) (entries_rise given) each in
       least drawing (pot_of r) (sum (wants_in wants c.units r)) (subst (λ s. drawing ≤ s) (gives_each_pot pot_of wants c r there) few)
 

@@ -111,17 +111,17 @@ long_apart m = values_apart (slice_cmp nat_cmp) (slice_cmp-IsAntisymmetric nat_c
 
 module _ (c : CampaignValue) where
   -- if an order is from its unit's own faction, the unit is in the map of writers
-  abbrev IsListed : FinMap nat_cmp ℕ → Task → Type 0
-  IsListed writers o = is_of_faction o.faction (get c.units o.unit) ≡ true → is_some (get writers o.unit) ≡ true
+  abbrev IsAmongWriters : FinMap nat_cmp ℕ → Task → Type 0
+  IsAmongWriters writers o = is_of_faction o.faction (get c.units o.unit) ≡ true → is_some (get writers o.unit) ≡ true
 
   -- after the writers of some orders are put into a map, it has the unit of each order from the unit's own faction
-  own_is_listed : (m : FinMap nat_cmp ℕ) (os : List Task) → AllByRecursion (IsListed (with_each m (flat_map (own_unit c) os))) os
+  own_is_listed : (m : FinMap nat_cmp ℕ) (os : List Task) → AllByRecursion (IsAmongWriters (with_each m (flat_map (own_unit c) os))) os
   own_is_listed m [] = tt
   own_is_listed m (o ∷ os) =
       let rest = flat_map (own_unit c) os in
       let both = appended_entries m (own_unit c o) rest in (
         (λ own. ap (λ writers. is_some (get writers o.unit)) both ∙ still_some (with_each m (own_unit c o)) rest o.unit (ap (λ b. is_some (get (with_each m (cond b ((o.unit, o.faction) ∷ []) [])) o.unit)) own ∙ some_new m o.unit o.faction)),
-        subst (λ writers. AllByRecursion (IsListed writers) os) (sym both) (own_is_listed (with_each m (own_unit c o)) os),
+        subst (λ writers. AllByRecursion (IsAmongWriters writers) os) (sym both) (own_is_listed (with_each m (own_unit c o)) os),
       )
 
   -- ---- the work of units without an order
@@ -180,7 +180,7 @@ module _ (c : CampaignValue) where
     same_faction a b e = grind (arith, nat_tests)
 
     -- a written order and one that is added for a unit without an order differ in their keys
-    written_idle : (o i : Task) → IsListed writers o → IsIdle i → same_work o i ≡ false
+    written_idle : (o i : Task) → IsAmongWriters writers o → IsIdle i → same_work o i ≡ false
     written_idle o i listed idle =
         apart_by o i (λ unit faction.
         let there : get c.units o.unit ≡ Some idle.unit = ap (get c.units) unit ∙ idle.there in
@@ -192,8 +192,8 @@ module _ (c : CampaignValue) where
     work_apart apart =
         let chosen = filter (λ (o : Task). is_work o.order_value.verb) os in
         append_apart same_work chosen (all_idle c os) (filter_apart (λ o. is_work o.order_value.verb) same_work os apart) idle_apart
-        (each_so (IsListed writers) (λ o. AllByRecursion (λ i. same_work o i ≡ false) (all_idle c os)) (λ o listed. each_so IsIdle (λ i. same_work o i ≡ false) (λ i idle. written_idle o i listed idle) (all_idle c os) each_idle) chosen
-        (filter_each (λ o. is_work o.order_value.verb) (IsListed writers) os (own_is_listed empty os)))
+        (each_so (IsAmongWriters writers) (λ o. AllByRecursion (λ i. same_work o i ≡ false) (all_idle c os)) (λ o listed. each_so IsIdle (λ i. same_work o i ≡ false) (λ i idle. written_idle o i listed idle) (all_idle c os) each_idle) chosen
+        (filter_each (λ o. is_work o.order_value.verb) (IsAmongWriters writers) os (own_is_listed empty os)))
 
 -- ---- who has an order
 

@@ -111,9 +111,9 @@ passes-trans {o} {p} {i} {j} w n a b c one two = record {
 
 -- Giving `taken` and booking `lost` as lost, of a thing for which test `b` holds, puts the total above the books by
 -- both together more than before. The total of any other thing is above the books by as much as before.
-owed : (b : Bool) (taken lost x before after : ℕ) (books : ℤ) → after ≡ before + cond b taken 0 → pos before ≡ books +ℤ pos x
+total_above_books : (b : Bool) (taken lost x before after : ℕ) (books : ℤ) → after ≡ before + cond b taken 0 → pos before ≡ books +ℤ pos x
     → pos after ≡ (books +ℤ cond b (neg_ℤ (pos lost)) (pos 0)) +ℤ pos (x + cond b (taken + lost) 0)
-owed b taken lost x before after books e h = grind (arith, ints, e, h)
+total_above_books b taken lost x before after books e h = grind (arith, ints, e, h)
 
 -- Booking `lost` as lost, of a thing for which test `b` holds, puts the total above the books by `lost` more than
 -- before. The total of any other thing is above the books by as much as before.
@@ -156,7 +156,7 @@ module _ (w : WorldValue) (c : CampaignValue) (n : ℕ) (t : Thing) (inside : th
       steady = steady-amount w given Lost t (neg_ℤ (pos lost)) inside (steady-unit_amount w c k v h is may steady);
       owes = λ s x e.
           ap pos (total-amount given Lost t s (neg_ℤ (pos lost)))
-          ∙ owed (thing_index s == thing_index t) taken lost x (total c s) (total given s) (booked c.books s) (grown s) e
+          ∙ total_above_books (thing_index s == thing_index t) taken lost x (total c s) (total given s) (booked c.books s) (grown s) e
           ∙ ap (λ z. z +ℤ pos (x + part_of s t (taken + lost)))
           (sym (booked-after_booking c.books Lost t (neg_ℤ (pos lost)) s));
       near =
@@ -195,8 +195,8 @@ more_amount items i n j = elim (cases_eq j i) [
 -- ---- the part that a unit takes, and the rest
 
 -- what a unit accepts of an amount and what it doesn't accept together are the amount
-whole : (amount have : ℕ) → accepted_of amount have + (amount - accepted_of amount have) ≡ amount
-whole amount have = omega arith
+accepted_and_rest : (amount have : ℕ) → accepted_of amount have + (amount - accepted_of amount have) ≡ amount
+accepted_and_rest amount have = omega arith
 
 -- a unit that has `have` of a thing, within the limit of a holding, is still within it with what it accepts more
 fits : (amount have : ℕ) → have ≤ holding_limit → have + accepted_of amount have ≤ holding_limit
@@ -241,7 +241,7 @@ module _ (w : WorldValue) (c : CampaignValue) (n k : ℕ) (apart : n ≢ k) (ste
           subst (Passed Money amount)
           (ap (λ m. with_lost (record c { units = m }) Money (amount - taken))
           (sym (changed-known (λ u. record u { holding = record u.holding { money = money } }) c.units k v is)))
-          (subst (λ a. Passed Money a (with_lost (with_holding_at c k h (Some v)) Money (amount - taken))) (whole amount v.holding.money)
+          (subst (λ a. Passed Money a (with_lost (with_holding_at c k h (Some v)) Money (amount - taken))) (accepted_and_rest amount v.holding.money)
           (part_lost w c n Money (omega arith) steady k v h is apart (may_hold_money w c k money v is (fits amount v.holding.money most) steady)
           (kept-with v money v.holding.items (omega arith) (λ i. omega arith))
           taken (amount - taken) (more_money v.holding taken)))
@@ -283,7 +283,7 @@ module _ (w : WorldValue) (c : CampaignValue) (n k : ℕ) (apart : n ≢ k) (ste
           (ap (λ m. with_lost (record c { units = m }) (Item i) (amount - taken))
           (sym (changed-known (λ u. record u { holding = record u.holding { items = with_amount_of u.holding.items i (have + taken) } }) c.units k v is)))
           (subst (λ a. Passed (Item i) a (with_lost (with_holding_at c k (record v.holding { items = items }) (Some v)) (Item i) (amount - taken)))
-          (whole amount have)
+          (accepted_and_rest amount have)
           (part_lost w c n (Item i) inside steady k v (record v.holding { items = items }) is apart
           (record {
             limits = record {

@@ -124,7 +124,7 @@ module _ (w : WorldValue) (c : CampaignValue) (n : ℕ) (u : Unit) (is : get c.u
       let before : Owes passed s (0 + owing_all u.holding s) = passing.owes s 0 (old s ∙ plain _) in
       let total_is = total-without w passed n u there_still s in
       let only = only_reduced w passed n u there_still in
-      rest (total swept s) (unit_amount s u.holding) (total passed s) (owing_all u.holding s) (booked passed.books s) total_is
+      total_without_n (total swept s) (unit_amount s u.holding) (total passed s) (owing_all u.holding s) (booked passed.books s) total_is
       (all_owed u.holding none s) before
       ∙ ap (λ (books : BooksValue). booked books s) (sym only.books)
     where
@@ -134,8 +134,8 @@ module _ (w : WorldValue) (c : CampaignValue) (n : ℕ) (u : Unit) (is : get c.u
 
       -- for `balanced`: if the total `b` was above what the books account for (`z`) by what unit `n` had (`h`), the
       -- total without the unit (`a`) is `z`
-      rest : (a h b o : ℕ) (z : ℤ) → a + h ≡ b → o ≡ h → pos b ≡ z +ℤ pos (0 + o) → pos a ≡ z
-      rest a h b o z e f g = omega (arith, ints, e, f, g)
+      total_without_n : (a h b o : ℕ) (z : ℤ) → a + h ≡ b → o ≡ h → pos b ≡ z +ℤ pos (0 + o) → pos a ≡ z
+      total_without_n a h b o z e f g = omega (arith, ints, e, f, g)
 
   -- passing on what the unit has moves Lost of money and of each item by at most 999,999,999, and nothing else
   -- (`loses_by`)

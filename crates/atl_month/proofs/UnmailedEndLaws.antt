@@ -43,11 +43,11 @@ fewer_by : (s : UpkeepResult) (u : Unit) → IsLessBy s.starved u (unit_after_up
 fewer_by s u = record { faction = refl; name = grind arith; men = grind (arith, nat_tests); items = λ i. grind arith }
 
 -- how many men of unit `n` starve by one result of upkeep; 0 where the result is another unit's
-abbrev among : ℕ → UpkeepResult → ℕ
-among n s = if s.unit == n then s.starved else 0
+abbrev starved_of_n : ℕ → UpkeepResult → ℕ
+starved_of_n n s = if s.unit == n then s.starved else 0
 
 -- after upkeep of one unit each unit has exactly as many men less as starved of it, which is 0 for the other units
-supplied_at : (c : CampaignValue) (s : UpkeepResult) (n : ℕ) (u : Unit) → get c.units n ≡ Some u → IsUnaffected (IsLessBy (among n s)) (upkeep_at c s) n u
+supplied_at : (c : CampaignValue) (s : UpkeepResult) (n : ℕ) (u : Unit) → get c.units n ≡ Some u → IsUnaffected (IsLessBy (starved_of_n n s)) (upkeep_at c s) n u
 supplied_at c s n u there = elim (cases_eq n s.unit) [
   | inl own ↦
       let here : get c.units s.unit ≡ Some u = ap (get c.units) (sym own) ∙ there in
@@ -65,12 +65,12 @@ supplied_at c s n u there = elim (cases_eq n s.unit) [
 ]
 
 -- after upkeep of several units each unit has exactly as many men less as starved of it altogether (`IsLessBy`)
-all_supplied : (c : CampaignValue) (ss : List UpkeepResult) (n : ℕ) (u : Unit) → get c.units n ≡ Some u → IsUnaffected (IsLessBy (sum_by (among n) ss)) (fold upkeep_at c ss) n u
+all_supplied : (c : CampaignValue) (ss : List UpkeepResult) (n : ℕ) (u : Unit) → get c.units n ≡ Some u → IsUnaffected (IsLessBy (sum_by (starved_of_n n) ss)) (fold upkeep_at c ss) n u
 all_supplied c [] n u there = record { unit = u; there = there; spared = nobody_less u }
 all_supplied c (s ∷ ss) n u there =
     let one = supplied_at c s n u there in
     let two = all_supplied (upkeep_at c s) ss n one.unit one.there in
-    record { unit = two.unit; there = two.there; spared = subst (λ k. IsLessBy k u two.unit) (sym (sum_by-cons (among n) s ss)) (less_plus (among n s) (sum_by (among n) ss) u one.unit two.unit one.spared two.spared) }
+    record { unit = two.unit; there = two.there; spared = subst (λ k. IsLessBy k u two.unit) (sym (sum_by-cons (starved_of_n n) s ss)) (less_plus (starved_of_n n s) (sum_by (starved_of_n n) ss) u one.unit two.unit one.spared two.spared) }
 
 -- how many men of unit `n` starved by one event
 abbrev by_event : ℕ → Event → ℕ
@@ -81,15 +81,15 @@ abbrev starved_reported : ℕ → List UpkeepResult → ℕ
 starved_reported n ss = starved_in (map starved_event ss) n
 
 -- for each unit, the Starved events report all its men who starve
-starved_are_reported : (ss : List UpkeepResult) (n : ℕ) → starved_reported n (filter starves ss) ≡ sum_by (among n) ss
+starved_are_reported : (ss : List UpkeepResult) (n : ℕ) → starved_reported n (filter starves ss) ≡ sum_by (starved_of_n n) ss
 starved_are_reported [] n = refl
-starved_are_reported (s ∷ ss) n = by_test (starved_are_reported ss n) (s.starved == 0) refl ∙ sym (sum_by-cons (among n) s ss)
+starved_are_reported (s ∷ ss) n = by_test (starved_are_reported ss n) (s.starved == 0) refl ∙ sym (sum_by-cons (starved_of_n n) s ss)
   where
     -- For `starved_are_reported`: with one result more, the events report all men of unit `n` who starve, whether
     -- nobody starves by this result (`b`) or some do.
-    by_test : starved_reported n (filter starves ss) ≡ sum_by (among n) ss → (b : Bool) → (s.starved == 0) ≡ b → starved_reported n (cond (not b) (s ∷ filter starves ss) (filter starves ss)) ≡ among n s + sum_by (among n) ss
+    by_test : starved_reported n (filter starves ss) ≡ sum_by (starved_of_n n) ss → (b : Bool) → (s.starved == 0) ≡ b → starved_reported n (cond (not b) (s ∷ filter starves ss) (filter starves ss)) ≡ starved_of_n n s + sum_by (starved_of_n n) ss
     by_test rest true is = let none = is_equal s.starved 0 is in grind (arith, rest, none)
-    by_test rest false is = sum_by-cons (by_event n) (starved_event s) (map starved_event (filter starves ss)) ∙ ap (λ x. among n s + x) rest
+    by_test rest false is = sum_by-cons (by_event n) (starved_event s) (map starved_event (filter starves ss)) ∙ ap (λ x. starved_of_n n s + x) rest
 
 -- upkeep leaves units of factions without a mailing their items, and their men less the starved (`LeavesUnmailed`)
 pub upkeep_leaves : LeavesUnmailed upkeep_meaning upkeep_keeps
@@ -103,7 +103,7 @@ upkeep_leaves = record {
   where
     -- how many men of unit `n` starve by the upkeep of the campaign
     men_starved : (w : WorldValue) (c : CampaignValue) (n : ℕ) → ℕ
-    men_starved w c n = sum_by (among n) (upkeep_results w c)
+    men_starved w c n = sum_by (starved_of_n n) (upkeep_results w c)
 
     -- after upkeep the events report for unit `n` the men starved before and those who starve by upkeep
     starved_add_up : (w : WorldValue) (c : CampaignValue) (m : MonthValue) (n : ℕ) → starved_in (upkeep_meaning w c m).1.events n ≡ starved_in m.events n + men_starved w c n

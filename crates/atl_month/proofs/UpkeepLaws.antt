@@ -62,12 +62,12 @@ IsStudied w men skill days = (skill < length w.skills) × (1 ≤ days) × (days 
 
 module _ (w : WorldValue) (left men : ℕ) (fewer : left ≤ men) where
   -- the days that stay with fewer men are at most as many as those men may have
-  part : (days : ℕ) → days ≤ most_days * men → days * left / men ≤ most_days * left
-  part days most = div-le_of_le-mul men (subst (λ n. days * left ≤ n) turned (mul-le-mul_right left most))
+  days_fit_men_left : (days : ℕ) → days ≤ most_days * men → days * left / men ≤ most_days * left
+  days_fit_men_left days most = div-le_of_le-mul men (subst (λ n. days * left ≤ n) factors_swap (mul-le-mul_right left most))
     where
-      -- for `part`: the factors of a product can be taken in another order
-      turned : (most_days * men) * left ≡ men * (most_days * left)
-      turned = grind arith
+      -- for `days_fit_men_left`: the factors of a product can be taken in another order
+      factors_swap : (most_days * men) * left ≡ men * (most_days * left)
+      factors_swap = grind arith
 
 -- the days of each skill that stay with `left` of a holding's men
 abbrev pub days_left : ℕ → HoldingValue → FinMap nat_cmp ℕ
@@ -91,7 +91,7 @@ module _ (w : WorldValue) (h : HoldingValue) (left : ℕ) (fewer : left ≤ h.me
       by_option None there some said = let none : d ≡ 0 = said ∙ nothing in absurd (omega (arith, some, none))
       by_option (Some had) there some said =
           let (known, _, most) = days k had there in
-          (known, some, subst (λ n. n ≤ most_days * left) (sym said) (part w left h.men fewer had most))
+          (known, some, subst (λ n. n ≤ most_days * left) (sym said) (days_fit_men_left w left h.men fewer had most))
 
   -- a holding has `left` men, days that these may have, and the name, guard flag and items of holding `h`
   abbrev IsWithMen : HoldingValue → Type 0

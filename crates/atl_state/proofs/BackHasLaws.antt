@@ -32,8 +32,8 @@ abbrev none : StoredHas → Bool
 none r = is_zero r.amount
 
 -- the rows of `has` for the goods of a unit
-abbrev held : ℕ × Unit → List StoredHas
-held e = held_rows e.0 e.1.holding
+abbrev goods_rows : ℕ × Unit → List StoredHas
+goods_rows e = held_rows e.0 e.1.holding
 
 -- the rows of `has` of one unit and one sort have distinct keys
 sort_apart : (n sort : ℕ) (m : FinMap nat_cmp ℕ) → IsDistinct (λ a b. same (has_key a) (has_key b)) (rows_of_sort n sort (entries m))
@@ -43,12 +43,12 @@ sort_apart n sort m =
 module _ (units : FinMap nat_cmp Unit) where
   -- if P holds for the row of each amount, not 0, that a unit of the map has, it holds for each row of `has` of the map
   pub has_each : (P : StoredHas → Type 0) → Every (λ n u. (s : ℕ) → s < 2 → Every (λ i a. is_zero (pos a) ≡ false → P (has_row n s i a)) (goods_of s u)) units → AllByRecursion P (has_rows (entries units))
-  has_each P h = groups_each held P units (λ n u is.
+  has_each P h = groups_each goods_rows P units (λ n u is.
       append_each P (rows_of_sort n 0 (entries u.holding.items)) (rows_of_sort n 1 (entries u.holding.days)) (lines_each none (has_row n 0) u.holding.items P (h n u is 0 (omega arith))) (lines_each none (has_row n 1) u.holding.days P (h n u is 1 (omega arith))))
 
   -- if P holds for each row of `has` of a map, it holds for the row of each amount, not 0, that a unit of the map has
   pub each_had : (P : StoredHas → Type 0) → AllByRecursion P (has_rows (entries units)) → Every (λ n u. (s : ℕ) → s < 2 → Every (λ i a. is_zero (pos a) ≡ false → P (has_row n s i a)) (goods_of s u)) units
-  each_had P h n u is = of_sort (each_appended P (rows_of_sort n 0 (entries u.holding.items)) (rows_of_sort n 1 (entries u.holding.days)) (each_group held P units h n u is))
+  each_had P h n u is = of_sort (each_appended P (rows_of_sort n 0 (entries u.holding.items)) (rows_of_sort n 1 (entries u.holding.days)) (each_group goods_rows P units h n u is))
     where
       -- if P holds for the rows of a unit's items and of its days, it holds for the row of each amount that isn't 0
       of_sort : AllByRecursion P (rows_of_sort n 0 (entries u.holding.items)) × AllByRecursion P (rows_of_sort n 1 (entries u.holding.days)) → (s : ℕ) → s < 2 → Every (λ i a. is_zero (pos a) ≡ false → P (has_row n s i a)) (goods_of s u)

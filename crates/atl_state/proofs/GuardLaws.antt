@@ -37,18 +37,18 @@ module _ {V : Type 0} (p : V → Bool) where
   chosen es = map (λ e. e.0) (filter (λ e. p e.1) es)
 
   -- a number in a list is still in it when k is put in front (if b is true), or nothing is (if b is false)
-  behind : (b : Bool) (n k : ℕ) (ns : List ℕ) → In n ns → In n (cond b (k ∷ ns) ns)
-  behind true n k ns h = inr h
-  behind false n k ns h = h
+  still_in : (b : Bool) (n k : ℕ) (ns : List ℕ) → In n ns → In n (cond b (k ∷ ns) ns)
+  still_in true n k ns h = inr h
+  still_in false n k ns h = h
 
   -- if a value is found in entries and passes the test, its number is among those that pass (`chosen`)
   chosen_in : (es : List (ℕ × V)) (n : ℕ) (v : V) → find nat_cmp n es ≡ Some v → p v ≡ true → In n (chosen es)
   chosen_in [] n v is h = none_some v is
   chosen_in (e ∷ es) n v is h =
       subst (In n) (sym (chosen-cons p e es)) (elim (nat_cmp n e.0) as (λ o. nat_cmp n e.0 ≡ o → cond (is_eq o) (Some e.1) (find nat_cmp n es) ≡ Some v → In n (cond (p e.1) (e.0 ∷ chosen es) (chosen es))) [
-        | Less ↦ λ _ is. behind (p e.1) n e.0 (chosen es) (chosen_in es n v is h)
+        | Less ↦ λ _ is. still_in (p e.1) n e.0 (chosen es) (chosen_in es n v is h)
         | Equal ↦ λ o same. let one : e.1 ≡ v = cc in subst (λ b. In n (cond b (e.0 ∷ chosen es) (chosen es))) (sym (ap p one ∙ h)) (inl (nat_cmp-IsAntisymmetric n e.0 o))
-        | Greater ↦ λ _ is. behind (p e.1) n e.0 (chosen es) (chosen_in es n v is h)
+        | Greater ↦ λ _ is. still_in (p e.1) n e.0 (chosen es) (chosen_in es n v is h)
       ] refl is)
 
   -- a number whose value passes the test is in the list that numbers_where gives

@@ -545,9 +545,9 @@ module _ (f : Format) (w : WorldValue) (p : Parts) (k : RowsKeep f w p) where
       (each_passes (market_in_range w) (λ m. market_in_range w m ≡ true) (λ m e. e) p.markets ranges.markets)
 
   -- the region of each row of `market` has a row of `region`
-  of_regions : AllByRecursion (λ m. HasNumber (λ r. as_u32 r.number) p.regions (as_u32 m.region)) p.markets
+  markets_of_regions : AllByRecursion (λ m. HasNumber (λ r. as_u32 r.number) p.regions (as_u32 m.region)) p.markets
   unfolding campaign_of
-  of_regions =
+  markets_of_regions =
       each_passes (is_of_market w) (λ m. HasNumber (λ r. as_u32 r.number) p.regions (as_u32 m.region)) (λ m e.
       let found = market_there w.regions (as_u32 m.item) (as_u32 m.region) (get w.regions (as_u32 m.region)) refl e in
       row_of (λ r. as_u32 r.number) (region_of p.markets) p.regions (as_u32 m.region) ((k.known.regions (as_u32 m.region)).1 (found.0, found.2))) p.markets k.stocked
@@ -561,7 +561,7 @@ module _ (f : Format) (w : WorldValue) (p : Parts) (k : RowsKeep f w p) where
   markets_said : IsPermutation (market_rows f (entries regions)) p.markets
   markets_said = elim f as (λ g. f ≡ g → IsPermutation (market_rows g (entries regions)) p.markets) [
     | First ↦ λ is. subst (λ rows. IsPermutation [] rows) (sym (none_in_first is)) (IsPermutation-refl [])
-    | Second ↦ λ is. market.market_order p.markets p.regions regions_apart of_regions exact_markets k.range.keys.markets
+    | Second ↦ λ is. market.market_order p.markets p.regions regions_apart markets_of_regions exact_markets k.range.keys.markets
   ] refl
 
   -- ---- the books

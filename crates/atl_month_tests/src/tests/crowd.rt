@@ -623,7 +623,7 @@ fn mailing(alloc: Global, faction: u32) -> Result<String, AllocError> {
 }
 
 /// The texts as `&str`, in the same order, as `month` takes them.
-fn lent(alloc: Global, texts: &[String]) -> Result<Vec<&str>, AllocError> {
+fn as_strs(alloc: Global, texts: &[String]) -> Result<Vec<&str>, AllocError> {
     let mut all = Vec::new(alloc);
     for text in texts {
         all.push(text.as_str())?;
@@ -639,5 +639,5 @@ pub(crate) fn crowd_month(alloc: Global, world: &World) -> Result<Month, Fail>
     for faction in 1..=FACTIONS {
         texts.push(mailing(alloc, faction)?)?;
     }
-    month(alloc, world, &lent(alloc, &texts)?)
+    month(alloc, world, &as_strs(alloc, &texts)?)
 }

@@ -105,7 +105,7 @@ static ORDERS_OF_PHASES: [(&[&str], &str); 9] = [
 
 /// Asserts which orders the five phases of `told_of` get of the mailings of one row of
 /// `ORDERS_OF_PHASES`.
-fn row_tells(
+fn assert_row_orders(
     rt: &impl Abort,
     alloc: Global,
     world: &World,
@@ -121,9 +121,9 @@ fn row_tells(
 
 /// Asserts, for each row of `ORDERS_OF_PHASES`, which orders the five phases of `told_of` get of
 /// its mailings.
-fn rows_tell(rt: &impl Abort, alloc: Global, world: &World) -> Result<(), Fail> {
+fn assert_all_orders(rt: &impl Abort, alloc: Global, world: &World) -> Result<(), Fail> {
     for (row, (texts, wanted)) in ORDERS_OF_PHASES.iter().enumerate() {
-        row_tells(rt, alloc, world, row, texts, wanted)?;
+        assert_row_orders(rt, alloc, world, row, texts, wanted)?;
     }
     Ok(())
 }
@@ -132,7 +132,7 @@ fn rows_tell(rt: &impl Abort, alloc: Global, world: &World) -> Result<(), Fail> 
 #[test]
 fn orders_of_phases(rt: HostRuntime) -> Result<(), Fail> {
     let world = world(rt.alloc())?;
-    rows_tell(&rt, rt.alloc(), &world)
+    assert_all_orders(&rt, rt.alloc(), &world)
 }
 
 /// A month of two mailings, in which FORM 1 of faction 1 made unit 7, and FORM 2 of faction 2 made
@@ -195,7 +195,7 @@ fn aliases_are(rt: &impl Abort, month: &Month) {
 
 /// Asserts the aliases of the month of `formed`, and which orders the five phases of `told_of` get
 /// of it.
-fn formed_tells(rt: &impl Abort, alloc: Global, month: &Month) -> Result<(), Fail> {
+fn assert_formed(rt: &impl Abort, alloc: Global, month: &Month) -> Result<(), Fail> {
     aliases_are(rt, month);
     let told = told_of(alloc, month)?;
     assert_row(
@@ -213,7 +213,7 @@ fn formed_tells(rt: &impl Abort, alloc: Global, month: &Month) -> Result<(), Fai
 fn aliases_of_factions(rt: HostRuntime) -> Result<(), Fail> {
     let world = world(rt.alloc())?;
     let month = formed(rt.alloc(), &world)?;
-    formed_tells(&rt, rt.alloc(), &month)
+    assert_formed(&rt, rt.alloc(), &month)
 }
 
 /// The event of a FORM that made unit 7, to add to a month.

@@ -10,7 +10,7 @@ use Rattle.atl_phase.proofs.FitLaws.{read_fit}
 use Rattle.atl_month.proofs.MoveLaws.{phases_little}
 use Rattle.atl_month.proofs.close.close_month.Goals as goal
 
--- the campaign is good again with the month counted and the mail removed
+-- once the month is counted and the mail is removed, which `close_month` doesn't do, the campaign is good again
 pub returns-clause-good : goal.returns-clause-good
 returns-clause-good c = finished_good c.args.world.now c.args.campaign.value c.in_ok-campaign.campaign.value phases_moving phases_little c.requires.month c.in_ok-campaign.ensures.leaves c.requires.good
 

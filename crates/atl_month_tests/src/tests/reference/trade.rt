@@ -118,7 +118,7 @@ fn moved(trade: PlainTrade, held: u64, stock: u64, pieces: u64) -> (u64, u64) {
 }
 
 /// The money of a unit after it sold or bought `pieces` at a market.
-fn money_behind(trade: PlainTrade, person: PlainUnit, market: &Market, pieces: u64) -> u64 {
+fn money_after(trade: PlainTrade, person: PlainUnit, market: &Market, pieces: u64) -> u64 {
     match trade {
         PlainTrade::Sell => person
             .money
@@ -154,7 +154,7 @@ pub(crate) fn pay(
     let held = plain.amount(given.unit, false, given.thing);
     let stock = plain.stock(person.region, given.thing);
     let (held, stock) = moved(trade, held, stock, given.amount);
-    let money = money_behind(trade, person, market, given.amount);
+    let money = money_after(trade, person, market, given.amount);
     plain.set_person(given.unit, person.men, money);
     plain.book(entry_of(trade), Thing::Money, person.money, money)?;
     plain.set_amount(Good {

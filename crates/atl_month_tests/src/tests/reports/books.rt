@@ -186,7 +186,7 @@ static OF_SMALL: [(Scene, &str); 3] = [
 static OF_ISLE: [(Scene, &str); 2] = [(PRODUCTION, OF_PRODUCTION), (NOBODY, OF_THE_ISLE)];
 
 /// Asserts that the text of a campaign's books is the wanted one.
-fn tell(
+fn assert_text_of(
     rt: &impl Abort,
     alloc: Global,
     world: &World,
@@ -209,7 +209,7 @@ fn assert_case(
     wanted: &str,
 ) -> Result<(), Fail> {
     let campaign = campaign_of(alloc, world, scene)?;
-    tell(rt, alloc, world, &campaign, wanted)
+    assert_text_of(rt, alloc, world, &campaign, wanted)
 }
 
 /// Asserts, for each scene, that the text of the books of its campaign is the wanted one.

@@ -66,7 +66,7 @@ const UPKEEP: Event = Event {
 };
 
 /// An event of a GIVE for an alias that no unit has: for unit 0, with fault 1, which is NotYours.
-const FORMED_BY_NOBODY: Event = Event {
+const GIVE_OF_NO_UNIT: Event = Event {
     faction: 1,
     unit: 0,
     line: 4,
@@ -146,7 +146,7 @@ Line 65: 11 BadName.
     },
     Case {
         faults: &[],
-        events: &[FORMED_BY_NOBODY],
+        events: &[GIVE_OF_NO_UNIT],
         wanted: "Atlantis report, month 3, faction 1 \"Avalon\".
 Orders:
 Unit 0, line 4, GIVE: fault 1 NotYours.

@@ -29,7 +29,7 @@ struct Case {
 }
 
 /// A case that others are made of: faction 1's report, with no units, faulty lines and events.
-const PLAIN: Case = Case {
+const BLANK: Case = Case {
     scene: NOBODY,
     empty: &[],
     faction: 1,
@@ -75,7 +75,7 @@ Region 4 \"Wood\", forest: 100 peasants, 50 money.
 Exits: south 3.
 * Unit 1 \"Unit 1\": 1 men, 0 money, observation 1 (30).
 ",
-        ..PLAIN
+        ..BLANK
     },
     // Observation 2 sees a unit with stealth 2.
     Case {
@@ -91,7 +91,7 @@ Exits: south 3.
 * Unit 1 \"Unit 1\": 1 men, 0 money, observation 2 (90).
 - Unit 2 \"Unit 2\" of faction 2 \"Bree\": 1 men.
 ",
-        ..PLAIN
+        ..BLANK
     },
     // The highest observation of the faction's units in the region counts, whichever unit has it.
     Case {
@@ -109,7 +109,7 @@ Exits: south 3.
 * Unit 3 \"Unit 3\": 1 men, 0 money, observation 2 (90).
 * Unit 4 \"Unit 4\": 1 men, 0 money, observation 1 (30).
 ",
-        ..PLAIN
+        ..BLANK
     },
     // The observation of a unit in another region doesn't count.
     Case {
@@ -134,7 +134,7 @@ Region 4 \"Wood\", forest: 100 peasants, 50 money.
 Exits: south 3.
 * Unit 1 \"Unit 1\": 1 men, 0 money, observation 1 (30).
 ",
-        ..PLAIN
+        ..BLANK
     },
     // The observation of another faction's unit doesn't count. A unit without stealth is always
     // seen.
@@ -158,7 +158,7 @@ Exits: south 3.
 * Unit 1 \"Unit 1\": 1 men, 0 money, observation 1 (30).
 - Unit 3 \"Unit 3\" of faction 2 \"Bree\": 1 men.
 ",
-        ..PLAIN
+        ..BLANK
     },
     // A unit that guards is seen by all.
     Case {
@@ -174,7 +174,7 @@ Exits: south 3.
 * Unit 1 \"Unit 1\": 1 men, 0 money, observation 1 (30).
 - Unit 2 \"Unit 2\" of faction 2 \"Bree\": 1 men, guard.
 ",
-        ..PLAIN
+        ..BLANK
     },
     // A structure is seen always, and its owner's number only if the owner is seen.
     Case {
@@ -225,7 +225,7 @@ Structure 2 \"Ark\", boat, 10 of 10, owner 4.
 * Unit 1 \"Unit 1\": 1 men, 0 money, observation 1 (30).
 - Unit 4 \"Unit 4\" of faction 2 \"Bree\": 1 men, in 2.
 ",
-        ..PLAIN
+        ..BLANK
     },
     // A faction's own units are seen, whatever their stealth.
     Case {
@@ -242,7 +242,7 @@ Exits: south 3.
 - Unit 1 \"Unit 1\" of faction 1 \"Avalon\": 1 men.
 * Unit 2 \"Unit 2\": 1 men, 0 money, stealth 2 (90).
 ",
-        ..PLAIN
+        ..BLANK
     },
     // A faction without units sees nothing.
     Case {
@@ -255,7 +255,7 @@ Exits: south 3.
 Orders:
 None.
 ",
-        ..PLAIN
+        ..BLANK
     },
 ];
 
@@ -296,7 +296,7 @@ Exits: south 3.
 * Unit 2 \"Unit 2\": 0 men, 5 money, 4 wood, sailing 0 (60).
 - Unit 3 \"Unit 3\" of faction 2 \"Bree\": 0 men.
 ",
-        ..PLAIN
+        ..BLANK
     },
     // A unit without men has no observation.
     Case {
@@ -313,7 +313,7 @@ Exits: south 3.
 * Unit 1 \"Unit 1\": 1 men, 0 money, observation 1 (30).
 * Unit 3 \"Unit 3\": 0 men, 0 money, observation 0 (90).
 ",
-        ..PLAIN
+        ..BLANK
     },
     // A region isn't seen if all the faction's units in it are without men.
     Case {
@@ -335,7 +335,7 @@ Region 3 \"Far\", forest: 200 peasants, 100 money.
 Exits: north 4, west 2.
 * Unit 2 \"Unit 2\": 1 men, 0 money, observation 1 (30).
 ",
-        ..PLAIN
+        ..BLANK
     },
 ];
 
@@ -417,7 +417,7 @@ Structure 1 \"Ship 1\", boat, 10 of 10, owner 1.
 * Unit 1 \"Unit 1\": 2 men, 50 money, guard, in 1, 12 wood, sailing 1 (60).
 - Unit 2 \"Unit 2\" of faction 2 \"Bree\": 1 men, in 1.
 ",
-        ..PLAIN
+        ..BLANK
     },
     Case {
         scene: Scene {
@@ -525,7 +525,7 @@ Structure 3 \"Ship 1\", boat, 10 of 10, owner 5.
 * Unit 5 \"Unit 5\": 2 men, 50 money, in 3, sailing 1 (60).
 - Unit 6 \"Unit 6\" of faction 2 \"Bree\": 4 men, guard.
 ",
-        ..PLAIN
+        ..BLANK
     },
 ];
 
@@ -544,7 +544,7 @@ fn empty_all(campaign: &mut Campaign, numbers: &[u32]) {
 }
 
 /// Asserts the report of a case's faction on a campaign, with the case's faulty lines and events.
-fn tell(
+fn assert_report(
     rt: &impl Abort,
     alloc: Global,
     world: &World,
@@ -562,7 +562,7 @@ fn tell(
 fn assert_case(rt: &impl Abort, alloc: Global, world: &World, case: &Case) -> Result<(), Fail> {
     let mut campaign = campaign_of(alloc, world, &case.scene)?;
     empty_all(&mut campaign, case.empty);
-    tell(rt, alloc, world, &campaign, case)
+    assert_report(rt, alloc, world, &campaign, case)
 }
 
 /// Asserts, for each case, the report that its faction has to get.
