@@ -47,11 +47,11 @@ after_prefix_is (x ∷ w) (y ∷ p) rest h = after_prefix_by x y w p rest (y == 
 
 -- For `lookup_after_prefix`: looking up a path past its first byte, in rows with a common prefix, looks up what follows
 -- the prefix. It finds nothing where the first bytes of path and prefix differ, or the path lacks the prefix.
-front_by : (x y : ℕ) (w p : List ℕ) (t : Rows) (v : Bool) → (y == x) ≡ v → first (prepend w t) p ≡ option_and_then (λ rest. first t rest) (after_prefix w p) → seek 0 (step y (prepend (x ∷ w) t)) p ≡ option_and_then (λ rest. first t rest) (cond v (after_prefix w p) None)
-front_by x y w p t true e ih =
+lookup_after_prefix_by : (x y : ℕ) (w p : List ℕ) (t : Rows) (v : Bool) → (y == x) ≡ v → first (prepend w t) p ≡ option_and_then (λ rest. first t rest) (after_prefix w p) → seek 0 (step y (prepend (x ∷ w) t)) p ≡ option_and_then (λ rest. first t rest) (cond v (after_prefix w p) None)
+lookup_after_prefix_by x y w p t true e ih =
     let same : y ≡ x = grind (arith, nat_tests) in
     rw (same, step-hit x w t) ih
-front_by x y w p t false e ih =
+lookup_after_prefix_by x y w p t false e ih =
     let differ : x ≢ y = λ q. grind (arith, nat_tests) in
     rw (step-miss y x w t differ) (seek-empty 0 p)
 
@@ -63,7 +63,7 @@ lookup_after_prefix [] t path h = ap (λ r. first r path) (prepend-nil t)
 lookup_after_prefix (x ∷ w) t [] h = own-prepend x w t
 lookup_after_prefix (x ∷ w) t (y ∷ p) h =
     seek-lit x w t y p h.0
-    ∙ front_by x y w p t (y == x) refl (lookup_after_prefix w t p h.1)
+    ∙ lookup_after_prefix_by x y w p t (y == x) refl (lookup_after_prefix w t p h.1)
     ∙ ap (λ r. option_and_then (λ rest. first t rest) r) (sym (after_prefix_step x y w p))
 
 -- ---- a number after a prefix
@@ -98,13 +98,13 @@ key_found key b p e h =
     rw (e, seek-empty 0 p, whole) refl
 
 -- The lookup found this key, or nothing.
-abbrev IsAt : ℕ → Option ℕ → Type 0
-IsAt key found = (found ≡ Some key) ⊎ (found ≡ None)
+abbrev IsKeyOrNone : ℕ → Option ℕ → Type 0
+IsKeyOrNone key found = (found ≡ Some key) ⊎ (found ≡ None)
 
 -- if two lookups, a and b, find the key or nothing, so does a with b as its fallback (`or_else`)
-or_either : (key : ℕ) (a b : Option ℕ) → IsAt key a → IsAt key b → IsAt key (or_else a b)
+or_either : (key : ℕ) (a b : Option ℕ) → IsKeyOrNone key a → IsKeyOrNone key b → IsKeyOrNone key (or_else a b)
 or_either key a b (inl e) h = inl (ap (λ x. or_else x b) e)
-or_either key a b (inr e) h = subst (λ x. IsAt key (or_else x b)) (sym e) h
+or_either key a b (inr e) h = subst (λ x. IsKeyOrNone key (or_else x b)) (sym e) h
 
 -- a row whose text is matched to its end finds nothing for a path that has further bytes
 pub end_none : (key b : ℕ) (p : List ℕ) → seek 0 (([], key) ∷ []) (b ∷ p) ≡ None
@@ -112,27 +112,27 @@ unfolding seek
 end_none key b p = simp (seek-empty 0 p, param_step-empty (b ∷ p), seek-empty ((param_step {K = ℕ} [] (b ∷ p)).0 - 1) p)
 
 -- a row whose text is matched to its end finds its key or nothing
-end_alone : (key : ℕ) (p : List ℕ) → IsAt key (seek 0 (([], key) ∷ []) p)
+end_alone : (key : ℕ) (p : List ℕ) → IsKeyOrNone key (seek 0 (([], key) ∷ []) p)
 unfolding seek
 end_alone key [] = inl refl
 end_alone key (b ∷ p) = inr (end_none key b p)
 
 -- a row whose text is matched to its end, if a test t keeps it, or else no row, finds its key or nothing: for
 -- `one_or_none`
-stepped : (key b : ℕ) (p : List ℕ) (t : Bool) → IsAt key (seek 0 (cond t (([], key) ∷ []) []) p)
-stepped key b p true = end_alone key p
-stepped key b p false = inr (seek-empty 0 p)
+row_kept_or_not : (key b : ℕ) (p : List ℕ) (t : Bool) → IsKeyOrNone key (seek 0 (cond t (([], key) ∷ []) []) p)
+row_kept_or_not key b p true = end_alone key p
+row_kept_or_not key b p false = inr (seek-empty 0 p)
 
 -- after a parameter at the end of its row, the lookup finds the key or nothing, whether the rest has a slash or not
-after_by : (key b : ℕ) (p : List ℕ) (t : Bool) → has_slash (b ∷ p) ≡ t → IsAt key (after_param (([], key) ∷ []) (b ∷ p))
+after_by : (key b : ℕ) (p : List ℕ) (t : Bool) → has_slash (b ∷ p) ≡ t → IsKeyOrNone key (after_param (([], key) ∷ []) (b ∷ p))
 after_by key b p true h = inr (after_param-stop [] (Some key) b p refl h)
 after_by key b p false h = inl (after_param-end [] (Some key) b p tt refl h)
 
 -- looking up a text that isn't empty in the row of a parameter finds its key or nothing
-one_or_none : (key b : ℕ) (p : List ℕ) → IsAt key (first (number_row key) (b ∷ p))
+one_or_none : (key b : ℕ) (p : List ℕ) → IsKeyOrNone key (first (number_row key) (b ∷ p))
 unfolding seek
 one_or_none key b p =
-    or_either key (seek 0 (cond (param_token == b) (([], key) ∷ []) []) p) (or_else (after_param (([], key) ∷ []) (b ∷ p)) None) (stepped key b p (param_token == b))
+    or_either key (seek 0 (cond (param_token == b) (([], key) ∷ []) []) p) (or_else (after_param (([], key) ∷ []) (b ∷ p)) None) (row_kept_or_not key b p (param_token == b))
     (or_either key (after_param (([], key) ∷ []) (b ∷ p)) None (after_by key b p (has_slash (b ∷ p)) refl) (inr refl))
 
 -- a choice between a number and None, by three tests of which the last is false, is None: for `number_by`, of a text
@@ -168,7 +168,7 @@ abbrev pub NumberSays : ℕ → List ℕ → Type 0
 NumberSays key rest = ((first (number_row key) rest ≡ Some key) × ((number_of rest ≡ None) ⊎ IsUtf8 rest)) ⊎ ((first (number_row key) rest ≡ None) × (number_of rest ≡ None))
 
 -- the lookup of a text that is no number may find the key or nothing: `NumberSays` allows either for such a text
-found_or_none : (key : ℕ) (rest : List ℕ) → number_of rest ≡ None → IsAt key (first (number_row key) rest) → NumberSays key rest
+found_or_none : (key : ℕ) (rest : List ℕ) → number_of rest ≡ None → IsKeyOrNone key (first (number_row key) rest) → NumberSays key rest
 found_or_none key rest none (inl e) = inl (e, inl none)
 found_or_none key rest none (inr e) = inr (e, none)
 

@@ -95,12 +95,12 @@ short_front input h none goes_on =
 -- ---- from the parser's result to the progress
 
 -- The input has a whole head with `rest` after it, and these results of checks lead to the verdict on this head.
-abbrev Finds : (input rest : List ℕ) → Result (Route × ℕ × List ℕ) Problem → Type 0
-Finds input rest checks = (head : RequestHead) × HasHead input head rest × ((behind : List ℕ) → verdict_with_body checks behind ≡ verdict_of head behind)
+abbrev LeadsToVerdict : (input rest : List ℕ) → Result (Route × ℕ × List ℕ) Problem → Type 0
+LeadsToVerdict input rest checks = (head : RequestHead) × HasHead input head rest × ((behind : List ℕ) → verdict_with_body checks behind ≡ verdict_of head behind)
 
 -- if the first 8,192 bytes were parsed as a whole head, the input has this head, and the checks of its spans lead to
--- the verdict on the head (`Finds`)
-pub finds_head : (input front method target rest : List ℕ) (headers fields : List HeaderSpan) (spans : RequestSpans) → front ≡ take most_head input → IsRequestWithin front headers spans × IsRequestOf front headers spans → length headers ≡ most_fields → method ≡ span_bytes front spans.method → target ≡ span_bytes front spans.path → fields ≡ take spans.headers headers → rest ≡ drop spans.len input → Finds input rest (head_checks spans.version method target (field_pairs front fields))
+-- the verdict on the head (`LeadsToVerdict`)
+pub finds_head : (input front method target rest : List ℕ) (headers fields : List HeaderSpan) (spans : RequestSpans) → front ≡ take most_head input → IsRequestWithin front headers spans × IsRequestOf front headers spans → length headers ≡ most_fields → method ≡ span_bytes front spans.method → target ≡ span_bytes front spans.path → fields ≡ take spans.headers headers → rest ≡ drop spans.len input → LeadsToVerdict input rest (head_checks spans.version method target (field_pairs front fields))
 finds_head input front method target rest headers fields spans e (lies, (head, at)) room method_is target_is fields_are rest_is =
     let at_front : IsRequestAt (take most_head input) headers spans head = subst (λ l. IsRequestAt l headers spans head) e at in
     let lies_front : IsRequestWithin (take most_head input) headers spans = subst (λ l. IsRequestWithin l headers spans) e lies in
@@ -113,7 +113,7 @@ finds_head input front method target rest headers fields spans e (lies, (head, a
 
 -- if an input has a whole head, a progress that is the verdict by the head's checks, or a count of missing bytes
 -- (`EndsAs`), is that on the input, too (`ComesTo`)
-pub comes_whole : (input rest : List ℕ) (checks : Result (Route × ℕ × List ℕ) Problem) (told : Progress) → Finds input rest checks → EndsAs checks rest told → ComesTo input told
+pub comes_whole : (input rest : List ℕ) (checks : Result (Route × ℕ × List ℕ) Problem) (told : Progress) → LeadsToVerdict input rest checks → EndsAs checks rest told → ComesTo input told
 comes_whole input rest checks (Ends outcome) (head, has, same) e = whole head rest has (e ∙ same rest)
 comes_whole input rest checks (Lacks count) (head, has, same) (some, short) = (some, λ more few. whole head (rest ++ more) (head_stays input more head rest has) (sym (short more few) ∙ same (rest ++ more)))
 

@@ -69,25 +69,25 @@ abbrev Takes : ℕ → List ℕ → List ℕ → Type 0
 Takes key path rest = walk (kept_at key).pattern (kept_at key).text path (kept_at key).names 0 0 ≡ (number_text, rest) ∷ []
 
 -- a prefix is no longer than the path that begins with it
-longer : (n : ℕ) (front rest : List ℕ) → length front ≡ n → n ≤ length (front ++ rest)
-longer n front rest e = let sum = length-append front rest in omega (arith, e, sum)
+prefix_within : (n : ℕ) (front rest : List ℕ) → length front ≡ n → n ≤ length (front ++ rest)
+prefix_within n front rest e = let sum = length-append front rest in omega (arith, e, sum)
 
 -- the route of `/close/` takes what follows this prefix in a path as its parameter `number`
 takes_close : (rest : List ℕ) → Takes 0 (codes "/close/" ++ rest) rest
 takes_close rest =
-    let h = longer 7 (codes "/close/") rest refl in
+    let h = prefix_within 7 (codes "/close/") rest refl in
     takes (codes "/close/" ++ param_token ∷ []) (codes "/close/{number}") (codes "/close/" ++ rest) rest 8 14 7 (walk_front (codes "/close/") (length (codes "/close/" ++ rest)) 0 (is_text (codes "/close/") refl) h) refl refl refl h
 
 -- the route of `/orders/` takes what follows this prefix in a path as its parameter `number`
 takes_orders : (rest : List ℕ) → Takes 2 (codes "/orders/" ++ rest) rest
 takes_orders rest =
-    let h = longer 8 (codes "/orders/") rest refl in
+    let h = prefix_within 8 (codes "/orders/") rest refl in
     takes (codes "/orders/" ++ param_token ∷ []) (codes "/orders/{number}") (codes "/orders/" ++ rest) rest 9 15 8 (walk_front (codes "/orders/") (length (codes "/orders/" ++ rest)) 0 (is_text (codes "/orders/") refl) h) refl refl refl h
 
 -- the route of `/report/` takes what follows this prefix in a path as its parameter `number`
 takes_report : (rest : List ℕ) → Takes 3 (codes "/report/" ++ rest) rest
 takes_report rest =
-    let h = longer 8 (codes "/report/") rest refl in
+    let h = prefix_within 8 (codes "/report/") rest refl in
     takes (codes "/report/" ++ param_token ∷ []) (codes "/report/{number}") (codes "/report/" ++ rest) rest 9 15 8 (walk_front (codes "/report/") (length (codes "/report/" ++ rest)) 0 (is_text (codes "/report/") refl) h) refl refl refl h
 
 -- ---- the route of each path
@@ -122,7 +122,7 @@ fronted : (key last : ℕ) (front : List ℕ) → length front ≡ last + 1 → 
 fronted key last front count text ascii takes_rest without = record {
   takes_rest = takes_rest;
   cut = (λ rest h.
-      let inside : last < length (front ++ rest) = (let long = longer (last + 1) front rest count in omega arith) in
+      let inside : last < length (front ++ rest) = (let long = prefix_within (last + 1) front rest count in omega arith) in
       subst IsUtf8 (drop_at front rest (last + 1) count) (IsUtf8-drop (front ++ rest) (last + 1) h (IsCharBoundary-after_ascii (front ++ rest) last h inside (ascii rest))));
   joins = (λ rest h. IsUtf8-append front rest text h);
   without = without;
@@ -321,8 +321,8 @@ route_by path e text h (to_number key rest at taken cut utf8 is) =
 route_by path e text h (nowhere at is) = (let none = kept_first path None at in cc)
 
 -- the route found for a UTF-8 path has UTF-8 parameters and is that of `route_of` (`FindsRoute`)
-found : (path : List ℕ) (e : RouteOf RouteKey) → IsUtf8 path → first kept path ≡ Some e → FindsRoute path e
-found path e text h = route_by path e text h (leads path)
+finds_route : (path : List ℕ) (e : RouteOf RouteKey) → IsUtf8 path → first kept path ≡ Some e → FindsRoute path e
+finds_route path e text h = route_by path e text h (leads path)
 
 -- A lookup gives the text of the parameter `number` among the parameters taken from a path, or None if there is none.
 -- This is so if all of them are UTF-8.
@@ -339,7 +339,7 @@ matched_text_is view (Some x) text h = h
 -- `route_of`
 pub found_route_is : {A : Type 0} (view : A → List ℕ) (r : Option A) (path given : List ℕ) (e : RouteOf RouteKey) (route : Option Route) → given ≡ path → IsUtf8 path → first kept path ≡ Some e → GetsParameter view r (walk e.pattern e.text given e.names 0 0) → route ≡ route_in e.value (option_map view r) → route ≡ route_of path
 found_route_is view r path given e route same text at gets is =
-    let says : FindsRoute path e = found path e text at in
+    let says : FindsRoute path e = finds_route path e text at in
     let taken : GetsParameter view r (walk e.pattern e.text path e.names 0 0) = subst (λ l. GetsParameter view r (walk e.pattern e.text l e.names 0 0)) same gets in
     is ∙ ap (λ x. route_in e.value x) (sym (matched_text_is view r (named number_text (walk e.pattern e.text path e.names 0 0)) (taken says.0))) ∙ sym says.1
 

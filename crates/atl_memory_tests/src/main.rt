@@ -18,8 +18,9 @@ use crate::trials::{TrialResult, tried};
 use std::alloc::{AllocError, Global};
 use std::{env, io};
 
-/// How many calls of `deepen` are nested; the stack then has more room than any tried call needs.
-const DEPTH: u32 = 8_192;
+/// How many nested calls of `deepen` make the stack grow before memory is taken away; it then has
+/// more room than any tried call needs.
+const STACK_CALLS: u32 = 8_192;
 
 /// Makes the stack grow by `times` nested calls, each of which holds a block; true if no block was
 /// refused.
@@ -106,7 +107,7 @@ fn main(rt: HostRuntime) -> io::Result<()> {
         return println!(rt; "no room");
     };
     // A drought takes all memory that the stack could grow into, so the stack grows before it.
-    if !deepen(rt.alloc(), DEPTH) {
+    if !deepen(rt.alloc(), STACK_CALLS) {
         return println!(rt; "no stack");
     }
     for call in CALLS.iter() {

@@ -105,7 +105,7 @@ fn filled<S: Alter + Drop>(alloc: Global, conn: Connection<S>) -> Option<Service
 }
 
 /// Sends a mailing; the result is whether it is stored.
-fn is_kept<S: Alter>(service: &mut Service<S>, mail: Result<Command, AllocError>) -> bool {
+fn sends<S: Alter>(service: &mut Service<S>, mail: Result<Command, AllocError>) -> bool {
     match &mail {
         Ok(mail) => matches!(&service.run(mail), Answer::Mailed { .. }),
         Err(_) => false,
@@ -116,8 +116,8 @@ fn is_kept<S: Alter>(service: &mut Service<S>, mail: Result<Command, AllocError>
 /// if a step fails.
 pub fn begun<S: Alter + Drop>(alloc: Global, conn: Connection<S>) -> Option<Service<S>> {
     let mut service = filled(alloc, conn)?;
-    let are_kept = is_kept(&mut service, mail(alloc, 1, "pw", OF_AVALON))
-        && is_kept(&mut service, mail(alloc, 2, "pb", OF_BREE));
+    let are_kept = sends(&mut service, mail(alloc, 1, "pw", OF_AVALON))
+        && sends(&mut service, mail(alloc, 2, "pb", OF_BREE));
     if are_kept { Some(service) } else { None }
 }
 

@@ -147,7 +147,7 @@ fn ended<S: Alter + Drop>(
 
 /// Whether a service has the rows from before the call, and the case's commands, run now, have the
 /// outcome of ample memory.
-fn goes_on<S: Alter + Drop>(alloc: Global, mut service: Service<S>, case: &Case) -> bool {
+fn works_as_before<S: Alter + Drop>(alloc: Global, mut service: Service<S>, case: &Case) -> bool {
     let is_as_before = is_text(rows(alloc, service.campaign()), case.rows_after(0));
     match service.run_all(&case.commands) {
         Ok(answers) => is_as_before && ended(alloc, service, &answers, case) == Behaviour::Done,
@@ -277,12 +277,12 @@ fn runs_all<S: Alter + Drop>(
     shortage.end(alloc);
     match answers {
         Ok(answers) => ended(alloc, service, &answers, case),
-        Err(_) => after_memory(goes_on(alloc, service, case)),
+        Err(_) => after_memory(works_as_before(alloc, service, case)),
     }
 }
 
 /// Asks for the text of the books with memory short, and judges the text and the service after it.
-fn tells_books<S: Alter + Drop>(
+fn asks_for_books<S: Alter + Drop>(
     alloc: Global,
     service: Service<S>,
     case: &Case,
@@ -291,7 +291,7 @@ fn tells_books<S: Alter + Drop>(
     shortage.begin(alloc);
     let books = service.books();
     shortage.end(alloc);
-    let is_left = goes_on(alloc, service, case);
+    let is_left = works_as_before(alloc, service, case);
     match books {
         Some(Ok(text)) => after_success(is_left && text.as_str() == case.books.as_str()),
         Some(Err(_)) => after_memory(is_left),
@@ -300,7 +300,7 @@ fn tells_books<S: Alter + Drop>(
 }
 
 /// Asks a campaign for its rows with memory short, and judges the rows and the campaign after it.
-fn gives_rows(
+fn asks_for_rows(
     alloc: Global,
     campaign: &Campaign,
     case: &Case,
@@ -349,7 +349,7 @@ fn reads<S: Alter + Drop>(
 ) -> Behaviour {
     match service.campaign() {
         Some(campaign) if case.call == Call::Parts => {
-            gives_rows(alloc, campaign, case, shortage)
+            asks_for_rows(alloc, campaign, case, shortage)
         }
         Some(campaign) => checks(alloc, service.world(), campaign, case, shortage),
         None => Behaviour::Wrong("no campaign"),
@@ -367,7 +367,7 @@ fn called<S: Alter + Drop>(
         Call::Open => opens(alloc, service, case, shortage),
         Call::Upgrade => upgrades(alloc, service, case, shortage),
         Call::RunAll => runs_all(alloc, service, case, shortage),
-        Call::Books => tells_books(alloc, service, case, shortage),
+        Call::Books => asks_for_books(alloc, service, case, shortage),
         Call::Parts | Call::Check => reads(alloc, service, case, shortage),
         _ => runs(alloc, service, case, shortage),
     }

@@ -48,23 +48,23 @@ use Rattle.atl_service.specs.Closing.{closed, faults_in, faults_of, read_of, rea
 
 module _ (w : WorldValue) (n : ℕ) (text : List ℕ) where
   -- The text was read, and its header names the faction `n`.
-  abbrev pub Names : Result Reading MailFault → Type 0
-  Names read = (r : Reading) × (read ≡ Ok r) × (r.faction ≡ n)
+  abbrev pub IsReadAsOf : Result Reading MailFault → Type 0
+  IsReadAsOf read = (r : Reading) × (read ≡ Ok r) × (r.faction ≡ n)
 
   -- a mailing whose header names the faction is read as one of that faction
-  named : (next : ℕ) (rest : List (List ℕ)) → header_from 1 (lines text) ≡ Ok (record { faction = n; next = next; rest = rest }) → Names (after_header w (header_from 1 (lines text)))
+  named : (next : ℕ) (rest : List (List ℕ)) → header_from 1 (lines text) ≡ Ok (record { faction = n; next = next; rest = rest }) → IsReadAsOf (after_header w (header_from 1 (lines text)))
   named next rest is = rw is (_, refl, refl)
 
   -- a mailing whose header names the faction is still read as one of that faction after the test of its length
   -- (`long`), if it has at most 65,536 bytes
-  not_long : (long : Bool) → nat_lt most_bytes (length text) ≡ long → length text ≤ most_bytes → Names (after_header w (header_from 1 (lines text))) → Names (cond long (Err TooLong) (after_header w (header_from 1 (lines text))))
-  not_long true is short names = absurd (grind (arith, nat_tests))
-  not_long false is short names = names
+  names_if_short : (long : Bool) → nat_lt most_bytes (length text) ≡ long → length text ≤ most_bytes → IsReadAsOf (after_header w (header_from 1 (lines text))) → IsReadAsOf (cond long (Err TooLong) (after_header w (header_from 1 (lines text))))
+  names_if_short true is short names = absurd (grind (arith, nat_tests))
+  names_if_short false is short names = names
 
   -- a stored mailing of a faction can be read, and names that faction
-  pub reads : IsMailingOf n text → Names (reading w text)
+  pub reads : IsMailingOf n text → IsReadAsOf (reading w text)
   unfolding reading
-  reads sent = not_long (nat_lt most_bytes (length text)) refl sent.short (let (next, rest, is) = sent.header in named next rest is)
+  reads sent = names_if_short (nat_lt most_bytes (length text)) refl sent.short (let (next, rest, is) = sent.header in named next rest is)
 
   -- reading a stored mailing of a faction never fails
   pub not_unread : (fault : MailFault) → IsMailingOf n text → reading w text ≡ Err fault → ⊥

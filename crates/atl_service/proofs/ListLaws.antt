@@ -58,10 +58,10 @@ module _ {S : Type 0} (g : Ghosts S) where
 
   -- if a command was carried out, and the later answers are right from the service after it on (`FollowsAt`), its
   -- answer is that of `step`, and the later answers are right from the campaign of `step` on (`Follows`)
-  carried : (old mid new : ServiceValue S) (c : CampaignValue) (x : Command) (a : Answer) (cs : List Command) (rs : List Answer) → (accepts : Accepts g c old x a mid) → (HasCleanDisk (state g new.conn) → HasCleanDisk (state g mid.conn))
+  carried_out : (old mid new : ServiceValue S) (c : CampaignValue) (x : Command) (a : Answer) (cs : List Command) (rs : List Answer) → (accepts : Accepts g c old x a mid) → (HasCleanDisk (state g new.conn) → HasCleanDisk (state g mid.conn))
       → (state g old.conn).faults ≤ (state g mid.conn).faults → FollowsAt g mid cs rs new mid.campaign
       → ((step old.world c x).1 ≡ a) × Follows g (text_in g old.conn) (state g old.conn).faults old.world (step old.world c x).0 cs rs new × (new.world ≡ old.world)
-  carried old mid new c x a cs rs accepts was counts rest =
+  carried_out old mid new c x a cs rs accepts was counts rest =
       let after = accepts.after in
       let open_is : mid.campaign ≡ Some after = ap (λ (e : ServiceValue S). e.campaign) accepts.same in
       let world_is : mid.world ≡ old.world = ap (λ (e : ServiceValue S). e.world) accepts.same in
@@ -97,10 +97,10 @@ module _ {S : Type 0} (g : Ghosts S) where
   first_open : (old mid new : ServiceValue S) (c : CampaignValue) (x : Command) (a : Answer) (cs : List Command) (rs : List Answer) → RunsOpen g c old x a mid
       → (HasCleanDisk (state g new.conn) → HasCleanDisk (state g mid.conn)) → IsLater (state g old.conn) (state g mid.conn) → HoldsCampaign g old.conn (text_in g old.conn) c → old.campaign ≡ Some c → FollowsAt g mid cs rs new mid.campaign
       → FollowsAt g old (x ∷ cs) (a ∷ rs) new (Some c)
-  first_open old mid new c x (Joined n m) cs rs ran was later holds up rest = let k = carried old mid new c x (Joined n m) cs rs ran was later.counts rest in ((k.0, k.1), k.2)
-  first_open old mid new c x (Mailed n fs) cs rs ran was later holds up rest = let k = carried old mid new c x (Mailed n fs) cs rs ran was later.counts rest in ((k.0, k.1), k.2)
-  first_open old mid new c x (MonthDone n) cs rs ran was later holds up rest = let k = carried old mid new c x (MonthDone n) cs rs ran was later.counts rest in ((k.0, k.1), k.2)
-  first_open old mid new c x (Text t) cs rs ran was later holds up rest = let k = carried old mid new c x (Text t) cs rs ran.0 was later.counts rest in ((k.0, k.1), k.2)
+  first_open old mid new c x (Joined n m) cs rs ran was later holds up rest = let k = carried_out old mid new c x (Joined n m) cs rs ran was later.counts rest in ((k.0, k.1), k.2)
+  first_open old mid new c x (Mailed n fs) cs rs ran was later holds up rest = let k = carried_out old mid new c x (Mailed n fs) cs rs ran was later.counts rest in ((k.0, k.1), k.2)
+  first_open old mid new c x (MonthDone n) cs rs ran was later holds up rest = let k = carried_out old mid new c x (MonthDone n) cs rs ran was later.counts rest in ((k.0, k.1), k.2)
+  first_open old mid new c x (Text t) cs rs ran was later holds up rest = let k = carried_out old mid new c x (Text t) cs rs ran.0 was later.counts rest in ((k.0, k.1), k.2)
   first_open old mid new c x (Refused r) cs rs ran was later holds up rest =
       let same : mid ≡ old = ran.1 in
       let on = subst (FollowsAt g old cs rs new) up (subst (λ (e : ServiceValue S). FollowsAt g e cs rs new e.campaign) same rest) in

@@ -75,17 +75,17 @@ module _ {S : Type 0} (g : Ghosts S) where
 
     -- The command ended in a fault. On a clean disk the tables keep the campaign before the command, and a crash leaves
     -- this campaign or the one after the command (`CommandLeavesAfterFault`).
-    abbrev pub GaveUp : Type 0
-    GaveUp = CommandLeavesAfterFault g w c conn command conn'
+    abbrev pub EndedInFault : Type 0
+    EndedInFault = CommandLeavesAfterFault g w c conn command conn'
 
     -- a command of a consistent open service that ended in a fault closes the service, and on a clean disk the tables
     -- hold the campaign before it (`Closes`)
-    closes_open : IsConsistent g conn w c true → LeavesIdle g conn conn' → GaveUp → Closes g c (shown conn w c true) command (shown conn' w c' false)
+    closes_open : IsConsistent g conn w c true → LeavesIdle g conn conn' → EndedInFault → Closes g c (shown conn w c true) command (shown conn' w c' false)
     closes_open stands leaves gave_up = record { same = refl; tables = λ clean. gave_up clean (text_in g conn) (stands.tables refl (leaves.later.clean clean)) }
 
     -- if a command of a consistent open service ended in a fault of a write that has its cause (`HasCause`), `run` may
     -- answer the service's fault for it and close (`Runs`)
-    pub closes_for : (old : ServiceValue S) (fault : WriteFault) (told : Failure) (is_open : Bool) → told ≡ of_write fault → shown conn w c is_open ≡ old → is_open ≡ true → IsConsistent g conn w c is_open → LeavesIdle g conn conn' → GaveUp → HasCause g (OfCommand w c command) conn conn' (of_write fault)
+    pub closes_for : (old : ServiceValue S) (fault : WriteFault) (told : Failure) (is_open : Bool) → told ≡ of_write fault → shown conn w c is_open ≡ old → is_open ≡ true → IsConsistent g conn w c is_open → LeavesIdle g conn conn' → EndedInFault → HasCause g (OfCommand w c command) conn conn' (of_write fault)
         → Runs g old command (Fault told) (shown conn' w c' false)
     closes_for old fault told true is seen up stands leaves gave_up cause = subst (λ e. Runs g e command (Fault told) (shown conn' w c' false)) seen (subst (λ t. RunsOpen g c (shown conn w c true) command (Fault t) (shown conn' w c' false)) (sym is) (closes fault cause))
       where

@@ -62,8 +62,8 @@ same_flag false true is = cc
 same_flag false false is = refl
 
 -- factions with equal rows have equal numbers and are equal (`Determines`), if each is stored under its own number
-factions_tell : (m k : FinMap nat_cmp Faction) → Every (λ n f. f.number ≡ n) m → Every (λ n f. f.number ≡ n) k → Determines faction_line m k
-factions_tell m k a b n p f g is there same =
+faction_rows_determine : (m k : FinMap nat_cmp Faction) → Every (λ n f. f.number ≡ n) m → Every (λ n f. f.number ≡ n) k → Determines faction_line m k
+faction_rows_determine m k a b n p f g is there same =
     let at : n ≡ p = cc in
     let number : f.number ≡ g.number = a n f is ∙ at ∙ sym (b p g there) in
     let joined : f.joined_as ≡ g.joined_as = cc in
@@ -73,8 +73,8 @@ factions_tell m k a b n p f g is there same =
     (at, λ i. record { number = number i; joined_as = joined i; name = name i; pass = pass i; gone = gone i })
 
 -- structures with equal rows have equal numbers and are equal (`Determines`)
-structures_tell : (m k : FinMap nat_cmp Structure) → Determines structure_line m k
-structures_tell m k n p s t is there same =
+structure_rows_determine : (m k : FinMap nat_cmp Structure) → Determines structure_line m k
+structure_rows_determine m k n p s t is there same =
     let kind : s.kind ≡ t.kind = cc in
     let name : s.name ≡ t.name = cc in
     let region : s.region ≡ t.region = cc in
@@ -83,12 +83,12 @@ structures_tell m k n p s t is there same =
     (cc, λ i. record { kind = kind i; name = name i; region = region i; done = done i; owner = owner i })
 
 -- mailings with equal rows are of the same faction and have the same text (`Determines`)
-mails_tell : (m k : FinMap nat_cmp (List ℕ)) → Determines mail_row m k
-mails_tell m k n p s t is there same = (cc, cc)
+mail_rows_determine : (m k : FinMap nat_cmp (List ℕ)) → Determines mail_row m k
+mail_rows_determine m k n p s t is there same = (cc, cc)
 
 -- reports with equal rows are of the same faction and have the same text (`Determines`)
-reports_tell : (m k : FinMap nat_cmp (List ℕ)) → Determines report_row m k
-reports_tell m k n p s t is there same = (cc, cc)
+report_rows_determine : (m k : FinMap nat_cmp (List ℕ)) → Determines report_row m k
+report_rows_determine m k n p s t is there same = (cc, cc)
 
 -- ---- units, with what they have
 
@@ -144,17 +144,17 @@ module _ (rows goods : List Row) (m k : FinMap nat_cmp Unit) (a : HasExactly row
 -- ---- regions, with what is in stock
 
 -- No region of the map has a stock of 0.
-abbrev AreInStock : FinMap nat_cmp Region → Type 0
-AreInStock regions = Every (λ n r. Every (λ item stock. stock ≢ 0) r.stocks) regions
+abbrev HaveNoZeroStock : FinMap nat_cmp Region → Type 0
+HaveNoZeroStock regions = Every (λ n r. Every (λ item stock. stock ≢ 0) r.stocks) regions
 
--- no region of a good campaign has a stock of 0 (`AreInStock`)
-are_in_stock : (w : WorldValue) (c : CampaignValue) → IsGood w c → AreInStock c.regions
-are_in_stock w c good n r is item stock there = let range = (good.sound.steady.numbers.regions n r is).stocks item stock there in λ none. omega (arith, range.0, none)
+-- no region of a good campaign has a stock of 0 (`HaveNoZeroStock`)
+have_no_zero_stock : (w : WorldValue) (c : CampaignValue) → IsGood w c → HaveNoZeroStock c.regions
+have_no_zero_stock w c good n r is item stock there = let range = (good.sound.steady.numbers.regions n r is).stocks item stock there in λ none. omega (arith, range.0, none)
 
 module _ (rows : List Row) (m k : FinMap nat_cmp Region) (a : HasExactly rows (MarketRowsOf m)) (b : HasExactly rows (MarketRowsOf k)) where
   -- each stock of region `n` in `m` is the same in `k`, if one table `market` has exactly the rows of each map, and no
   -- stock in `m` is 0
-  stocks_there : AreInStock m → (n : ℕ) (r s : Region) → get m n ≡ Some r → get k n ≡ Some s → Every (λ item stock. get s.stocks item ≡ Some stock) r.stocks
+  stocks_there : HaveNoZeroStock m → (n : ℕ) (r s : Region) → get m n ≡ Some r → get k n ≡ Some s → Every (λ item stock. get s.stocks item ≡ Some stock) r.stocks
   stocks_there some n r s is there item stock has =
       let row = market_row n item stock in
       let (p, x, at, object, size, got, apart, same) = (b row).0 ((a row).1 (n, r, is, item, stock, has, some n r is item stock has, refl)) in
@@ -165,7 +165,7 @@ module _ (rows : List Row) (m k : FinMap nat_cmp Region) (a : HasExactly rows (M
       let left : get s.stocks item ≡ get x.stocks object = λ i. get (region i).stocks (what i) in
       left ∙ got ∙ sym (ap Some count)
 
-module _ (rows stocks : List Row) (m k : FinMap nat_cmp Region) (a : HasExactly rows (RowsOf region_line m)) (b : HasExactly rows (RowsOf region_line k)) (h : HasExactly stocks (MarketRowsOf m)) (j : HasExactly stocks (MarketRowsOf k)) (some : AreInStock m) (more : AreInStock k) where
+module _ (rows stocks : List Row) (m k : FinMap nat_cmp Region) (a : HasExactly rows (RowsOf region_line m)) (b : HasExactly rows (RowsOf region_line k)) (h : HasExactly stocks (MarketRowsOf m)) (j : HasExactly stocks (MarketRowsOf k)) (some : HaveNoZeroStock m) (more : HaveNoZeroStock k) where
   -- each region of `m` is in `k`, if the tables `region` and `market` have exactly the rows of each map, and no stock
   -- is 0
   regions_there : Every (λ n r. get k n ≡ Some r) m
@@ -238,13 +238,13 @@ holds_one w db one other c d good sound h j =
     let next_structure : c.next_structure ≡ d.next_structure = cc in
     let numbers = good.sound.steady.numbers in
     let others = sound.sound.steady.numbers in
-    let factions = same_values faction_line _ c.factions d.factions (factions_tell _ _ numbers.factions others.factions) (factions_tell _ _ others.factions numbers.factions) (h.rows Factions) (j.rows Factions) in
-    let stocks = are_in_stock w c good in
-    let others_stocks = are_in_stock w d sound in
+    let factions = same_values faction_line _ c.factions d.factions (faction_rows_determine _ _ numbers.factions others.factions) (faction_rows_determine _ _ others.factions numbers.factions) (h.rows Factions) (j.rows Factions) in
+    let stocks = have_no_zero_stock w c good in
+    let others_stocks = have_no_zero_stock w d sound in
     let regions = agree c.regions d.regions (regions_there _ _ c.regions d.regions (h.rows Regions) (j.rows Regions) (h.rows Markets) (j.rows Markets) stocks others_stocks) (regions_there _ _ d.regions c.regions (j.rows Regions) (h.rows Regions) (j.rows Markets) (h.rows Markets) others_stocks stocks) in
-    let structures = same_values structure_line _ c.structures d.structures (structures_tell _ _) (structures_tell _ _) (h.rows Structures) (j.rows Structures) in
-    let mail = same_values mail_row _ c.mail d.mail (mails_tell _ _) (mails_tell _ _) (h.rows Mail) (j.rows Mail) in
-    let reports = same_values report_row _ c.reports d.reports (reports_tell _ _) (reports_tell _ _) (h.rows Reports) (j.rows Reports) in
+    let structures = same_values structure_line _ c.structures d.structures (structure_rows_determine _ _) (structure_rows_determine _ _) (h.rows Structures) (j.rows Structures) in
+    let mail = same_values mail_row _ c.mail d.mail (mail_rows_determine _ _) (mail_rows_determine _ _) (h.rows Mail) (j.rows Mail) in
+    let reports = same_values report_row _ c.reports d.reports (report_rows_determine _ _) (report_rows_determine _ _) (h.rows Reports) (j.rows Reports) in
     let some = have_no_zero w c good in
     let more = have_no_zero w d sound in
     let units = agree c.units d.units (units_there _ _ c.units d.units (h.rows Units) (j.rows Units) (h.rows Goods) (j.rows Goods) some more) (units_there _ _ d.units c.units (j.rows Units) (h.rows Units) (j.rows Goods) (h.rows Goods) more some) in

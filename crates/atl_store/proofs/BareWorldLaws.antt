@@ -86,14 +86,15 @@ module _ (w : WorldValue) where
       by_plan (Some p) = refl
 
   -- each region of a world is a region of the world without its markets
-  bared : (n : ℕ) → HasValue w.regions n → HasValue (without_markets w).regions n
-  bared n (p, there) = (without_market p, get-mapped without_market w.regions n ∙ ap (option_map without_market) there)
+  stays_without_markets : (n : ℕ) → HasValue w.regions n → HasValue (without_markets w).regions n
+  stays_without_markets n (p, there) = (without_market p, get-mapped without_market w.regions n ∙ ap (option_map without_market) there)
 
   -- each region of a world without its markets is a region of the world
-  was_there : (n : ℕ) → HasValue (without_markets w).regions n → HasValue w.regions n
-  was_there n (p, there) = by_plan (get w.regions n) refl (sym (get-mapped without_market w.regions n) ∙ there)
+  is_of_world : (n : ℕ) → HasValue (without_markets w).regions n → HasValue w.regions n
+  is_of_world n (p, there) = by_plan (get w.regions n) refl (sym (get-mapped without_market w.regions n) ∙ there)
     where
-      -- for `was_there`: if the look-up `o` of region `n`, with the market taken out, gives a plan, the region is there
+      -- for `is_of_world`: if the look-up `o` of region `n`, with the market taken out, gives a plan, the region is
+      -- there
       by_plan : (o : Option RegionPlan) → get w.regions n ≡ o → option_map without_market o ≡ Some p → HasValue w.regions n
       by_plan None is e = absurd cc
       by_plan (Some q) is e = (q, is)
@@ -101,11 +102,11 @@ module _ (w : WorldValue) where
   module _ (c : CampaignValue) (bare : HasNoStocks c) where
     -- a campaign with nothing in stock that is good in a world is good in that world without its markets
     without_good : IsGood w c → IsGood (without_markets w) c
-    without_good good = good_with w (without_markets w).regions c bare land_same bared was_there good
+    without_good good = good_with w (without_markets w).regions c bare land_same stays_without_markets is_of_world good
 
     -- a campaign with nothing in stock that is good in the world without its markets is good in the world with them
     with_good : IsGood (without_markets w) c → IsGood w c
-    with_good good = good_with (without_markets w) w.regions c bare (λ n. sym (land_same n)) was_there bared good
+    with_good good = good_with (without_markets w) w.regions c bare (λ n. sym (land_same n)) is_of_world stays_without_markets good
 
 -- a good campaign with nothing in stock is good in both of two worlds that differ in markets alone
 pub good_either : (v w : WorldValue) (c : CampaignValue) → without_markets w ≡ without_markets v → HasNoStocks c → IsGood v c → IsGood w c

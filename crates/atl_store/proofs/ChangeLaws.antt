@@ -105,9 +105,9 @@ bare_same n o (Some w) v same there = (w, refl, let e : bare w ≡ bare v = (let
 -- ---- goods
 
 -- the row of a unit's item or skill in `has` is marked exactly if the item or skill is
-goods_heads : (marks : Marks) (n : ℕ) (sort : ThingKind) (thing amount : ℕ) → goods_marked marks (has_row n (sort_number sort) thing amount) ≡ is_thing_marked marks.goods (marked_things marks sort) n thing
-goods_heads marks n Item thing amount = or-false (is_thing_marked marks.goods marks.items n thing)
-goods_heads marks n Skill thing amount = ap (λ b. b || has_thing marks.skills n thing) (or-false (contains marks.goods n))
+goods_row_marked : (marks : Marks) (n : ℕ) (sort : ThingKind) (thing amount : ℕ) → goods_marked marks (has_row n (sort_number sort) thing amount) ≡ is_thing_marked marks.goods (marked_things marks sort) n thing
+goods_row_marked marks n Item thing amount = or-false (is_thing_marked marks.goods marks.items n thing)
+goods_row_marked marks n Skill thing amount = ap (λ b. b || has_thing marks.skills n thing) (or-false (contains marks.goods n))
 
 -- if the marks cover all changes, items that aren't marked have their amounts of before, and so have skills
 goods_same : (m : Marks) (before after : CampaignValue) → Covers m before after → (sort : ThingKind) → SameThings m.goods (marked_things m sort) (things_under sort) before.units after.units
@@ -119,7 +119,7 @@ goods_follow : (one other : FinMap nat_cmp Unit) (marks : Marks) (r : Row) → (
 goods_follow one other marks r same not_marked of =
     let had = row_has_amount one r of in
     let amount = amount_under one had.0 had.1 had.2 in
-    let is : amount ≡ amount_under other had.0 had.1 had.2 = ap (λ (o : Option ℕ). unwrap_or o 0) (sym (same had.1 had.0 had.2 (sym (goods_heads marks had.0 had.1 had.2 amount) ∙ ap (goods_marked marks) (sym had.4) ∙ not_marked))) in
+    let is : amount ≡ amount_under other had.0 had.1 had.2 = ap (λ (o : Option ℕ). unwrap_or o 0) (sym (same had.1 had.0 had.2 (sym (goods_row_marked marks had.0 had.1 had.2 amount) ∙ ap (goods_marked marks) (sym had.4) ∙ not_marked))) in
     subst (HasRowsOf other) (sym had.4) (amount_has_row other had.0 had.1 had.2 amount is had.3)
 
 -- ---- stocks
@@ -134,22 +134,22 @@ stocks_follow one other marks r same not_marked of =
 -- ---- amounts
 
 -- the row of an entry and a thing in `books` is marked exactly if their amount is
-amount_heads : (marks : FinSet nat_cmp) (e : BooksEntry) (t : Thing) (amount : ℤ) → amount_marked marks (books_row (entry_index e + 1) (thing_index t) amount) ≡ contains marks (amount_number e t)
-amount_heads marks e t amount =
+amount_row_marked : (marks : FinSet nat_cmp) (e : BooksEntry) (t : Thing) (amount : ℤ) → amount_marked marks (books_row (entry_index e + 1) (thing_index t) amount) ≡ contains marks (amount_number e t)
+amount_row_marked marks e t amount =
     ap (λ number. amount_marked marks (books_row number (thing_index t) amount)) (next (entry_index e)) ∙ ap (λ (b : Bool). b && contains marks (amount_number e t)) (there (entry_index e) (entry_small e))
   where
-    -- for `amount_heads`: a number plus 1 is its successor
+    -- for `amount_row_marked`: a number plus 1 is its successor
     next : (n : ℕ) → n + 1 ≡ suc n
     next n = omega arith
 
-    -- for `amount_heads`: an index below the count of entries passes the test for an entry's index
+    -- for `amount_row_marked`: an index below the count of entries passes the test for an entry's index
     there : (n : ℕ) → n < entry_count → nat_le (suc n) entry_count ≡ true
     there n small = grind (arith, nat_tests, small)
 
 -- an unmarked row of `books` of one campaign is one of the other, if the two differ only in marked amounts
 amounts_follow : (one other : BooksValue) (marks : FinSet nat_cmp) (r : Row) → ((e : BooksEntry) (t : Thing) → contains marks (amount_number e t) ≡ false → amount_in other e t ≡ amount_in one e t) → amount_marked marks r ≡ false → BooksRowsOf one r → BooksRowsOf other r
 amounts_follow one other marks r same not_marked of =
-    let is = same of.0 of.1 (sym (amount_heads marks of.0 of.1 (amount_in one of.0 of.1)) ∙ ap (amount_marked marks) (sym of.3) ∙ not_marked) in
+    let is = same of.0 of.1 (sym (amount_row_marked marks of.0 of.1 (amount_in one of.0 of.1)) ∙ ap (amount_marked marks) (sym of.3) ∙ not_marked) in
     (of.0, of.1, λ none. of.2 (sym is ∙ none), of.3 ∙ ap (books_row (entry_index of.0 + 1) (thing_index of.1)) (sym is))
 
 -- ---- the campaign's own row

@@ -184,23 +184,23 @@ module _ {S : Type 0} (g : Ghosts S) where
 
   module _ (old mid : Held S) (same : (state g mid).now ≡ (state g old).now) where
     -- rows that a SELECT shows of the tables of `mid` it shows of those of `old`, which are equal
-    told_then : (sql : List ℕ) (rows : List Row) → SelectShows g mid sql rows → SelectShows g old sql rows
-    told_then sql rows told = record { before = told.before; during = told.during; same = told.same ∙ same; shown = told.shown }
+    shows_then : (sql : List ℕ) (rows : List Row) → SelectShows g mid sql rows → SelectShows g old sql rows
+    shows_then sql rows told = record { before = told.before; during = told.during; same = told.same ∙ same; shown = told.shown }
 
     -- if SELECTs each show rows of the tables of `mid`, they each show rows of those of `old`, which are equal
-    all_told_then : (selects : List (List ℕ × List Form)) → AllSelectsShow g mid selects → AllSelectsShow g old selects
-    all_told_then selects all select one = let told = all select one in (told.0, told_then select.0 told.0 told.1)
+    all_show_then : (selects : List (List ℕ × List Form)) → AllSelectsShow g mid selects → AllSelectsShow g old selects
+    all_show_then selects all select one = let told = all select one in (told.0, shows_then select.0 told.0 told.1)
 
     -- what SELECTs found with `P` in the tables of `mid`, they found with `Q` in the equal tables of `old`, if `P`
     -- implies `Q`
     found_then : {A : Type 0} (selects : List (List ℕ × List Form)) (P Q : A → Type 0) (o : Option A) → ((a : A) → P a → Q a) → Found g mid selects P o → Found g old selects Q o
-    found_then selects P Q (Some a) weaker found = (λ select one. let told = found.0 select one in (told.0, told_then select.0 told.0 told.1, told.2), weaker a found.1)
+    found_then selects P Q (Some a) weaker found = (λ select one. let told = found.0 select one in (told.0, shows_then select.0 told.0 told.1, told.2), weaker a found.1)
     found_then selects P Q None weaker found = record {
-      all = all_told_then selects found.all;
+      all = all_show_then selects found.all;
       select = found.select;
       one = found.one;
       rows = found.rows;
-      told = told_then found.select.0 found.rows found.told;
+      told = shows_then found.select.0 found.rows found.told;
       other = found.other;
     }
 
@@ -259,14 +259,14 @@ module _ {S : Type 0} (g : Ghosts S) where
     other_within all other = record { all = all; select = other.select; one = within other.select other.one; rows = other.rows; told = other.told; other = other.other }
 
   -- SELECTs that each showed rows with values of their columns' forms each showed rows (`AllSelectsShow`)
-  told_of : (old : Held S) (selects : List (List ℕ × List Form)) → AllSelectsShowTyped g old selects → AllSelectsShow g old selects
-  told_of old selects typed select one = let told = typed select one in (told.0, told.1)
+  typed_shows : (old : Held S) (selects : List (List ℕ × List Form)) → AllSelectsShowTyped g old selects → AllSelectsShow g old selects
+  typed_shows old selects typed select one = let told = typed select one in (told.0, told.1)
 
   -- what two reads on one connection found is found by all their SELECTs together
   found_both : {A B : Type 0} (xs ys : List (List ℕ × List Form)) (P : A → Type 0) (Q : B → Type 0) (old : Held S) (a : Option A) (b : Option B) → Found g old xs P a → Found g old ys Q b → Found g old (xs ++ ys) (λ x. P x.0 × Q x.1) (option_zip a b)
   found_both xs ys P Q old (Some a) (Some b) p q = (each_of_both (λ s. (rows : List Row) × SelectShows g old s.0 rows × AreTyped s.1 rows) xs ys p.0 q.0, (p.1, q.1))
-  found_both xs ys P Q old (Some a) None p q = other_within old ys (xs ++ ys) (has_right xs ys) (each_of_both (λ s. (rows : List Row) × SelectShows g old s.0 rows) xs ys (told_of old xs p.0) q.all) q
-  found_both xs ys P Q old None (Some b) p q = other_within old xs (xs ++ ys) (has_left xs ys) (each_of_both (λ s. (rows : List Row) × SelectShows g old s.0 rows) xs ys p.all (told_of old ys q.0)) p
+  found_both xs ys P Q old (Some a) None p q = other_within old ys (xs ++ ys) (has_right xs ys) (each_of_both (λ s. (rows : List Row) × SelectShows g old s.0 rows) xs ys (typed_shows old xs p.0) q.all) q
+  found_both xs ys P Q old None (Some b) p q = other_within old xs (xs ++ ys) (has_left xs ys) (each_of_both (λ s. (rows : List Row) × SelectShows g old s.0 rows) xs ys p.all (typed_shows old ys q.0)) p
   found_both xs ys P Q old None None p q = other_within old xs (xs ++ ys) (has_left xs ys) (each_of_both (λ s. (rows : List Row) × SelectShows g old s.0 rows) xs ys p.all q.all) p
 
   -- on a clean disk, what reads after `mid` found with `P` was found with `Q` in the tables of `old` (`Found`), if `P`

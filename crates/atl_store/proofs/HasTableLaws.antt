@@ -76,12 +76,12 @@ three_same a b c d e f same = (cc, cc, cc)
 
 module _ (unit : ℕ) (sort : ThingKind) where
   -- each row of `has` for a unit's items, or for its skills, is of an entry whose amount is not 0
-  sort_has : (es : List (ℕ × ℕ)) (r : Row) → Has (kind_lines unit sort es) r → (e : ℕ × ℕ) × Has es e × (e.1 ≢ 0) × (r ≡ has_row unit (sort_number sort) e.0 e.1)
-  sort_has = amounts_have (has_row unit (sort_number sort))
+  kind_row_is_of_entry : (es : List (ℕ × ℕ)) (r : Row) → Has (kind_lines unit sort es) r → (e : ℕ × ℕ) × Has es e × (e.1 ≢ 0) × (r ≡ has_row unit (sort_number sort) e.0 e.1)
+  kind_row_is_of_entry = amounts_have (has_row unit (sort_number sort))
 
   -- each entry of a unit's items, or of its skills, has its row of `has`, if the amount is not 0
-  has_sort : (es : List (ℕ × ℕ)) (thing amount : ℕ) → Has es (thing, amount) → amount ≢ 0 → Has (kind_lines unit sort es) (has_row unit (sort_number sort) thing amount)
-  has_sort = have_amount (has_row unit (sort_number sort))
+  entry_has_kind_row : (es : List (ℕ × ℕ)) (thing amount : ℕ) → Has es (thing, amount) → amount ≢ 0 → Has (kind_lines unit sort es) (has_row unit (sort_number sort) thing amount)
+  entry_has_kind_row = have_amount (has_row unit (sort_number sort))
 
   -- the rows of `has` for a unit's items, or for its skills, differ in their keys, if these are sorted by number
   sort_apart : (es : List (ℕ × ℕ)) → is_sorted nat_cmp es ≡ true → DifferInKey 3 (kind_lines unit sort es)
@@ -92,22 +92,22 @@ module _ (unit : ℕ) (sort : ThingKind) where
 -- each row of `has` of a unit is of one of its items or skills, whose amount is not 0
 pub goods_has : (unit : ℕ) (held : HoldingValue) (r : Row) → Has (goods_lines unit held) r → (sort : ThingKind) × (e : ℕ × ℕ) × Has (entries (things_of sort held)) e × (e.1 ≢ 0) × (r ≡ has_row unit (sort_number sort) e.0 e.1)
 goods_has unit held r there = elim (has_either (kind_lines unit Item (entries held.items)) (kind_lines unit Skill (entries held.days)) r there) [
-  | inl item ↦ let e = sort_has unit Item (entries held.items) r item in (Item, e.0, e.1, e.2, e.3)
-  | inr skill ↦ let e = sort_has unit Skill (entries held.days) r skill in (Skill, e.0, e.1, e.2, e.3)
+  | inl item ↦ let e = kind_row_is_of_entry unit Item (entries held.items) r item in (Item, e.0, e.1, e.2, e.3)
+  | inr skill ↦ let e = kind_row_is_of_entry unit Skill (entries held.days) r skill in (Skill, e.0, e.1, e.2, e.3)
 ]
 
 -- each item or skill of a unit has its row of `has`, if its amount is not 0
 pub has_goods : (unit : ℕ) (held : HoldingValue) (sort : ThingKind) (thing amount : ℕ) → Has (entries (things_of sort held)) (thing, amount) → amount ≢ 0 → Has (goods_lines unit held) (has_row unit (sort_number sort) thing amount)
-has_goods unit held Item thing amount there some = has_left (kind_lines unit Item (entries held.items)) (kind_lines unit Skill (entries held.days)) _ (has_sort unit Item (entries held.items) thing amount there some)
-has_goods unit held Skill thing amount there some = has_right (kind_lines unit Item (entries held.items)) (kind_lines unit Skill (entries held.days)) _ (has_sort unit Skill (entries held.days) thing amount there some)
+has_goods unit held Item thing amount there some = has_left (kind_lines unit Item (entries held.items)) (kind_lines unit Skill (entries held.days)) _ (entry_has_kind_row unit Item (entries held.items) thing amount there some)
+has_goods unit held Skill thing amount there some = has_right (kind_lines unit Item (entries held.items)) (kind_lines unit Skill (entries held.days)) _ (entry_has_kind_row unit Skill (entries held.days) thing amount there some)
 
 -- the rows of `has` for the items and skills of a unit have different keys
 pub goods_apart : (unit : ℕ) (held : HoldingValue) → DifferInKey 3 (goods_lines unit held)
 goods_apart unit held =
     apart_append 3 (kind_lines unit Item (entries held.items)) (kind_lines unit Skill (entries held.days)) (sort_apart unit Item (entries held.items) (in_order held.items)) (sort_apart unit Skill (entries held.days) (in_order held.days))
     (λ x y early late same.
-    let one = sort_has unit Item (entries held.items) x early in
-    let two = sort_has unit Skill (entries held.days) y late in
+    let one = kind_row_is_of_entry unit Item (entries held.items) x early in
+    let two = kind_row_is_of_entry unit Skill (entries held.days) y late in
     let keys = three_same unit 0 one.0.0 unit 1 two.0.0 (ap (take 3) (sym one.3) ∙ same ∙ ap (take 3) two.3) in
     absurd (omega (arith, keys.1)))
 

@@ -245,14 +245,14 @@ made_of {head} {reads} {p} parts campaign all = record {
   apart = record { each = λ read there. (all_has (IsMadeAs p) reads read all there).apart };
 }
 
--- a fault of testing the rowids of one part is one of testing those of all parts: Store if two are alike, or Memory
--- (`FailsWithout`)
-pub lacks_all : {A B : Type 0} {part : Part} {stored : RowWithId A → Row} {values : A → Row} → IsPlacedAs part stored values → shows_rowids part ≡ true → (placed : List (RowWithId A)) (reads : ReadRows) → Has reads (part, map stored placed)
+-- if a step fails because two rowids of one part are alike (Store), or because memory ran out (Memory), then reading
+-- all parts, each of which needs distinct rowids, may give this fault too (`FailsWithout`)
+pub part_fault_is_of_all : {A B : Type 0} {part : Part} {stored : RowWithId A → Row} {values : A → Row} → IsPlacedAs part stored values → shows_rowids part ≡ true → (placed : List (RowWithId A)) (reads : ReadRows) → Has reads (part, map stored placed)
     → (fault : LoadFault) → FailsWithout (AreApart placed) fault → (r : Result B LoadFault) → IsErrAnd r (λ told. told ≡ fault) → IfErr r (FailsWithout (AreAllApart reads))
-lacks_all is has placed reads there fault lacks (Ok b) told = tt
-lacks_all {A} {B} {part} {stored} is has placed reads there fault lacks (Err f) told = subst (FailsWithout (AreAllApart reads)) (sym told) (all fault lacks)
+part_fault_is_of_all is has placed reads there fault lacks (Ok b) told = tt
+part_fault_is_of_all {A} {B} {part} {stored} is has placed reads there fault lacks (Err f) told = subst (FailsWithout (AreAllApart reads)) (sym told) (all fault lacks)
   where
-    -- for `lacks_all`: each fault of testing the rowids of this part is one of testing those of all parts
+    -- for `part_fault_is_of_all`: each fault of testing the rowids of this part is one of testing those of all parts
     all : (fault : LoadFault) → FailsWithout (AreApart placed) fault → FailsWithout (AreAllApart reads) fault
     all Store lacks = λ apart. lacks (placed_apart is placed (apart.each (part, map stored placed) there has))
     all (Damaged rule) lacks = lacks

@@ -142,23 +142,23 @@ module _ {S : Type 0} (g : Ghosts S) (text : List ℕ) (old mid new : Held S) (w
 
   -- if the disk was clean before the transaction, a database that the upgrade wrote holds the loaded campaign with the
   -- new text
-  did : (db : Database) → HasCleanDisk (state g mid) → WritesUpgrade text c.value (state g mid).now db → Holds db.trees text c.value
-  did db clean wrote = wrote (world_text (state g mid)) (ready.loads.stands clean).rows ready.loads.fits.stocks
+  written_holds : (db : Database) → HasCleanDisk (state g mid) → WritesUpgrade text c.value (state g mid).now db → Holds db.trees text c.value
+  written_holds db clean wrote = wrote (world_text (state g mid)) (ready.loads.stands clean).rows ready.loads.fits.stocks
 
   -- the disk was clean before the transaction, if it is clean after it
-  before : Survives (state g mid) (state g new) (MayLeave IsFirstFormat (WritesUpgrade text c.value) (state g mid)) → HasCleanDisk (state g new) → HasCleanDisk (state g mid)
-  before survives clean = omega (arith, survives.clean, clean)
+  clean_before : Survives (state g mid) (state g new) (MayLeave IsFirstFormat (WritesUpgrade text c.value) (state g mid)) → HasCleanDisk (state g new) → HasCleanDisk (state g mid)
+  clean_before survives clean = omega (arith, survives.clean, clean)
 
   -- after the commit the connection keeps the loaded campaign with the new text, good and unmarked (`Upgrades`)
   pub upgrades : (settled : (db : Trees) → IsTrue (state g new).is_open → (state g new).may_leave db → db ≡ (state g new).committed.trees) → IsFirstFormatOnly mid.schema → (HasCleanDisk (state g new) → Commits IsFirstFormat (WritesUpgrade text c.value) (state g mid) (state g new)) → Survives (state g mid) (state g new) (MayLeave IsFirstFormat (WritesUpgrade text c.value) (state g mid)) → new.in_transaction ≡ false
       → Upgrades g text old new w c
   upgrades settled just done survives over = record {
     world = ready.world;
-    held_before = λ clean. (matched g text old mid alone (before survives clean) w c ready).held;
+    held_before = λ clean. (matched g text old mid alone (clean_before survives clean) w c ready).held;
     bare = ready.loads.fits.stocks;
     tables = λ clean.
-        let clean_mid = before survives clean in
-        commits_keeps (state g mid) (state g new) text settled IsFirstFormat (WritesUpgrade text c.value) c.value (done clean) (is_old just clean_mid) (did new_now clean_mid);
+        let clean_mid = clean_before survives clean in
+        commits_keeps (state g mid) (state g new) text settled IsFirstFormat (WritesUpgrade text c.value) c.value (done clean) (is_old just clean_mid) (written_holds new_now clean_mid);
     good = good_either ready.before w c.value ready.same ready.loads.fits.stocks ready.loads.good;
     unmarked = ready.loads.unmarked;
     idle = over;
@@ -183,17 +183,17 @@ module _ {S : Type 0} (g : Ghosts S) (text : List ℕ) (old mid new : Held S) (w
 
   module _ (just : IsFirstFormatOnly mid.schema) (idle : mid.in_transaction ≡ false) (off : HasCleanDisk (state g new) → LeavesOff (state g mid) (state g new)) (survives : Survives (state g mid) (state g new) (MayLeave IsFirstFormat (WritesUpgrade text c.value) (state g mid))) where
     -- if the transaction of the upgrade failed and the disk is clean, nothing is changed (`ChangesNothing`)
-    spared : HasCleanDisk (state g new) → ChangesNothing (state g old) (state g new)
-    spared clean =
-        let clean_mid = before survives clean in
+    failed_spares : HasCleanDisk (state g new) → ChangesNothing (state g old) (state g new)
+    failed_spares clean =
+        let clean_mid = clean_before survives clean in
         let stands = ready.loads.stands clean_mid in
         spares_both (off clean).was_open alone.survives.counts survives.counts (alone.spares clean_mid) (leaves_spares (state g mid) (state g new) _ clean (off clean) survives idle (λ up. sym stands.settled))
 
     -- a crash leaves what it could have left before, or the upgraded campaign, if the disk is clean
     may_upgrade : HasCleanDisk (state g new) → MayUpgrade (state g old) text (state g new)
     may_upgrade clean db may =
-        let clean_mid = before survives clean in
-        elim (may_found (state g mid) (state g new) text c.value IsFirstFormat (WritesUpgrade text c.value) (is_old just clean_mid) (λ other. did other clean_mid) clean survives db may) [
+        let clean_mid = clean_before survives clean in
+        elim (may_found (state g mid) (state g new) text c.value IsFirstFormat (WritesUpgrade text c.value) (is_old just clean_mid) (λ other. written_holds other clean_mid) clean survives db may) [
           | inl was ↦ elim (alone.survives.crash clean_mid db was) [ inl early ↦ inl early | inr none ↦ absurd none ]
           | inr stored ↦ inr (w, c.value, matched g text old mid alone clean_mid w c ready, stored)
         ]
@@ -212,7 +212,7 @@ module _ {S : Type 0} (g : Ghosts S) (text : List ℕ) (old mid new : Held S) (w
     -- an error of the transaction refuses the upgrade, with the fault for this error (`RefusesToUpgrade`)
     pub refused_after : (e : Error) → (HasCleanDisk (state g new) → Gives g (OfUpgrade text c.value) e mid new) → RefusesToUpgrade g text old new (upgrade_fault e)
     refused_after e gave = record {
-      cause = λ clean. inr (fails_to_write e (is_memory e) refl (gave clean) (before survives clean));
-      spares = spared;
+      cause = λ clean. inr (fails_to_write e (is_memory e) refl (gave clean) (clean_before survives clean));
+      spares = failed_spares;
       crash = may_upgrade;
     }

@@ -1,4 +1,5 @@
--- What a connection satisfies between two calls: the one condition that the crates above use.
+-- What a connection satisfies between two calls (`Keeps`), and how it may differ later, after a fault and after
+-- `create`.
 use Rattle.std.specs.Prelude.{◌≡◌, ◌⊎◌, ◌≤◌, false, IsTrue, List, ℕ}
 use Rattle.sqlite_trees.specs.Tree.{Trees}
 use Rattle.sqlite_trees.specs.declared.store.Store.{Ghosts}
@@ -70,7 +71,8 @@ pub record IsLater (old new : State) : Type 0 where
   pub clean : HasCleanDisk new → HasCleanDisk old
   -- no failure of the disk is forgotten
   pub counts : old.faults ≤ new.faults
-  -- a connection whose reads are tested against digests stays such a connection
+  -- a connection that compares its reads with digests of what was written (docs/PROVED.md, "Premises") stays such a
+  -- connection
   pub shield : old.IsShielded → new.IsShielded
 
 -- No table or index is gone, and tables that aren't the campaign's hold what they held.

@@ -29,7 +29,7 @@ pub(crate) fn breaks_off(
 
 /// Asserts WriteFault, the bytes written, and that the faction has joined, in a new campaign. The
 /// writer takes `most` bytes; then it fails if `fails`, and takes none otherwise.
-fn is_broken(rt: &impl Abort, alloc: Global, most: usize, fails: bool) -> Result<(), Fail> {
+fn breaks_off_after(rt: &impl Abort, alloc: Global, most: usize, fails: bool) -> Result<(), Fail> {
     let mut service = begun(alloc)?;
     let mut writer = Narrow::of(alloc, most, fails);
     breaks_off(rt, alloc, &mut service, &mut writer, most);
@@ -41,7 +41,7 @@ fn is_broken(rt: &impl Abort, alloc: Global, most: usize, fails: bool) -> Result
 #[test]
 fn writes_that_fail(rt: HostRuntime) -> Result<(), Fail> {
     for most in 0..JOINED.len() {
-        is_broken(&rt, rt.alloc(), most, true)?;
+        breaks_off_after(&rt, rt.alloc(), most, true)?;
     }
     Ok(())
 }
@@ -51,7 +51,7 @@ fn writes_that_fail(rt: HostRuntime) -> Result<(), Fail> {
 #[test]
 fn writes_that_take_nothing(rt: HostRuntime) -> Result<(), Fail> {
     for most in 0..JOINED.len() {
-        is_broken(&rt, rt.alloc(), most, false)?;
+        breaks_off_after(&rt, rt.alloc(), most, false)?;
     }
     Ok(())
 }

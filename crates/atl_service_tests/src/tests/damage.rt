@@ -13,7 +13,7 @@ use std::test::Fail;
 
 /// The outcome of opening a database: opened, or the cause of a refusal.
 #[derive(Clone, Copy, PartialEq, Debug)]
-enum Told {
+enum Opening {
     Opens,
     /// The number of the rule that is broken.
     Damaged(u8),
@@ -28,110 +28,116 @@ enum Told {
 }
 
 /// The outcome of opening a database, from the cause for which that was refused.
-fn refusal(why: &Cause) -> Told {
+fn refusal(why: &Cause) -> Opening {
     match why {
-        Cause::Damaged(rule) => Told::Damaged(rule.number()),
-        Cause::NotACampaign => Told::NotACampaign,
-        Cause::OldFormat => Told::OldFormat,
-        Cause::NotOld => Told::NotOld,
-        Cause::Differs => Told::Differs,
-        Cause::World(_) => Told::World,
-        Cause::Store => Told::Store,
-        _ => Told::Other,
+        Cause::Damaged(rule) => Opening::Damaged(rule.number()),
+        Cause::NotACampaign => Opening::NotACampaign,
+        Cause::OldFormat => Opening::OldFormat,
+        Cause::NotOld => Opening::NotOld,
+        Cause::Differs => Opening::Differs,
+        Cause::World(_) => Opening::World,
+        Cause::Store => Opening::Store,
+        _ => Opening::Other,
     }
 }
 
 /// Opens a database, and returns the outcome.
-fn asked<S: Alter + Drop>(alloc: Global, conn: Connection<S>) -> Told {
+fn asked<S: Alter + Drop>(alloc: Global, conn: Connection<S>) -> Opening {
     match open(alloc, conn) {
-        Ok(_) => Told::Opens,
+        Ok(_) => Opening::Opens,
         Err(Refused { why, conn: _ }) => refusal(&why),
     }
 }
 
 /// Asserts the outcome of opening; the message names the statements that changed the database.
-fn assert_opening(rt: &impl Abort, told: Told, wanted: Told, sql: &str) {
+fn assert_opening(rt: &impl Abort, told: Opening, wanted: Opening, sql: &str) {
     assert_eq!(rt; told, wanted, "after {sql}");
 }
 
 /// SQL statements that change rows, or add a table or an index, and the outcome of opening
 /// afterwards. Avalon and Bree have a unit each in region 3, on land.
-static ROWS: [(&str, Told); 23] = [
-    ("DELETE FROM mail", Told::Opens),
-    ("CREATE TABLE notes (words TEXT)", Told::Opens),
-    ("CREATE INDEX units_by_region ON unit (region)", Told::Opens),
-    ("INSERT INTO has VALUES (1, 1, 0, 450)", Told::Opens),
-    ("DELETE FROM campaign", Told::Damaged(1)),
-    ("UPDATE campaign SET format = 3", Told::Damaged(1)),
-    ("UPDATE campaign SET format = 1", Told::OldFormat),
-    ("UPDATE campaign SET world = 'no world'", Told::Damaged(1)),
-    ("UPDATE campaign SET month = 10000", Told::Damaged(2)),
-    ("UPDATE campaign SET pass = 'a b'", Told::Damaged(3)),
+static ROWS: [(&str, Opening); 23] = [
+    ("DELETE FROM mail", Opening::Opens),
+    ("CREATE TABLE notes (words TEXT)", Opening::Opens),
+    (
+        "CREATE INDEX units_by_region ON unit (region)",
+        Opening::Opens,
+    ),
+    ("INSERT INTO has VALUES (1, 1, 0, 450)", Opening::Opens),
+    ("DELETE FROM campaign", Opening::Damaged(1)),
+    ("UPDATE campaign SET format = 3", Opening::Damaged(1)),
+    ("UPDATE campaign SET format = 1", Opening::OldFormat),
+    (
+        "UPDATE campaign SET world = 'no world'",
+        Opening::Damaged(1),
+    ),
+    ("UPDATE campaign SET month = 10000", Opening::Damaged(2)),
+    ("UPDATE campaign SET pass = 'a b'", Opening::Damaged(3)),
     (
         "UPDATE unit SET structure = 1 WHERE number = 2",
-        Told::Damaged(4),
+        Opening::Damaged(4),
     ),
-    ("UPDATE campaign SET next_unit = 2", Told::Damaged(5)),
-    ("INSERT INTO has VALUES (1, 1, 0, 451)", Told::Damaged(6)),
+    ("UPDATE campaign SET next_unit = 2", Opening::Damaged(5)),
+    ("INSERT INTO has VALUES (1, 1, 0, 451)", Opening::Damaged(6)),
     (
         "UPDATE faction SET gone = 1 WHERE number = 2",
-        Told::Damaged(7),
+        Opening::Damaged(7),
     ),
     (
         "UPDATE campaign SET next_structure = 2; INSERT INTO structure VALUES (1, 1, 'Building 1', 3, 1, 1)",
-        Told::Damaged(8),
+        Opening::Damaged(8),
     ),
     (
         "UPDATE unit SET region = 2 WHERE number = 2",
-        Told::Damaged(9),
+        Opening::Damaged(9),
     ),
-    ("UPDATE unit SET guard = 1", Told::Damaged(10)),
+    ("UPDATE unit SET guard = 1", Opening::Damaged(10)),
     (
         "UPDATE unit SET money = money + 1 WHERE number = 1",
-        Told::Damaged(11),
+        Opening::Damaged(11),
     ),
     (
         "UPDATE books SET entry = 99 WHERE entry = 2 AND thing = 0",
-        Told::Damaged(11),
+        Opening::Damaged(11),
     ),
-    ("DELETE FROM report WHERE faction = 2", Told::Damaged(12)),
+    ("DELETE FROM report WHERE faction = 2", Opening::Damaged(12)),
     (
         "INSERT INTO mail VALUES (1, x'68656C6C6F')",
-        Told::Damaged(12),
+        Opening::Damaged(12),
     ),
     (
         "UPDATE campaign SET format = 3; UPDATE campaign SET month = 10000; UPDATE unit SET guard = 1",
-        Told::Damaged(1),
+        Opening::Damaged(1),
     ),
     (
         "UPDATE unit SET guard = 1; UPDATE faction SET gone = 1 WHERE number = 2",
-        Told::Damaged(7),
+        Opening::Damaged(7),
     ),
 ];
 
 /// SQL statements that insert stocks, book an entry 17, or make the table of stocks without its
 /// key, and the outcome of opening afterwards. Region 1 has a market of wood with a limit of 30.
-static STOCKS: [(&str, Told); 9] = [
+static STOCKS: [(&str, Opening); 9] = [
     (
         "INSERT INTO market VALUES (1, 0, 30); INSERT INTO books VALUES (16, 2, 30)",
-        Told::Opens,
+        Opening::Opens,
     ),
-    ("INSERT INTO market VALUES (1, 0, 0)", Told::Damaged(2)),
-    ("INSERT INTO market VALUES (1, 0, 31)", Told::Damaged(2)),
+    ("INSERT INTO market VALUES (1, 0, 0)", Opening::Damaged(2)),
+    ("INSERT INTO market VALUES (1, 0, 31)", Opening::Damaged(2)),
     (
         "INSERT INTO market VALUES (1, 1, 1000000000)",
-        Told::Damaged(2),
+        Opening::Damaged(2),
     ),
-    ("INSERT INTO market VALUES (1, 1, 5)", Told::Damaged(4)),
-    ("INSERT INTO market VALUES (9, 0, 5)", Told::Damaged(4)),
-    ("INSERT INTO market VALUES (1, 0, 5)", Told::Damaged(11)),
+    ("INSERT INTO market VALUES (1, 1, 5)", Opening::Damaged(4)),
+    ("INSERT INTO market VALUES (9, 0, 5)", Opening::Damaged(4)),
+    ("INSERT INTO market VALUES (1, 0, 5)", Opening::Damaged(11)),
     (
         "INSERT INTO books VALUES (17, 0, 5); UPDATE unit SET money = money + 5 WHERE number = 1",
-        Told::Damaged(11),
+        Opening::Damaged(11),
     ),
     (
         "DROP TABLE market; CREATE TABLE market (region INTEGER NOT NULL, item INTEGER NOT NULL, stock INTEGER NOT NULL) STRICT",
-        Told::Store,
+        Opening::Store,
     ),
 ];
 
@@ -161,89 +167,95 @@ macro_rules! loose_campaign {
 
 /// SQL statements that drop tables, or make other tables, an index or a view, and the outcome of
 /// opening afterwards.
-static SHAPES: [(&str, Told); 10] = [
-    ("DROP TABLE campaign", Told::NotACampaign),
+static SHAPES: [(&str, Opening); 10] = [
+    ("DROP TABLE campaign", Opening::NotACampaign),
     (
         "DROP TABLE campaign; CREATE TABLE campaign (id INTEGER NOT NULL PRIMARY KEY) STRICT",
-        Told::NotACampaign,
+        Opening::NotACampaign,
     ),
-    ("DROP TABLE unit", Told::Store),
-    (loose_campaign!(), Told::Damaged(1)),
-    (loose_units!("'x'"), Told::Damaged(2)),
-    (loose_units!("1000"), Told::Store),
+    ("DROP TABLE unit", Opening::Store),
+    (loose_campaign!(), Opening::Damaged(1)),
+    (loose_units!("'x'"), Opening::Damaged(2)),
+    (loose_units!("1000"), Opening::Store),
     (
         "DROP TABLE mail; CREATE TABLE mail (text BLOB NOT NULL, faction INTEGER NOT NULL PRIMARY KEY) STRICT",
-        Told::Store,
+        Opening::Store,
     ),
     (
         "CREATE UNIQUE INDEX units_by_name ON unit (name)",
-        Told::Store,
+        Opening::Store,
     ),
-    ("CREATE VIEW rich AS SELECT number FROM unit", Told::Store),
+    (
+        "CREATE VIEW rich AS SELECT number FROM unit",
+        Opening::Store,
+    ),
     (
         "CREATE TABLE notes (unit INTEGER REFERENCES unit (number))",
-        Told::Store,
+        Opening::Store,
     ),
 ];
 
 /// SQL statements that make two faults, and the outcome of opening, which is the first fault in the
 /// order of checks. The order is: the campaign's own row can't be read; it breaks the first rule;
 /// another table can't be read; a value has another type; tables differ; rows break a later rule.
-static MEETINGS: [(&str, Told); 16] = [
-    ("DROP TABLE campaign; DROP TABLE unit", Told::NotACampaign),
+static MEETINGS: [(&str, Opening); 16] = [
+    (
+        "DROP TABLE campaign; DROP TABLE unit",
+        Opening::NotACampaign,
+    ),
     (
         "DROP TABLE campaign; CREATE VIEW rich AS SELECT number FROM unit",
-        Told::NotACampaign,
+        Opening::NotACampaign,
     ),
     (
         loose_units!("'x'", "; DROP TABLE campaign"),
-        Told::NotACampaign,
+        Opening::NotACampaign,
     ),
     (
         "DROP TABLE unit; UPDATE campaign SET format = 3",
-        Told::Damaged(1),
+        Opening::Damaged(1),
     ),
     (
         "DROP TABLE unit; UPDATE campaign SET format = 1, month = 10000",
-        Told::OldFormat,
+        Opening::OldFormat,
     ),
-    (loose_campaign!("; DROP TABLE books"), Told::Damaged(1)),
+    (loose_campaign!("; DROP TABLE books"), Opening::Damaged(1)),
     (
         loose_units!("'x'", "; UPDATE campaign SET format = 3"),
-        Told::Damaged(1),
+        Opening::Damaged(1),
     ),
     (
         "CREATE VIEW rich AS SELECT number FROM unit; UPDATE campaign SET world = 'no world'",
-        Told::Damaged(1),
+        Opening::Damaged(1),
     ),
-    (loose_units!("'x'", "; DROP TABLE faction"), Told::Store),
-    (loose_units!("'x'", "; DROP TABLE books"), Told::Store),
+    (loose_units!("'x'", "; DROP TABLE faction"), Opening::Store),
+    (loose_units!("'x'", "; DROP TABLE books"), Opening::Store),
     (
         loose_units!(
             "'x'",
             "; DROP TABLE books; CREATE TABLE books (entry INTEGER NOT NULL PRIMARY KEY) STRICT"
         ),
-        Told::Store,
+        Opening::Store,
     ),
     (
         "DROP TABLE books; UPDATE campaign SET month = 10000",
-        Told::Store,
+        Opening::Store,
     ),
     (
         loose_units!("'x'", "; UPDATE campaign SET next_unit = 2"),
-        Told::Damaged(2),
+        Opening::Damaged(2),
     ),
     (
         loose_units!("'x'", "; UPDATE faction SET name = ' x' WHERE number = 2"),
-        Told::Damaged(2),
+        Opening::Damaged(2),
     ),
     (
         loose_units!("1000", "; UPDATE campaign SET next_unit = 2"),
-        Told::Store,
+        Opening::Store,
     ),
     (
         "CREATE VIEW rich AS SELECT number FROM unit; UPDATE campaign SET month = 10000",
-        Told::Store,
+        Opening::Store,
     ),
 ];
 
@@ -274,7 +286,7 @@ fn is_judged<D: Disk + Drop>(
     alloc: Global,
     files: Files<D>,
     sql: &str,
-    wanted: Told,
+    wanted: Opening,
 ) -> Result<(), Fail> {
     let conn = changed(rt, alloc, connected(alloc, files)?, sql)?;
     let conn = connected(alloc, conn.into_store().close())?;
@@ -283,7 +295,7 @@ fn is_judged<D: Disk + Drop>(
 }
 
 /// Asserts, for the SQL statements of each case, the outcome of opening the changed database.
-fn assert_openings(rt: &impl Abort, alloc: Global, cases: &[(&str, Told)]) -> Result<(), Fail> {
+fn assert_openings(rt: &impl Abort, alloc: Global, cases: &[(&str, Opening)]) -> Result<(), Fail> {
     for (sql, wanted) in cases {
         is_judged(rt, alloc, new_files(alloc), sql, *wanted)?;
     }
@@ -319,7 +331,12 @@ fn of_two_faults_the_first_is_told(rt: HostRuntime) -> Result<(), Fail> {
 #[test]
 fn an_empty_database_is_no_campaign(rt: HostRuntime) -> Result<(), Fail> {
     let conn = Connection::open_in_memory(rt.alloc())?;
-    assert_opening(&rt, asked(rt.alloc(), conn), Told::NotACampaign, "nothing");
+    assert_opening(
+        &rt,
+        asked(rt.alloc(), conn),
+        Opening::NotACampaign,
+        "nothing",
+    );
     Ok(())
 }
 
@@ -336,7 +353,7 @@ static BEGUN: [&str; 5] = [
 /// open.
 fn waits_for_the_end(rt: &impl Abort, alloc: Global, sql: &str) -> Result<(), Fail> {
     let conn = changed(rt, alloc, Connection::open_in_memory(alloc)?, sql)?;
-    assert_opening(rt, asked(alloc, conn), Told::Store, sql);
+    assert_opening(rt, asked(alloc, conn), Opening::Store, sql);
     Ok(())
 }
 

@@ -194,7 +194,7 @@ fn is_checked(rt: &impl Abort, alloc: Global, world: &World) -> Result<(), Fail>
 }
 
 /// Asserts for each case the first broken rule, and that the rows of `GOOD` give their campaign.
-fn rows_tell(rt: &impl Abort, alloc: Global, world: &World) -> Result<(), Fail> {
+fn rows_are_judged(rt: &impl Abort, alloc: Global, world: &World) -> Result<(), Fail> {
     assert_rules(rt, alloc, world, &CASES)?;
     assert_rules(rt, alloc, world, &MARKET_CASES)?;
     is_checked(rt, alloc, world)
@@ -204,5 +204,5 @@ fn rows_tell(rt: &impl Abort, alloc: Global, world: &World) -> Result<(), Fail> 
 #[test]
 fn the_first_broken_rule_is_told(rt: HostRuntime) -> Result<(), Fail> {
     let world = read_world(rt.alloc(), ISLE_WITH_MARKET)?;
-    rows_tell(&rt, rt.alloc(), &world)
+    rows_are_judged(&rt, rt.alloc(), &world)
 }

@@ -9,7 +9,7 @@ use std::test::Fail;
 
 /// A call that sets one value of a holding, such as its men or its amount of an item.
 #[derive(Drop, Clone, Copy)]
-enum Part {
+enum Set {
     Nothing,
     Name(&'static str),
     Men(u32),
@@ -22,82 +22,82 @@ enum Part {
 }
 
 /// Calls made in turn on the holding of one man, and the holding after each as `text_of` prints it.
-static CALLS: [(Part, &str); 15] = [
+static CALLS: [(Set, &str); 15] = [
     (
-        Part::Nothing,
+        Set::Nothing,
         "A man: 1 men, 0 money, guard: false, items [], days []",
     ),
     (
-        Part::Name("Guards"),
+        Set::Name("Guards"),
         "Guards: 1 men, 0 money, guard: false, items [], days []",
     ),
     (
-        Part::Men(999_999),
+        Set::Men(999_999),
         "Guards: 999999 men, 0 money, guard: false, items [], days []",
     ),
     (
-        Part::Money(999_999_999),
+        Set::Money(999_999_999),
         "Guards: 999999 men, 999999999 money, guard: false, items [], days []",
     ),
     (
-        Part::Guard(true),
+        Set::Guard(true),
         "Guards: 999999 men, 999999999 money, guard: true, items [], days []",
     ),
     (
-        Part::Guard(false),
+        Set::Guard(false),
         "Guards: 999999 men, 999999999 money, guard: false, items [], days []",
     ),
     (
-        Part::Amount(7, 999_999_999),
+        Set::Amount(7, 999_999_999),
         "Guards: 999999 men, 999999999 money, guard: false, items [7, 999999999], days []",
     ),
     (
-        Part::Amount(2, 3),
+        Set::Amount(2, 3),
         "Guards: 999999 men, 999999999 money, guard: false, items [2, 3, 7, 999999999], days []",
     ),
     (
-        Part::Days(5, 450),
+        Set::Days(5, 450),
         "Guards: 999999 men, 999999999 money, guard: false, items [2, 3, 7, 999999999], days [5, 450]",
     ),
     (
-        Part::Days(1, 30),
+        Set::Days(1, 30),
         "Guards: 999999 men, 999999999 money, guard: false, items [2, 3, 7, 999999999], days [1, 30, 5, 450]",
     ),
     // One thing is lowered, and one taken away; of what was never there nothing is taken.
     (
-        Part::Amount(7, 1),
+        Set::Amount(7, 1),
         "Guards: 999999 men, 999999999 money, guard: false, items [2, 3, 7, 1], days [1, 30, 5, 450]",
     ),
     (
-        Part::Amount(2, 0),
+        Set::Amount(2, 0),
         "Guards: 999999 men, 999999999 money, guard: false, items [7, 1], days [1, 30, 5, 450]",
     ),
     (
-        Part::Amount(9, 0),
+        Set::Amount(9, 0),
         "Guards: 999999 men, 999999999 money, guard: false, items [7, 1], days [1, 30, 5, 450]",
     ),
     (
-        Part::Days(5, 0),
+        Set::Days(5, 0),
         "Guards: 999999 men, 999999999 money, guard: false, items [7, 1], days [1, 30]",
     ),
     (
-        Part::Days(9, 0),
+        Set::Days(9, 0),
         "Guards: 999999 men, 999999999 money, guard: false, items [7, 1], days [1, 30]",
     ),
 ];
 
-/// Makes the call on a holding that a value of `Part` names.
-fn sets(alloc: Global, holding: &mut Holding, part: Part) -> Result<(), Fail> {
+/// Makes the call on a holding that a value of `Set` names.
+fn sets(alloc: Global, holding: &mut Holding, part: Set) -> Result<(), Fail> {
     match part {
-        Part::Nothing => (),
-        Part::Name(name) => holding.set_name(Text::from_str(alloc, name)?),
-        Part::Men(men) if men <= 999_999 => holding.set_men(men),
-        Part::Money(money) if money <= 999_999_999 => holding.set_money(money),
-        Part::Guard(guard) => holding.set_guard(guard),
-        Part::Amount(item, amount) if amount <= 999_999_999 => {
+        Set::Nothing => (),
+        Set::Name(name) => holding.set_name(Text::from_str(alloc, name)?),
+        Set::Men(men) if men <= 999_999 => holding.set_men(men),
+        Set::Money(money) if money <= 999_999_999 => holding.set_money(money),
+        Set::Guard(guard) => holding.set_guard(guard),
+        Set::Amount(item, amount) if amount <= 999_999_999 => {
             holding.set_amount(item, amount)?;
         }
-        Part::Days(skill, days) => holding.set_days(skill, days)?,
+        Set::Days(skill, days) => holding.set_days(skill, days)?,
         _ => return Err(Fail::new("past a limit")),
     }
     Ok(())

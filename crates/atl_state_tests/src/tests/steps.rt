@@ -159,7 +159,7 @@ fn change_structure(
 }
 
 /// Fails unless a unit or structure that was added got the number that its step names.
-fn gets(told: u32, number: u32) -> Result<(), Fail> {
+fn got_number(told: u32, number: u32) -> Result<(), Fail> {
     if told == number {
         Ok(())
     } else {
@@ -180,8 +180,8 @@ pub(crate) fn does(alloc: Global, campaign: &mut Campaign, step: Step) -> Result
         Step::Structure(structure, change) => {
             change_structure(alloc, campaign, structure, change)?;
         }
-        Step::Comes(faction, number) => gets(man_comes(alloc, campaign, faction)?, number)?,
-        Step::Begins(kind, number) => gets(structure_begins(alloc, campaign, kind)?, number)?,
+        Step::Comes(faction, number) => got_number(man_comes(alloc, campaign, faction)?, number)?,
+        Step::Begins(kind, number) => got_number(structure_begins(alloc, campaign, kind)?, number)?,
     }
     Ok(())
 }

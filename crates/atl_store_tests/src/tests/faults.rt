@@ -1,5 +1,5 @@
-//! Tests of the numbers and texts of the faults of `load` and of `upgrade` (docs/FORMATS.md,
-//! "Tables", "Upgrading a file").
+//! Tests of the numbers and texts of the faults of `load` and of `upgrade`. The numbers are in
+//! docs/FORMATS.md, "For developers"; Memory has none.
 use super::compare::{assert_fault_number, assert_text};
 use super::words::text_of;
 use atl_state::Rule;
@@ -76,7 +76,8 @@ fn assert_upgrade_fault(
     Ok(())
 }
 
-/// Each fault of `upgrade` has the number and the text of docs/FORMATS.md, "Upgrading a file".
+/// Each fault of `upgrade` has its number in docs/FORMATS.md, "For developers" (Memory has none),
+/// and its text.
 #[test]
 fn faults_of_an_upgrade_have_their_numbers(rt: HostRuntime) -> Result<(), Fail> {
     for case in UPGRADES.iter() {
