@@ -244,9 +244,9 @@ pub every_part : (part : Part) → Has all_parts part
 every_part = all_among all_parts refl
 
 -- a format that has a part which the first format lacks is the second format
-has_late_part : (f : Format) (part : Part) → is_among (parts_in First) part ≡ false → Has (parts_in f) part → f ≡ Second
-has_late_part First part late there = absurd (not_among (parts_in First) part late there)
-has_late_part Second part late there = refl
+second_by_late_part : (f : Format) (part : Part) → is_among (parts_in First) part ≡ false → Has (parts_in f) part → f ≡ Second
+second_by_late_part First part late there = absurd (not_among (parts_in First) part late there)
+second_by_late_part Second part late there = refl
 
 -- tables that have the rows of a campaign
 module _ (f : Format) (db : Trees) (text : List ℕ) (p : Parts) (c : CampaignValue) (have : HaveRows f db text p) (are : AreRowsOf f c p) (things : ℕ) (books : AreBooks things c.books) where
@@ -262,7 +262,7 @@ module _ (f : Format) (db : Trees) (text : List ℕ) (p : Parts) (c : CampaignVa
   by_part Mail there = by_number mail_stored made.mail_row mail_row (λ n v. refl) (λ n v. refl) _ p.mail c.mail (have.rows Mail there) are.mail
   by_part Reports there = by_number report_stored made.report_row report_row (λ n v. refl) (λ n v. refl) _ p.reports c.reports (have.rows Reports there) are.reports
   by_part Books there = (books_held things c.books books _ p.books (have.rows Books there) are.books, λ number. absurd (true≢false number))
-  by_part Markets there = (stocks_held _ p.markets c.regions (have.rows Markets there) (subst (λ f. IsPermutation (made.market_rows f (entries c.regions)) p.markets) (has_late_part f Markets refl there) are.markets), λ number. absurd (true≢false number))
+  by_part Markets there = (stocks_held _ p.markets c.regions (have.rows Markets there) (subst (λ f. IsPermutation (made.market_rows f (entries c.regions)) p.markets) (second_by_late_part f Markets refl there) are.markets), λ number. absurd (true≢false number))
 
   -- tables whose rows are made of the campaign hold it in the format
   pub rows_hold : HoldsIn f db text c
