@@ -113,7 +113,7 @@ def parts_of(definition):
     parts = [[definition.body[0]]]
     for line in definition.body[1:]:
         in_head = has_head and len(parts) == 1 and not any(text.endswith("where") for text in parts[0])
-        begins = indent(line) == base and not in_head and not line.lstrip().startswith(("}", "--"))
+        begins = indent(line) == base and not in_head and not line.lstrip().startswith(("}", ")", "--"))
         parts += [[line]] if begins else []
         parts[-1] += [] if begins else [line]
     return parts

@@ -63,9 +63,9 @@ module _ (w : WorldValue) (c : CampaignValue) where
 
 -- each unit that learns by an order of STUDY that counts has men, and the fee for all of them, and learns the skill
 -- that the order names (`IsLearning`)
-each_so : (w : WorldValue) (c : CampaignValue) (m : MonthValue) (ts : List Task) → AllByRecursion (Contains (study_tasks m)) ts → AllByRecursion (IfLearns w c (IsLearning w c m)) ts
-each_so w c m [] among = tt
-each_so w c m (t ∷ ts) among = ((λ s says can. record { order = t; stands = among.0; for_unit = refl; says = says; can = can }), each_so w c m ts among.1)
+each_learner_is_learning : (w : WorldValue) (c : CampaignValue) (m : MonthValue) (ts : List Task) → AllByRecursion (Contains (study_tasks m)) ts → AllByRecursion (IfLearns w c (IsLearning w c m)) ts
+each_learner_is_learning w c m [] among = tt
+each_learner_is_learning w c m (t ∷ ts) among = ((λ s says can. record { order = t; counts = among.0; for_unit = refl; says = says; can = can }), each_learner_is_learning w c m ts among.1)
 
 -- exactly those units are learning that learn by an order of STUDY that counts
 pub units_learn_by_orders : UnitsLearnByOrders
@@ -74,8 +74,8 @@ units_learn_by_orders w c m =
     let ts = study_tasks m in
     let stays : ℕ → ℕ → Type 0 = (λ k s. HasValue (fold (with_learner w c) empty ts) k) in
     record {
-      only = only_all w c (IsLearning w c m) ts empty (each_so w c m ts (recursion_from_All (Contains ts) ts (All-contains_itself ts))) (every-empty (IsLearning w c m));
+      only = only_all w c (IsLearning w c m) ts empty (each_learner_is_learning w c m ts (recursion_from_All (Contains ts) ts (All-contains_itself ts))) (every-empty (IsLearning w c m));
       each = λ n s is.
-          let here = All-contains (IfLearns w c stays) ts is.order (All-from_recursion (IfLearns w c stays) ts (each_all w c ts empty)) is.stands in
+          let here = All-contains (IfLearns w c stays) ts is.order (All-from_recursion (IfLearns w c stays) ts (each_all w c ts empty)) is.counts in
           subst (HasValue (fold (with_learner w c) empty ts)) is.for_unit (here s is.says (subst (λ k. learns w s is.order.faction (get c.units k) ≡ true) (sym is.for_unit) is.can));
     }

@@ -5,7 +5,7 @@ use Rattle.std.proofs.Common.{◌≡◌, ◌==◌, ℕ, ◌+◌, Bool, true, fal
 use Rattle.std.specs.Prelude.{if◌then◌else◌}
 use Rattle.std.specs.Ordering.{nat_cmp}
 use Rattle.std.specs.FinMap.{FinMap, get, insert, len}
-use Rattle.atl_world.specs.Sums.{changed, changed_at, sum_over}
+use Rattle.atl_world.specs.Sums.{with_changed_value, with_changed_option, sum_over}
 use Rattle.atl_world.proofs.SumLaws.{numbers_where-insert_known, sum_over-insert_known}
 use Rattle.atl_records.specs.declared.books.Thing.{Thing}
 use Rattle.atl_records.specs.declared.books.Thing.TheVariants.{Item, Money, People}
@@ -13,8 +13,8 @@ use Rattle.atl_records.specs.declared.records.Region.{Region}
 use Rattle.atl_records.specs.declared.records.Unit.{Unit}
 use Rattle.atl_campaign.specs.Good.{guards}
 use Rattle.atl_records.specs.Holdings.{amount_of}
-use Rattle.atl_campaign.specs.Campaign.{CampaignValue, numbers_inside, numbers_of, with_guard}
-use Rattle.atl_campaign.specs.Owners.{placed}
+use Rattle.atl_campaign.specs.Campaign.{CampaignValue, numbers_inside, numbers_of_faction, with_guard}
+use Rattle.atl_campaign.specs.Owners.{with_position}
 use Rattle.atl_records.specs.Amounts.{region_amount, unit_amount}
 use Rattle.atl_campaign.specs.Totals.{total}
 use Rattle.atl_campaign.proofs.InsideLaws.{inside_as_before}
@@ -23,13 +23,13 @@ use Rattle.atl_phase.proofs.OutcomeLaws.{false_true}
 use Rattle.atl_phase.proofs.ChangeLaws.{changed_twice}
 use Rattle.atl_action.proofs.TravelLaws.{IsSameUnit}
 
--- Before and after there are as many units, each faction has the same unit numbers,
+-- The units before and after a change are the same people. They are as many, each faction has the same unit numbers,
 -- and all together hold as much of each thing.
 pub record AreSamePeople (before after : FinMap nat_cmp Unit) : Type 0 where
   -- there are as many units as before
   pub count : len after ≡ len before
   -- each faction has the units that it had, by number
-  pub of_factions : (m : ℕ) → numbers_of m after ≡ numbers_of m before
+  pub of_factions : (m : ℕ) → numbers_of_faction m after ≡ numbers_of_faction m before
   -- all units together hold as much of each thing as before
   pub hold : (t : Thing) → sum_over (λ (x : Unit). unit_amount t x.holding) after ≡ sum_over (λ (x : Unit). unit_amount t x.holding) before
 
@@ -48,24 +48,24 @@ held_same u v same People = same.men
 held_same u v same (Item i) = ap (λ items. amount_of items i) same.items
 
 -- for `changed_by`: if a + p is b + q, and q is p, a is b
-cancelled : (a b p q : ℕ) → a + p ≡ b + q → q ≡ p → a ≡ b
-cancelled a b p q e f = omega arith
+equal_addends_cancel : (a b p q : ℕ) → a + p ≡ b + q → q ≡ p → a ≡ b
+equal_addends_cancel a b p q e f = omega arith
 
 module _ (f : Unit → Unit) (same : (u : Unit) → IsSameUnit u (f u)) (m : FinMap nat_cmp Unit) (k : ℕ) where
   -- a change of unit k by f, whether it is there or not, keeps the people (`AreSamePeople`), if f changes only region,
   -- structure and guard flag
-  changed_by : (o : Option Unit) → get m k ≡ o → AreSamePeople m (changed_at f m k o)
+  changed_by : (o : Option Unit) → get m k ≡ o → AreSamePeople m (with_changed_option f m k o)
   changed_by None is = people_same m
   changed_by (Some u) is = record {
     count = same_len m k u (f u) is;
     of_factions = λ j. numbers_where-insert_known (λ x. x.faction == j) m k u (f u) is (ap (λ i. i == j) (sym (same u).faction));
     hold = λ t.
         let stock = λ (x : Unit). unit_amount t x.holding in
-        cancelled (sum_over stock (insert m k (f u))) (sum_over stock m) (stock u) (stock (f u)) (sum_over-insert_known stock m k u (f u) is) (held_same u (f u) (same u) t);
+        equal_addends_cancel (sum_over stock (insert m k (f u))) (sum_over stock m) (stock u) (stock (f u)) (sum_over-insert_known stock m k u (f u) is) (held_same u (f u) (same u) t);
   }
 
   -- a change of one unit that keeps all but its region, structure and guard flag keeps the people (`AreSamePeople`)
-  pub people_changed : AreSamePeople m (changed f m k)
+  pub people_changed : AreSamePeople m (with_changed_value f m k)
   people_changed = changed_by (get m k) refl
 
 -- ---- units that are put elsewhere, with their flags cleared
@@ -81,10 +81,10 @@ module _ (structure to : ℕ) where
 
   -- the units, of which unit n is in region `to`, inside structure `structure`, and has its guard flag cleared
   abbrev pub elsewhere : FinMap nat_cmp Unit → ℕ → FinMap nat_cmp Unit
-  elsewhere m n = changed gone m n
+  elsewhere m n = with_changed_value gone m n
 
   -- putting unit n elsewhere and then clearing its flag changes nothing of the campaign but the units (`elsewhere`)
-  pub elsewhere_is : (c : CampaignValue) (n : ℕ) → with_guard (placed c n to structure) n false ≡ record c { units = elsewhere c.units n }
+  pub elsewhere_is : (c : CampaignValue) (n : ℕ) → with_guard (with_position c n to structure) n false ≡ record c { units = elsewhere c.units n }
   elsewhere_is c n = changed_twice (λ x. record x { region = to; structure = structure }) (λ x. record x { holding = record x.holding { guard = false } }) c n
 
   -- a unit that went elsewhere, or didn't, is the same but for its region, structure and guard flag
@@ -104,7 +104,7 @@ module _ (structure to : ℕ) where
   -- each structure has the same units inside after unit n went elsewhere, if n was inside `structure` before
   pub elsewhere_inside : (m : FinMap nat_cmp Unit) (n q : ℕ) (v : Unit) → get m n ≡ Some v → v.structure ≡ structure → numbers_inside q (elsewhere m n) ≡ numbers_inside q m
   elsewhere_inside m n q v is here =
-      ap (λ o. numbers_inside q (changed_at gone m n o)) is
+      ap (λ o. numbers_inside q (with_changed_option gone m n o)) is
       ∙ inside_as_before q m (insert m n (gone v)) (numbers_where-insert_known (λ (x : Unit). x.structure == q) m n v (gone v) is (ap (λ s. s == q) here))
 
 -- ---- the totals

@@ -14,7 +14,7 @@ use Rattle.std.proofs.lemmas.Bool.{and_parts, cases_eq, cond_both, false_from_ne
 use Rattle.std.proofs.lemmas.List.Elements.{recursion_from_All}
 use Rattle.std.proofs.lemmas.List.Sums.{sum_by-cons}
 use Rattle.atl_world.specs.Worlds.{WorldValue}
-use Rattle.atl_world.specs.Sums.{changed}
+use Rattle.atl_world.specs.Sums.{with_changed_value}
 use Rattle.atl_world.specs.declared.world.RegionPlan.{RegionPlan}
 use Rattle.atl_world.specs.declared.direction.Direction.{Direction}
 use Rattle.atl_world.specs.ByNumber.{is_land_at, neighbour, size_of}
@@ -32,27 +32,27 @@ use Rattle.atl_records.specs.Every.{Every, HasValue}
 use Rattle.atl_campaign.specs.Good.{IsAboard, IsOwned, IsSteady, is_ship}
 use Rattle.atl_records.specs.Holdings.{HoldingValue}
 use Rattle.atl_records.specs.Levels.{load_of}
-use Rattle.atl_campaign.specs.Owners.{after_handover, heir, is_owned_by, placed, with_place, with_place_at}
+use Rattle.atl_campaign.specs.Owners.{after_handover, heir, is_owned_by, with_position, with_place, with_place_at}
 use Rattle.atl_campaign.specs.Campaign.{CampaignValue, numbers_inside, with_guard, with_structure_region}
 use Rattle.atl_records.proofs.EveryLaws.{other_number}
 use Rattle.atl_campaign.proofs.InsideLaws.{inside_is_listed, is_no_zero, listed_is_inside}
 use Rattle.atl_campaign.proofs.NumberListLaws.{IsListed}
 use Rattle.atl_phase.specs.declared.phase_order.Arrangement.TheVariants.{ByUnit}
 use Rattle.atl_phase.specs.Month.{MonthValue}
-use Rattle.atl_phase.specs.Inside.{inside}
+use Rattle.atl_phase.specs.Inside.{structure_of_unit}
 use Rattle.atl_phase.specs.Outcomes.{unless}
 use Rattle.atl_phase.specs.PhaseOrders.{Task, orders_of}
-use Rattle.atl_phase.specs.OrderEffects.{IsUnaffected, effect_on, faction_effect, meaning_by_orders, of_faction, one_order, order_result, spares_others}
+use Rattle.atl_phase.specs.OrderEffects.{IsUnaffected, effect_on, faction_effect, meaning_by_orders, of_faction, one_order, order_result, others_unaffected}
 use Rattle.atl_phase.specs.Bounds.{IsOrderly, IsUnaffectedRelation, StepsWell, nothing_remaining}
 use Rattle.atl_phase.specs.Unbooked.{moves_nothing}
 use Rattle.atl_phase.proofs.MeaningLaws.{same_month_by}
 use Rattle.atl_phase.proofs.OutcomeLaws.{false_true}
-use Rattle.atl_phase.proofs.RefitLaws.{under}
+use Rattle.atl_phase.proofs.RefitLaws.{mapped_from}
 use Rattle.atl_phase.proofs.StructureLaws.{at_number, changed_else, equal_passes, get-changed, len-changed}
 use Rattle.atl_phase.proofs.OrderEffectLaws.{carried_cases, well_same}
 use Rattle.atl_phase.specs.NoWorse.{IsUnchanged}
 use Rattle.atl_phase.proofs.UnbookedLaws.{stays_well}
-use Rattle.atl_action.specs.Sail.{AreAtMostMoved, IsAtMostMoved, SailsWith, after_sailing, capacity, concerns_nobody, crew_needed, crew_of, is_complete_ship, is_sailing, is_way, sail, sail_fault, sail_spec, sail_step, sum_inside}
+use Rattle.atl_action.specs.Sail.{AreAtMostMoved, IsAtMostMoved, SailsWith, after_sailing, capacity, affects_nobody, crew_needed, crew_of, is_complete_ship, is_sailing, is_way, sail, sail_fault, sail_spec, sail_step, sum_inside}
 use Rattle.atl_action.specs.Walk.{by_direction, with_unit_moved}
 use Rattle.atl_action.proofs.PeopleLaws.{AreSamePeople, elsewhere, elsewhere_inside, elsewhere_is, elsewhere_people, gone, gone_if, gone_same, guards_stay, people_same, people_twice, total_people}
 use Rattle.atl_action.proofs.WalkLaws.{in_each_direction, none_fit}
@@ -63,8 +63,8 @@ abbrev structure_in : Option Unit → ℕ
 structure_in o = option_map_or (λ (x : Unit). x.structure) o 0
 
 -- what `f` gives of a unit's holding; 0 where the unit isn't there
-abbrev of_unit : (HoldingValue → ℕ) → Option Unit → ℕ
-of_unit f o = option_map_or (λ (x : Unit). f x.holding) o 0
+abbrev number_of_unit : (HoldingValue → ℕ) → Option Unit → ℕ
+number_of_unit f o = option_map_or (λ (x : Unit). f x.holding) o 0
 
 -- ---- lists of units
 
@@ -114,7 +114,7 @@ module _ (ship to : ℕ) where
   unfolding with_place
   one_is d n v is here =
       ap (λ o. with_guard (with_place_at d n to ship o) n false) is
-      ∙ ap (λ b. with_guard (if b then placed d n to ship else after_handover (after_handover (placed d n to ship) v.structure n (heir d v.structure n)) ship 0 n) n false) (equal_passes v.structure ship here)
+      ∙ ap (λ b. with_guard (if b then with_position d n to ship else after_handover (after_handover (with_position d n to ship) v.structure n (heir d v.structure n)) ship 0 n) n false) (equal_passes v.structure ship here)
       ∙ elsewhere_is ship to d n
 
   -- a unit inside the ship is still inside after a unit went along with the ship
@@ -166,7 +166,7 @@ module _ (w : WorldValue) (c : CampaignValue) (ship to : ℕ) (steady : IsSteady
 
   -- the structures with the ship in region `to`
   abbrev structures : FinMap nat_cmp Structure
-  structures = changed shifted c.structures ship
+  structures = with_changed_value shifted c.structures ship
 
   -- the unit after the ship went: gone along with it, if it was inside, and otherwise as it was
   abbrev f : ℕ → Unit → Unit
@@ -177,12 +177,12 @@ module _ (w : WorldValue) (c : CampaignValue) (ship to : ℕ) (steady : IsSteady
   g = at_number shifted c.structures ship
 
   -- the campaign after the ship went
-  abbrev behind : CampaignValue
-  behind = travelled w c units structures f g
+  abbrev after : CampaignValue
+  after = travelled w c units structures f g
 
-  -- the definition `after_sailing` makes the campaign `behind`, in which the ship and the units inside are in region
+  -- the definition `after_sailing` makes the campaign `after`, in which the ship and the units inside are in region
   -- `to`
-  sailed_is : after_sailing c ship to ≡ behind
+  sailed_is : after_sailing c ship to ≡ after
   unfolding after_sailing
   sailed_is = ap (λ d. with_structure_region d ship to) (all_is ship to c aboard_numbers (all_listed (IsInside ship to c.units) aboard_numbers (listed_is_inside ship c.units)))
 
@@ -238,8 +238,8 @@ module _ (w : WorldValue) (c : CampaignValue) (ship to : ℕ) (steady : IsSteady
   at_other q apart = changed_else shifted c.structures ship q apart (get c.structures ship)
 
   -- each structure has its right owner (`IsOwned`) after the ship sailed
-  ship_owned : (q : ℕ) (y : Structure) → get c.structures q ≡ Some y → IsOwned behind q (g q y)
-  ship_owned q y there = cond_both (q == ship) (shifted y) y (IsOwned behind q) (λ _. record { owned = owned; ownerless = ownerless }) (λ _. record { owned = owned; ownerless = ownerless })
+  ship_owned : (q : ℕ) (y : Structure) → get c.structures q ≡ Some y → IsOwned after q (g q y)
+  ship_owned q y there = cond_both (q == ship) (shifted y) y (IsOwned after q) (λ _. record { owned = owned; ownerless = ownerless }) (λ _. record { owned = owned; ownerless = ownerless })
     where
       -- the owner of the structure, if there is one, is still inside it after the ship sailed
       owned : y.owner ≢ 0 → (v : Unit) × (get units y.owner ≡ Some v) × (v.structure ≡ q)
@@ -250,7 +250,7 @@ module _ (w : WorldValue) (c : CampaignValue) (ship to : ℕ) (steady : IsSteady
       -- a structure without an owner has no unit inside after the ship sailed
       ownerless : y.owner ≡ 0 → Every (λ m v. v.structure ≢ q) units
       ownerless none m v at inside =
-          let (u, was, same) = under (f m) (get c.units m) v (sym (units_at m) ∙ at) in
+          let (u, was, same) = mapped_from (f m) (get c.units m) v (sym (units_at m) ∙ at) in
           (steady.owners q y there).ownerless none m u was (sym (carried m u).structure ∙ ap (λ (z : Unit). z.structure) same ∙ inside)
 
   module _ (floats : is_ship w x ≡ true) (whole : x.done ≡ size_of w x.kind) (there_to : HasValue c.regions to) where
@@ -264,9 +264,9 @@ module _ (w : WorldValue) (c : CampaignValue) (ship to : ℕ) (steady : IsSteady
         record { region = p.region; structure = λ some. let (s, was, near) = p.structure some in (s, at_other v.structure (is_unequal v.structure ship t) ∙ was, near) })
 
     -- each unit on water is inside a ship after the ship sailed
-    aboard : (k : ℕ) (v : Unit) → get c.units k ≡ Some v → is_land_at w (f k v).region ≡ false → IsAboard w behind (f k v)
+    aboard : (k : ℕ) (v : Unit) → get c.units k ≡ Some v → is_land_at w (f k v).region ≡ false → IsAboard w after (f k v)
     aboard k v there =
-        cond_both (v.structure == ship) (gone ship to v) v (λ u. is_land_at w u.region ≡ false → IsAboard w behind u) (λ _ wet. (shifted x, at_ship, floats))
+        cond_both (v.structure == ship) (gone ship to v) v (λ u. is_land_at w u.region ≡ false → IsAboard w after u) (λ _ wet. (shifted x, at_ship, floats))
         (λ t wet. let (s, was, afloat) = steady.water.units k v there wet in (s, at_other v.structure (is_unequal v.structure ship t) ∙ was, afloat))
 
     -- each structure on water is a complete ship after the ship sailed
@@ -299,20 +299,20 @@ module _ (w : WorldValue) (c : CampaignValue) (ship to : ℕ) (steady : IsSteady
     pub sailed_well : StepsWell IsSteady nothing_remaining w c (after_sailing c ship to)
     sailed_well =
         subst (StepsWell IsSteady nothing_remaining w c) (sym sailed_is)
-        (stays_well IsSteady w c behind (steady-travelled w c units structures f g sailed_travelled steady)
-        (same_month_by refl) refl (total_people c behind (all_people ship to c.units aboard_numbers) refl))
+        (stays_well IsSteady w c after (steady-travelled w c units structures f g sailed_travelled steady)
+        (same_month_by refl) refl (total_people c after (all_people ship to c.units aboard_numbers) refl))
 
   -- ---- what stays of each unit
 
   -- after sailing each unit is still there, and at most went along with its structure (`IsAtMostMoved`)
-  pub sailed_spares : (k : ℕ) (v : Unit) → get c.units k ≡ Some v → IsUnaffected IsAtMostMoved (after_sailing c ship to) k v
-  sailed_spares k v there =
+  pub sailed_at_most_moved : (k : ℕ) (v : Unit) → get c.units k ≡ Some v → IsUnaffected IsAtMostMoved (after_sailing c ship to) k v
+  sailed_at_most_moved k v there =
       subst (λ d. IsUnaffected IsAtMostMoved d k v) (sym sailed_is)
-      (record { unit = f k v; there = units_at k ∙ ap (option_map (f k)) there; spared = carried k v })
+      (record { unit = f k v; there = units_at k ∙ ap (option_map (f k)) there; is_unaffected = carried k v })
 
   -- after sailing each unit is inside the structure that it was inside before
-  pub sailed_inside : (k : ℕ) → inside (after_sailing c ship to) k ≡ inside c k
-  sailed_inside k = ap (λ d. inside d k) sailed_is ∙ ap structure_in (units_at k) ∙ by_unit (get c.units k)
+  pub sailed_inside : (k : ℕ) → structure_of_unit (after_sailing c ship to) k ≡ structure_of_unit c k
+  sailed_inside k = ap (λ d. structure_of_unit d k) sailed_is ∙ ap structure_in (units_at k) ∙ by_unit (get c.units k)
     where
       -- for `sailed_inside`: unit k is inside the structure that it was inside before, whether it is there (`o`) or not
       by_unit : (o : Option Unit) → structure_in (option_map (f k) o) ≡ structure_in o
@@ -320,7 +320,7 @@ module _ (w : WorldValue) (c : CampaignValue) (ship to : ℕ) (steady : IsSteady
       by_unit (Some v) = (carried k v).structure
 
   -- a unit that isn't inside the ship stays as it was when the ship sails
-  sailed_same : (k : ℕ) → inside c k ≢ ship → get (after_sailing c ship to).units k ≡ get c.units k
+  sailed_same : (k : ℕ) → structure_of_unit c k ≢ ship → get (after_sailing c ship to).units k ≡ get c.units k
   sailed_same k apart = ap (λ d. get d.units k) sailed_is ∙ units_at k ∙ by_unit (get c.units k) apart
     where
       -- for `sailed_same`: unit k, if it isn't inside the ship, stays as it was, whether it is there (`o`) or not
@@ -353,9 +353,10 @@ carried_twice u v x one two = record {
   days = λ s. omega (arith, one.days s, two.days s);
 }
 
--- to go along at most with one's structure (`IsAtMostMoved`) is reflexive and transitive, and keeps the faction
-carried_spares : IsUnaffectedRelation IsAtMostMoved
-carried_spares = record { same = carried_same; transitive = carried_twice; faction = λ u v h. h.faction }
+-- the relation `IsAtMostMoved`, that a unit at most went along with its structure, is reflexive and transitive, and
+-- keeps the faction
+at_most_moved_is_relation : IsUnaffectedRelation IsAtMostMoved
+at_most_moved_is_relation = record { same = carried_same; transitive = carried_twice; faction = λ u v h. h.faction }
 
 -- if a way to a region isn't refused (`is_way`), that region is one of the world
 way_there : (w : WorldValue) (from : ℕ) (to : Option ℕ) → not (is_way w from to) ≡ false → HasValue w.regions (unwrap_or to 0)
@@ -368,8 +369,8 @@ way_there w from (Some r) t = by_plan (get w.regions r) refl (and_parts (is_some
     by_plan (Some p) there t = (p, there)
 
 -- the faults of SAIL with their tests, from the unit, its structure, and the crew and load of all units inside
-abbrev faults : WorldValue → (n : ℕ) → Unit → (to : Option ℕ) → Option Structure → (crew load : ℕ) → List (Bool × EventFault)
-faults w n u to ship crew load =
+abbrev sail_faults : WorldValue → (n : ℕ) → Unit → (to : Option ℕ) → Option Structure → (crew load : ℕ) → List (Bool × EventFault)
+sail_faults w n u to ship crew load =
     (u.holding.men == 0, NoMen)
     ∷ (u.structure == 0, NotInside)
     ∷ (not (is_owned_by ship n), NotOwner)
@@ -379,8 +380,8 @@ faults w n u to ship crew load =
     ∷ (nat_lt (capacity w ship) load, TooHeavy)
     ∷ []
 
--- P holds of the result of an order of SAIL, if it holds of each outcome without a change, and after each sailing.
--- A ship that sails is complete, and sails to a region of the world.
+-- A condition P holds of the result of an order of SAIL, if it holds of each outcome without a change, and after each
+-- sailing. A ship that sails is complete, and sails to a region of the world.
 sail_cases : (P : CampaignValue × Outcome → Type 0) (w : WorldValue) (c : CampaignValue) (n : ℕ) (u : Unit) (direction : Direction) → ((outcome : Outcome) → P (c, outcome))
     → ((to : ℕ) (x : Structure) → get c.structures u.structure ≡ Some x → is_ship w x ≡ true → x.done ≡ size_of w x.kind → HasValue w.regions to → P (after_sailing c u.structure to, Done 0)) → P (sail w n direction c u)
 unfolding sail
@@ -399,7 +400,7 @@ sail_cases P w c n u direction same gone_off =
     by_fault to (Some fault) e = same (Fault (event_fault_number fault))
     by_fault to None e =
         let ship = get c.structures u.structure in
-        let fine = none_fit (faults w n u to ship (sum_inside (crew_of w) c u.structure) (sum_inside (load_of w) c u.structure)) e in
+        let fine = none_fit (sail_faults w n u to ship (sum_inside (crew_of w) c u.structure) (sum_inside (load_of w) c u.structure)) e in
         by_ship to ship refl fine.1.1.1.0 fine.1.1.1.1.0
 
 -- An order of SAIL keeps a steady campaign steady, with the same month, reports and set of factions, and with balanced
@@ -410,28 +411,28 @@ sail_well w c n u direction steady =
     (λ to x at floats whole there. sailed_well w c u.structure to steady x at floats whole ((steady.known.regions to).1 there))
 
 -- an order of SAIL at most takes each unit along with the structure that it is inside (`IsAtMostMoved`)
-sail_spares : (w : WorldValue) (c : CampaignValue) (n : ℕ) (u : Unit) (direction : Direction) → IsSteady w c → (k : ℕ) (v : Unit) → get c.units k ≡ Some v → IsUnaffected IsAtMostMoved (sail w n direction c u).0 k v
-sail_spares w c n u direction steady k v there =
-    sail_cases (λ p. IsUnaffected IsAtMostMoved p.0 k v) w c n u direction (λ outcome. record { unit = v; there = there; spared = carried_same v })
-    (λ to x at floats whole near. sailed_spares w c u.structure to steady x at k v there)
+sail_moves_at_most : (w : WorldValue) (c : CampaignValue) (n : ℕ) (u : Unit) (direction : Direction) → IsSteady w c → (k : ℕ) (v : Unit) → get c.units k ≡ Some v → IsUnaffected IsAtMostMoved (sail w n direction c u).0 k v
+sail_moves_at_most w c n u direction steady k v there =
+    sail_cases (λ p. IsUnaffected IsAtMostMoved p.0 k v) w c n u direction (λ outcome. record { unit = v; there = there; is_unaffected = carried_same v })
+    (λ to x at floats whole near. sailed_at_most_moved w c u.structure to steady x at k v there)
 
 -- SAIL keeps a steady campaign steady, books nothing, and at most moves each unit with its structure (`IsOrderly`)
-pub sail_orderly : IsOrderly sail_step IsSteady nothing_remaining moves_nothing concerns_nobody IsAtMostMoved
+pub sail_orderly : IsOrderly sail_step IsSteady nothing_remaining moves_nothing affects_nobody IsAtMostMoved
 sail_orderly = record {
-  well = λ w a c t x steady fit own. in_each_direction (λ deed. StepsWell IsSteady nothing_remaining w c (deed c x).0) (sail w t.unit) t.order_value.operands (λ direction. sail_well w c t.unit x direction steady);
-  spares_is_relation = carried_spares;
-  spared = λ w a c t x steady own k v there apart. in_each_direction (λ deed. IsUnaffected IsAtMostMoved (deed c x).0 k v) (sail w t.unit) t.order_value.operands (λ direction. sail_spares w c t.unit x direction steady k v there);
+  well = λ w a c t x steady fit own. in_each_direction (λ effect. StepsWell IsSteady nothing_remaining w c (effect c x).0) (sail w t.unit) t.order_value.operands (λ direction. sail_well w c t.unit x direction steady);
+  unaffected_is_relation = at_most_moved_is_relation;
+  is_unaffected = λ w a c t x steady own k v there apart. in_each_direction (λ effect. IsUnaffected IsAtMostMoved (effect c x).0 k v) (sail w t.unit) t.order_value.operands (λ direction. sail_moves_at_most w c t.unit x direction steady k v there);
   bounded = λ w c steady e t. omega arith;
 }
 
--- Every unit at most went along, if each unit that no order of SAIL concerns did: by `concerns_nobody` these are all
+-- Every unit at most went along, if each unit that no order of SAIL affects did: by `affects_nobody` these are all
 -- units.
-pub all_carried : (w : WorldValue) (m : MonthValue) (c d : CampaignValue) → spares_others concerns_nobody IsAtMostMoved is_sailing w m c d → AreAtMostMoved c d
+pub all_carried : (w : WorldValue) (m : MonthValue) (c d : CampaignValue) → others_unaffected affects_nobody IsAtMostMoved is_sailing w m c d → AreAtMostMoved c d
 all_carried w m c d keeps n u there = keeps n u there (λ k d l nobody. nobody)
 
 -- ---- units that stay: those whose structure doesn't sail
 
--- the sum of g over a list of numbers is that of h, if g and h are equal for each number listed
+-- two functions, g and h, have the same sum over a list of numbers, if they are equal for each number listed
 sum_same : (g h : ℕ → ℕ) (ns : List ℕ) → ((k : ℕ) → IsListed k ns → g k ≡ h k) → sum_by g ns ≡ sum_by h ns
 sum_same g h [] same = refl
 sum_same g h (n ∷ ns) same = grind (arith, sum_by-cons g n ns, sum_by-cons h n ns, same n (inl refl), sum_same g h ns (λ k l. same k (inr l)))
@@ -443,7 +444,7 @@ same_outcome_unless c d x y o = grind rules
 module _ (w : WorldValue) (begun : CampaignValue) (number faction : ℕ) where
   -- the number of the structure that unit `number` is inside as the phase begins
   abbrev s : ℕ
-  s = inside begun number
+  s = structure_of_unit begun number
 
   -- The campaign is steady, and each unit is inside the structure that it was inside as the phase began.
   -- The structure that unit `number` is inside is as it was, and so are all units inside this structure.
@@ -451,11 +452,11 @@ module _ (w : WorldValue) (begun : CampaignValue) (number faction : ℕ) where
     -- the campaign is steady
     pub steady : IsSteady w c
     -- each unit is inside the structure that it was inside as the phase began
-    pub places : (k : ℕ) → inside c k ≡ inside begun k
+    pub places : (k : ℕ) → structure_of_unit c k ≡ structure_of_unit begun k
     -- the structure of unit `number` is as it was when the phase began
     pub structure : get c.structures s ≡ get begun.structures s
     -- each unit that was inside this structure when the phase began is as it was then
-    pub units : (k : ℕ) → inside begun k ≡ s → get c.units k ≡ get begun.units k
+    pub units : (k : ℕ) → structure_of_unit begun k ≡ s → get c.units k ≡ get begun.units k
     -- the list of the units inside this structure is as it was when the phase began
     pub list : numbers_inside s c.units ≡ numbers_inside s begun.units
 
@@ -463,11 +464,11 @@ module _ (w : WorldValue) (begun : CampaignValue) (number faction : ℕ) where
     -- if `c` is as begun (`IsAsBegun`), the sum of `f` over the units in unit `number`'s structure is as at the start
     sum_inside_same : (f : HoldingValue → ℕ) → sum_inside f c s ≡ sum_inside f begun s
     sum_inside_same f =
-        ap (sum_by (λ n. of_unit f (get c.units n))) same.list
-        ∙ sum_same (λ n. of_unit f (get c.units n)) (λ n. of_unit f (get begun.units n)) (numbers_inside s begun.units) (λ k listed. ap (of_unit f) (same.units k (is_in k listed)))
+        ap (sum_by (λ n. number_of_unit f (get c.units n))) same.list
+        ∙ sum_same (λ n. number_of_unit f (get c.units n)) (λ n. number_of_unit f (get begun.units n)) (numbers_inside s begun.units) (λ k listed. ap (number_of_unit f) (same.units k (is_in k listed)))
       where
         -- each unit listed as inside the structure of unit `number` is inside it as the phase begins
-        is_in : (k : ℕ) → IsListed k (numbers_inside s begun.units) → inside begun k ≡ s
+        is_in : (k : ℕ) → IsListed k (numbers_inside s begun.units) → structure_of_unit begun k ≡ s
         is_in k listed = let (v, there, here) = listed_is_inside s begun.units k listed in ap structure_in there ∙ here
 
     -- if `c` is as begun (`IsAsBegun`), an order of SAIL for a unit in unit `number`'s structure has the fault, or
@@ -486,7 +487,7 @@ module _ (w : WorldValue) (begun : CampaignValue) (number faction : ℕ) where
 
     -- if `c` is as begun (`IsAsBegun`), faction f's SAIL for unit n, inside unit `number`'s structure, has the outcome
     -- that it would have had at the start
-    same_faction_outcome : (f n : ℕ) (direction : Direction) → inside begun n ≡ s → (faction_effect (sail w n direction) c f n).1 ≡ (faction_effect (sail w n direction) begun f n).1
+    same_faction_outcome : (f n : ℕ) (direction : Direction) → structure_of_unit begun n ≡ s → (faction_effect (sail w n direction) c f n).1 ≡ (faction_effect (sail w n direction) begun f n).1
     same_faction_outcome f n direction here = ap (λ o. (effect_on (sail w n direction) c (of_faction f o)).1) (same.units n here) ∙ by_unit (get begun.units n) here
       where
         -- for `same_faction_outcome`: SAIL has one outcome in `c` and at the start, whether unit u is of the faction
@@ -512,10 +513,10 @@ module _ (w : WorldValue) (begun : CampaignValue) (number faction : ℕ) where
 
     -- If `c` is as begun (`IsAsBegun`), so is the campaign after an order of SAIL with operands `o` for unit n of
     -- faction f. This supposes that by the order the structure of unit `number` wouldn't have sailed at the start.
-    order_stays : (f n : ℕ) (o : OperandsValue) → (inside begun n ≡ s → (order_result (by_direction (sail w n) o) begun f n).1 ≡ Some (Done 0) → ⊥) → IsAsBegun (order_result (by_direction (sail w n) o) c f n).0
+    order_stays : (f n : ℕ) (o : OperandsValue) → (structure_of_unit begun n ≡ s → (order_result (by_direction (sail w n) o) begun f n).1 ≡ Some (Done 0) → ⊥) → IsAsBegun (order_result (by_direction (sail w n) o) c f n).0
     order_stays f n (operands.Direction direction) apart =
-        carried_cases (λ p. (inside begun n ≡ s → p.1 ≡ Done 0 → ⊥) → IsAsBegun p.0) (sail w n direction) c f n (λ apart. same)
-        (λ u is own. sail_cases (λ p. (inside begun n ≡ s → p.1 ≡ Done 0 → ⊥) → IsAsBegun p.0) w c n u direction (λ outcome apart. same)
+        carried_cases (λ p. (structure_of_unit begun n ≡ s → p.1 ≡ Done 0 → ⊥) → IsAsBegun p.0) (sail w n direction) c f n (λ apart. same)
+        (λ u is own. sail_cases (λ p. (structure_of_unit begun n ≡ s → p.1 ≡ Done 0 → ⊥) → IsAsBegun p.0) w c n u direction (λ outcome apart. same)
         (λ to x at floats whole there apart. sailed_else u.structure to x at floats whole there (λ same_ship. apart (sym (same.places n) ∙ ap structure_in is ∙ sym same_ship) refl)))
         (λ in_it done. apart in_it (ap (λ outcome. Some outcome) (sym (same_faction_outcome f n direction in_it) ∙ done)))
     order_stays f n other apart = same
@@ -533,10 +534,10 @@ module _ (w : WorldValue) (begun : CampaignValue) (number faction : ℕ) where
       tasks_stay next.0 next.1 ts (task_stays c same m t others.0) others.1
 
 -- a unit whose ship doesn't sail is unchanged after the phase, if the campaign is steady
-pub sail_spares_others : (w : WorldValue) (c : CampaignValue) (m : MonthValue) → IsSteady w c → spares_others (SailsWith w c) IsUnchanged is_sailing w m c (sail_spec.meaning w c m).0
+pub others_do_not_sail : (w : WorldValue) (c : CampaignValue) (m : MonthValue) → IsSteady w c → others_unaffected (SailsWith w c) IsUnchanged is_sailing w m c (sail_spec.meaning w c m).0
 unfolding meaning_by_orders
-sail_spares_others w c m steady n u there others =
+others_do_not_sail w c m steady n u there others =
     let ts = values (orders_of is_sailing ByUnit m.aliases m.readings) in
     let begun : IsAsBegun w c n u.faction c = record { steady = steady; places = λ k. refl; structure = refl; units = λ k here. refl; list = refl } in
     let stays = tasks_stay w c n u.faction c m ts begun (recursion_from_All (λ t. SailsWith w c t n u.faction → ⊥) ts others) in
-    record { unit = u; there = stays.units n refl ∙ there; spared = refl }
+    record { unit = u; there = stays.units n refl ∙ there; is_unaffected = refl }

@@ -24,10 +24,10 @@ use Rattle.atl_campaign.proofs.RegionLaws.{get-insert_same}
 use Rattle.atl_phase.specs.Month.{MonthValue}
 use Rattle.atl_phase.specs.Outcomes.{unless}
 use Rattle.atl_phase.specs.PhaseOrders.{Task, orders_of}
-use Rattle.atl_phase.specs.StandOnce.{share_slot}
+use Rattle.atl_phase.specs.OneOrder.{share_slot}
 use Rattle.atl_phase.specs.OrderEffects.{OrderEffect, effect_on, faction_effect, meaning_by_orders, of_faction, one_order, order_result}
 use Rattle.atl_phase.specs.declared.phase_order.Arrangement.TheVariants.{ByUnit}
-use Rattle.atl_phase.proofs.StandOnceLaws.{one_order_stands}
+use Rattle.atl_phase.proofs.OneOrderLaws.{one_order_counts}
 use Rattle.atl_phase.proofs.OrderEffectLaws.{ordered_cases}
 use Rattle.atl_phase.proofs.PhaseOrderLaws.{orders_have_verbs}
 use Rattle.atl_action.specs.Learners.{is_studying, learners, study_tasks}
@@ -78,7 +78,8 @@ is_study : (verb : Verb) → is_studying verb ≡ true → verb ≡ verbs.Study
 is_study verbs.Study is = refl
 is_study verb is = cc
 
--- two orders of STUDY for one unit from one faction share a slot: that they share none is impossible
+-- two orders of STUDY for one unit from one faction share a slot; so a contradiction follows where `share_slot` is
+-- false
 both_own : (t o : Task) → share_slot t o ≡ false → Studies t → Studies o → t.unit ≡ o.unit → t.faction ≡ o.faction → ⊥
 both_own t o never t_studies o_studies unit faction =
     grind (rules, never, ap (λ j. j == o.unit) unit ∙ equal_itself o.unit, ap (λ j. j == o.faction) faction ∙ equal_itself o.faction, is_study t.order_value.verb t_studies, is_study o.order_value.verb o_studies)
@@ -96,14 +97,14 @@ module _ (w : WorldValue) (taught : TaughtMen) (n : ℕ) (u : Unit) where
   structures_stay : (d : CampaignValue) (l : MonthValue) (t : Task) → (step (d, l) t).0.structures ≡ d.structures
   structures_stay d l t =
       ordered_cases (λ b. b.structures ≡ d.structures) (study_step taught w l.aliases t) d t refl
-      (λ x own. of_each_skill (λ deed. (deed d x).0.structures ≡ d.structures) w taught t.unit t.order_value.operands
+      (λ x own. of_each_skill (λ effect. (effect d x).0.structures ≡ d.structures) w taught t.unit t.order_value.operands
       (λ s says. study_cases (λ b. b.structures ≡ d.structures) w (taught t.unit) d t.unit s x refl (λ days payable most. refl)))
 
   -- an order of STUDY leaves unit n as it was, if it isn't for unit n or not from the faction of unit n
   one_stays : (d : CampaignValue) (l : MonthValue) (t : Task) (v : Unit) → get d.units n ≡ Some v → v.faction ≡ u.faction → IsOther t → get (step (d, l) t).0.units n ≡ Some v
   one_stays d l t v there own other =
       ordered_cases (λ b. get b.units n ≡ Some v) (study_step taught w l.aliases t) d t there
-      (λ x its. of_each_skill (λ deed. get (deed d x).0.units n ≡ Some v) w taught t.unit t.order_value.operands (λ s says.
+      (λ x its. of_each_skill (λ effect. get (effect d x).0.units n ≡ Some v) w taught t.unit t.order_value.operands (λ s says.
       let apart : n ≢ t.unit = (λ same. other (sym same) (sym its.faction ∙ ap (λ (y : Unit). y.faction) (same_Some x v (sym its.there ∙ ap (get d.units) (sym same) ∙ there)) ∙ own)) in
       study_stays w (taught t.unit) d t.unit s x n apart ∙ there))
 
@@ -131,21 +132,21 @@ module _ (w : WorldValue) (taught : TaughtMen) (n : ℕ) (u : Unit) where
         one_apart unit faction = both_own order t all.0 studies others.0 (for_unit ∙ sym unit) (own ∙ sym faction)
 
     -- what unit n's own order of STUDY makes of a campaign and its unit n
-    abbrev deed : OrderEffect
-    deed = study w (taught n) n skill
+    abbrev effect : OrderEffect
+    effect = study w (taught n) n skill
 
     -- the campaign after the own order of unit n is what the order's effect makes of the unit, if the unit is there
-    own_study : (d : CampaignValue) (l : MonthValue) → get d.units n ≡ Some u → (step (d, l) order).0 ≡ (deed d u).0
+    own_study : (d : CampaignValue) (l : MonthValue) → get d.units n ≡ Some u → (step (d, l) order).0 ≡ (effect d u).0
     own_study d l there =
         ap (λ (o : OrderValue). (order_result (study_effect w taught order.unit o.operands) d order.faction order.unit).0) says
         ∙ ap (λ k. (faction_effect (study w (taught k) k skill) d order.faction k).0) for_unit
-        ∙ ap (λ f. (faction_effect deed d f n).0) own
-        ∙ ap (λ o. (effect_on deed d o).0) (ap (of_faction u.faction) there ∙ ap (λ b. if b then Some u else None) (equal_itself u.faction))
+        ∙ ap (λ f. (faction_effect effect d f n).0) own
+        ∙ ap (λ o. (effect_on effect d o).0) (ap (of_faction u.faction) there ∙ ap (λ b. if b then Some u else None) (equal_itself u.faction))
 
     module _ (c : CampaignValue) (begun : get c.units n ≡ Some u) where
       -- unit n is still there, and of its faction, after its own order
-      behind_it : (v : Unit) × (get (deed c u).0.units n ≡ Some v) × (v.faction ≡ u.faction)
-      behind_it =
+      after_it : (v : Unit) × (get (effect c u).0.units n ≡ Some v) × (v.faction ≡ u.faction)
+      after_it =
           study_cases (λ d. (v : Unit) × (get d.units n ≡ Some v) × (v.faction ≡ u.faction)) w (taught n) c n skill u (u, begun, refl)
           (λ days payable most.
           let v : Unit = record u { holding = with_study u.holding skill (fee_of w skill * u.holding.men) days } in
@@ -154,12 +155,12 @@ module _ (w : WorldValue) (taught : TaughtMen) (n : ℕ) (u : Unit) where
       -- After some orders of STUDY unit n is as its own order alone makes it. This supposes that its own order is one
       -- of them, and that no two of them share a slot.
       alone : (ts : List Task) (p : CampaignValue × MonthValue) → get p.0.units n ≡ Some u → p.0.structures ≡ c.structures → IsDistinct share_slot ts → AllByRecursion Studies ts
-          → (k : ℕ) → k < length ts → slice_index_or ts k order ≡ order → get (fold step p ts).0.units n ≡ get (deed c u).0.units n
+          → (k : ℕ) → k < length ts → slice_index_or ts k order ≡ order → get (fold step p ts).0.units n ≡ get (effect c u).0.units n
       unfolding IsDistinct
       alone [] p there structures distinct all k low at = absurd (omega (arith, low))
       alone (t ∷ ts) p there structures distinct all zero low at =
-          let (v, is, faction) = behind_it in
-          let now : get (step p t).0.units n ≡ get (deed c u).0.units n =
+          let (v, is, faction) = after_it in
+          let now : get (step p t).0.units n ≡ get (effect c u).0.units n =
           ap (λ o. get (step p o).0.units n) at ∙ ap (λ (d : CampaignValue). get d.units n) (own_study p.0 p.1 there) ∙ study_alike w (taught n) n skill c p.0 u begun there structures in
           all_stay ts (step p t) v (now ∙ is) faction (all_apart ts (subst (λ o. AllByRecursion (λ y. share_slot o y ≡ false) ts) at distinct.0) all.1) ∙ sym is
       alone (t ∷ ts) p there structures distinct all (suc k) low at =
@@ -173,10 +174,10 @@ pub units_study_as_begun : UnitsStudyAsBegun
 unfolding meaning_by_orders
 units_study_as_begun w c m fit n skill u there own =
     let lessons = after_lessons c (learners w c m) m in
-    let told = all_lessons_add_no_starved c (learners w c m) m in
+    let unchanged = all_lessons_add_no_starved c (learners w c m) m in
     let one : CampaignValue × MonthValue → Task → CampaignValue × MonthValue = one_order (study_step lessons.0) w in
     let list : values (orders_of is_studying ByUnit lessons.1.aliases lessons.1.readings) ≡ study_tasks m =
-    ap (λ r. values (orders_of is_studying ByUnit lessons.1.aliases r)) told.readings ∙ ap (λ a. values (orders_of is_studying ByUnit a m.readings)) told.aliases in
-    let (k, low, at) = own.stands in
+    ap (λ r. values (orders_of is_studying ByUnit lessons.1.aliases r)) unchanged.readings ∙ ap (λ a. values (orders_of is_studying ByUnit a m.readings)) unchanged.aliases in
+    let (k, low, at) = own.counts in
     ap (λ ts. get (fold one (c, lessons.1) ts).0.units n) list
-    ∙ alone w lessons.0 n u skill own.order own.for_unit own.own own.says c there (study_tasks m) (c, lessons.1) there refl (one_order_stands w is_studying ByUnit m.aliases m.readings fit) (orders_have_verbs is_studying ByUnit m.aliases m.readings) k low at
+    ∙ alone w lessons.0 n u skill own.order own.for_unit own.own own.says c there (study_tasks m) (c, lessons.1) there refl (one_order_counts w is_studying ByUnit m.aliases m.readings fit) (orders_have_verbs is_studying ByUnit m.aliases m.readings) k low at

@@ -32,7 +32,7 @@ use Rattle.atl_records.proofs.BookLaws.{booked-after_booking}
 use Rattle.atl_records.proofs.EveryLaws.{get-insert_other}
 use Rattle.atl_campaign.proofs.HavingLaws.{may_have}
 use Rattle.atl_campaign.proofs.HoldingLaws.{MayHaveWithoutNewGuard, steady-unit_amount, total-unit_amount}
-use Rattle.atl_campaign.proofs.RegionLaws.{steady-amount, total-amount}
+use Rattle.atl_campaign.proofs.RegionLaws.{steady-amount, total-booking}
 use Rattle.atl_phase.specs.Meaning.{moves_only}
 use Rattle.atl_phase.specs.Bounds.{HasRoom, HaveRoom, IsOrderly, IsUnaffectedRelation, StepsWell, UsesBound}
 use Rattle.atl_phase.specs.Outcomes.{unless}
@@ -46,7 +46,7 @@ use Rattle.atl_phase.proofs.OrderEffectLaws.{bound_used_near, well_same}
 use Rattle.atl_phase.proofs.UnbookedLaws.{other_unit}
 use Rattle.atl_phase.specs.NoWorse.{IsUnchanged}
 use Rattle.atl_action.specs.Study.{after_study, days_after, is_helpful, study, study_effect, study_fault, study_moves, study_step, with_study}
-use Rattle.atl_action.specs.Bounds.{study_reserve}
+use Rattle.atl_action.specs.Bounds.{study_remaining}
 use Rattle.atl_action.specs.Teach.{TaughtMen}
 
 -- ---- a unit that pays, and reaches a number of days
@@ -61,8 +61,8 @@ module _ (w : WorldValue) (c : CampaignValue) (n : ℕ) (u : Unit) (s cost days 
   paid = with_holding_at c n learned (Some u)
 
   -- the campaign after the unit studied: it paid and has its days, and the cost is booked
-  abbrev behind : CampaignValue
-  behind = after_study c n u s cost days
+  abbrev after : CampaignValue
+  after = after_study c n u s cost days
 
   -- the unit may hold (`MayHaveWithoutNewGuard`) what it holds after it studied, if the skill is of the world, and the
   -- days are at most 450 for each man
@@ -79,8 +79,8 @@ module _ (w : WorldValue) (c : CampaignValue) (n : ℕ) (u : Unit) (s cost days 
       }
 
   -- a steady campaign is steady after a unit paid and reached at most 450 days for each man in a skill of the world
-  steady_behind : s < length w.skills → days ≤ most_days * u.holding.men → IsSteady w behind
-  steady_behind known most = steady-amount w paid Study Money (neg_ℤ (pos cost)) (omega arith) (steady-unit_amount w c n u learned is (may_hold known most) steady)
+  steady_after : s < length w.skills → days ≤ most_days * u.holding.men → IsSteady w after
+  steady_after known most = steady-amount w paid Study Money (neg_ℤ (pos cost)) (omega arith) (steady-unit_amount w c n u learned is (may_hold known most) steady)
 
   -- the total of each thing changes from b to a by what is booked, as the unit pays: money falls by the cost, and every
   -- other thing stays
@@ -90,18 +90,18 @@ module _ (w : WorldValue) (c : CampaignValue) (n : ℕ) (u : Unit) (s cost days 
   owed (Item i) a b e = let other : (2 + i == 0) ≡ false = grind (arith, nat_tests) in grind (arith, ints)
 
   -- the books balance after a unit paid and learned, if they balanced before
-  balanced : Balances c → Balances behind
+  balanced : Balances c → Balances after
   balanced old t =
-      let sum : total behind t + unit_amount t u.holding ≡ total c t + unit_amount t learned =
-      ap (λ k. k + unit_amount t u.holding) (total-amount paid Study Money t (neg_ℤ (pos cost))) ∙ total-unit_amount w c n u learned is t in
-      owed t (total behind t) (total c t) sum ∙ ap (λ z. z +ℤ cond (thing_index t == 0) (neg_ℤ (pos cost)) (pos 0)) (old t)
+      let sum : total after t + unit_amount t u.holding ≡ total c t + unit_amount t learned =
+      ap (λ k. k + unit_amount t u.holding) (total-booking paid Study Money t (neg_ℤ (pos cost))) ∙ total-unit_amount w c n u learned is t in
+      owed t (total after t) (total c t) sum ∙ ap (λ z. z +ℤ cond (thing_index t == 0) (neg_ℤ (pos cost)) (pos 0)) (old t)
       ∙ sym (booked-after_booking c.books Study Money (neg_ℤ (pos cost)) t)
 
   -- the money of all units together falls by the cost as the unit pays
-  less : sum_over (λ (x : Unit). x.holding.money) behind.units + cost ≡ sum_over (λ (x : Unit). x.holding.money) c.units
+  less : sum_over (λ (x : Unit). x.holding.money) after.units + cost ≡ sum_over (λ (x : Unit). x.holding.money) c.units
   less =
       let money = λ (x : Unit). x.holding.money in
-      total_falls_by_cost (sum_over money behind.units) (sum_over money c.units) u.holding.money (sum_over-insert_known money c.units n u (record u { holding = learned }) is) payable
+      total_falls_by_cost (sum_over money after.units) (sum_over money c.units) u.holding.money (sum_over-insert_known money c.units n u (record u { holding = learned }) is) payable
     where
       -- for `less`: the total a after the payment is the total b before it less the cost, where m is the unit's money
       -- before it
@@ -109,23 +109,23 @@ module _ (w : WorldValue) (c : CampaignValue) (n : ℕ) (u : Unit) (s cost days 
       total_falls_by_cost a b m e l = omega (arith, e, l)
 
   -- books with room for the money of all units have room for the cost
-  pub cost_room : HaveRoom (study_reserve c) c → HasRoom cost (amount_in c.books Study Money)
+  pub cost_room : HaveRoom (study_remaining c) c → HasRoom cost (amount_in c.books Study Money)
   cost_room room =
       let all : HasRoom (sum_over (λ (x : Unit). x.holding.money) c.units) (amount_in c.books Study Money) = room Study Money in
       record { above = omega (arith, ints, all.above, less); below = omega (arith, ints, all.below, less) }
 
   -- the booking of the fee moves no amount further than the remaining bound of STUDY falls (`UsesBound`)
-  uses_bound : (e : BooksEntry) (t : Thing) → UsesBound (study_reserve c e t) (study_reserve behind e t) (amount_in c.books e t) (amount_in behind.books e t)
+  uses_bound : (e : BooksEntry) (t : Thing) → UsesBound (study_remaining c e t) (study_remaining after e t) (amount_in c.books e t) (amount_in after.books e t)
   uses_bound e t =
-      bound_used_near (moves_only cost Study Money e t) (study_reserve c e t) (study_reserve behind e t) (amount_in c.books e t) (amount_in behind.books e t)
+      bound_used_near (moves_only cost Study Money e t) (study_remaining c e t) (study_remaining after e t) (amount_in c.books e t) (amount_in after.books e t)
       (let fallen = less in grind arith)
       (booked-near c.books Study Money (neg_ℤ (pos cost)) cost (within-neg cost cost (omega arith)) e t)
 
   -- A unit that pays and reaches at most 450 days for each man keeps a steady campaign steady and balanced books
   -- balanced (`StepsWell`). The month, the reports and the set of factions stay.
-  studied_well : s < length w.skills → days ≤ most_days * u.holding.men → StepsWell IsSteady study_reserve w c behind
+  studied_well : s < length w.skills → days ≤ most_days * u.holding.men → StepsWell IsSteady study_remaining w c after
   studied_well known most = record {
-    holds_still = steady_behind known most;
+    holds_still = steady_after known most;
     same_month = same_month_by refl;
     balances = balanced;
     uses_bound = uses_bound;
@@ -145,7 +145,8 @@ payable_fee h cost e =
     let two = none_fits (nat_lt h.money cost) NoFee [] one.1 in
     not_less h.money cost two.0
 
--- P holds of the campaign after an order of STUDY, if it holds without a change and after the unit studied
+-- A condition P holds of the campaign after an order of STUDY, if it holds of the campaign before, and of the one in
+-- which the unit studied
 pub study_cases : (P : CampaignValue → Type 0) (w : WorldValue) (taught : ℕ) (c : CampaignValue) (n s : ℕ) (u : Unit) → P c
     → ((days : ℕ) → fee_of w s * u.holding.men ≤ u.holding.money → days ≤ most_days * u.holding.men → P (after_study c n u s (fee_of w s * u.holding.men) days))
     → P (study w taught n s c u).0
@@ -163,9 +164,9 @@ study_cases P w taught c n s u same learned =
 
 -- An order of STUDY of a skill of the world keeps a steady campaign steady, with the same month, reports and set of
 -- factions, and with balanced books still balanced (`StepsWell`).
-study_well : (w : WorldValue) (taught : ℕ) (c : CampaignValue) (n s : ℕ) (u : Unit) → get c.units n ≡ Some u → IsSteady w c → s < length w.skills → StepsWell IsSteady study_reserve w c (study w taught n s c u).0
+study_well : (w : WorldValue) (taught : ℕ) (c : CampaignValue) (n s : ℕ) (u : Unit) → get c.units n ≡ Some u → IsSteady w c → s < length w.skills → StepsWell IsSteady study_remaining w c (study w taught n s c u).0
 study_well w taught c n s u is steady known =
-    study_cases (λ d. StepsWell IsSteady study_reserve w c d) w taught c n s u (well_same w c steady)
+    study_cases (λ d. StepsWell IsSteady study_remaining w c d) w taught c n s u (well_same w c steady)
     (λ days payable most. studied_well w c n u s (fee_of w s * u.holding.men) days is steady payable known most)
 
 -- an order of STUDY leaves every other unit as it was
@@ -174,30 +175,31 @@ study_stays w taught c n s u k apart =
     study_cases (λ d. get d.units k ≡ get c.units k) w taught c n s u refl
     (λ days payable most. get-insert_other c.units n k (record u { holding = with_study u.holding s (fee_of w s * u.holding.men) days }) apart)
 
--- P holds of the effect of an order of STUDY with any operands, if it holds for each skill that they may name
+-- A condition P holds of the effect of an order of STUDY with any operands, if it holds for each skill that they may
+-- name
 pub of_each_skill : (P : OrderEffect → Type 0) (w : WorldValue) (taught : TaughtMen) (n : ℕ) (o : OperandsValue) → ((s : ℕ) → o ≡ operands.Skill s → P (study w (taught n) n s)) → IfSome (study_effect w taught n o) P
 of_each_skill P w taught n (operands.Skill s) each = each s refl
 of_each_skill P w taught n other each = tt
 
 -- ---- the phase
 
--- to be unchanged (`IsUnchanged`) is reflexive and transitive, and keeps the faction
-unchanged : IsUnaffectedRelation IsUnchanged
-unchanged = record { same = λ u. refl; transitive = λ u v x one two. two ∙ one; faction = λ u v same. ap (λ (x : Unit). x.faction) same }
+-- the relation `IsUnchanged`, that a unit is unchanged, is reflexive and transitive, and keeps the faction
+unchanged_is_unaffected_relation : IsUnaffectedRelation IsUnchanged
+unchanged_is_unaffected_relation = record { same = λ u. refl; transitive = λ u v x one two. two ∙ one; faction = λ u v same. ap (λ (x : Unit). x.faction) same }
 
--- in a steady campaign all money of the units (`study_reserve`) is within the bound of the phase (`study_moves`)
-money_most : (w : WorldValue) (c : CampaignValue) → IsSteady w c → (e : BooksEntry) (t : Thing) → study_reserve c e t ≤ study_moves e t
+-- in a steady campaign all money of the units (`study_remaining`) is within the bound of the phase (`study_moves`)
+money_most : (w : WorldValue) (c : CampaignValue) → IsSteady w c → (e : BooksEntry) (t : Thing) → study_remaining c e t ≤ study_moves e t
 money_most w c steady e t = let most = all_held_within w c steady Money in grind arith
 
 -- STUDY keeps a steady campaign steady and books the fee, and a unit without an own STUDY is unchanged (`IsOrderly`)
-pub study_orderly : (taught : TaughtMen) → IsOrderly (study_step taught) IsSteady study_reserve study_moves IsOwnOrder IsUnchanged
+pub study_orderly : (taught : TaughtMen) → IsOrderly (study_step taught) IsSteady study_remaining study_moves IsOwnOrder IsUnchanged
 study_orderly taught = record {
   well = λ w a c t x steady fit own.
-      of_each_skill (λ deed. StepsWell IsSteady study_reserve w c (deed c x).0) w taught t.unit t.order_value.operands
+      of_each_skill (λ effect. StepsWell IsSteady study_remaining w c (effect c x).0) w taught t.unit t.order_value.operands
       (λ s is. study_well w (taught t.unit) c t.unit s x own.there steady (subst (AreOperandsOf w) is fit));
-  spares_is_relation = unchanged;
-  spared = λ w a c t x steady own k v there apart.
-      of_each_skill (λ deed. IsUnaffected IsUnchanged (deed c x).0 k v) w taught t.unit t.order_value.operands
-      (λ s is. record { unit = v; there = study_stays w (taught t.unit) c t.unit s x k (other_unit c t x k v own there apart) ∙ there; spared = refl });
+  unaffected_is_relation = unchanged_is_unaffected_relation;
+  is_unaffected = λ w a c t x steady own k v there apart.
+      of_each_skill (λ effect. IsUnaffected IsUnchanged (effect c x).0 k v) w taught t.unit t.order_value.operands
+      (λ s is. record { unit = v; there = study_stays w (taught t.unit) c t.unit s x k (other_unit c t x k v own there apart) ∙ there; is_unaffected = refl });
   bounded = money_most;
 }

@@ -6,7 +6,7 @@ use Rattle.std.proofs.lemmas.Bool.{cases_eq, cond_both, not-true}
 use Rattle.std.proofs.lemmas.List.Elements.{All-filter, All-from_recursion, All-take, filter_passes, recursion_from_All}
 use Rattle.std.proofs.lemmas.List.Folds.{list_any_none}
 use Rattle.std.proofs.lemmas.List.Sums.{sum_by-cons}
-use Rattle.atl_world.proofs.GeneralLaws.{equal_itself, equal_turned, is_unequal}
+use Rattle.atl_world.proofs.GeneralLaws.{equal_itself, equality_is_symmetric, is_unequal}
 use Rattle.atl_records.proofs.EveryLaws.{other_number}
 use Rattle.atl_campaign.specs.Campaign.{CampaignValue}
 use Rattle.atl_action.specs.Teach.{TaughtMen, first_mentions, taught_in_lesson, untaught_men}
@@ -21,7 +21,7 @@ IsOther n y = nat_eq n y ≡ false
 abbrev pub AreOthers : ℕ → List ℕ → Type 0
 AreOthers n = AllByRecursion (IsOther n)
 
--- those numbers of a list that pass a test are without repetitions, if the list is
+-- the numbers of a list that pass a test are without repetitions, if the list is
 filtered_distinct : (p : ℕ → Bool) (ns : List ℕ) → IsDistinct nat_eq ns → IsDistinct nat_eq (filter p ns)
 unfolding IsDistinct
 filtered_distinct p [] all = tt
@@ -30,18 +30,18 @@ filtered_distinct p (k ∷ ns) all =
     let others = recursion_from_All (IsOther k) (filter p ns) (All-filter p (IsOther k) ns (All-from_recursion (IsOther k) ns all.0)) in
     cond_both (p k) (k ∷ filter p ns) (filter p ns) (IsDistinct nat_eq) (λ _. (others, rest)) (λ _. rest)
 
--- no number is n in a list from which n was filtered out
-without : (n : ℕ) (ns : List ℕ) → AreOthers n (filter (λ k. not (k == n)) ns)
-without n ns = recursion_from_All (IsOther n) (filter (λ k. not (k == n)) ns) (λ k d l. equal_turned n _ ∙ not-true _ (filter_passes (λ k. not (k == n)) ns k d l))
+-- a list from which n was filtered out has no number that is n
+filtered_out_is_not_listed : (n : ℕ) (ns : List ℕ) → AreOthers n (filter (λ k. not (k == n)) ns)
+filtered_out_is_not_listed n ns = recursion_from_All (IsOther n) (filter (λ k. not (k == n)) ns) (λ k d l. equality_is_symmetric n _ ∙ not-true _ (filter_passes (λ k. not (k == n)) ns k d l))
 
 -- `first_mentions` has no repetitions
 pub mentions_distinct : (ns : List ℕ) → IsDistinct nat_eq (first_mentions ns)
 unfolding IsDistinct
 mentions_distinct [] = tt
-mentions_distinct (n ∷ ns) = (without n (first_mentions ns), filtered_distinct (λ k. not (k == n)) (first_mentions ns) (mentions_distinct ns))
+mentions_distinct (n ∷ ns) = (filtered_out_is_not_listed n (first_mentions ns), filtered_distinct (λ k. not (k == n)) (first_mentions ns) (mentions_distinct ns))
 
--- What stands ahead of the first number that passes a test, in a list that begins with n, is nothing if n passes.
--- Otherwise it is n, and then what stands ahead of the first such number in the rest.
+-- In a list that begins with n, no numbers are ahead of the first one that passes a test, if n passes. Otherwise n is,
+-- and then those ahead of the first such number in the list after n.
 before_cons : (p : ℕ → Bool) (n : ℕ) (ns : List ℕ) → before_first p (n ∷ ns) ≡ if p n then [] else n ∷ before_first p ns
 before_cons p n ns = grind rules
 
@@ -80,8 +80,8 @@ module _ (c : CampaignValue) (taught after : TaughtMen) (n given : ℕ) (here : 
       | inr apart ↦ at_other k apart
     ]
 
--- With `left` places left, the men taught so far and those whom these places allow to be taught make `total`. The sum
--- is the same after the first unit, which has `want` untaught men, got `given` of the places.
+-- The men taught so far and those that the places left allow make the same `total` before and after the first unit's
+-- turn. It has `want` untaught men, and gets `given` of the `left` places.
 pub men_so_far : (places left given want rest total : ℕ) → left ≤ places → given ≡ min left want → (places - left) + min (want + rest) left ≡ total
     → (places - (left - given)) + min rest (left - given) ≡ total
 men_so_far places left given want rest total few is all = grind (arith, few, is, all)

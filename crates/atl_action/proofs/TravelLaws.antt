@@ -13,10 +13,10 @@ use Rattle.atl_records.specs.declared.records.Unit.{Unit}
 use Rattle.atl_records.specs.Every.{Every, HasValue}
 use Rattle.atl_campaign.specs.Good.{AreAfloat, AreInRange, AreKnown, AreNumbered, AreOfOneFaction, IsAboard, IsBuilt, IsOwned, IsPlaced, IsSteady, guards, is_ship}
 use Rattle.atl_records.specs.Holdings.{IsHolding}
-use Rattle.atl_campaign.specs.Campaign.{CampaignValue, numbers_of}
-use Rattle.atl_phase.proofs.RefitLaws.{in_range_replaced, named_replaced, numbered_replaced, under}
+use Rattle.atl_campaign.specs.Campaign.{CampaignValue, numbers_of_faction}
+use Rattle.atl_phase.proofs.RefitLaws.{in_range_replaced, named_replaced, numbered_replaced, mapped_from}
 
--- Unit `after` is unit `before`, but for its region, structure and guard flag.
+-- Unit `after` is the same as unit `before`, but for its region, structure and guard flag.
 pub record IsSameUnit (before after : Unit) : Type 0 where
   -- the unit keeps its faction
   pub faction : after.faction ≡ before.faction
@@ -31,7 +31,7 @@ pub record IsSameUnit (before after : Unit) : Type 0 where
   -- the unit keeps its days of each skill
   pub days : after.holding.days ≡ before.holding.days
 
--- Structure `after` is structure `before`, but for its region and its owner.
+-- Structure `after` is the same as structure `before`, but for its region and its owner.
 pub record IsSameStructure (before after : Structure) : Type 0 where
   -- the structure keeps its kind
   pub kind : after.kind ≡ before.kind
@@ -65,7 +65,7 @@ module _ (w : WorldValue) (c : CampaignValue) (units : FinMap nat_cmp Unit) (str
     -- `structures` are as many as the structures of campaign c
     pub structure_count : len structures ≡ len c.structures
     -- each faction has in `units` the unit numbers that it has in campaign c
-    pub of_factions : (m : ℕ) → numbers_of m units ≡ numbers_of m c.units
+    pub of_factions : (m : ℕ) → numbers_of_faction m units ≡ numbers_of_faction m c.units
     -- of each unit of campaign c, `f` changes only region, structure and guard flag (`IsSameUnit`)
     pub same_units : Every (λ k u. IsSameUnit u (f k u)) c.units
     -- of each structure of campaign c, `g` changes only region and owner (`IsSameStructure`)
@@ -87,13 +87,13 @@ module _ (w : WorldValue) (c : CampaignValue) (units : FinMap nat_cmp Unit) (str
     -- P holds of each unit of the travelled campaign, if it holds of what `f` makes of each unit of c
     every_unit : (P : ℕ → Unit → Type 0) → Every (λ k u. P k (f k u)) c.units → Every P units
     every_unit P h k x there =
-        let (u, was, same) = under (f k) (get c.units k) x (sym (are.units_at k) ∙ there) in
+        let (u, was, same) = mapped_from (f k) (get c.units k) x (sym (are.units_at k) ∙ there) in
         subst (P k) same (h k u was)
 
     -- P holds of each structure of the travelled campaign, if it holds of what `g` makes of each structure of c
     every_structure : (P : ℕ → Structure → Type 0) → Every (λ k y. P k (g k y)) c.structures → Every P structures
     every_structure P h k x there =
-        let (y, was, same) = under (g k) (get c.structures k) x (sym (are.structures_at k) ∙ there) in
+        let (y, was, same) = mapped_from (g k) (get c.structures k) x (sym (are.structures_at k) ∙ there) in
         subst (P k) same (h k y was)
 
     -- a number that has no unit in c has none in the travelled campaign

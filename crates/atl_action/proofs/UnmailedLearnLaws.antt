@@ -13,7 +13,7 @@ use Rattle.atl_phase.specs.PhaseOrders.{Task, orders_of}
 use Rattle.atl_phase.specs.OrderEffects.{meaning_by_orders}
 use Rattle.atl_phase.specs.Unmailed.{IsLessBy, starved_in}
 use Rattle.atl_phase.specs.declared.phase_order.Arrangement.TheVariants.{ByUnit}
-use Rattle.atl_phase.proofs.UnmailedLaws.{HasItsItems, HaveTheirMen, LeavesUnmailed, OthersHaveMen, SparesMen, carried_leaves, men_put, men_unless, others_men, own_faction, order_event_starves_none, unmailed_spared}
+use Rattle.atl_phase.proofs.UnmailedLaws.{HasItsItems, HaveTheirMen, LeavesUnmailed, OthersHaveMen, LeavesOthersMen, carried_leaves, men_put, men_unless, others_men, own_faction, order_event_starves_none, unmailed_keep_items}
 use Rattle.atl_phase.specs.NoWorse.{IsUnchanged}
 use Rattle.atl_action.specs.Learners.{Learning, is_studying, learners}
 use Rattle.atl_action.specs.Study.{after_study, days_after, is_helpful, learn_keeps, learn_meaning, study, study_fault, study_step, with_study}
@@ -65,9 +65,9 @@ study_men w taught c n s u is =
     (men_put c (after_study c n u s cost days) n u (record u { holding = with_study u.holding s cost days }) is (record { faction = refl; men = refl }) refl)
 
 -- each step of STUDY leaves units of other factions than the order's their men
-study_spares : (taught : TaughtMen) → SparesMen (study_step taught)
-study_spares taught w a c t x own =
-    of_each_skill (λ deed. OthersHaveMen t.faction c (deed c x).0) w taught t.unit t.order_value.operands
+study_leaves_men : (taught : TaughtMen) → LeavesOthersMen (study_step taught)
+study_leaves_men taught w a c t x own =
+    of_each_skill (λ effect. OthersHaveMen t.faction c (effect c x).0) w taught t.unit t.order_value.operands
     (λ s is. others_men t.faction c (study w (taught t.unit) t.unit s c x).0 (study_men w (taught t.unit) c t.unit s x own.there))
 
 -- a unit that is unchanged has its name, and no less of any item (`HasItsItems`)
@@ -76,7 +76,7 @@ items_of_unchanged u v same = record { name = ap (λ (x : Unit). x.holding.name)
 
 -- the orders of STUDY together leave units of factions without a mailing their men and items (`LeavesUnmailed`)
 all_study : (taught : TaughtMen) → LeavesUnmailed (meaning_by_orders (study_step taught) is_studying) learn_keeps
-all_study taught = carried_leaves (study_step taught) is_studying (study_spares taught) (unmailed_spared is_studying own_faction items_of_unchanged)
+all_study taught = carried_leaves (study_step taught) is_studying (study_leaves_men taught) (unmailed_keep_items is_studying own_faction items_of_unchanged)
 
 -- ---- both
 
@@ -93,7 +93,7 @@ learn_leaves = record {
       let kept : learn_keeps w lessons.1 c (learn_meaning w c m).0 = alike w c (learn_meaning w c m).0 m lessons.1 same.readings same.aliases keeps in
       let unread : get lessons.1.readings u.faction ≡ None = ap (λ r. get r u.faction) same.readings ∙ none in
       let one = (all_study lessons.0).left w c lessons.1 kept n u there unread in
-      record { unit = one.unit; there = one.there; spared = subst (λ k. IsLessBy (starved_in (learn_meaning w c m).1.events n - k) u one.unit) (same.starved n) one.spared };
+      record { unit = one.unit; there = one.there; is_unaffected = subst (λ k. IsLessBy (starved_in (learn_meaning w c m).1.events n - k) u one.unit) (same.starved n) one.is_unaffected };
 }
   where
     -- what the phase keeps (`learn_keeps`) is the same for two months with the same readings and aliases

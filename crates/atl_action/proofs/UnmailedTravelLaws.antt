@@ -13,7 +13,7 @@ use Rattle.atl_action.specs.Sail.{IsAtMostMoved, after_sailing, is_sailing, sail
 use Rattle.atl_action.specs.Walk.{is_walking, walk, walk_fault, walk_spec, walk_step, with_unit_moved}
 use Rattle.atl_action.proofs.WalkLaws.{in_each_direction}
 use Rattle.atl_phase.proofs.PhaseSpecLaws.{PhaseLeavesUnmailed}
-use Rattle.atl_phase.proofs.UnmailedLaws.{HasItsItems, HaveTheirMen, OthersHaveMen, SparesMen, carried_leaves, guard_men, items_of_no_worse, men_in_turn, men_same, men_twice, men_unless, others_men, own_faction, place_men, unmailed_spared}
+use Rattle.atl_phase.proofs.UnmailedLaws.{HasItsItems, HaveTheirMen, OthersHaveMen, LeavesOthersMen, carried_leaves, guard_men, items_of_no_worse, men_in_turn, men_same, men_twice, men_unless, others_men, own_faction, place_men, unmailed_keep_items}
 
 -- all units keep their men when one of them goes elsewhere and its flag is cleared
 gone_men : (c : CampaignValue) (n r s : ℕ) → HaveTheirMen c (with_guard (with_place c n r s) n false)
@@ -29,13 +29,13 @@ walk_men w c n u direction =
     men_unless c (with_unit_moved 0 (unwrap_or to 0) c n) (Done 0) (walk_fault w u to) (gone_men c n (unwrap_or to 0) 0)
 
 -- each step of MOVE leaves units of other factions than the order's their men
-walk_spares : SparesMen walk_step
-walk_spares w a c t x own =
-    in_each_direction (λ deed. OthersHaveMen t.faction c (deed c x).0) (walk w t.unit) t.order_value.operands (λ direction. others_men t.faction c (walk w t.unit direction c x).0 (walk_men w c t.unit x direction))
+walk_leaves_men : LeavesOthersMen walk_step
+walk_leaves_men w a c t x own =
+    in_each_direction (λ effect. OthersHaveMen t.faction c (effect c x).0) (walk w t.unit) t.order_value.operands (λ direction. others_men t.faction c (walk w t.unit direction c x).0 (walk_men w c t.unit x direction))
 
 -- the phase of MOVE leaves units of factions without a mailing their men and items (`LeavesUnmailed`)
 pub walk_leaves : PhaseLeavesUnmailed walk_spec
-walk_leaves = carried_leaves walk_step is_walking walk_spares (unmailed_spared is_walking own_faction items_of_no_worse)
+walk_leaves = carried_leaves walk_step is_walking walk_leaves_men (unmailed_keep_items is_walking own_faction items_of_no_worse)
 
 -- ---- SAIL
 
@@ -55,9 +55,9 @@ sail_men w c n u direction =
     men_unless c (after_sailing c u.structure (unwrap_or to 0)) (Done 0) (sail_fault w c n u (get c.structures u.structure) to) (sailed_men c u.structure (unwrap_or to 0))
 
 -- each step of SAIL leaves units of other factions than the order's their men
-sail_spares : SparesMen sail_step
-sail_spares w a c t x own =
-    in_each_direction (λ deed. OthersHaveMen t.faction c (deed c x).0) (sail w t.unit) t.order_value.operands (λ direction. others_men t.faction c (sail w t.unit direction c x).0 (sail_men w c t.unit x direction))
+sail_leaves_men : LeavesOthersMen sail_step
+sail_leaves_men w a c t x own =
+    in_each_direction (λ effect. OthersHaveMen t.faction c (effect c x).0) (sail w t.unit) t.order_value.operands (λ direction. others_men t.faction c (sail w t.unit direction c x).0 (sail_men w c t.unit x direction))
 
 -- a unit that at most went along with its structure (`IsAtMostMoved`) has its name, and no less of any item
 items_of_carried : (u v : Unit) → IsAtMostMoved u v → HasItsItems u v
@@ -66,5 +66,5 @@ items_of_carried u v h = record { name = h.name; items = h.items }
 -- the phase of SAIL leaves units of factions without a mailing their men and items (`LeavesUnmailed`)
 pub sail_leaves : PhaseLeavesUnmailed sail_spec
 sail_leaves =
-    carried_leaves sail_step is_sailing sail_spares
-    (λ w c d m keeps n u there none. let one = keeps.0 n u there in record { unit = one.unit; there = one.there; spared = items_of_carried u one.unit one.spared })
+    carried_leaves sail_step is_sailing sail_leaves_men
+    (λ w c d m keeps n u there none. let one = keeps.0 n u there in record { unit = one.unit; there = one.there; is_unaffected = items_of_carried u one.unit one.is_unaffected })

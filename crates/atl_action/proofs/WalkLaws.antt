@@ -24,8 +24,8 @@ use Rattle.atl_records.specs.declared.records.Structure.{Structure}
 use Rattle.atl_records.specs.declared.records.Unit.{Unit}
 use Rattle.atl_records.specs.Every.{Every, HasValue}
 use Rattle.atl_campaign.specs.Good.{IsOwned, IsSteady, is_ship}
-use Rattle.atl_records.specs.Levels.{carried_by, goods_of}
-use Rattle.atl_campaign.specs.Owners.{after_handover, heir, placed, with_place, with_place_at}
+use Rattle.atl_records.specs.Levels.{carried_by, goods_weight}
+use Rattle.atl_campaign.specs.Owners.{after_handover, heir, with_position, with_place, with_place_at}
 use Rattle.atl_campaign.specs.Campaign.{CampaignValue, with_guard}
 use Rattle.atl_records.proofs.EveryLaws.{none_some, other_number}
 use Rattle.atl_campaign.proofs.LeavingLaws.{owned_by}
@@ -39,8 +39,8 @@ use Rattle.atl_phase.proofs.OutcomeLaws.{false_true, none_fits}
 use Rattle.atl_phase.proofs.OwnerLaws.{heir_owns, owner_stays}
 use Rattle.atl_phase.proofs.PlacingLaws.{mapped_twice, owns_no_other, place_stays}
 use Rattle.atl_phase.proofs.StructureLaws.{changed_else, equal_passes, get-after_handover, get-changed, handed_is, handed_on, len-after_handover}
-use Rattle.atl_phase.proofs.OrderEffectLaws.{no_worse_spares, well_same}
-use Rattle.atl_phase.proofs.UnbookedLaws.{stays_spared, stays_well}
+use Rattle.atl_phase.proofs.OrderEffectLaws.{no_worse_is_relation, well_same}
+use Rattle.atl_phase.proofs.UnbookedLaws.{unchanged_is_no_worse, stays_well}
 use Rattle.atl_action.specs.Walk.{by_direction, is_land_there, walk, walk_fault, walk_step, with_unit_moved}
 use Rattle.atl_action.proofs.PeopleLaws.{AreSamePeople, elsewhere, elsewhere_is, elsewhere_people, gone, gone_if, gone_same, guards_stay, total_people}
 use Rattle.atl_action.proofs.TravelLaws.{AreTravelled, IsPut, IsSameStructure, steady-travelled, travelled}
@@ -106,21 +106,21 @@ module _ (w : WorldValue) (c : CampaignValue) (n : ℕ) (u : Unit) (to : ℕ) (i
   module _ (structures : FinMap nat_cmp Structure) where
     -- the campaign with the given structures after the walk: unit n is in region `to`, inside no structure, with its
     -- guard flag cleared
-    abbrev behind : CampaignValue
-    behind = travelled w c units structures f (λ q y. y)
+    abbrev after : CampaignValue
+    after = travelled w c units structures f (λ q y. y)
 
     -- a structure that unit n doesn't own has its right owner (`IsOwned`) after the walk too
-    still_owned : (q : ℕ) (y : Structure) → get c.structures q ≡ Some y → y.owner ≢ n → IsOwned behind q y
-    still_owned q y there other = owner_stays c behind n away q y (steady.owners q y there) other (λ none v at inside. not_first q y there (sym inside ∙ outside v at))
+    still_owned : (q : ℕ) (y : Structure) → get c.structures q ≡ Some y → y.owner ≢ n → IsOwned after q y
+    still_owned q y there other = owner_stays c after n away q y (steady.owners q y there) other (λ none v at inside. not_first q y there (sym inside ∙ outside v at))
 
     -- The structure that unit n left, given to its next owner, has its right owner after the walk: the lowest of the
     -- other units inside, or none.
-    left_owned : old_place ≢ 0 → (y : Structure) → IsOwned behind old_place (owned_by next y)
-    left_owned some = heir_owns c behind n away old_place some low (λ v at inside. some (sym inside ∙ outside v at))
+    left_owned : old_place ≢ 0 → (y : Structure) → IsOwned after old_place (owned_by next y)
+    left_owned some = heir_owns c after n away old_place some low (λ v at inside. some (sym inside ∙ outside v at))
 
     -- g gives the structures, which stay in their regions
     module _ (g : ℕ → Structure → Structure) (at : (k : ℕ) → get structures k ≡ option_map (g k) (get c.structures k)) (count : len structures ≡ len c.structures)
-        (same : Every (λ k y. IsSameStructure y (g k y) × ((g k y).region ≡ y.region)) c.structures) (owned : Every (λ k y. IsOwned behind k (g k y)) c.structures) where
+        (same : Every (λ k y. IsSameStructure y (g k y) × ((g k y).region ≡ y.region)) c.structures) (owned : Every (λ k y. IsOwned after k (g k y)) c.structures) where
       -- each structure of c is in the campaign after the walk, as what `g` makes of it
       forth : (k : ℕ) (y : Structure) → get c.structures k ≡ Some y → get structures k ≡ Some (g k y)
       forth k y there = at k ∙ ap (option_map (g k)) there
@@ -160,29 +160,29 @@ module _ (w : WorldValue) (c : CampaignValue) (n : ℕ) (u : Unit) (to : ℕ) (i
 
       -- A walk keeps a steady campaign steady and balanced books balanced (`StepsWell`), and the month, the reports and
       -- the set of factions stay. This supposes that each structure keeps all but its owner, and has its right owner.
-      behind_well : StepsWell IsSteady nothing_remaining w c behind
-      behind_well =
-          stays_well IsSteady w c behind (steady-travelled w c units structures f g walked_travelled steady)
-          (same_month_by refl) refl (total_people c behind same_people refl)
+      after_well : StepsWell IsSteady nothing_remaining w c after
+      after_well =
+          stays_well IsSteady w c after (steady-travelled w c units structures f g walked_travelled steady)
+          (same_month_by refl) refl (total_people c after same_people refl)
 
   -- ---- a unit that was inside no structure
 
   -- each structure has its right owner (`IsOwned`) after the walk, if the unit was inside none
-  unowned : old_place ≡ 0 → (q : ℕ) (y : Structure) → get c.structures q ≡ Some y → IsOwned (behind c.structures) q y
+  unowned : old_place ≡ 0 → (q : ℕ) (y : Structure) → get c.structures q ≡ Some y → IsOwned (after c.structures) q y
   unowned outside q y there = still_owned c.structures q y there (owns_no_other w c n u is steady q y there (λ same. not_first q y there (same ∙ outside)))
 
   -- If the unit was inside no structure, a walk keeps a steady campaign steady, with the same month, reports and set of
   -- factions, and with balanced books still balanced (`StepsWell`).
-  outside_well : old_place ≡ 0 → StepsWell IsSteady nothing_remaining w c (behind c.structures)
+  outside_well : old_place ≡ 0 → StepsWell IsSteady nothing_remaining w c (after c.structures)
   outside_well outside =
-      behind_well c.structures (λ q y. y) (λ k. sym (option_map_id (get c.structures k))) refl
+      after_well c.structures (λ q y. y) (λ k. sym (option_map_id (get c.structures k))) refl
       (λ q y there. (record { kind = refl; done = refl; name = refl }, refl)) (unowned outside)
 
   -- ---- a unit that leaves a structure
 
   -- the campaign with the unit in region `to`, before owners change
   abbrev begun : CampaignValue
-  begun = placed c n to 0
+  begun = with_position c n to 0
 
   -- the campaign after the structure that the unit left got its next owner
   abbrev gone_out : CampaignValue
@@ -204,8 +204,8 @@ module _ (w : WorldValue) (c : CampaignValue) (n : ℕ) (u : Unit) (to : ℕ) (i
   given_same false e b y high = rw high (record { kind = refl; done = refl; name = refl }, refl)
 
   -- each structure but 0 has its right owner (`IsOwned`) after both handovers, if the unit was inside a structure
-  given_owned : old_place ≢ 0 → (q : ℕ) (y : Structure) → get c.structures q ≡ Some y → (a e b : Bool) → (q == old_place) ≡ a → (y.owner == n) ≡ e → b ≡ false → IsOwned (behind gone_off.structures) q (with_both_handovers a e b y)
-  given_owned some q y there true true b p r high = rw high (subst (λ k. IsOwned (behind gone_off.structures) k (owned_by next y)) (sym (is_equal q old_place p)) (left_owned gone_off.structures some y))
+  given_owned : old_place ≢ 0 → (q : ℕ) (y : Structure) → get c.structures q ≡ Some y → (a e b : Bool) → (q == old_place) ≡ a → (y.owner == n) ≡ e → b ≡ false → IsOwned (after gone_off.structures) q (with_both_handovers a e b y)
+  given_owned some q y there true true b p r high = rw high (subst (λ k. IsOwned (after gone_off.structures) k (owned_by next y)) (sym (is_equal q old_place p)) (left_owned gone_off.structures some y))
   given_owned some q y there true false b p r high = rw high (still_owned gone_off.structures q y there (is_unequal y.owner n r))
   given_owned some q y there false e b p r high = rw high (still_owned gone_off.structures q y there (owns_no_other w c n u is steady q y there (is_unequal q old_place p)))
 
@@ -217,9 +217,9 @@ module _ (w : WorldValue) (c : CampaignValue) (n : ℕ) (u : Unit) (to : ℕ) (i
 
   -- If the unit was inside a structure, a walk keeps a steady campaign steady, with the same month, reports and set of
   -- factions, and with balanced books still balanced (`StepsWell`).
-  inside_well : old_place ≢ 0 → StepsWell IsSteady nothing_remaining w c (behind gone_off.structures)
+  inside_well : old_place ≢ 0 → StepsWell IsSteady nothing_remaining w c (after gone_off.structures)
   inside_well some =
-      behind_well gone_off.structures (λ q y. handed_on 0 0 n q (handed_on old_place n next q y)) given_at
+      after_well gone_off.structures (λ q y. handed_on 0 0 n q (handed_on old_place n next q y)) given_at
       (len-after_handover gone_out 0 0 n ∙ len-after_handover begun old_place n next)
       (λ q y there. given_same (q == old_place) (y.owner == n) (q == 0) y (other_number q 0 (not_first q y there)))
       (λ q y there. given_owned some q y there (q == old_place) (y.owner == n) (q == 0) refl refl (other_number q 0 (not_first q y there)))
@@ -246,22 +246,24 @@ module _ (w : WorldValue) (c : CampaignValue) (n : ℕ) (u : Unit) (to : ℕ) (i
 
 -- ---- an order
 
--- if `first_fault` finds no fault in a list of faults with their tests, the test of each fault in the list is false
+-- the test of each fault in a list is false, if `first_fault` finds no fault in the list of faults with their tests
 pub none_fit : (faults : List (Bool × EventFault)) → first_fault faults ≡ None → AllByRecursion (λ fault. fault.0 ≡ false) faults
 none_fit [] is = tt
 none_fit ((fits, fault) ∷ more) is = let (none, others) = none_fits fits fault more is in (none, none_fit more others)
 
--- P holds of the effect of an order with any operands (`by_direction`), if it holds of the effect in each direction
+-- A condition P holds of the effect of an order with any operands (`by_direction`), if it holds of the effect in each
+-- direction
 pub in_each_direction : (P : OrderEffect → Type 0) (effect : Direction → OrderEffect) (o : OperandsValue) → ((direction : Direction) → P (effect direction)) → IfSome (by_direction effect o) P
 in_each_direction P effect (operands.Direction direction) each = each direction
 in_each_direction P effect other each = tt
 
--- if the test for a neighbour with land (`is_land_there`) holds, the region that the unit walks to has land
+-- the region that the unit walks to has land, if the test for a neighbour with land (`is_land_there`) holds
 land_to : (w : WorldValue) (to : Option ℕ) → not (is_land_there w to) ≡ false → is_land_at w (unwrap_or to 0) ≡ true
 land_to w None dry = false_true (sym dry)
 land_to w (Some r) dry = not-false (is_land_at w r) dry
 
--- P holds of the campaign after an order of MOVE, if it holds without a change and after the unit walked
+-- A condition P holds of the campaign after an order of MOVE, if it holds of the campaign before, and of the one in
+-- which the unit walked
 walk_cases : (P : CampaignValue → Type 0) (w : WorldValue) (c : CampaignValue) (n : ℕ) (u : Unit) (direction : Direction) → P c → ((to : ℕ) → is_land_at w to ≡ true → P (with_unit_moved 0 to c n)) → P (walk w n direction c u).0
 unfolding walk
 walk_cases P w c n u direction same gone = by_fault (neighbour w u.region direction) (walk_fault w u (neighbour w u.region direction)) refl
@@ -270,7 +272,7 @@ walk_cases P w c n u direction same gone = by_fault (neighbour w u.region direct
     by_fault : (to : Option ℕ) (o : Option EventFault) → walk_fault w u to ≡ o → P (unless c o (with_unit_moved 0 (unwrap_or to 0) c n, Done 0)).0
     by_fault to (Some fault) e = same
     by_fault to None e =
-        let no_way = (not (is_land_there w to), NoWay) ∷ (nat_lt (carried_by w u.holding) (goods_of w u.holding), TooHeavy) ∷ [] in
+        let no_way = (not (is_land_there w to), NoWay) ∷ (nat_lt (carried_by w u.holding) (goods_weight w u.holding), TooHeavy) ∷ [] in
         let fine = none_fit ((u.holding.men == 0, NoMen) ∷ (not (is_land_at w u.region), AtSea) ∷ no_way) e in
         gone (unwrap_or to 0) (land_to w to fine.1.1.0)
 
@@ -290,10 +292,10 @@ walk_stays w c n u direction k apart =
 -- MOVE keeps a steady campaign steady and books nothing, and a unit without an own MOVE is no worse off (`IsOrderly`)
 pub walk_orderly : IsOrderly walk_step IsSteady nothing_remaining moves_nothing IsOwnOrder IsNoWorse
 walk_orderly = record {
-  well = λ w a c t x steady fit own. in_each_direction (λ deed. StepsWell IsSteady nothing_remaining w c (deed c x).0) (walk w t.unit) t.order_value.operands (λ direction. walk_well w c t.unit x own.there direction steady);
-  spares_is_relation = no_worse_spares;
-  spared = λ w a c t x steady own k v there apart.
-      stays_spared (walk_step w a t) c t x own k v there apart
-      (λ j other. in_each_direction (λ deed. get (deed c x).0.units j ≡ get c.units j) (walk w t.unit) t.order_value.operands (λ direction. walk_stays w c t.unit x direction j other));
+  well = λ w a c t x steady fit own. in_each_direction (λ effect. StepsWell IsSteady nothing_remaining w c (effect c x).0) (walk w t.unit) t.order_value.operands (λ direction. walk_well w c t.unit x own.there direction steady);
+  unaffected_is_relation = no_worse_is_relation;
+  is_unaffected = λ w a c t x steady own k v there apart.
+      unchanged_is_no_worse (walk_step w a t) c t x own k v there apart
+      (λ j other. in_each_direction (λ effect. get (effect c x).0.units j ≡ get c.units j) (walk w t.unit) t.order_value.operands (λ direction. walk_stays w c t.unit x direction j other));
   bounded = λ w c steady e t. omega arith;
 }

@@ -6,5 +6,5 @@ use Rattle.atl_phase.specs.Bounds.{RemainingBound}
 use Rattle.atl_phase.specs.Meaning.{moves_only}
 
 -- the remaining bound of STUDY: the money of all units under the entry study, and 0 for every other amount
-abbrev pub study_reserve : RemainingBound
-study_reserve c = moves_only (sum_over (λ u. u.holding.money) c.units) Study Money
+abbrev pub study_remaining : RemainingBound
+study_remaining c = moves_only (sum_over (λ u. u.holding.money) c.units) Study Money

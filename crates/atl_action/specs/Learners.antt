@@ -42,7 +42,9 @@ Learning = FinMap nat_cmp ℕ
 -- the map with the unit of an order of STUDY and the skill that it names, if the unit learns by it; else as it was
 abbrev pub with_learner : WorldValue → CampaignValue → Learning → Task → Learning
 with_learner w c learning t =
-    option_map_or (λ s. if learns w s t.faction (get c.units t.unit) then insert learning t.unit s else learning) (skill_of t.order_value.operands) learning
+    option_map_or
+    (λ s. if learns w s t.faction (get c.units t.unit) then insert learning t.unit s else learning)
+    (skill_of t.order_value.operands) learning
 
 -- the orders of STUDY of a month that count, sorted by unit, line and faction
 abbrev pub study_tasks : MonthValue → List Task
@@ -61,7 +63,7 @@ pub record IsLearning (w : WorldValue) (c : CampaignValue) (m : MonthValue) (n s
   -- the order of STUDY by which the unit learns
   pub order : Task
   -- the order is one of those of the month that count
-  pub stands : Contains (study_tasks m) order
+  pub counts : Contains (study_tasks m) order
   -- the order is for unit n
   pub for_unit : order.unit ≡ n
   -- the order names the skill
@@ -69,8 +71,8 @@ pub record IsLearning (w : WorldValue) (c : CampaignValue) (m : MonthValue) (n s
   -- the unit is of the faction that gives the order, and has men and the fee for all of them
   pub can : learns w skill order.faction (get c.units n) ≡ true
 
--- each unit in `learners` learns its skill by an order of STUDY (`IsLearning`),
--- and each unit that learns so is in `learners`
+-- The units in `learners` are exactly those that learn by an order of STUDY (`IsLearning`), each with the skill that it
+-- learns.
 pub record LearnByOrders (w : WorldValue) (c : CampaignValue) (m : MonthValue) : Type 0 where
   -- a unit that is in `learners` with a skill learns this skill by an order
   pub only : (n skill : ℕ) → get (learners w c m) n ≡ Some skill → IsLearning w c m n skill

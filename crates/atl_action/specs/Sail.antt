@@ -20,11 +20,11 @@ use Rattle.atl_records.specs.Holdings.{HoldingValue, amount_of}
 use Rattle.atl_records.specs.Levels.{level_in_any, load_of}
 use Rattle.atl_campaign.specs.Owners.{is_owned_by}
 use Rattle.atl_campaign.specs.Campaign.{CampaignValue, numbers_inside, with_structure_region}
-use Rattle.atl_phase.specs.Inside.{inside}
+use Rattle.atl_phase.specs.Inside.{structure_of_unit}
 use Rattle.atl_phase.specs.Meaning.{Frame}
 use Rattle.atl_phase.specs.Outcomes.{first_fault, unless}
 use Rattle.atl_phase.specs.PhaseOrders.{Task}
-use Rattle.atl_phase.specs.OrderEffects.{Affects, IsUnaffected, OrderEffect, OrderMeaning, meaning_by_orders, order_result, spares_others}
+use Rattle.atl_phase.specs.OrderEffects.{Affects, IsUnaffected, OrderEffect, OrderMeaning, meaning_by_orders, order_result, others_unaffected}
 use Rattle.atl_phase.specs.NoWorse.{IsUnchanged}
 use Rattle.atl_action.specs.Walk.{by_direction, with_unit_moved}
 use Rattle.atl_phase.specs.PhaseSpecs.{PhaseSpec, spec_without_books}
@@ -42,17 +42,18 @@ is_sailing verb = false
 abbrev pub is_complete_ship : WorldValue → Option Structure → Bool
 is_complete_ship w structure = option_map_or (λ s. is_ship w s && s.done == size_of w s.kind) structure false
 
--- what `number` gives of the kind of a structure, such as its crew; 0 where the structure or its kind isn't there
-abbrev pub of_kind : (Kind → ℕ) → WorldValue → Option Structure → ℕ
-of_kind number w structure = option_map_or (λ s. option_map_or number (slice_get w.kinds s.kind) 0) structure 0
+-- a number of a structure's kind, such as its crew, which the function `number` picks; 0 where the structure or its
+-- kind isn't there
+abbrev pub number_of_kind : (Kind → ℕ) → WorldValue → Option Structure → ℕ
+number_of_kind number w structure = option_map_or (λ s. option_map_or number (slice_get w.kinds s.kind) 0) structure 0
 
 -- the crew that a ship's kind needs; 0 where the structure or its kind isn't there
 abbrev pub crew_needed : WorldValue → Option Structure → ℕ
-crew_needed = of_kind (λ k. k.crew)
+crew_needed = number_of_kind (λ k. k.crew)
 
 -- the load that a ship's kind can take; 0 where the structure or its kind isn't there
 abbrev pub capacity : WorldValue → Option Structure → ℕ
-capacity = of_kind (λ k. k.capacity)
+capacity = number_of_kind (λ k. k.capacity)
 
 -- what the men of a unit are worth as a crew: their number times the unit's level in the world's skill of sailing; 0
 -- where the world names no such skill
@@ -67,7 +68,8 @@ sum_inside f c s = sum_by (λ n. option_map_or (λ u. f u.holding) (get c.units 
 
 -- whether a ship can sail from a region to its neighbour: the world has that neighbour, and the two aren't both land
 abbrev pub is_way : WorldValue → (from : ℕ) → (neighbour : Option ℕ) → Bool
-is_way w from neighbour = option_map_or (λ to. is_some (get w.regions to) && not (is_land_at w from && is_land_at w to)) neighbour false
+is_way w from neighbour =
+    option_map_or (λ to. is_some (get w.regions to) && not (is_land_at w from && is_land_at w to)) neighbour false
 
 -- Why unit n can't sail the ship that it is inside to region `to`; None where it can. The fault is the first that fits
 -- of NoMen, NotInside, NotOwner, NotComplete, NoWay, NoCrew and TooHeavy.
@@ -126,21 +128,23 @@ pub record IsAtMostMoved (before after : Unit) : Type 0 where
 abbrev pub AreAtMostMoved : CampaignValue → CampaignValue → Type 0
 AreAtMostMoved before after = Every (λ n u. IsUnaffected IsAtMostMoved after n u) before.units
 
--- an order of SAIL concerns no unit, so that what SAIL keeps of units (`IsAtMostMoved`) is kept of every unit
-abbrev pub concerns_nobody : Affects
-concerns_nobody t n f = ⊥
+-- an order of SAIL affects no unit, so that what SAIL keeps of units (`IsAtMostMoved`) is kept of every unit
+abbrev pub affects_nobody : Affects
+affects_nobody t n f = ⊥
 
--- By order t the ship that unit n, of faction f, is inside sails, as things are when the phase begins.
--- The order is for a unit inside the same ship, of the faction that wrote it, and has no fault.
+-- Order t makes the ship sail that unit n, of faction f, is inside, as things are when the phase begins. The order is
+-- for a unit inside the same ship, of the faction that wrote it, and has no fault.
 pub record SailsWith (w : WorldValue) (begun : CampaignValue) (t : Task) (n f : ℕ) : Type 0 where
   -- the order is for a unit inside the same structure as unit n
-  pub together : inside begun t.unit ≡ inside begun n
+  pub together : structure_of_unit begun t.unit ≡ structure_of_unit begun n
   -- the order has no fault as the phase begins
   pub done : (order_result (by_direction (sail w t.unit) t.order_value.operands) begun t.faction t.unit).1 ≡ Some (Done 0)
 
 -- what SAIL keeps: each unit at most goes with its structure, and one whose structure doesn't sail is unchanged
 abbrev pub sail_keeps : Frame
-sail_keeps w m before after = AreAtMostMoved before after × spares_others (SailsWith w before) IsUnchanged is_sailing w m before after
+sail_keeps w m before after =
+    AreAtMostMoved before after
+    × others_unaffected (SailsWith w before) IsUnchanged is_sailing w m before after
 
 -- the specification of the phase of SAIL, which moves no amount of the books
 abbrev pub sail_spec : PhaseSpec

@@ -21,7 +21,7 @@ use Rattle.atl_records.specs.Limits.{most_days}
 use Rattle.atl_campaign.specs.Campaign.{CampaignValue, with_booking}
 use Rattle.atl_phase.specs.Meaning.{BookBound, Frame, Meaning, most_moved, moves_only}
 use Rattle.atl_phase.specs.Outcomes.{first_fault, unless}
-use Rattle.atl_phase.specs.OrderEffects.{IsOwnOrder, OrderEffect, OrderMeaning, meaning_by_orders, spares_others}
+use Rattle.atl_phase.specs.OrderEffects.{IsOwnOrder, OrderEffect, OrderMeaning, meaning_by_orders, others_unaffected}
 use Rattle.atl_phase.specs.NoWorse.{IsUnchanged}
 use Rattle.atl_action.specs.Learners.{is_studying, learners}
 use Rattle.atl_action.specs.Limits.{helped_days, month_days, taught_days}
@@ -41,7 +41,8 @@ is_helpful w s structure =
 
 -- the days of a skill that a unit has after a month of study: `old` and those gained, at most 450 for each man
 abbrev pub days_after : (men old taught : ℕ) → (helped : Bool) → ℕ
-days_after men old taught helped = min (old + month_days * men + taught_days * taught + (if helped then helped_days * men else 0)) (most_days * men)
+days_after men old taught helped =
+    min (old + month_days * men + taught_days * taught + (if helped then helped_days * men else 0)) (most_days * men)
 
 -- ---- STUDY, for a unit of which some men were taught
 
@@ -55,7 +56,8 @@ with_study h s cost days = record h { money = h.money - cost; days = with_amount
 
 -- the campaign after unit n paid `cost`, which is booked as study, and has `days` of the skill
 abbrev pub after_study : CampaignValue → (n : ℕ) → Unit → (skill cost days : ℕ) → CampaignValue
-after_study c n u s cost days = with_booking (with_holding_at c n (with_study u.holding s cost days) (Some u)) Study Money (neg_ℤ (pos cost))
+after_study c n u s cost days =
+    with_booking (with_holding_at c n (with_study u.holding s cost days) (Some u)) Study Money (neg_ℤ (pos cost))
 
 -- the effect of STUDY: a unit with `taught` men taught pays the fee and gains days; with a fault nothing changes
 unfoldable pub study : WorldValue → (taught n skill : ℕ) → OrderEffect
@@ -84,7 +86,7 @@ learn_meaning w c m =
 
 -- what TEACH and STUDY keep: a unit for which no order of STUDY of its own faction counts is unchanged
 abbrev pub learn_keeps : Frame
-learn_keeps = spares_others IsOwnOrder IsUnchanged is_studying
+learn_keeps = others_unaffected IsOwnOrder IsUnchanged is_studying
 
 -- ---- by how much the phase moves the books
 

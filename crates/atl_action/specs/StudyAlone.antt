@@ -22,7 +22,7 @@ pub record IsOwnStudy (m : MonthValue) (n faction skill : ℕ) : Type 0 where
   -- the order of STUDY
   pub order : Task
   -- the order is one of those of the month that count
-  pub stands : Contains (study_tasks m) order
+  pub counts : Contains (study_tasks m) order
   -- the order is for unit n
   pub for_unit : order.unit ≡ n
   -- the faction wrote the order
@@ -34,13 +34,14 @@ pub record IsOwnStudy (m : MonthValue) (n faction skill : ℕ) : Type 0 where
 abbrev pub taught_men : WorldValue → CampaignValue → MonthValue → (n : ℕ) → ℕ
 taught_men w c m n = (after_lessons c (learners w c m) m).0 n
 
--- What STUDY of this skill makes of unit n, whose value is given, in the campaign as the phase began; None where the
--- unit isn't there. As many of its men are taught as all lessons of the phase teach.
+-- Unit n after STUDY of this skill in the campaign as the phase began, by its value there; None where it isn't there.
+-- As many of its men are taught as all lessons of the phase teach.
 abbrev pub unit_after_own_study : WorldValue → CampaignValue → MonthValue → (n skill : ℕ) → Unit → Option Unit
 unit_after_own_study w c m n skill u = get (study w (taught_men w c m n) n skill c u).0.units n
 
--- A law: after the phase a unit with an order of STUDY of its own faction that counts is what this order alone makes of
--- it in the campaign as the phase began. This supposes that the mailings can be read with the world.
+-- A law: after the phase a unit is what its own order of STUDY alone makes of it in the campaign as the phase began.
+-- Its own order is one of its faction that counts (`IsOwnStudy`). This supposes that the mailings can be read with the
+-- world.
 abbrev pub UnitsStudyAsBegun : Type 0
 UnitsStudyAsBegun =
     (w : WorldValue) (c : CampaignValue) (m : MonthValue) → AreFit w m.readings →

@@ -50,7 +50,9 @@ is_pupil c learning region n = is_some (get learning n) && region_of c n == regi
 
 -- the units that an order of TEACH lists and that are learning in the teacher's region, in the order of the list
 abbrev pub pupils_of : CampaignValue → Aliases → Learning → Task → List ℕ
-pupils_of c aliases learning t = filter (is_pupil c learning (region_of c t.unit)) (map (unit_of aliases t.faction) (listed_units t.order_value.operands))
+pupils_of c aliases learning t =
+    filter (is_pupil c learning (region_of c t.unit))
+    (map (unit_of aliases t.faction) (listed_units t.order_value.operands))
 
 -- whether unit n's level in the skill that it learns is lower than the teacher's
 abbrev pub is_below : CampaignValue → Learning → (teacher n : ℕ) → Bool
@@ -75,17 +77,20 @@ untaught_men c taught n = men_at c n - taught n
 -- The listed units take turns: each gets what the units before it leave, up to its men who weren't taught yet.
 abbrev pub taught_in_lesson : CampaignValue → TaughtMen → (places : ℕ) → List ℕ → (n : ℕ) → ℕ
 taught_in_lesson c taught places ns n =
-    if list_any (λ k. n == k) ns then amount_in_turn places (sum_by (untaught_men c taught) (before_first (λ k. n == k) ns)) (untaught_men c taught n) else 0
+    if list_any (λ k. n == k) ns
+    then amount_in_turn places (sum_by (untaught_men c taught) (before_first (λ k. n == k) ns)) (untaught_men c taught n)
+    else 0
 
 -- How many men of each unit were taught so far once a lesson for `places` men is over; and the lesson's outcome, Done
 -- with how many men it taught.
 abbrev pub lesson : CampaignValue → TaughtMen → (places : ℕ) → List ℕ → TaughtMen × Outcome
-lesson c taught places ns = ((λ n. taught n + taught_in_lesson c taught places ns n), Done (min (sum_by (untaught_men c taught) ns) places))
+lesson c taught places ns =
+    ((λ n. taught n + taught_in_lesson c taught places ns n), Done (min (sum_by (untaught_men c taught) ns) places))
 
 -- ---- TEACH
 
--- why the unit of an order can't teach its pupils, of which those in `below` have a lower level: NotYours, NoMen,
--- NotLearning or CannotTeach; None where it can
+-- Why the unit of an order can't teach: NotYours, NoMen, NotLearning or CannotTeach; None where it can. Of its `pupils`
+-- those in `below` have a lower level than the unit.
 abbrev pub teach_fault : CampaignValue → Task → (pupils below : List ℕ) → Option EventFault
 teach_fault c t pupils below = first_fault (
     (not (is_own c t), NotYours)
@@ -107,7 +112,8 @@ teach c aliases learning taught t =
 
 -- how many men of each unit were taught so far after an order of TEACH, and the month with its event
 abbrev pub teach_order : CampaignValue → Learning → TaughtMen × MonthValue → Task → TaughtMen × MonthValue
-teach_order c learning (taught, m) t = let after = teach c m.aliases learning taught t in (after.0, with_event_of m t (Some after.1))
+teach_order c learning (taught, m) t =
+    let after = teach c m.aliases learning taught t in (after.0, with_event_of m t (Some after.1))
 
 -- how many men of each unit were taught by all orders of TEACH together, and the month with their events
 unfoldable pub after_lessons : CampaignValue → Learning → MonthValue → TaughtMen × MonthValue
@@ -115,7 +121,7 @@ after_lessons c learning m = fold (teach_order c learning) ((λ n. 0), m) (order
 
 -- ---- a law: of no unit more men are taught in a month than it has
 
--- of no unit more men were taught than it has
+-- the condition that no man was taught twice: of no unit more men were taught than it has
 abbrev pub AreTaughtOnce : CampaignValue → TaughtMen → Type 0
 AreTaughtOnce c taught = (n : ℕ) → taught n ≤ men_at c n
 

@@ -12,7 +12,7 @@ use Rattle.atl_records.specs.declared.event.EventFault.{EventFault}
 use Rattle.atl_records.specs.declared.event.EventFault.TheVariants.{AtSea, NoMen, NoWay, TooHeavy}
 use Rattle.atl_records.specs.declared.event.Outcome.TheVariants.{Done}
 use Rattle.atl_records.specs.declared.records.Unit.{Unit}
-use Rattle.atl_records.specs.Levels.{carried_by, goods_of}
+use Rattle.atl_records.specs.Levels.{carried_by, goods_weight}
 use Rattle.atl_campaign.specs.Owners.{with_place}
 use Rattle.atl_campaign.specs.Campaign.{CampaignValue, with_guard}
 use Rattle.atl_phase.specs.Outcomes.{first_fault, unless}
@@ -39,7 +39,7 @@ walk_fault w u to = first_fault (
     (u.holding.men == 0, NoMen)
     ∷ (not (is_land_at w u.region), AtSea)
     ∷ (not (is_land_there w to), NoWay)
-    ∷ (nat_lt (carried_by w u.holding) (goods_of w u.holding), TooHeavy)
+    ∷ (nat_lt (carried_by w u.holding) (goods_weight w u.holding), TooHeavy)
     ∷ [])
 
 -- the campaign with unit n in region `to` and inside this structure there, or none for 0, and its guard flag cleared

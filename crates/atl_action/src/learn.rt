@@ -21,7 +21,7 @@ pub struct LearnPhase;
 impl Phase for LearnPhase {
     ghost meaning = { learn_meaning };
 
-    ghost moving = { study_moves };
+    ghost book_bound = { study_moves };
 
     ghost keeps = { learn_keeps };
 

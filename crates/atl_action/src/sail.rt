@@ -6,7 +6,7 @@ ghost use Rattle.atl_campaign.specs.Good.{IsSteady};
 ghost use Rattle.atl_records.specs.Levels.{load_of};
 ghost use Rattle.atl_campaign.specs.Owners.{is_owned_by};
 ghost use Rattle.atl_phase.specs.OrderEffects.{faction_effect};
-ghost use Rattle.atl_action.specs.Sail.{IsAtMostMoved, after_sailing, capacity, concerns_nobody, crew_needed, crew_of, is_complete_ship, is_sailing, is_way, sail, sail_fault, sail_keeps, sail_spec, sail_step, sum_inside};
+ghost use Rattle.atl_action.specs.Sail.{IsAtMostMoved, after_sailing, capacity, affects_nobody, crew_needed, crew_of, is_complete_ship, is_sailing, is_way, sail, sail_fault, sail_keeps, sail_spec, sail_step, sum_inside};
 
 use crate::walk::put_unit;
 use atl_campaign::{Campaign, EventFault, Holding, Outcome, Structure, Unit, level_in_any, load};
@@ -123,7 +123,7 @@ fn sail_fault(
 }
 
 /// Puts a ship, and all units inside it, into another region; clears the units' guard flags.
-fn put_there(alloc: Global, campaign: &mut Campaign, ship: u32, to: u32) -> Result<(), AllocError>
+fn move_ship(alloc: Global, campaign: &mut Campaign, ship: u32, to: u32) -> Result<(), AllocError>
     ensures what { OnOk result (campaign.new.value ≡ after_sailing campaign.old.value ship to) }
     ensures marks { OnOk result (MarksChanges campaign.old campaign.new) }
 {
@@ -159,7 +159,7 @@ fn sail(
         return Ok(fault_outcome(fault));
     }
     let ship = unit.structure;
-    put_there(alloc, campaign, ship, to.unwrap_or(0))?;
+    move_ship(alloc, campaign, ship, to.unwrap_or(0))?;
     Ok(Outcome::Done(0))
 }
 
@@ -180,9 +180,9 @@ impl OrderPhase for SailPhase {
 
     ghost holds = { IsSteady };
 
-    ghost concerns = { concerns_nobody };
+    ghost affects = { affects_nobody };
 
-    ghost spares = { IsAtMostMoved };
+    ghost unaffected = { IsAtMostMoved };
 
     /// Carries out SAIL in a direction; None for an order with other operands.
     fn carry_out(

@@ -15,7 +15,7 @@ ghost use Rattle.atl_phase.specs.OrderEffects.{faction_effect};
 ghost use Rattle.atl_phase.specs.NoWorse.{IsUnchanged};
 ghost use Rattle.atl_action.specs.Learners.{is_studying};
 ghost use Rattle.atl_action.specs.Study.{after_study, days_after, is_helpful, study, study_fault, study_moves, study_step, with_study};
-ghost use Rattle.atl_action.specs.Bounds.{study_reserve};
+ghost use Rattle.atl_action.specs.Bounds.{study_remaining};
 
 use crate::learners::cost_of;
 use crate::limits::{HELPED_DAYS, MONTH_DAYS, TAUGHT_DAYS};
@@ -105,7 +105,7 @@ fn put_study(
     days: u32,
 ) -> Result<(), AllocError>
     requires steady { IsSteady world.now campaign.old.value }
-    requires room { HaveRoom (study_reserve campaign.old.value) campaign.old.value }
+    requires room { HaveRoom (study_remaining campaign.old.value) campaign.old.value }
     requires payable { (u : Unit) × (map.get campaign.old.value.units unit ≡ Some u)
         × (cost ≤ u.holding.money) }
     ensures what { OnOk result
@@ -128,7 +128,7 @@ fn study(
     skill: u16,
 ) -> Result<Outcome, AllocError>
     requires steady { IsSteady world.now campaign.old.value }
-    requires room { HaveRoom (study_reserve campaign.old.value) campaign.old.value }
+    requires room { HaveRoom (study_remaining campaign.old.value) campaign.old.value }
     ensures what { IfOk result
         (λ outcome. (campaign.new.value, outcome)
         ≡ faction_effect (study world.now taught order.entry.unit skill) campaign.old.value
@@ -167,11 +167,11 @@ impl OrderPhase for StudyPhase {
 
     ghost holds = { IsSteady };
 
-    ghost reserve = { study_reserve };
+    ghost remaining = { study_remaining };
 
-    ghost moving = { study_moves };
+    ghost book_bound = { study_moves };
 
-    ghost spares = { IsUnchanged };
+    ghost unaffected = { IsUnchanged };
 
     /// Carries out STUDY of a skill; None for an order with other operands.
     fn carry_out(

@@ -90,7 +90,7 @@ fn pupils_of(
 }
 
 /// The pupils whose level in the skill that they learn is lower than the teacher's.
-fn below_of(
+fn pupils_below(
     alloc: Global,
     campaign: &Campaign,
     learning: &Numbered<u32>,
@@ -192,8 +192,8 @@ fn give_lesson(
     Ok(Outcome::Done(u64::from(men)))
 }
 
-/// Why the unit of an order can't teach its pupils, of which those in `below` have a lower level:
-/// NotYours, NoMen, NotLearning or CannotTeach; None where it can.
+/// Why the unit of an order can't teach: NotYours, NoMen, NotLearning or CannotTeach; None where it
+/// can. Of its `pupils` those in `below` have a lower level than the unit.
 fn teach_fault(
     campaign: &Campaign,
     order: PhaseOrder<'_>,
@@ -232,7 +232,7 @@ fn teach(
         (task_of order.entry)) }
 {
     let pupils = pupils_of(alloc, campaign, month, learning, order)?;
-    let below = below_of(alloc, campaign, learning, order.unit, &pupils)?;
+    let below = pupils_below(alloc, campaign, learning, order.unit, &pupils)?;
     if let Some(fault) = teach_fault(campaign, order, &pupils, &below) {
         return Ok(fault_outcome(fault));
     }

@@ -123,6 +123,7 @@ impl OrderPhase for MovePhase {
 impl PlainPhase for MovePhase {
     ghost makes = { walk_step };
 
-    /// The law that each order of the phase has the effect that `walk_step` says. Does nothing.
+    /// The law that the phase does nothing but carry out each order as `walk_step` says. Does
+    /// nothing itself.
     fn is_plain(&self) {}
 }

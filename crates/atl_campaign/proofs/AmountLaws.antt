@@ -12,7 +12,7 @@ use Rattle.atl_records.specs.declared.records.Region.{Region}
 use Rattle.atl_records.specs.declared.records.Unit.{Unit}
 use Rattle.atl_campaign.specs.Campaign.{CampaignValue}
 use Rattle.atl_records.specs.Holdings.{amount_of}
-use Rattle.atl_campaign.specs.Founding.{things_of}
+use Rattle.atl_campaign.specs.Founding.{thing_count}
 use Rattle.atl_records.specs.Amounts.{region_amount, unit_amount}
 use Rattle.atl_campaign.specs.Totals.{total, Balances}
 use Rattle.atl_records.specs.Books.{booked, AreBooks}
@@ -25,34 +25,35 @@ use Rattle.atl_campaign.proofs.MarketLaws.{market_known}
 
 -- ---- items that no world has
 
--- the sum of what f gives for the values of some entries is 0, if f gives 0 for each of them
-pub none_weighed : {V : Type 0} (f : V → ℕ) (es : List (ℕ × V)) → EachEntry (λ _ v. f v ≡ 0) es → sum_by (λ e. f e.1) es ≡ 0
-none_weighed f [] each = refl
-none_weighed {V} f (e ∷ es) each = let more = sum_by-cons (λ (e : ℕ × V). f e.1) e es in omega (arith, more, each.0, none_weighed f es each.1)
+-- the sum of a function over the values of some entries is 0, if the function gives 0 for each of them
+pub sum_of_zeros_is_zero : {V : Type 0} (f : V → ℕ) (es : List (ℕ × V)) → EachEntry (λ _ v. f v ≡ 0) es → sum_by (λ e. f e.1) es ≡ 0
+sum_of_zeros_is_zero f [] each = refl
+sum_of_zeros_is_zero {V} f (e ∷ es) each = let more = sum_by-cons (λ (e : ℕ × V). f e.1) e es in omega (arith, more, each.0, sum_of_zeros_is_zero f es each.1)
 
--- if all items of a map of amounts have numbers below `count`, an item i from `count` on has the amount 0 in it
-unheld : (items : FinMap nat_cmp ℕ) (count i : ℕ) → Every (λ k amount. k < count) items → count ≤ i → amount_of items i ≡ 0
-unheld items count i known l = ap (λ o. unwrap_or o 0) (free_from items i (λ there. let few = known i there.0 there.1 in omega (arith, few)))
+-- an item from number `count` on has the amount 0 in a map of amounts, if the map lists only items with numbers below
+-- `count`
+unlisted_amount_is_zero : (items : FinMap nat_cmp ℕ) (count i : ℕ) → Every (λ k amount. k < count) items → count ≤ i → amount_of items i ≡ 0
+unlisted_amount_is_zero items count i known l = ap (λ o. unwrap_or o 0) (free_from items i (λ there. let few = known i there.0 there.1 in omega (arith, few)))
 
-module _ (w : WorldValue) (c : CampaignValue) (world : IsWorld w) (are : AreBooks (things_of w) c.books) (known : Every (λ n u. Every (λ i amount. i < length w.items) u.holding.items) c.units)
+module _ (w : WorldValue) (c : CampaignValue) (world : IsWorld w) (are : AreBooks (thing_count w) c.books) (known : Every (λ n u. Every (λ i amount. i < length w.items) u.holding.items) c.units)
     (stocks : Every (λ n r. AreOfMarkets w n r.stocks) c.regions) where
   -- no region has an item in stock that is not in the world, if regions stock only items that have a market there
   none_kept : (i : ℕ) → length w.items ≤ i → EachEntry (λ _ r. region_amount (Item i) r ≡ 0) (entries c.regions)
-  none_kept i l = each-from_every (λ _ r. region_amount (Item i) r ≡ 0) c.regions (λ n r is. unheld r.stocks (length w.items) i (λ k amount at. market_known w world n k (stocks n r is k amount at)) l)
+  none_kept i l = each-from_every (λ _ r. region_amount (Item i) r ≡ 0) c.regions (λ n r is. unlisted_amount_is_zero r.stocks (length w.items) i (λ k amount at. market_known w world n k (stocks n r is k amount at)) l)
 
   -- the total of an item not in the world is 0, if units hold only items of the world, and regions stock only items
   -- that have a market there
   unknown_total : (i : ℕ) → length w.items ≤ i → total c (Item i) ≡ 0
   unfolding total
   unknown_total i l =
-      let units = none_weighed (λ (u : Unit). unit_amount (Item i) u.holding) (entries c.units) (each-from_every (λ _ u. unit_amount (Item i) u.holding ≡ 0) c.units (λ n u is. unheld u.holding.items (length w.items) i (known n u is) l)) in
-      let regions = none_weighed (λ (r : Region). region_amount (Item i) r) (entries c.regions) (none_kept i l) in
+      let units = sum_of_zeros_is_zero (λ (u : Unit). unit_amount (Item i) u.holding) (entries c.units) (each-from_every (λ _ u. unit_amount (Item i) u.holding ≡ 0) c.units (λ n u is. unlisted_amount_is_zero u.holding.items (length w.items) i (known n u is) l)) in
+      let regions = sum_of_zeros_is_zero (λ (r : Region). region_amount (Item i) r) (entries c.regions) (none_kept i l) in
       ap (λ n. n + sum_over (λ (r : Region). region_amount (Item i) r) c.regions) units ∙ ap (λ n. 0 + n) regions
 
   -- the sum booked of an item not in the world is 0, if the books have the world's things, and list only amounts of
   -- these, none of them 0 (AreBooks)
   unknown_booked : (i : ℕ) → length w.items ≤ i → booked c.books (Item i) ≡ pos 0
-  unknown_booked i l = booked_past (things_of w) c.books are (Item i) (omega arith)
+  unknown_booked i l = booked_past (thing_count w) c.books are (Item i) (omega arith)
 
   -- the books balance for all things if they do for money, for people, and for each item of the world, and if units,
   -- regions and books list no other items

@@ -21,8 +21,8 @@ pub get_same : {V : Type 0} (m : FinMap nat_cmp V) (k : ℕ) (v : V) → get (in
 get_same m k v = get-insert nat_cmp_total m k v k ∙ ap (λ b. cond b (Some v) (get m k)) ((eq_by_cmp_equiv nat_cmp_total).refl k)
 
 -- different numbers do not compare equal
-other_key : (n k : ℕ) → n ≢ k → eq_by_cmp nat_cmp n k ≡ false
-other_key n k h = elim (nat_cmp n k) as (λ r. nat_cmp n k ≡ r → is_eq r ≡ false) [
+distinct_compare_unequal : (n k : ℕ) → n ≢ k → eq_by_cmp nat_cmp n k ≡ false
+distinct_compare_unequal n k h = elim (nat_cmp n k) as (λ r. nat_cmp n k ≡ r → is_eq r ≡ false) [
   | Less ↦ λ _. refl
   | Equal ↦ λ e. absurd (h (nat_cmp-IsAntisymmetric n k e))
   | Greater ↦ λ _. refl
@@ -30,7 +30,7 @@ other_key n k h = elim (nat_cmp n k) as (λ r. nat_cmp n k ≡ r → is_eq r ≡
 
 -- putting a value in under k changes nothing under another number n
 pub get_other : {V : Type 0} (m : FinMap nat_cmp V) (k n : ℕ) (v : V) → n ≢ k → get (insert m k v) n ≡ get m n
-get_other m k n v h = get-insert nat_cmp_total m k v n ∙ ap (λ b. cond b (Some v) (get m n)) (other_key n k h)
+get_other m k n v h = get-insert nat_cmp_total m k v n ∙ ap (λ b. cond b (Some v) (get m n)) (distinct_compare_unequal n k h)
 
 -- ---- what units have, and regions in stock
 
@@ -47,7 +47,8 @@ module _ {R : Type 0} (thing amount : R → ℕ) (test : R → Bool) where
 pub min_small : (n most : ℕ) → n ≤ most → min n most ≡ n
 min_small n most h = grind arith
 
--- a row's number from low to high, where high is at most most_u32, is read as itself, and so from low to high
+-- a row's number from low to high, where high is at most most_u32, is read as itself, so what is read is from low to
+-- high too
 pub from_range : (low high : ℕ) (z : ℤ) → high ≤ most_u32 → is_from low high z ≡ true → (z ≡ pos (as_u32 z)) × (low ≤ as_u32 z) × (as_u32 z ≤ high)
 from_range low high (pos n) h e =
     let parts = and_parts (nat_le low n) (nat_le n high) e in
@@ -87,7 +88,7 @@ item_amount r h sort =
     let range = from_range 1 holding_limit r.amount (omega arith) (and_parts (is_from 0 0 r.sort) (is_from 1 holding_limit r.amount) item).1 in
     (range.1, range.2)
 
--- a row of `has` that is of unit n's items and in range has an amount from 1 to holding_limit
+-- a row of `has` that gives unit n an item, and is in range, has an amount from 1 to holding_limit
 amount_in_range : (n : ℕ) (r : StoredHas) → has_in_range r ≡ true → is_of_unit_and_sort n 0 r ≡ true → (1 ≤ amount_of r) × (amount_of r ≤ holding_limit)
 amount_in_range n r h of = item_amount r h (is_same (as_u32 r.sort) 0 (and_parts (as_u32 r.unit == n) (as_u32 r.sort == 0) of).1)
 
@@ -105,18 +106,19 @@ AreAmounts-insert m k v h old item amount e =
       | inr apart ↦ old item amount (sym (get_other m k item v apart) ∙ e)
     ]
 
--- a map's amounts still are from 1 to holding_limit (AreAmounts) once row r, which is in range, is put in if it is of
--- unit n's items (b)
-chosen : (n : ℕ) (r : StoredHas) (m : FinMap nat_cmp ℕ) (b : Bool) → is_of_unit_and_sort n 0 r ≡ b → has_in_range r ≡ true → AreAmounts m → AreAmounts (cond b (insert m (thing_of r) (amount_of r)) m)
-chosen n r m true of h old = AreAmounts-insert m (thing_of r) (amount_of r) (amount_in_range n r h of) old
-chosen n r m false of h old = old
+-- for put_in_range: a map's amounts stay from 1 to holding_limit (AreAmounts), whether row r is put in or not. Row r is
+-- in range, and is put in if it is of unit n's items (b).
+amounts_stay_in_range : (n : ℕ) (r : StoredHas) (m : FinMap nat_cmp ℕ) (b : Bool) → is_of_unit_and_sort n 0 r ≡ b → has_in_range r ≡ true → AreAmounts m → AreAmounts (cond b (insert m (thing_of r) (amount_of r)) m)
+amounts_stay_in_range n r m true of h old = AreAmounts-insert m (thing_of r) (amount_of r) (amount_in_range n r h of) old
+amounts_stay_in_range n r m false of h old = old
 
--- a map's amounts still are from 1 to holding_limit (AreAmounts) once unit n's rows of items, all in range, are put in
+-- a map's amounts stay from 1 to holding_limit (AreAmounts) once the rows of unit n's items are put in, if all rows are
+-- in range
 put_in_range : (n : ℕ) (rows : List StoredHas) (m : FinMap nat_cmp ℕ) → list_all has_in_range rows ≡ true → AreAmounts m → AreAmounts (put_rows thing_of amount_of (filter (is_of_unit_and_sort n 0) rows) m)
 put_in_range n [] m h old = old
 put_in_range n (r ∷ rows) m h old =
     let parts = and_parts (has_in_range r) (list_all has_in_range rows) h in
-    subst AreAmounts (sym (taken_or_not thing_of amount_of (is_of_unit_and_sort n 0) r rows (is_of_unit_and_sort n 0 r) m refl)) (put_in_range n rows (cond (is_of_unit_and_sort n 0 r) (insert m (thing_of r) (amount_of r)) m) parts.1 (chosen n r m (is_of_unit_and_sort n 0 r) refl parts.0 old))
+    subst AreAmounts (sym (taken_or_not thing_of amount_of (is_of_unit_and_sort n 0) r rows (is_of_unit_and_sort n 0 r) m refl)) (put_in_range n rows (cond (is_of_unit_and_sort n 0 r) (insert m (thing_of r) (amount_of r)) m) parts.1 (amounts_stay_in_range n r m (is_of_unit_and_sort n 0 r) refl parts.0 old))
 
 -- for none_held: None is not Some of a number
 no_some : (x : ℕ) → None ≡ Some x → ⊥
@@ -132,8 +134,7 @@ AreAmounts-had n rows h = put_in_range n rows empty h none_held
 
 -- ---- texts
 
--- if an Ok result holds `some` whenever `some` is UTF-8, and `some` equals `bytes`, which is UTF-8, the result holds
--- `bytes`
+-- an Ok result holds `bytes`, if it holds `some` whenever `some` is UTF-8, and `some` equals `bytes`, which is UTF-8
 pub IfOk-text : {E : Type 0} (r : Result (List ℕ) E) (some bytes : List ℕ) → some ≡ bytes → IsUtf8 bytes → IfOk r (λ made. IsUtf8 some → made ≡ some) → IfOk r (λ made. made ≡ bytes)
 IfOk-text (Ok made) some bytes e h f = f (subst IsUtf8 (sym e) h) ∙ e
 IfOk-text (Err x) some bytes e h f = tt
@@ -141,7 +142,7 @@ IfOk-text (Err x) some bytes e h f = tt
 -- ---- a test that all rows pass
 
 -- the row at index i passes a test, if all rows do
-pub at_row : {R : Type 0} (p : R → Bool) (rows : List R) (i : ℕ) (r : R) → i < length rows → r ≡ get_or rows i r → list_all p rows ≡ true → p r ≡ true
-at_row p [] i r h is all = absurd (omega arith)
-at_row p (x ∷ rows) zero r h is all = ap p is ∙ (and_parts (p x) (list_all p rows) all).0
-at_row p (x ∷ rows) (suc i) r h is all = at_row p rows i r (omega arith) is (and_parts (p x) (list_all p rows) all).1
+pub row_passes_test : {R : Type 0} (p : R → Bool) (rows : List R) (i : ℕ) (r : R) → i < length rows → r ≡ get_or rows i r → list_all p rows ≡ true → p r ≡ true
+row_passes_test p [] i r h is all = absurd (omega arith)
+row_passes_test p (x ∷ rows) zero r h is all = ap p is ∙ (and_parts (p x) (list_all p rows) all).0
+row_passes_test p (x ∷ rows) (suc i) r h is all = row_passes_test p rows i r (omega arith) is (and_parts (p x) (list_all p rows) all).1

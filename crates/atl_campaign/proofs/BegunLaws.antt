@@ -18,7 +18,7 @@ use Rattle.atl_records.specs.Limits.{most_structures}
 use Rattle.atl_campaign.specs.Marking.{mark_structure_begun}
 use Rattle.atl_campaign.specs.Campaign.{MarkedCampaign, CampaignValue, with_done, with_structure_begun}
 use Rattle.atl_campaign.specs.Totals.{total}
-use Rattle.atl_campaign.proofs.CoverLaws.{Row, Stays, Structures, KeepsUnmarked, apart_by, part_by_part, put_stays}
+use Rattle.atl_campaign.proofs.CoverLaws.{Row, PartStaysMarked, Structures, KeepsUnmarked, unmarked_differs_from_put, part_by_part, put_stays}
 use Rattle.atl_records.proofs.EveryLaws.{every-insert, get-insert_other, none_some}
 use Rattle.atl_campaign.proofs.RegionLaws.{changed-known, get-insert_same, same_len}
 
@@ -167,14 +167,14 @@ module _ (w : WorldValue) (c : CampaignValue) (s : Structure) (fresh : IsFresh w
   raised_there = get-insert_same c.structures next s
 
 -- beginning a structure, with it and the campaign row marked, marks all that changes (MarksChanges)
-pub marks-raised : (c : MarkedCampaign) (s : Structure) → MarksChanges c (record { value = with_structure_begun c.value s; marks = mark_structure_begun c })
-marks-raised c s =
+pub marks-structure_begun : (c : MarkedCampaign) (s : Structure) → MarksChanges c (record { value = with_structure_begun c.value s; marks = mark_structure_begun c })
+marks-structure_begun c s =
     let n = c.value.next_structure in
     let next : MarkedCampaign = record { value = with_structure_begun c.value s; marks = mark_structure_begun c } in
     part_by_part c next
-    (λ p. elim p as (Stays c.marks next.marks) [ Structures ↦ put_stays c.marks.structures n | Row ↦ λ k h. refl | _ ↦ λ k h. h ])
+    (λ p. elim p as (PartStaysMarked c.marks next.marks) [ Structures ↦ put_stays c.marks.structures n | Row ↦ λ k h. refl | _ ↦ λ k h. h ])
     (λ p. elim p as (KeepsUnmarked next.marks c.value next.value) [
-      | Structures ↦ λ k free. get-insert_other c.value.structures n k s (apart_by c.marks.structures n k free)
+      | Structures ↦ λ k free. get-insert_other c.value.structures n k s (unmarked_differs_from_put c.marks.structures n k free)
       | Row ↦ λ k free. absurd (true≢false free)
       | _ ↦ λ k free. refl
     ])

@@ -9,7 +9,7 @@ use Rattle.std.specs.FinMap as map
 use Rattle.std.specs.FinSet.{FinSet, contains, insert, contains-insert}
 use Rattle.std.specs.Option.{option_map_or}
 use Rattle.atl_world.specs.Groups.{group_of}
-use Rattle.atl_world.specs.Sums.{changed, changed_at}
+use Rattle.atl_world.specs.Sums.{with_changed_value, with_changed_option}
 use Rattle.atl_world.specs.Tracking.{marked_with}
 use Rattle.atl_world.proofs.GeneralLaws.{same_key}
 use Rattle.atl_records.specs.declared.books.BooksEntry.{BooksEntry}
@@ -20,23 +20,23 @@ use Rattle.atl_records.specs.declared.records.Structure.{Structure}
 use Rattle.atl_records.specs.declared.records.Unit.{Unit}
 use Rattle.atl_records.specs.Books.{amount_in, amount_number}
 use Rattle.atl_records.specs.Holdings.{amount_of, with_amount_of}
-use Rattle.atl_campaign.specs.Covers.{Covers, ThingsStayMarked, StaysMarked, StayMarked, MarksChanges, bare, days_under, items_under, said_by_campaign_row, unstocked}
+use Rattle.atl_campaign.specs.Covers.{Covers, ThingsStayMarked, StaysMarked, StayMarked, MarksChanges, without_goods, days_under, items_under, said_by_campaign_row, unstocked}
 use Rattle.atl_campaign.specs.Marking.{MarksStock, mark_amount, mark_faction, mark_region, mark_unit_added}
 use Rattle.atl_campaign.specs.Marks.{Marks, MarkedThings, is_thing_marked, thing_marked, with_thing}
 use Rattle.atl_campaign.specs.Stocks.{stock_of}
 use Rattle.atl_campaign.specs.Campaign.{CampaignValue, MarkedCampaign, faction_changed, region_changed, with_booking, with_stock}
 use Rattle.atl_records.proofs.EveryLaws.{get-insert_other}
-use Rattle.atl_records.proofs.HoldingLaws.{set_amount, set_other}
-use Rattle.atl_campaign.proofs.RegionLaws.{amount-other}
+use Rattle.atl_records.proofs.HoldingLaws.{amount_after_setting, set_other}
+use Rattle.atl_campaign.proofs.RegionLaws.{booking-other_amount}
 
--- if b is true whenever a is, and b is false, a is false
-false_before : (a b : Bool) → (a ≡ true → b ≡ true) → b ≡ false → a ≡ false
-false_before true b stays free = absurd (true≢false (sym (stays refl) ∙ free))
-false_before false b stays free = refl
+-- a is false, if b is false, and b is true whenever a is
+contrapositive : (a b : Bool) → (a ≡ true → b ≡ true) → b ≡ false → a ≡ false
+contrapositive true b stays free = absurd (true≢false (sym (stays refl) ∙ free))
+contrapositive false b stays free = refl
 
 -- if no mark is lost, a number that is not marked after a change was not marked before
 pub was_unmarked : (before after : FinSet nat_cmp) → StaysMarked before after → (n : ℕ) → contains after n ≡ false → contains before n ≡ false
-was_unmarked before after stays n free = false_before (contains before n) (contains after n) (stays n) free
+was_unmarked before after stays n free = contrapositive (contains before n) (contains after n) (stays n) free
 
 -- StayMarked is transitive: if two changes each lose no mark, both together lose none
 pub stay-trans : {a b c : Marks} → StayMarked a b → StayMarked b c → StayMarked a c
@@ -57,21 +57,21 @@ stay-trans one two = record {
   row = λ h. two.row (one.row h);
 }
 
--- if the marks m have all that changes from campaign a to b, and n, with m's marks too, all from b to c, n have all
--- from a to c (Covers)
+-- Covers is transitive: marks that cover a second change, and keep all marks that cover a first one, cover both changes
+-- together
 pub covers-trans : {m n : Marks} (a b c : CampaignValue) → StayMarked m n → Covers m a b → Covers n b c → Covers n a c
 covers-trans {m} {n} a b c stay one two = record {
   factions = λ k free. two.factions k free ∙ one.factions k (was_unmarked m.factions n.factions stay.factions k free);
   regions = λ k free. two.regions k free ∙ one.regions k (was_unmarked m.regions n.regions stay.regions k free);
-  stocks = λ k t free. two.stocks k t free ∙ one.stocks k t (false_before (is_thing_marked m.stocks m.stock_items k t) (is_thing_marked n.stocks n.stock_items k t) (stay.stocks k t) free);
+  stocks = λ k t free. two.stocks k t free ∙ one.stocks k t (contrapositive (is_thing_marked m.stocks m.stock_items k t) (is_thing_marked n.stocks n.stock_items k t) (stay.stocks k t) free);
   structures = λ k free. two.structures k free ∙ one.structures k (was_unmarked m.structures n.structures stay.structures k free);
   mail = λ k free. two.mail k free ∙ one.mail k (was_unmarked m.mail n.mail stay.mail k free);
   reports = λ k free. two.reports k free ∙ one.reports k (was_unmarked m.reports n.reports stay.reports k free);
   units = λ k free. two.units k free ∙ one.units k (was_unmarked m.rows n.rows stay.rows k free);
-  items = λ k t free. two.items k t free ∙ one.items k t (false_before (is_thing_marked m.goods m.items k t) (is_thing_marked n.goods n.items k t) (stay.items k t) free);
-  days = λ k t free. two.days k t free ∙ one.days k t (false_before (is_thing_marked m.goods m.skills k t) (is_thing_marked n.goods n.skills k t) (stay.skills k t) free);
+  items = λ k t free. two.items k t free ∙ one.items k t (contrapositive (is_thing_marked m.goods m.items k t) (is_thing_marked n.goods n.items k t) (stay.items k t) free);
+  days = λ k t free. two.days k t free ∙ one.days k t (contrapositive (is_thing_marked m.goods m.skills k t) (is_thing_marked n.goods n.skills k t) (stay.skills k t) free);
   books = λ e t free. two.books e t free ∙ one.books e t (was_unmarked m.books n.books stay.books (amount_number e t) free);
-  row = λ free. two.row free ∙ one.row (false_before m.row n.row stay.row free);
+  row = λ free. two.row free ∙ one.row (contrapositive m.row n.row stay.row free);
 }
 
 -- MarksChanges is transitive: if two changes each mark all that they change, both together do
@@ -90,16 +90,16 @@ pub put_stays : (marks : FinSet nat_cmp) (n : ℕ) → StaysMarked marks (insert
 put_stays marks n k h = contains-insert nat_cmp_total marks n k ∙ ap (λ b. eq_by_cmp nat_cmp k n || b) h ∙ or-true (eq_by_cmp nat_cmp k n)
 
 -- equal numbers compare equal by nat_cmp
-ties : (k n : ℕ) → k ≡ n → eq_by_cmp nat_cmp k n ≡ true
-ties k n e = sym (unsigned_ties k n) ∙ (let t : (k == n) ≡ true = grind (arith, nat_tests) in t)
+equal_numbers_compare_equal : (k n : ℕ) → k ≡ n → eq_by_cmp nat_cmp k n ≡ true
+equal_numbers_compare_equal k n e = sym (unsigned_ties k n) ∙ (let t : (k == n) ≡ true = grind (arith, nat_tests) in t)
 
 -- a number is marked once it was put into the dirty set
 put_there : (marks : FinSet nat_cmp) (n k : ℕ) → k ≡ n → contains (insert marks n) k ≡ true
-put_there marks n k e = contains-insert nat_cmp_total marks n k ∙ ap (λ b. b || contains marks k) (ties k n e)
+put_there marks n k e = contains-insert nat_cmp_total marks n k ∙ ap (λ b. b || contains marks k) (equal_numbers_compare_equal k n e)
 
 -- a number that is not marked once n is marked differs from n
-pub apart_by : (marks : FinSet nat_cmp) (n k : ℕ) → contains (insert marks n) k ≡ false → k ≢ n
-apart_by marks n k free same = absurd (true≢false (sym (put_there marks n k same) ∙ free))
+pub unmarked_differs_from_put : (marks : FinSet nat_cmp) (n k : ℕ) → contains (insert marks n) k ≡ false → k ≢ n
+unmarked_differs_from_put marks n k free same = absurd (true≢false (sym (put_there marks n k same) ∙ free))
 
 -- ---- things of units
 
@@ -117,9 +117,9 @@ neither false b h = (refl, h)
 pub whole_stays : (goods : FinSet nat_cmp) (things : MarkedThings) (n : ℕ) → ThingsStayMarked goods things (insert goods n) things
 whole_stays goods things n k t = both_stay (contains goods k) (contains (insert goods n) k) (is_some (get (group_of things k) t)) (is_some (get (group_of things k) t)) (put_stays goods n k) (λ h. h)
 
--- if thing t of unit or region k is not marked once all those of n are, k differs from n
+-- unit or region k differs from n, if thing t of k is not marked once all things of n are
 pub apart_by_whole : (goods : FinSet nat_cmp) (things : MarkedThings) (n k t : ℕ) → is_thing_marked (insert goods n) things k t ≡ false → k ≢ n
-apart_by_whole goods things n k t free = apart_by goods n k (neither (contains (insert goods n) k) (is_some (get (group_of things k) t)) free).0
+apart_by_whole goods things n k t free = unmarked_differs_from_put goods n k (neither (contains (insert goods n) k) (is_some (get (group_of things k) t)) free).0
 
 module _ (goods : FinSet nat_cmp) (things : MarkedThings) (n thing : ℕ) where
   -- once `thing` of unit or region n is marked, thing t of unit or region k has a mark of its own exactly if it is that
@@ -154,8 +154,8 @@ module _ (goods : FinSet nat_cmp) (things : MarkedThings) (n thing : ℕ) where
   -- if t of unit or region n is not marked once `thing` of n is, t is not `thing`
   pub apart_by_thing : (k t : ℕ) → is_thing_marked goods (with_thing things n thing) k t ≡ false → k ≡ n → t ≢ thing
   apart_by_thing k t free same_unit same =
-      let there = put_in k t ∙ ap (λ b. cond b (eq_by_cmp nat_cmp t thing || is_some (get (group_of things n) t)) (is_some (get (group_of things k) t))) (ties k n same_unit)
-      ∙ ap (λ b. b || is_some (get (group_of things n) t)) (ties t thing same) in
+      let there = put_in k t ∙ ap (λ b. cond b (eq_by_cmp nat_cmp t thing || is_some (get (group_of things n) t)) (is_some (get (group_of things k) t))) (equal_numbers_compare_equal k n same_unit)
+      ∙ ap (λ b. b || is_some (get (group_of things n) t)) (equal_numbers_compare_equal t thing same) in
       absurd (true≢false (sym there ∙ (neither (contains goods k) (is_some (get (group_of (with_thing things n thing) k) t)) free).1))
 
 -- ---- the parts of a campaign, which are marked each for itself
@@ -195,15 +195,15 @@ pub data MarkedPart : Type 0 where
 
 -- what names one mark of a part: region and item for Stocks, unit and thing for Items and Skills, nothing for Row,
 -- and one number for each other part
-abbrev pub Mark : MarkedPart → Type 0
-Mark Stocks = ℕ × ℕ
-Mark Items = ℕ × ℕ
-Mark Skills = ℕ × ℕ
-Mark Row = Prim.Unit {0}
-Mark _ = ℕ
+abbrev pub MarkKey : MarkedPart → Type 0
+MarkKey Stocks = ℕ × ℕ
+MarkKey Items = ℕ × ℕ
+MarkKey Skills = ℕ × ℕ
+MarkKey Row = Prim.Unit {0}
+MarkKey _ = ℕ
 
 -- whether the mark k of a part is set; a stock, an item or a skill is also marked with all of its region or unit
-abbrev pub is_marked : (p : MarkedPart) → Marks → Mark p → Bool
+abbrev pub is_marked : (p : MarkedPart) → Marks → MarkKey p → Bool
 is_marked Factions m k = contains m.factions k
 is_marked Regions m k = contains m.regions k
 is_marked Markets m k = contains m.markets k
@@ -219,8 +219,8 @@ is_marked Skills m k = is_thing_marked m.goods m.skills k.0 k.1
 is_marked Books m k = contains m.books k
 is_marked Row m k = m.row
 
--- what a value of a part is looked up by: region and item for Stocks, unit and thing for Items and Skills, entry and
--- thing for Books, nothing for Row, and one number for each other part
+-- what a value of a part is looked up by. It is region and item for Stocks, unit and thing for Items and Skills, entry
+-- and thing for Books, nothing for Row, and one number for each other part.
 abbrev pub LookupKey : MarkedPart → Type 0
 LookupKey Stocks = ℕ × ℕ
 LookupKey Items = ℕ × ℕ
@@ -230,55 +230,55 @@ LookupKey Row = Prim.Unit {0}
 LookupKey _ = ℕ
 
 -- the mark that covers the value of a part under a key: the key itself, but for Books the number of the amount
-abbrev pub mark_at : (p : MarkedPart) → LookupKey p → Mark p
+abbrev pub mark_at : (p : MarkedPart) → LookupKey p → MarkKey p
 mark_at Books k = amount_number k.0 k.1
 mark_at _ k = k
 
 -- the type of a part's values that its marks cover; nothing for Units, Goods and Markets, which other parts cover
-abbrev pub Shown : MarkedPart → Type 0
-Shown Factions = Option Faction
-Shown Regions = Option Region
-Shown Markets = Prim.Unit {0}
-Shown Stocks = ℕ
-Shown Structures = Option Structure
-Shown Mail = Option (List ℕ)
-Shown Reports = Option (List ℕ)
-Shown Units = Prim.Unit {0}
-Shown Rows = Option Unit
-Shown Goods = Prim.Unit {0}
-Shown Items = Option ℕ
-Shown Skills = Option ℕ
-Shown Books = ℤ
-Shown Row = ℕ × (List ℕ × (ℕ × (ℕ × ℕ)))
+abbrev pub CoveredValue : MarkedPart → Type 0
+CoveredValue Factions = Option Faction
+CoveredValue Regions = Option Region
+CoveredValue Markets = Prim.Unit {0}
+CoveredValue Stocks = ℕ
+CoveredValue Structures = Option Structure
+CoveredValue Mail = Option (List ℕ)
+CoveredValue Reports = Option (List ℕ)
+CoveredValue Units = Prim.Unit {0}
+CoveredValue Rows = Option Unit
+CoveredValue Goods = Prim.Unit {0}
+CoveredValue Items = Option ℕ
+CoveredValue Skills = Option ℕ
+CoveredValue Books = ℤ
+CoveredValue Row = ℕ × (List ℕ × (ℕ × (ℕ × ℕ)))
 
 -- what the marks of a part cover under a key; nothing for Units, Goods and Markets, which other parts cover
-abbrev pub shown : (p : MarkedPart) → CampaignValue → LookupKey p → Shown p
-shown Factions c k = get c.factions k
-shown Regions c k = option_map unstocked (get c.regions k)
-shown Markets c k = tt
-shown Stocks c k = stock_of c k.0 k.1
-shown Structures c k = get c.structures k
-shown Mail c k = get c.mail k
-shown Reports c k = get c.reports k
-shown Units c k = tt
-shown Rows c k = option_map bare (get c.units k)
-shown Goods c k = tt
-shown Items c k = get (items_under (get c.units k.0)) k.1
-shown Skills c k = get (days_under (get c.units k.0)) k.1
-shown Books c k = amount_in c.books k.0 k.1
-shown Row c k = said_by_campaign_row c
+abbrev pub covered_value : (p : MarkedPart) → CampaignValue → LookupKey p → CoveredValue p
+covered_value Factions c k = get c.factions k
+covered_value Regions c k = option_map unstocked (get c.regions k)
+covered_value Markets c k = tt
+covered_value Stocks c k = stock_of c k.0 k.1
+covered_value Structures c k = get c.structures k
+covered_value Mail c k = get c.mail k
+covered_value Reports c k = get c.reports k
+covered_value Units c k = tt
+covered_value Rows c k = option_map without_goods (get c.units k)
+covered_value Goods c k = tt
+covered_value Items c k = get (items_under (get c.units k.0)) k.1
+covered_value Skills c k = get (days_under (get c.units k.0)) k.1
+covered_value Books c k = amount_in c.books k.0 k.1
+covered_value Row c k = said_by_campaign_row c
 
 -- each mark of part p that is set in the marks m is set in the marks n too
-abbrev pub Stays : Marks → Marks → MarkedPart → Type 0
-Stays m n p = (k : Mark p) → is_marked p m k ≡ true → is_marked p n k ≡ true
+abbrev pub PartStaysMarked : Marks → Marks → MarkedPart → Type 0
+PartStaysMarked m n p = (k : MarkKey p) → is_marked p m k ≡ true → is_marked p n k ≡ true
 
 -- each value of part p that is not marked in the marks m is the same in the campaigns `before` and `after`
 abbrev pub KeepsUnmarked : Marks → CampaignValue → CampaignValue → MarkedPart → Type 0
-KeepsUnmarked m before after p = (k : LookupKey p) → is_marked p m (mark_at p k) ≡ false → shown p after k ≡ shown p before k
+KeepsUnmarked m before after p = (k : LookupKey p) → is_marked p m (mark_at p k) ≡ false → covered_value p after k ≡ covered_value p before k
 
 -- MarksChanges holds if for each part no mark is lost, and all values that are not marked are unchanged
-pub part_by_part : (a b : MarkedCampaign) → ((p : MarkedPart) → Stays a.marks b.marks p) → ((p : MarkedPart) → KeepsUnmarked b.marks a.value b.value p) → MarksChanges a b
-part_by_part a b stays tells = record {
+pub part_by_part : (a b : MarkedCampaign) → ((p : MarkedPart) → PartStaysMarked a.marks b.marks p) → ((p : MarkedPart) → KeepsUnmarked b.marks a.value b.value p) → MarksChanges a b
+part_by_part a b stays says = record {
   stay = record {
     factions = stays Factions;
     regions = stays Regions;
@@ -296,17 +296,17 @@ part_by_part a b stays tells = record {
     row = stays Row tt;
   };
   covers = record {
-    factions = tells Factions;
-    regions = tells Regions;
-    stocks = λ n item. tells Stocks (n, item);
-    structures = tells Structures;
-    mail = tells Mail;
-    reports = tells Reports;
-    units = tells Rows;
-    items = λ n t. tells Items (n, t);
-    days = λ n t. tells Skills (n, t);
-    books = λ e t. tells Books (e, t);
-    row = tells Row tt;
+    factions = says Factions;
+    regions = says Regions;
+    stocks = λ n item. says Stocks (n, item);
+    structures = says Structures;
+    mail = says Mail;
+    reports = says Reports;
+    units = says Rows;
+    items = λ n t. says Items (n, t);
+    days = λ n t. says Skills (n, t);
+    books = λ e t. says Books (e, t);
+    row = says Row tt;
   };
 }
 
@@ -314,30 +314,30 @@ part_by_part a b stays tells = record {
 pub marks-refl : (a : MarkedCampaign) → MarksChanges a a
 marks-refl a = part_by_part a a (λ p k h. h) (λ p k free. refl)
 
--- P holds of the map with f applied to n's value, and of the old value, if it does both where n has no value and where
--- n has one
-pub changed_there : {V : Type 0} (P : FinMap nat_cmp V → Option V → Type 0) (f : V → V) (values : FinMap nat_cmp V) (n : ℕ)
-    → P values None → ((v : V) → get values n ≡ Some v → P (map.insert values n (f v)) (Some v)) → P (changed f values n) (get values n)
-changed_there {V} P f values n none some = by_value (get values n) refl
+-- P holds of a map in which f changes the value of n, and of the old value, if it holds in both cases: n has no value,
+-- or n has one
+pub holds_of_changed : {V : Type 0} (P : FinMap nat_cmp V → Option V → Type 0) (f : V → V) (values : FinMap nat_cmp V) (n : ℕ)
+    → P values None → ((v : V) → get values n ≡ Some v → P (map.insert values n (f v)) (Some v)) → P (with_changed_value f values n) (get values n)
+holds_of_changed {V} P f values n none some = by_value (get values n) refl
   where
     -- for changed_there: P holds of the map with f applied to n's value, and of that value as it was, o, whether o is
     -- None or Some
-    by_value : (o : Option V) → get values n ≡ o → P (changed_at f values n o) o
+    by_value : (o : Option V) → get values n ≡ o → P (with_changed_option f values n o) o
     by_value None is = none
     by_value (Some v) is = some v is
 
--- applying f to faction n, with the faction marked, marks all that changes (MarksChanges)
+-- a change of faction n, with the faction marked, marks all that changes (MarksChanges)
 pub marks-faction : (f : Faction → Faction) (c : MarkedCampaign) (n : ℕ) → MarksChanges c (record { value = faction_changed f c.value n; marks = mark_faction c n })
 marks-faction f c n =
     let after : FinMap nat_cmp Faction → Option Faction → MarkedCampaign = λ m o. record { value = record c.value { factions = m }; marks = record c.marks { factions = marked_with c.marks.factions n o } } in
-    changed_there (λ m o. MarksChanges c (after m o)) f c.value.factions n (marks-refl c) (λ v is.
+    holds_of_changed (λ m o. MarksChanges c (after m o)) f c.value.factions n (marks-refl c) (λ v is.
     let next = after (map.insert c.value.factions n (f v)) (Some v) in
     part_by_part c next
-    (λ p. elim p as (Stays c.marks next.marks) [ Factions ↦ put_stays c.marks.factions n | _ ↦ λ k h. h ])
-    (λ p. elim p as (KeepsUnmarked next.marks c.value next.value) [ Factions ↦ λ k free. get-insert_other c.value.factions n k (f v) (apart_by c.marks.factions n k free) | _ ↦ λ k free. refl ]))
+    (λ p. elim p as (PartStaysMarked c.marks next.marks) [ Factions ↦ put_stays c.marks.factions n | _ ↦ λ k h. h ])
+    (λ p. elim p as (KeepsUnmarked next.marks c.value next.value) [ Factions ↦ λ k free. get-insert_other c.value.factions n k (f v) (unmarked_differs_from_put c.marks.factions n k free) | _ ↦ λ k free. refl ]))
 
--- `shows` gives the same of each number's value as before n's value v was replaced by w, if it gives the same of w as
--- of v
+-- what `shows` gives for each number's value stays the same when n's value v is replaced by w, if `shows` gives the
+-- same for w as for v
 pub shown_still : {V X : Type 0} (shows : Option V → X) (values : FinMap nat_cmp V) (n k : ℕ) (v w : V) → get values n ≡ Some v → (k ≡ n → shows (Some w) ≡ shows (Some v)) → shows (get (map.insert values n w) k) ≡ shows (get values k)
 shown_still shows values n k v w is same = ap shows (get-insert nat_cmp_total values n w k) ∙ by_number (eq_by_cmp nat_cmp k n) refl
   where
@@ -350,16 +350,16 @@ shown_still shows values n k v w is same = ap shows (get-insert nat_cmp_total va
 abbrev in_stock : ℕ → Option Region → ℕ
 in_stock item o = option_map_or (λ r. amount_of r.stocks item) o 0
 
--- applying f, which leaves stocks alone, to region n, with its row marked, marks all that changes (MarksChanges)
+-- a change of region n that leaves its stocks alone, with its row marked, marks all that changes (MarksChanges)
 pub marks-region : (f : Region → Region) → ((r : Region) → (f r).stocks ≡ r.stocks) → (c : MarkedCampaign) (n : ℕ) → MarksChanges c (record { value = region_changed f c.value n; marks = mark_region c n })
 marks-region f same c n =
     let after : FinMap nat_cmp Region → Option Region → MarkedCampaign = λ m o. record { value = record c.value { regions = m }; marks = record c.marks { regions = marked_with c.marks.regions n o } } in
-    changed_there (λ m o. MarksChanges c (after m o)) f c.value.regions n (marks-refl c) (λ v is.
+    holds_of_changed (λ m o. MarksChanges c (after m o)) f c.value.regions n (marks-refl c) (λ v is.
     let next = after (map.insert c.value.regions n (f v)) (Some v) in
     part_by_part c next
-    (λ p. elim p as (Stays c.marks next.marks) [ Regions ↦ put_stays c.marks.regions n | _ ↦ λ k h. h ])
+    (λ p. elim p as (PartStaysMarked c.marks next.marks) [ Regions ↦ put_stays c.marks.regions n | _ ↦ λ k h. h ])
     (λ p. elim p as (KeepsUnmarked next.marks c.value next.value) [
-      | Regions ↦ λ k free. ap (option_map unstocked) (get-insert_other c.value.regions n k (f v) (apart_by c.marks.regions n k free))
+      | Regions ↦ λ k free. ap (option_map unstocked) (get-insert_other c.value.regions n k (f v) (unmarked_differs_from_put c.marks.regions n k free))
       | Stocks ↦ λ k free. shown_still (in_stock k.1) c.value.regions n k.0 v (f v) is (λ _. ap (λ s. amount_of s k.1) (same v))
       | _ ↦ λ k free. refl
     ]))
@@ -388,7 +388,7 @@ module _ (c : MarkedCampaign) (n item amount : ℕ) where
 
   -- setting an item's amount in a map of stocks to what it is already changes the amount of no item
   set_again : (stocks : FinMap nat_cmp ℕ) (i : ℕ) → amount_of stocks item ≡ amount → amount_of (with_amount_of stocks item amount) i ≡ amount_of stocks i
-  set_again stocks i was = set_amount stocks item amount i ∙ by_item (eq_by_cmp nat_cmp i item) refl
+  set_again stocks i was = amount_after_setting stocks item amount i ∙ by_item (eq_by_cmp nat_cmp i item) refl
     where
       -- for set_again: if the stock of `item` is `amount` already, setting it to that changes the stock of no item i,
       -- whether i is `item` (b) or not
@@ -413,7 +413,7 @@ module _ (c : MarkedCampaign) (n item amount : ℕ) where
   item_changes v is =
       let next : MarkedCampaign = record { value = there_after v; marks = record c.marks { markets = insert c.marks.markets n; stock_items = with_thing c.marks.stock_items n item } } in
       part_by_part c next
-      (λ p. elim p as (Stays c.marks next.marks) [
+      (λ p. elim p as (PartStaysMarked c.marks next.marks) [
         | Markets ↦ put_stays c.marks.markets n
         | Stocks ↦ λ k h. thing_stays c.marks.stocks c.marks.stock_items n item k.0 k.1 h
         | _ ↦ λ k h. h
@@ -430,7 +430,7 @@ module _ (c : MarkedCampaign) (n item amount : ℕ) where
   stocks_change v is =
       let next : MarkedCampaign = record { value = there_after v; marks = record c.marks { markets = insert c.marks.markets n; stocks = insert c.marks.stocks n } } in
       part_by_part c next
-      (λ p. elim p as (Stays c.marks next.marks) [
+      (λ p. elim p as (PartStaysMarked c.marks next.marks) [
         | Markets ↦ put_stays c.marks.markets n
         | Stocks ↦ λ k h. whole_stays c.marks.stocks c.marks.stock_items n k.0 k.1 h
         | _ ↦ λ k h. h
@@ -473,21 +473,21 @@ module _ (c : MarkedCampaign) (n item amount : ℕ) where
 
       -- setting the stock marks all that changes, both with the marks of that stock alone and with those of all stocks
       -- of its region; where it has the new amount already (b), nothing changes, and nothing is marked
-      either : (b : Bool) → (stock_of c.value n item == amount) ≡ b → after_regions (changed stocked c.value.regions n) (item_alone (to_restock b)) × after_regions (changed stocked c.value.regions n) (all_of_region (to_restock b))
+      either : (b : Bool) → (stock_of c.value n item == amount) ≡ b → after_regions (with_changed_value stocked c.value.regions n) (item_alone (to_restock b)) × after_regions (with_changed_value stocked c.value.regions n) (all_of_region (to_restock b))
       either true same =
-          let still = changed_there (λ regions o. after_regions regions c.marks) stocked c.value.regions n (marks-refl c) (λ v is. stock_stays v is (was v is same)) in
+          let still = holds_of_changed (λ regions o. after_regions regions c.marks) stocked c.value.regions n (marks-refl c) (λ v is. stock_stays v is (was v is same)) in
           (still, still)
       either false other = (
-        changed_there (λ regions o. after_regions regions (item_alone o)) stocked c.value.regions n (marks-refl c) item_changes,
-        changed_there (λ regions o. after_regions regions (all_of_region o)) stocked c.value.regions n (marks-refl c) stocks_change,
+        holds_of_changed (λ regions o. after_regions regions (item_alone o)) stocked c.value.regions n (marks-refl c) item_changes,
+        holds_of_changed (λ regions o. after_regions regions (all_of_region o)) stocked c.value.regions n (marks-refl c) stocks_change,
       )
 
       -- the marks m, which are either those of that stock alone or those of all stocks of its region (MarksStock), mark
       -- all that changes, whether the stock had the new amount already (b) or not
-      by_amount : (b : Bool) → (stock_of c.value n item == amount) ≡ b → after_regions (changed stocked c.value.regions n) m
+      by_amount : (b : Bool) → (stock_of c.value n item == amount) ≡ b → after_regions (with_changed_value stocked c.value.regions n) m
       by_amount b is = elim how [
-        | inl e ↦ subst (after_regions (changed stocked c.value.regions n)) (sym (e ∙ ap (λ k. item_alone (to_restock k)) is)) (either b is).0
-        | inr e ↦ subst (after_regions (changed stocked c.value.regions n)) (sym (e ∙ ap (λ k. all_of_region (to_restock k)) is)) (either b is).1
+        | inl e ↦ subst (after_regions (with_changed_value stocked c.value.regions n)) (sym (e ∙ ap (λ k. item_alone (to_restock k)) is)) (either b is).0
+        | inr e ↦ subst (after_regions (with_changed_value stocked c.value.regions n)) (sym (e ∙ ap (λ k. all_of_region (to_restock k)) is)) (either b is).1
       ]
 
 -- a change of unit n alone, with the unit, its row and all its goods marked, marks all that changes (MarksChanges)
@@ -496,7 +496,7 @@ pub marks-unit : (c : MarkedCampaign) (units : FinMap nat_cmp Unit) (n : ℕ) �
 marks-unit c units n others =
     let next : MarkedCampaign = record { value = record c.value { units = units }; marks = mark_unit_added c n } in
     part_by_part c next
-    (λ p. elim p as (Stays c.marks next.marks) [
+    (λ p. elim p as (PartStaysMarked c.marks next.marks) [
       | Units ↦ put_stays c.marks.units n
       | Rows ↦ put_stays c.marks.rows n
       | Goods ↦ put_stays c.marks.goods n
@@ -505,7 +505,7 @@ marks-unit c units n others =
       | _ ↦ λ k h. h
     ])
     (λ p. elim p as (KeepsUnmarked next.marks c.value next.value) [
-      | Rows ↦ λ k free. ap (option_map bare) (others k (apart_by c.marks.rows n k free))
+      | Rows ↦ λ k free. ap (option_map without_goods) (others k (unmarked_differs_from_put c.marks.rows n k free))
       | Items ↦ λ k free. ap (λ o. get (items_under o) k.1) (others k.0 (apart_by_whole c.marks.goods c.marks.items n k.0 k.1 free))
       | Skills ↦ λ k free. ap (λ o. get (days_under o) k.1) (others k.0 (apart_by_whole c.marks.goods c.marks.skills n k.0 k.1 free))
       | _ ↦ λ k free. refl
@@ -516,5 +516,5 @@ pub marks-amount : (c : MarkedCampaign) (f : BooksEntry) (u : Thing) (z : ℤ) �
 marks-amount c f u z =
     let next : MarkedCampaign = record { value = with_booking c.value f u z; marks = mark_amount c f u } in
     part_by_part c next
-    (λ p. elim p as (Stays c.marks next.marks) [ Books ↦ put_stays c.marks.books (amount_number f u) | _ ↦ λ k h. h ])
-    (λ p. elim p as (KeepsUnmarked next.marks c.value next.value) [ Books ↦ λ k free. amount-other c.value.books k.0 f k.1 u z (apart_by c.marks.books (amount_number f u) (amount_number k.0 k.1) free) | _ ↦ λ k free. refl ])
+    (λ p. elim p as (PartStaysMarked c.marks next.marks) [ Books ↦ put_stays c.marks.books (amount_number f u) | _ ↦ λ k h. h ])
+    (λ p. elim p as (KeepsUnmarked next.marks c.value next.value) [ Books ↦ λ k free. booking-other_amount c.value.books k.0 f k.1 u z (unmarked_differs_from_put c.marks.books (amount_number f u) (amount_number k.0 k.1) free) | _ ↦ λ k free. refl ])

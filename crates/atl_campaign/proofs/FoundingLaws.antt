@@ -8,7 +8,7 @@ use Rattle.std.specs.Ordering.{nat_cmp}
 use Rattle.std.specs.FinMap.{FinMap, entries, empty, get-empty, len-empty, len-entries}
 use Rattle.std.specs.FinSet as set
 use Rattle.atl_world.specs.Worlds.{WorldValue, IsWorld, IsRegionPlan}
-use Rattle.atl_world.specs.Sums.{sum_over, mapped}
+use Rattle.atl_world.specs.Sums.{sum_over, map_values}
 use Rattle.atl_world.proofs.MappedLaws.{entries-mapped}
 use Rattle.atl_world.proofs.Maps.{entries-empty}
 use Rattle.atl_records.specs.declared.books.BooksEntry.{BooksEntry}
@@ -21,7 +21,7 @@ use Rattle.atl_records.specs.declared.records.Region.{Region}
 use Rattle.atl_records.specs.declared.records.Structure.{Structure}
 use Rattle.atl_records.specs.declared.records.Unit.{Unit}
 use Rattle.atl_records.specs.Books.{amount_in, booked, no_amounts, after_booking, AreBooks, IsWithin}
-use Rattle.atl_campaign.specs.KeptLists.{AreUnitLists, AreKept}
+use Rattle.atl_campaign.specs.KeptLists.{AreUnitLists, AreListsAndMarksKept}
 use Rattle.atl_world.specs.Names.{name_ok, pass_ok}
 use Rattle.atl_world.specs.declared.world.RegionPlan.{RegionPlan}
 use Rattle.atl_world.specs.ByNumber.{is_land_at, market_of, size_of}
@@ -30,21 +30,21 @@ use Rattle.atl_records.specs.Limits.{entry_count, most_days}
 use Rattle.atl_records.specs.Amounts.{region_amount, unit_amount}
 use Rattle.atl_campaign.specs.Totals.{total, Balances}
 use Rattle.atl_campaign.specs.Stocks.{stock_limit}
-use Rattle.atl_campaign.specs.Founding.{founded_of, founded_region, things_of}
+use Rattle.atl_campaign.specs.Founding.{founded_of, founded_region, thing_count}
 use Rattle.atl_records.specs.Holdings.{IsHolding}
-use Rattle.atl_campaign.specs.Campaign.{numbers_of}
+use Rattle.atl_campaign.specs.Campaign.{numbers_of_faction}
 use Rattle.atl_records.specs.Every.{Every, HasValue}
-use Rattle.atl_campaign.proofs.GoodLaws.{posted-nobody}
+use Rattle.atl_campaign.proofs.GoodLaws.{AreOfFactions-empty}
 use Rattle.atl_campaign.specs.Good.{IsActive, IsRegion, AreInRange, AreAmountsWithin, AreNamed, IsPlaced, IsBuilt, AreKnown, AreOfMarkets, IsNumbered, IsOwned, is_ship, IsAboard, guards, IsSteady, IsGood}
 use Rattle.atl_records.proofs.EveryLaws.{each-from_every, every-empty, every-mapped, there-mapped}
-use Rattle.atl_campaign.proofs.AmountLaws.{none_weighed}
+use Rattle.atl_campaign.proofs.AmountLaws.{sum_of_zeros_is_zero}
 use Rattle.atl_campaign.proofs.AmountMarkLaws.{none_marked}
 use Rattle.atl_records.proofs.BookLaws.{booked-after_booking, booked-no_amounts, amount-no_amounts, AreBooks-no_amounts, AreBooks-after_booking, IsWithin-after_booking, booked_for}
 
 -- AreKept holds if the lists are those of the units, and the dirty set of the books is empty, with room for all
 -- amounts. AreKept says that the lists are those of the units, and that only amounts of the first `things` things are
 -- marked, with room for all of these.
-pub AreKept-without_marks : (things : ℕ) (units : FinMap nat_cmp Unit) (lists : UnitLists) → AreUnitLists units lists → AreKept units lists things (record { numbers = set.empty; room = entry_count * things })
+pub AreKept-without_marks : (things : ℕ) (units : FinMap nat_cmp Unit) (lists : UnitLists) → AreUnitLists units lists → AreListsAndMarksKept units lists things (record { numbers = set.empty; room = entry_count * things })
 AreKept-without_marks things units lists listed = record { unit_lists = listed; amounts = none_marked things (entry_count * things) (omega arith) }
 
 -- once founding has booked money and people, books of `things` things, at least two, list only amounts of these, none
@@ -54,15 +54,15 @@ AreBooks-founding things money people l =
     AreBooks-after_booking things (after_booking (no_amounts things) Founding Money (pos money)) Founding People (pos people) (AreBooks-after_booking things (no_amounts things) Founding Money (pos money) (AreBooks-no_amounts things) (omega arith)) (omega arith)
 
 -- the total of a thing over no units is 0
-nobody : (t : Thing) → sum_over (λ (u : Unit). unit_amount t u.holding) (empty {X = Unit} {R = nat_cmp}) ≡ 0
-nobody t = rw (entries-empty {X = Unit}) refl
+total_of_no_units_is_zero : (t : Thing) → sum_over (λ (u : Unit). unit_amount t u.holding) (empty {X = Unit} {R = nat_cmp}) ≡ 0
+total_of_no_units_is_zero t = rw (entries-empty {X = Unit}) refl
 
 -- the regions of a founded campaign have 0 of each item in stock together
-no_items : (w : WorldValue) (i : ℕ) → sum_over (λ (r : Region). region_amount (Item i) r) (mapped founded_region w.regions) ≡ 0
+no_items : (w : WorldValue) (i : ℕ) → sum_over (λ (r : Region). region_amount (Item i) r) (map_values founded_region w.regions) ≡ 0
 no_items w i =
-    let founded = mapped founded_region w.regions in
+    let founded = map_values founded_region w.regions in
     let nothing : Every (λ n r. region_amount (Item i) r ≡ 0) founded = every-mapped founded_region (λ n r. region_amount (Item i) r ≡ 0) w.regions (λ n p is. ap (λ o. unwrap_or o 0) (get-empty nat_cmp i)) in
-    none_weighed (λ (r : Region). region_amount (Item i) r) (entries founded) (each-from_every (λ n r. region_amount (Item i) r ≡ 0) founded nothing)
+    sum_of_zeros_is_zero (λ (r : Region). region_amount (Item i) r) (entries founded) (each-from_every (λ n r. region_amount (Item i) r ≡ 0) founded nothing)
 
 -- what founding books of a thing is the given money for money, the given people for people, and 0 for each item
 founding_booked : (things money people : ℕ) (t : Thing) → booked (after_booking (after_booking (no_amounts things) Founding Money (pos money)) Founding People (pos people)) t ≡ booked_for t Money (pos money) +ℤ booked_for t People (pos people)
@@ -74,35 +74,38 @@ founding_booked things money people t =
     from_nothing : (z : ℤ) → pos 0 +ℤ z ≡ z
     from_nothing z = omega (arith, ints)
 
--- if units hold no money (a is 0), the total a + m is what founding books of money: m as money, and 0 as people
+-- for founded-balances: the money of units (a) and regions (m) together is what founding books of money, m, if units
+-- have none
 held_money : (a m : ℕ) → a ≡ 0 → pos (a + m) ≡ pos m +ℤ pos 0
 held_money a m h = omega (arith, ints)
 
--- if units have no men (a is 0), the total a + p is what founding books of people: 0 as money, and p as people
+-- for founded-balances: the people of units (a) and regions (p) together are what founding books of people, p, if units
+-- have none
 held_people : (a p : ℕ) → a ≡ 0 → pos (a + p) ≡ pos 0 +ℤ pos p
 held_people a p h = omega (arith, ints)
 
--- if neither units nor regions have any of item i, its total is what founding books of it: 0
+-- for founded-balances: the pieces of item i that units (a) and regions (b) have together are what founding books of
+-- it, 0, if neither have any
 held_items : (a b i m p : ℕ) → a ≡ 0 → b ≡ 0 → (2 + i == 0) ≡ false → (2 + i == 1) ≡ false → pos (a + b) ≡ cond (2 + i == 0) (pos m) (pos 0) +ℤ cond (2 + i == 1) (pos p) (pos 0)
 held_items a b i m p h g e f = ap (λ n. pos (n + b)) h ∙ ap (λ n. pos (0 + n)) g ∙ sym (ap (λ q. cond q (pos m) (pos 0) +ℤ cond (2 + i == 1) (pos p) (pos 0)) e ∙ ap (λ q. pos 0 +ℤ cond q (pos p) (pos 0)) f)
 
 -- the books of a founded campaign balance
 pub founded-balances : (w : WorldValue) (pass : List ℕ) → Balances (founded_of w pass)
 unfolding founded_of total
-founded-balances w pass Money = held_money _ _ (nobody Money) ∙ sym (founding_booked (things_of w) _ _ Money)
-founded-balances w pass People = held_people _ _ (nobody People) ∙ sym (founding_booked (things_of w) _ _ People)
+founded-balances w pass Money = held_money _ _ (total_of_no_units_is_zero Money) ∙ sym (founding_booked (thing_count w) _ _ Money)
+founded-balances w pass People = held_people _ _ (total_of_no_units_is_zero People) ∙ sym (founding_booked (thing_count w) _ _ People)
 founded-balances w pass (Item i) =
-    held_items _ _ i (sum_over (λ (r : Region). region_amount Money r) (mapped founded_region w.regions)) (sum_over (λ (r : Region). region_amount People r) (mapped founded_region w.regions))
-    (nobody (Item i)) (no_items w i) (grind (arith, nat_tests)) (grind (arith, nat_tests))
-    ∙ sym (founding_booked (things_of w) _ _ (Item i))
+    held_items _ _ i (sum_over (λ (r : Region). region_amount Money r) (map_values founded_region w.regions)) (sum_over (λ (r : Region). region_amount People r) (map_values founded_region w.regions))
+    (total_of_no_units_is_zero (Item i)) (no_items w i) (grind (arith, nat_tests)) (grind (arith, nat_tests))
+    ∙ sym (founding_booked (thing_count w) _ _ (Item i))
 
 -- each amount of empty books is 0
 none_within : (things : ℕ) (e : BooksEntry) (t : Thing) → IsWithin 0 (amount_in (no_amounts things) e t)
 none_within things e t = rw (amount-no_amounts things e t) record { most = omega (arith, ints); least = omega (arith, ints) }
 
 -- the peasants, the money and the stocks of a region that is founded by a valid plan are in their ranges (IsRegion)
-in_range : (w : WorldValue) (p : RegionPlan) (terrains items n : ℕ) → IsRegionPlan terrains items n p → IsRegion w n (founded_region p)
-in_range w p terrains items n plan = record { peasants = plan.peasants; money = plan.money; stocks = every-empty (λ i amount. (1 ≤ amount) × (amount ≤ stock_limit w n i)) }
+founded_region_in_range : (w : WorldValue) (p : RegionPlan) (terrains items n : ℕ) → IsRegionPlan terrains items n p → IsRegion w n (founded_region p)
+founded_region_in_range w p terrains items n plan = record { peasants = plan.peasants; money = plan.money; stocks = every-empty (λ i amount. (1 ≤ amount) × (amount ≤ stock_limit w n i)) }
 
 -- the empty map is numbered from 1 without a gap, and its next number is 1 (IsNumbered)
 numbered_none : {V : Type 0} → IsNumbered (empty {X = V} {R = nat_cmp}) 1
@@ -111,7 +114,7 @@ numbered_none {V} = record { first = get-empty nat_cmp 0; count = ap (λ n. n + 
 module _ (w : WorldValue) (pass : List ℕ) (world : IsWorld w) where
   -- the regions of the campaign when it is founded
   abbrev regions : FinMap nat_cmp Region
-  regions = mapped founded_region w.regions
+  regions = map_values founded_region w.regions
 
   -- the money of all regions together when the campaign is founded
   abbrev money : ℕ
@@ -133,10 +136,10 @@ module _ (w : WorldValue) (pass : List ℕ) (world : IsWorld w) where
     next_unit_least = omega arith;
     next_unit_most = omega arith;
     factions = every-empty (λ n f. f.number ≡ n);
-    regions = every-mapped founded_region (λ n r. IsRegion w n r) w.regions (λ n p is. in_range w p (length w.terrains) (length w.items) n (world.regions n p is));
+    regions = every-mapped founded_region (λ n r. IsRegion w n r) w.regions (λ n p is. founded_region_in_range w p (length w.terrains) (length w.items) n (world.regions n p is));
     units = every-empty (λ n u. (1 ≤ n) × IsHolding u.holding);
     structures = every-empty (λ n s. (1 ≤ s.done) × (s.done ≤ size_of w s.kind));
-    books = AreBooks-founding (things_of w) money people (omega arith);
+    books = AreBooks-founding (thing_count w) money people (omega arith);
   }
 
   -- names and pass texts of a campaign that is founded keep their rules, if its pass text does
@@ -158,7 +161,7 @@ module _ (w : WorldValue) (pass : List ℕ) (world : IsWorld w) where
     markets = every-mapped founded_region (λ n r. AreOfMarkets w n r.stocks) w.regions (λ n p is. every-empty (λ i amount. IsSome (market_of w n i)));
     units = every-empty (λ n u. IsPlaced w (founded_of w pass) u);
     structures = every-empty (λ n s. IsBuilt w (founded_of w pass) s);
-    posts = posted-nobody;
+    posts = AreOfFactions-empty;
   }
 
   -- a campaign is steady when it is founded, if its pass text keeps its rule
@@ -170,7 +173,7 @@ module _ (w : WorldValue) (pass : List ℕ) (world : IsWorld w) where
     known = founded-known;
     next = record { factions = numbered_none; structures = numbered_none; units = λ n _. get-empty nat_cmp n };
     days = every-empty (λ n u. Every (λ s days. (1 ≤ days) × (days ≤ most_days * u.holding.men)) u.holding.days);
-    gone = every-empty (λ n f. f.gone ≡ true → numbers_of n empty ≡ []);
+    gone = every-empty (λ n f. f.gone ≡ true → numbers_of_faction n empty ≡ []);
     owners = every-empty (λ n s. IsOwned (founded_of w pass) n s);
     water = record {
       units = every-empty (λ n u. is_land_at w u.region ≡ false → IsAboard w (founded_of w pass) u);
@@ -184,7 +187,7 @@ module _ (w : WorldValue) (pass : List ℕ) (world : IsWorld w) where
   founded-amounts : money ≤ 100000000000000 → people ≤ 100000000000000 → AreAmountsWithin (founded_of w pass)
   unfolding founded_of
   founded-amounts few_money few_people =
-      let things = things_of w in
+      let things = thing_count w in
       let one = after_booking (no_amounts things) Founding Money (pos money) in
       IsWithin-after_booking one Founding People people money _ (IsWithin-after_booking (no_amounts things) Founding Money money 0 money (none_within things) (omega arith)) (omega arith)
 
@@ -196,7 +199,7 @@ module _ (w : WorldValue) (pass : List ℕ) (world : IsWorld w) where
       steady = founded-steady passes;
       men = every-empty (λ n u. 1 ≤ u.holding.men);
       amounts = founded-amounts few_money few_people;
-      gone = every-empty (λ n f. numbers_of n empty ≡ [] → f.gone ≡ true);
+      gone = every-empty (λ n f. numbers_of_faction n empty ≡ [] → f.gone ≡ true);
       balances = founded-balances w pass;
       mail = every-empty (λ n text. IsMailingOf n text × IsActive (founded_of w pass) n);
     };

@@ -1,5 +1,6 @@
 -- Laws of the campaign assembled from rows: if the rows are in range, the campaign's numbers are, and units have men.
--- Books of n things (AreBooks) have n things, and list only amounts of these, none of them 0.
+-- `AreBooks n b` says of the books b that they have n things, and that the amounts that they list are of these and not
+-- 0.
 use Rattle.std.proofs.Common.{◌≡◌, ◌==◌, ℕ, ◌≤◌, ◌<◌, ◌+◌, ◌&&◌, List, [], ◌∷◌, Bool, true, false, cond, filter, length, nat_le, refl, ap, subst, arith}
 use Rattle.std.specs.Prelude.{ℤ, pos, negsuc, min, nat_lt, Some, None}
 use Rattle.std.specs.List.{list_all}
@@ -24,7 +25,7 @@ use Rattle.atl_campaign.specs.declared.parts.StoredBooks.{StoredBooks}
 use Rattle.atl_campaign.specs.declared.parts.StoredMarket.{StoredMarket}
 use Rattle.atl_records.specs.declared.books.BooksEntry.{BooksEntry}
 use Rattle.atl_records.specs.Books.{AreBooks, BooksValue, entry_numbered, no_amounts, thing_at, with_amount}
-use Rattle.atl_campaign.specs.Founding.{things_of}
+use Rattle.atl_campaign.specs.Founding.{thing_count}
 use Rattle.atl_campaign.specs.FromRows.{clamp, as_u32, as_u16, put_rows, by_number, faction_of, stocks_of, region_of, structure_of, unit_of, with_books_row, put_amounts, campaign_row_of, campaign_of}
 use Rattle.atl_records.specs.Every.{Every}
 use Rattle.atl_campaign.specs.Good.{IsRegion, AreInRange, HaveMen}
@@ -81,7 +82,8 @@ min_low low n most h k = grind arith
 min_high : (n high most : ℕ) → n ≤ high → min n most ≤ high
 min_high n high most h = grind arith
 
--- a row's number from low to high is read as one from low to high, if the largest that is read, `most`, is at least low
+-- a row's number from low to high is read as a number from low to high, if `most`, the largest number that can be read,
+-- is at least low
 pub in_range : (low high most : ℕ) (z : ℤ) → low ≤ most → is_from low high z ≡ true → (low ≤ clamp most z) × (clamp most z ≤ high)
 in_range low high most (pos n) h e =
     let parts = and_parts (nat_le low n) (nat_le n high) e in
@@ -90,19 +92,19 @@ in_range low high most (pos n) h e =
     (min_low low n most least h, min_high n high most highest)
 in_range low high most (negsuc n) h e = absurd (false≢true e)
 
--- if nat_le m n is true, m is at most n
+-- m is at most n, if nat_le m n is true
 pub from_le : (m n : ℕ) → nat_le m n ≡ true → m ≤ n
 from_le m n h = grind (arith, nat_tests)
 
 -- ---- the books
 
--- books of `things` things (AreBooks) are still such books once a row's amount is put in (b), or left out because the
--- row's thing is none of theirs
+-- books of `things` things (AreBooks) stay such books, whether a row's amount is put in (b is true) or left out because
+-- the row's thing is none of theirs
 row_put : (things : ℕ) (books : BooksValue) (e : BooksEntry) (r : StoredBooks) (b : Bool) → nat_lt (as_u32 r.thing) books.things ≡ b → AreBooks things books → AreBooks things (cond b (with_amount books e (thing_at (as_u32 r.thing)) r.amount) books)
 row_put things books e r true inside are =
     let few : as_u32 r.thing < books.things = grind (arith, nat_tests) in
-    let place = index_of_thing_at (as_u32 r.thing) in
-    AreBooks-with_amount books e (thing_at (as_u32 r.thing)) r.amount things are (omega (arith, few, place, are.count))
+    let location = index_of_thing_at (as_u32 r.thing) in
+    AreBooks-with_amount books e (thing_at (as_u32 r.thing)) r.amount things are (omega (arith, few, location, are.count))
 row_put things books e r false inside are = are
 
 -- books of `things` things (AreBooks) are still books of `things` things once a row is read into them
@@ -126,19 +128,19 @@ put-books things (r ∷ rows) books are = put-books things rows (with_books_row 
 -- ---- the ranges
 
 -- a row's stock is from 1 to its item's stock limit in region n (stock_limit)
-abbrev InStock : WorldValue → ℕ → StoredMarket → Type 0
-InStock w n m = (1 ≤ as_u32 m.stock) × (as_u32 m.stock ≤ stock_limit w n (as_u32 m.item))
+abbrev IsStockInRange : WorldValue → ℕ → StoredMarket → Type 0
+IsStockInRange w n m = (1 ≤ as_u32 m.stock) × (as_u32 m.stock ≤ stock_limit w n (as_u32 m.item))
 
 -- a row of region n whose stock is in its range has a stock from 1 to its item's stock limit there (InStock)
-has_room : (w : WorldValue) (n : ℕ) (m : StoredMarket) → market_in_range w m ≡ true → (as_u32 m.region == n) ≡ true → InStock w n m
-has_room w n m range of =
-    subst (λ k. InStock w k m) (is_same (as_u32 m.region) n of) (in_range 1 (stock_limit w (as_u32 m.region) (as_u32 m.item)) most_u32 m.stock (omega arith) range)
+row_stock_in_range : (w : WorldValue) (n : ℕ) (m : StoredMarket) → market_in_range w m ≡ true → (as_u32 m.region == n) ≡ true → IsStockInRange w n m
+row_stock_in_range w n m range of =
+    subst (λ k. IsStockInRange w k m) (is_same (as_u32 m.region) n of) (in_range 1 (stock_limit w (as_u32 m.region) (as_u32 m.item)) most_u32 m.stock (omega arith) range)
 
 -- each stock that rows in range give region n is from 1 to its item's stock limit there (stock_limit)
-in_stock : (w : WorldValue) (n : ℕ) (markets : List StoredMarket) → list_all (market_in_range w) markets ≡ true → Every (λ i amount. (1 ≤ amount) × (amount ≤ stock_limit w n i)) (stocks_of n markets)
-in_stock w n markets all =
+stocks_in_range : (w : WorldValue) (n : ℕ) (markets : List StoredMarket) → list_all (market_in_range w) markets ≡ true → Every (λ i amount. (1 ≤ amount) × (amount ≤ stock_limit w n i)) (stocks_of n markets)
+stocks_in_range w n markets all =
     every_by (λ m. as_u32 m.item) (λ m. as_u32 m.stock) (λ i amount. (1 ≤ amount) × (amount ≤ stock_limit w n i)) (filter (λ m. as_u32 m.region == n) markets)
-    (kept (λ m. as_u32 m.region == n) (InStock w n) markets (each_passes (market_in_range w) (λ m. (as_u32 m.region == n) ≡ true → InStock w n m) (has_room w n) markets all))
+    (kept (λ m. as_u32 m.region == n) (IsStockInRange w n) markets (each_passes (market_in_range w) (λ m. (as_u32 m.region == n) ≡ true → IsStockInRange w n m) (row_stock_in_range w n) markets all))
 
 -- a region assembled from rows in range has peasants, money and stocks in their ranges
 region_ranges : (w : WorldValue) (markets : List StoredMarket) (r : StoredRegion) → list_all (market_in_range w) markets ≡ true → region_in_range r ≡ true → IsRegion w (as_u32 r.number) (region_of markets r)
@@ -147,10 +149,10 @@ region_ranges w markets r all h =
     record {
       peasants = (in_range 0 most_amount most_u32 r.peasants (omega arith) parts.0).1;
       money = (in_range 0 most_amount most_u32 r.money (omega arith) parts.1).1;
-      stocks = in_stock w (as_u32 r.number) markets all;
+      stocks = stocks_in_range w (as_u32 r.number) markets all;
     }
 
--- of a structure that is assembled from a row in range at least 1 is done, and at most its kind's size
+-- how much is done of a structure assembled from a row in range is at least 1, and at most its kind's size
 structure_ranges : (w : WorldValue) (r : StoredStructure) → structure_in_range w r ≡ true → (1 ≤ (structure_of r).done) × ((structure_of r).done ≤ size_of w (structure_of r).kind)
 structure_ranges w r h =
     let size = size_of w (as_u16 r.kind) in
@@ -304,5 +306,5 @@ module _ (w : WorldValue) (p : Parts) (h : AreRowsInRange w p) where
         regions = by_number-every (λ r. as_u32 r.number) (region_of p.markets) (λ n r. IsRegion w n r) region_in_range (λ r good. region_ranges w p.markets r ranges.markets good) p.regions ranges.regions;
         units = by_number-every (λ r. as_u32 r.number) (unit_of p.has) (λ n u. (1 ≤ n) × IsHolding u.holding) unit_in_range (λ r good. unit_ranges_read p.has r ranges.has good) p.units ranges.units;
         structures = by_number-every (λ r. as_u32 r.number) structure_of (λ n s. (1 ≤ s.done) × (s.done ≤ size_of w s.kind)) (structure_in_range w) (λ r good. structure_ranges w r good) p.structures ranges.structures;
-        books = put-books (things_of w) p.books (no_amounts (things_of w)) (AreBooks-no_amounts (things_of w));
+        books = put-books (thing_count w) p.books (no_amounts (thing_count w)) (AreBooks-no_amounts (thing_count w));
       }

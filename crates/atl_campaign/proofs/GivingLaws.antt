@@ -6,13 +6,13 @@ use Rattle.std.specs.Cmp.{nat_cmp_total}
 use Rattle.std.specs.FinMap.{FinMap, get, insert, empty, get-empty, same_map, nat_cmp-IsAntisymmetric}
 use Rattle.std.proofs.lemmas.Bool.{cases_eq}
 use Rattle.std.proofs.lemmas.Bool.Decides.{nat_tests}
-use Rattle.atl_world.specs.Sums.{changed, changed_at}
+use Rattle.atl_world.specs.Sums.{with_changed_value, with_changed_option}
 use Rattle.atl_campaign.specs.declared.parts.StoredHas.{StoredHas}
 use Rattle.atl_campaign.specs.declared.parts.StoredMarket.{StoredMarket}
 use Rattle.atl_campaign.specs.declared.parts.StoredRegion.{StoredRegion}
 use Rattle.atl_campaign.specs.declared.parts.StoredUnit.{StoredUnit}
 use Rattle.atl_campaign.specs.Assembling.{bare_unit, bare_region, with_has_row, with_market_row, with_rows_added}
-use Rattle.atl_campaign.specs.FromRows.{as_u32, is_of_unit_and_sort, put_rows, by_number, unit_with, unit_of, region_with, region_of}
+use Rattle.atl_campaign.specs.FromRows.{as_u32, is_of_unit_and_sort, put_rows, by_number, unit_with_goods, unit_of, region_with_stocks, region_of}
 use Rattle.atl_campaign.proofs.AssemblyLaws.{get_same, get_other, taken_or_not, is_same}
 
 -- ---- what may be there
@@ -27,13 +27,13 @@ map_twice : {V : Type 0} (f g : V → V) (o : Option V) → option_map f (option
 map_twice f g None = refl
 map_twice f g (Some v) = refl
 
--- once f is applied to the value of number k (`changed_at`), k has f of its old value o, or none where it had none
-at_same : {V : Type 0} (f : V → V) (m : FinMap nat_cmp V) (k : ℕ) (o : Option V) → get m k ≡ o → get (changed_at f m k o) k ≡ option_map f o
+-- once f changes the value of number k (`with_changed_option`), k has f of its old value, or none where it had none
+at_same : {V : Type 0} (f : V → V) (m : FinMap nat_cmp V) (k : ℕ) (o : Option V) → get m k ≡ o → get (with_changed_option f m k o) k ≡ option_map f o
 at_same f m k None e = e
 at_same f m k (Some v) e = get_same m k (f v)
 
--- applying f to the value of number k (`changed_at`) changes nothing under another number n
-at_other : {V : Type 0} (f : V → V) (m : FinMap nat_cmp V) (k n : ℕ) (o : Option V) → n ≢ k → get (changed_at f m k o) n ≡ get m n
+-- changing the value of number k (`with_changed_option`) changes nothing under another number n
+at_other : {V : Type 0} (f : V → V) (m : FinMap nat_cmp V) (k n : ℕ) (o : Option V) → n ≢ k → get (with_changed_option f m k o) n ≡ get m n
 at_other f m k n None apart = refl
 at_other f m k n (Some v) apart = get_other m k n (f v) apart
 
@@ -44,13 +44,13 @@ module _ {R V : Type 0} (owner : R → ℕ) (more : R → V → V) where
   value_with_rows n (r ∷ rows) v = value_with_rows n rows (cond (owner r == n) (more r v) v)
 
   -- adding one row to a map of values changes the value under the row's number alone
-  get-changed : (r : R) (m : FinMap nat_cmp V) (n : ℕ) → get (changed (more r) m (owner r)) n ≡ option_map (λ v. cond (owner r == n) (more r v) v) (get m n)
+  get-changed : (r : R) (m : FinMap nat_cmp V) (n : ℕ) → get (with_changed_value (more r) m (owner r)) n ≡ option_map (λ v. cond (owner r == n) (more r v) v) (get m n)
   get-changed r m n =
       let k = owner r in
       elim (cases_eq k n) [
         | inl same ↦
             let it : (k == n) ≡ true = grind (arith, nat_tests) in
-            subst (λ q. get (changed (more r) m k) q ≡ option_map (more r) (get m q)) same (at_same (more r) m k (get m k) refl) ∙ ap (λ b. option_map (λ v. cond b (more r v) v) (get m n)) (sym it)
+            subst (λ q. get (with_changed_value (more r) m k) q ≡ option_map (more r) (get m q)) same (at_same (more r) m k (get m k) refl) ∙ ap (λ b. option_map (λ v. cond b (more r v) v) (get m n)) (sym it)
         | inr apart ↦
             let other : (k == n) ≡ false = grind (arith, nat_tests) in
             at_other (more r) m k n (get m k) (λ e. apart (sym e)) ∙ map_none (get m n) ∙ ap (λ b. option_map (λ v. cond b (more r v) v) (get m n)) (sym other)
@@ -59,7 +59,7 @@ module _ {R V : Type 0} (owner : R → ℕ) (more : R → V → V) where
   -- adding rows to a map of values adds to each value the rows of its number (`value_with_rows`)
   get-with_rows_added : (rows : List R) (m : FinMap nat_cmp V) (n : ℕ) → get (with_rows_added owner more rows m) n ≡ option_map (value_with_rows n rows) (get m n)
   get-with_rows_added [] m n = map_none (get m n)
-  get-with_rows_added (r ∷ rows) m n = get-with_rows_added rows (changed (more r) m (owner r)) n ∙ ap (option_map (value_with_rows n rows)) (get-changed r m n) ∙ map_twice (value_with_rows n rows) (λ v. cond (owner r == n) (more r v) v) (get m n)
+  get-with_rows_added (r ∷ rows) m n = get-with_rows_added rows (with_changed_value (more r) m (owner r)) n ∙ ap (option_map (value_with_rows n rows)) (get-changed r m n) ∙ map_twice (value_with_rows n rows) (λ v. cond (owner r == n) (more r v) v) (get m n)
 
   module _ {T : Type 0} (number : T → ℕ) (before after : T → V) (rows : List R) (each : (t : T) → value_with_rows (number t) rows (before t) ≡ after t) where
     -- both maps have the same numbers, and the second has each value of the first with the rows of its number added
@@ -101,30 +101,30 @@ thing_of r = as_u32 r.thing
 abbrev amount_of : StoredHas → ℕ
 amount_of r = as_u32 r.amount
 
--- for unit_given: choosing between a unit with new items, one with new days, and the old one is choosing its items and
--- its days apart
+-- for unit_given: choosing among a unit with new items, with new days, or unchanged gives the unit whose items and days
+-- are chosen each for itself
 picked : (r : StoredUnit) (items items' days days' : FinMap nat_cmp ℕ) (mine item skill : Bool) → (item ≡ true → skill ≡ false)
-    → cond mine (cond item (unit_with r items' days) (cond skill (unit_with r items days') (unit_with r items days))) (unit_with r items days) ≡ unit_with r (cond (mine && item) items' items) (cond (mine && skill) days' days)
+    → cond mine (cond item (unit_with_goods r items' days) (cond skill (unit_with_goods r items days') (unit_with_goods r items days))) (unit_with_goods r items days) ≡ unit_with_goods r (cond (mine && item) items' items) (cond (mine && skill) days' days)
 picked r items items' days days' false item skill h = refl
-picked r items items' days days' true true skill h = ap (λ b. unit_with r items' (cond b days' days)) (sym (h refl))
+picked r items items' days days' true true skill h = ap (λ b. unit_with_goods r items' (cond b days' days)) (sym (h refl))
 picked r items items' days days' true false true h = refl
 picked r items items' days days' true false false h = refl
 
--- a sort that is 0 (items) is not 1 (days)
+-- a sort that is 0 (items) is not 1 (skills)
 no_skill : (s : ℕ) → (s == 0) ≡ true → (s == 1) ≡ false
 no_skill s h = ap (λ k. k == 1) (is_same s 0 h)
 
 -- once the rows of `has` of unit n are added to a unit, the unit has also the items and days that these rows name
 unit_given : (r : StoredUnit) (n : ℕ) (has : List StoredHas) (items days : FinMap nat_cmp ℕ)
-    → value_with_rows (λ h. as_u32 h.unit) with_has_row n has (unit_with r items days) ≡ unit_with r (put_rows thing_of amount_of (filter (is_of_unit_and_sort n 0) has) items) (put_rows thing_of amount_of (filter (is_of_unit_and_sort n 1) has) days)
+    → value_with_rows (λ h. as_u32 h.unit) with_has_row n has (unit_with_goods r items days) ≡ unit_with_goods r (put_rows thing_of amount_of (filter (is_of_unit_and_sort n 0) has) items) (put_rows thing_of amount_of (filter (is_of_unit_and_sort n 1) has) days)
 unit_given r n [] items days = refl
 unit_given r n (h ∷ has) items days =
     let items' = insert items (thing_of h) (amount_of h) in
     let days' = insert days (thing_of h) (amount_of h) in
     ap (value_with_rows (λ h. as_u32 h.unit) with_has_row n has) (picked r items items' days days' (as_u32 h.unit == n) (as_u32 h.sort == 0) (as_u32 h.sort == 1) (no_skill (as_u32 h.sort)))
     ∙ unit_given r n has (cond (is_of_unit_and_sort n 0 h) items' items) (cond (is_of_unit_and_sort n 1 h) days' days)
-    ∙ ap (λ m. unit_with r m (put_rows thing_of amount_of (filter (is_of_unit_and_sort n 1) has) (cond (is_of_unit_and_sort n 1 h) days' days))) (sym (taken_or_not thing_of amount_of (is_of_unit_and_sort n 0) h has (is_of_unit_and_sort n 0 h) items refl))
-    ∙ ap (λ m. unit_with r (put_rows thing_of amount_of (filter (is_of_unit_and_sort n 0) (h ∷ has)) items) m) (sym (taken_or_not thing_of amount_of (is_of_unit_and_sort n 1) h has (is_of_unit_and_sort n 1 h) days refl))
+    ∙ ap (λ m. unit_with_goods r m (put_rows thing_of amount_of (filter (is_of_unit_and_sort n 1) has) (cond (is_of_unit_and_sort n 1 h) days' days))) (sym (taken_or_not thing_of amount_of (is_of_unit_and_sort n 0) h has (is_of_unit_and_sort n 0 h) items refl))
+    ∙ ap (λ m. unit_with_goods r (put_rows thing_of amount_of (filter (is_of_unit_and_sort n 0) (h ∷ has)) items) m) (sym (taken_or_not thing_of amount_of (is_of_unit_and_sort n 1) h has (is_of_unit_and_sort n 1 h) days refl))
 
 -- units without goods (bare_unit), once all rows of `has` are added, are the units assembled with these rows (unit_of)
 pub units_given : (has : List StoredHas) (rows : List StoredUnit) → with_rows_added (λ h. as_u32 h.unit) with_has_row has (by_number (λ r. as_u32 r.number) bare_unit rows) ≡ by_number (λ r. as_u32 r.number) (unit_of has) rows
@@ -140,22 +140,22 @@ item_of r = as_u32 r.item
 abbrev stock_of : StoredMarket → ℕ
 stock_of r = as_u32 r.stock
 
--- for region_given: choosing (`mine`) between two regions of one row that differ in their stocks is choosing between
--- the stocks
-stocked : (r : StoredRegion) (stocks stocks' : FinMap nat_cmp ℕ) (mine : Bool) → cond mine (region_with r stocks') (region_with r stocks) ≡ region_with r (cond mine stocks' stocks)
+-- for region_given: choosing (`mine`) between a region with new stocks and with the old ones gives the region with the
+-- chosen stocks
+stocked : (r : StoredRegion) (stocks stocks' : FinMap nat_cmp ℕ) (mine : Bool) → cond mine (region_with_stocks r stocks') (region_with_stocks r stocks) ≡ region_with_stocks r (cond mine stocks' stocks)
 stocked r stocks stocks' true = refl
 stocked r stocks stocks' false = refl
 
 -- once the rows of `market` of region n are added to a region, the region has also the stocks that these rows name
 region_given : (r : StoredRegion) (n : ℕ) (markets : List StoredMarket) (stocks : FinMap nat_cmp ℕ)
-    → value_with_rows (λ m. as_u32 m.region) with_market_row n markets (region_with r stocks) ≡ region_with r (put_rows item_of stock_of (filter (λ m. as_u32 m.region == n) markets) stocks)
+    → value_with_rows (λ m. as_u32 m.region) with_market_row n markets (region_with_stocks r stocks) ≡ region_with_stocks r (put_rows item_of stock_of (filter (λ m. as_u32 m.region == n) markets) stocks)
 region_given r n [] stocks = refl
 region_given r n (m ∷ markets) stocks =
     let mine = as_u32 m.region == n in
     let stocks' = insert stocks (item_of m) (stock_of m) in
     ap (value_with_rows (λ m. as_u32 m.region) with_market_row n markets) (stocked r stocks stocks' mine)
     ∙ region_given r n markets (cond mine stocks' stocks)
-    ∙ ap (region_with r) (sym (taken_or_not item_of stock_of (λ m. as_u32 m.region == n) m markets mine stocks refl))
+    ∙ ap (region_with_stocks r) (sym (taken_or_not item_of stock_of (λ m. as_u32 m.region == n) m markets mine stocks refl))
 
 -- regions without stocks (bare_region), once all rows of `market` are added, are the regions assembled with these rows
 -- (region_of)

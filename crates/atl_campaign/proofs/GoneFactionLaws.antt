@@ -5,7 +5,7 @@ use Rattle.std.specs.Ordering.{nat_cmp}
 use Rattle.std.specs.FinMap.{FinMap, get, insert, len}
 use Rattle.atl_world.specs.Names.{name_ok, pass_ok}
 use Rattle.atl_world.specs.Worlds.{WorldValue}
-use Rattle.atl_world.specs.Sums.{changed_at}
+use Rattle.atl_world.specs.Sums.{with_changed_option}
 use Rattle.atl_campaign.specs.Covers.{MarksChanges}
 use Rattle.atl_records.specs.declared.books.Thing.{Thing}
 use Rattle.atl_records.specs.declared.records.Faction.{Faction}
@@ -13,7 +13,7 @@ use Rattle.atl_records.specs.Every.{Every, HasValue}
 use Rattle.atl_campaign.proofs.GoodLaws.{posted-there}
 use Rattle.atl_campaign.specs.Good.{AreInRange, AreKnown, AreNamed, AreNumbered, IsSteady}
 use Rattle.atl_campaign.specs.Marking.{mark_faction}
-use Rattle.atl_campaign.specs.Campaign.{MarkedCampaign, CampaignValue, numbers_of, with_gone}
+use Rattle.atl_campaign.specs.Campaign.{MarkedCampaign, CampaignValue, numbers_of_faction, with_gone}
 use Rattle.atl_campaign.specs.Totals.{total}
 use Rattle.atl_campaign.proofs.CoverLaws.{marks-faction}
 use Rattle.atl_records.proofs.EveryLaws.{every-insert, get-insert_other, none_some, there-insert}
@@ -97,14 +97,14 @@ module _ (c : CampaignValue) (n : ℕ) (x : Faction) (is : get c.factions n ≡ 
   }
 
   -- the campaign stays steady with faction n set gone (`left`), if the faction has no units
-  steady_gone : (w : WorldValue) → numbers_of n c.units ≡ [] → IsSteady w c → IsSteady w left
+  steady_gone : (w : WorldValue) → numbers_of_faction n c.units ≡ [] → IsSteady w c → IsSteady w left
   steady_gone w none old = record {
     numbers = numbers_kept w old.numbers;
     names = names_kept old.names;
     known = known_kept w old.known;
     next = next_kept old.next;
     days = old.days;
-    gone = every-insert (λ k f. f.gone ≡ true → numbers_of k c.units ≡ []) c.factions n (as_gone x) (λ gone. none) old.gone;
+    gone = every-insert (λ k f. f.gone ≡ true → numbers_of_faction k c.units ≡ []) c.factions n (as_gone x) (λ gone. none) old.gone;
     owners = old.owners;
     water = record { units = old.water.units; structures = old.water.structures };
     guarded = old.guarded;
@@ -115,7 +115,7 @@ module _ (c : CampaignValue) (n : ℕ) (x : Faction) (is : get c.factions n ≡ 
   gone-known = ap (λ m. record c { factions = m }) (changed-known as_gone c.factions n x is)
 
   -- the campaign stays steady when a faction without units is set gone
-  pub steady-gone : (w : WorldValue) → numbers_of n c.units ≡ [] → IsSteady w c → IsSteady w (with_gone c n)
+  pub steady-gone : (w : WorldValue) → numbers_of_faction n c.units ≡ [] → IsSteady w c → IsSteady w (with_gone c n)
   steady-gone w none old = subst (IsSteady w) (sym gone-known) (steady_gone w none old)
 
   -- setting a faction gone does not change how many factions there are
@@ -140,7 +140,7 @@ module _ (c : CampaignValue) (n : ℕ) (x : Faction) (is : get c.factions n ≡ 
 
 -- with_gone changes nothing where there is no faction n
 pub none-gone : (c : CampaignValue) (n : ℕ) → get c.factions n ≡ None → with_gone c n ≡ c
-none-gone c n is = ap (λ o. record c { factions = changed_at as_gone c.factions n o }) is
+none-gone c n is = ap (λ o. record c { factions = with_changed_option as_gone c.factions n o }) is
 
 -- the total of each thing stays as it is when a faction is set gone
 pub total-gone : (c : CampaignValue) (n : ℕ) (t : Thing) → total (with_gone c n) t ≡ total c t

@@ -15,7 +15,7 @@ use Rattle.atl_campaign.specs.Totals.{total}
 use Rattle.atl_records.specs.Every.{Every, HasValue}
 use Rattle.atl_campaign.specs.Early.{GoodAreEarly, SoundAreEarly}
 use Rattle.atl_campaign.specs.Good.{IsActive, AreInRange, AreNamed, AreOfFactions, AreKnown, IsSteady, IsSound, IsGood}
-use Rattle.atl_campaign.specs.Joining.{joined, join_of, name_taken, is_full, new_faction}
+use Rattle.atl_campaign.specs.Joining.{after_join, join_of, name_taken, is_full, new_faction}
 use Rattle.atl_records.proofs.EveryLaws.{every-empty, every-insert, there-new, there-insert}
 
 -- ---- mail and reports
@@ -25,13 +25,14 @@ use Rattle.atl_records.proofs.EveryLaws.{every-empty, every-insert, there-new, t
 pub posted-there : {factions later : FinMap nat_cmp Faction} {mail reports : FinMap nat_cmp (List ℕ)} → ((n : ℕ) → HasValue factions n → HasValue later n) → AreOfFactions factions mail reports → AreOfFactions later mail reports
 posted-there stays posts = record { mail = λ n text is. stays n (posts.mail n text is); reports = λ n text is. stays n (posts.reports n text is) }
 
--- once all mail is removed, mail, of which there is none, and reports are of factions that are there (AreOfFactions)
+-- once all mail is removed, the mail, which is empty then, and the reports are still of factions that exist
+-- (AreOfFactions)
 pub posted-unsent : {factions : FinMap nat_cmp Faction} {mail reports : FinMap nat_cmp (List ℕ)} → AreOfFactions factions mail reports → AreOfFactions factions empty reports
 posted-unsent posts = record { mail = every-empty _; reports = posts.reports }
 
--- empty mail and reports are of factions that are there (AreOfFactions)
-pub posted-nobody : {factions : FinMap nat_cmp Faction} → AreOfFactions factions empty empty
-posted-nobody = record { mail = every-empty _; reports = every-empty _ }
+-- empty mail and empty reports are of factions that exist (AreOfFactions)
+pub AreOfFactions-empty : {factions : FinMap nat_cmp Faction} → AreOfFactions factions empty empty
+AreOfFactions-empty = record { mail = every-empty _; reports = every-empty _ }
 
 module _ (w : WorldValue) (c : CampaignValue) (month : ℕ) (mail reports : FinMap nat_cmp (List ℕ)) where
   -- the campaign with the given month, mail and reports in place of its own
@@ -117,20 +118,20 @@ IsGood-with_mail w c faction text sent active good =
       reported = good.reported;
     }
 
--- if a join answers Ok y, it was not refused, so y is the joined campaign with the new numbers, x
+-- for IsGood-joined: if a join answers Ok y, it was not refused, so y is x, the joined campaign with the new numbers
 joined_answer : (taken full : Bool) (x y : CampaignValue × (ℕ × ℕ)) → ◌≡◌ {A = Result (CampaignValue × (ℕ × ℕ)) JoinFault} (cond taken (Err NameTaken) (cond full (Err Full) (Ok x))) (Ok y) → x ≡ y
 joined_answer true full x y e = cc
 joined_answer false true x y e = cc
 joined_answer false false x y e = cc
 
--- a good campaign that a faction joined, if it is sound then, is good once a report of the faction is stored
+-- a campaign that was good before a faction joined, and is sound after, is good once a report of that faction is stored
 pub IsGood-joined : (w : WorldValue) (name pass : List ℕ) (word : ℕ) (c d : CampaignValue) (faction unit : ℕ) (text : List ℕ) → join_of w name pass word c ≡ Ok (d, (faction, unit)) → IsGood w c → IsSound w d → IsGood w (with_report d faction text)
-unfolding join_of joined
+unfolding join_of after_join
 IsGood-joined w name pass word c d faction unit text is good sound =
-    let same = joined_answer (name_taken c name) (is_full c) (joined w name pass word c, (c.next_faction, c.next_unit)) (d, (faction, unit)) is in
+    let same = joined_answer (name_taken c name) (is_full c) (after_join w name pass word c, (c.next_faction, c.next_unit)) (d, (faction, unit)) is in
     let member = new_faction c.next_faction name pass in
     let whole : IsSound w d → IsGood w (with_report d faction text) = subst (λ (p : CampaignValue × (ℕ × ℕ)). IsSound w p.0 → IsGood w (with_report p.0 p.1.0 text)) same (λ new. record {
-      sound = IsSound-with_report w (joined w name pass word c) c.next_faction text (there-new c.factions c.next_faction member) new;
+      sound = IsSound-with_report w (after_join w name pass word c) c.next_faction text (there-new c.factions c.next_faction member) new;
       reported = every-insert (λ n f. HasValue (insert c.reports c.next_faction text) n) c.factions c.next_faction member (there-new c.reports c.next_faction text) (λ n f is. there-insert c.reports c.next_faction n text (good.reported n f is));
     }) in
     whole sound

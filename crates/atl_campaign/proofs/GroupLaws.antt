@@ -9,7 +9,7 @@ use Rattle.std.proofs.lemmas.List.Sorted.{IsPermutation-refl, IsPermutation-sym,
 use Rattle.atl_campaign.specs.FromRows.{by_number}
 use Rattle.atl_campaign.specs.Rows.{rows_by}
 use Rattle.atl_campaign.proofs.KeyLaws.{IsDistinct-map, IsDistinct-of_map}
-use Rattle.atl_campaign.proofs.MapOfRowsLaws.{HaveDistinctNumbers, HaveDistinctNumbers-keys, HasNumber, each_so, flat_order}
+use Rattle.atl_campaign.proofs.MapOfRowsLaws.{HaveDistinctNumbers, HaveDistinctNumbers-keys, HasNumber, each_follows, flat_order}
 
 -- ---- rows that pass a test
 
@@ -36,7 +36,7 @@ module _ {R : Type 0} (test : R → Bool) where
 
   -- if P holds of each row, it holds of the filtered rows
   pub filter_each : (P : R → Type 0) (rows : List R) → AllByRecursion P rows → AllByRecursion P (filter test rows)
-  filter_each P rows all = kept P rows (each_so P (λ r. test r ≡ true → P r) (λ r h _. h) rows all)
+  filter_each P rows all = kept P rows (each_follows P (λ r. test r ≡ true → P r) (λ r h _. h) rows all)
 
   -- distinct rows are still distinct once they are filtered
   pub filter_apart : (e : R → R → Bool) (rows : List R) → IsDistinct e rows → IsDistinct e (filter test rows)
@@ -61,16 +61,16 @@ module _ {R : Type 0} (test : R → Bool) where
       either rest true = ap (λ rs. cond (other r) (r ∷ rs) rs) rest
       either rest false = rest
 
--- for filter_lines: putting the list of r alone, if b is true, or else the empty list in front of the rows puts r in
--- front of them, if b is true
-single : {R : Type 0} (b : Bool) (r : R) (rows : List R) → cond b (r ∷ []) [] ++ rows ≡ cond b (r ∷ rows) rows
-single true r rows = refl
-single false r rows = refl
+-- for filter_lines: the list of r alone where b is true, or else the empty list, followed by rows is the rows, with r
+-- in front where b is true
+one_or_none_in_front : {R : Type 0} (b : Bool) (r : R) (rows : List R) → cond b (r ∷ []) [] ++ rows ≡ cond b (r ∷ rows) rows
+one_or_none_in_front true r rows = refl
+one_or_none_in_front false r rows = refl
 
 -- filtering each row in a list of its own, and joining what is left, is filtering all rows
 pub filter_lines : {X R : Type 0} (test : R → Bool) (f : X → R) (xs : List X) → flat_map (λ x. filter test (f x ∷ [])) xs ≡ filter test (map f xs)
 filter_lines test f [] = refl
-filter_lines test f (x ∷ xs) = ap (λ rs. filter test (f x ∷ []) ++ rs) (filter_lines test f xs) ∙ single (test (f x)) (f x) (filter test (map f xs))
+filter_lines test f (x ∷ xs) = ap (λ rs. filter test (f x ∷ []) ++ rs) (filter_lines test f xs) ∙ one_or_none_in_front (test (f x)) (f x) (filter test (map f xs))
 
 -- ---- group by group
 
@@ -120,7 +120,7 @@ module _ {R U : Type 0} (group : R → ℕ) (number : U → ℕ) where
       let mine = of_group n rows in
       let left = others n rows in
       let theirs = flat_map (λ u. of_group (number u) left) units in
-      let of = kept (λ r. not (group r == n)) (λ r. HasNumber number units (group r)) rows (each_so _ (λ r. not (group r == n) ≡ true → HasNumber number units (group r)) (λ r. of_others n (group r) units) rows all) in
+      let of = kept (λ r. not (group r == n)) (λ r. HasNumber number units (group r)) rows (each_follows _ (λ r. not (group r == n) ≡ true → HasNumber number units (group r)) (λ r. of_others n (group r) units) rows all) in
       subst (λ rs. IsPermutation (mine ++ rs) rows) (sym (same_groups n rows units apart.0))
       (IsPermutation-trans (mine ++ theirs) (mine ++ left) rows (IsPermutation-append_right mine theirs left (by_group units left apart.1 of))
       (IsPermutation-sym rows (mine ++ left) (IsPermutation-filter_both (λ r. group r == n) (λ r. not (group r == n)) (λ r. refl) rows)))
@@ -148,7 +148,7 @@ module _ {R K : Type 0} (key : R → K) (same : K → K → Bool) (itself : (k :
   -- if P holds of each row, the rows that the test `mine` lets through are rows of the group for which P holds
   -- (IsOfGroupWithP)
   pub all_mine : (rows : List R) → AllByRecursion P rows → AllByRecursion IsOfGroupWithP (filter mine rows)
-  all_mine rows all = kept mine IsOfGroupWithP rows (each_so P (λ r. mine r ≡ true → IsOfGroupWithP r) (λ r one passes. (one, passes)) rows all)
+  all_mine rows all = kept mine IsOfGroupWithP rows (each_follows P (λ r. mine r ≡ true → IsOfGroupWithP r) (λ r one passes. (one, passes)) rows all)
 
   -- if rows of one thing have one key, no thing occurs twice among rows with different keys
   module _ (same_key : (r s : R) → IsOfGroupWithP r → IsOfGroupWithP s → thing r ≡ thing s → ◌≡◌ {A = K} (key s) (key r)) where

@@ -33,8 +33,8 @@ pub record MayHave (w : WorldValue) (h : HoldingValue) : Type 0 where
 -- the holding of a unit of a steady campaign is one that a unit may have (MayHave)
 pub may_have : (w : WorldValue) (c : CampaignValue) (n : ℕ) (u : Unit) → get c.units n ≡ Some u → IsSteady w c → MayHave w u.holding
 may_have w c n u is steady =
-    let place = steady.known.units n u is in
-    record { limits = (steady.numbers.units n u is).1; name = steady.names.units n u is; items = place.items; skills = place.skills; days = steady.days n u is }
+    let location = steady.known.units n u is in
+    record { limits = (steady.numbers.units n u is).1; name = steady.names.units n u is; items = location.items; skills = location.skills; days = steady.days n u is }
 
 module _ (w : WorldValue) (c : CampaignValue) (n : ℕ) (u : Unit) (h : HoldingValue) (is : get c.units n ≡ Some u) where
   -- unit u with the holding h in place of its own

@@ -11,7 +11,7 @@ use Rattle.atl_world.specs.Worlds.{WorldValue}
 use Rattle.atl_world.specs.Sums.{sum_over}
 use Rattle.atl_world.specs.Tracking.{marked_with}
 use Rattle.atl_world.proofs.SumLaws.{numbers_where-insert_known, put_same, sum_over-insert_known}
-use Rattle.atl_campaign.specs.Covers.{MarksChanges, bare, days_under, items_under}
+use Rattle.atl_campaign.specs.Covers.{MarksChanges, without_goods, days_under, items_under}
 use Rattle.atl_records.specs.Limits.{holding_limit, most_days}
 use Rattle.atl_records.specs.declared.books.Thing.{Thing}
 use Rattle.atl_records.specs.declared.records.Region.{Region}
@@ -21,11 +21,11 @@ use Rattle.atl_campaign.specs.Good.{AreAfloat, AreInRange, AreKnown, AreNumbered
 use Rattle.atl_records.specs.Holdings.{HoldingValue, IsHolding, has_amount, with_amount_of}
 use Rattle.atl_campaign.specs.Marking.{mark_item, mark_skill, mark_unit_row}
 use Rattle.atl_campaign.specs.Marks.{thing_marked}
-use Rattle.atl_campaign.specs.Roster.{unless_has}
+use Rattle.atl_campaign.specs.Roster.{unit_if_other_amount}
 use Rattle.atl_campaign.specs.Campaign.{MarkedCampaign, CampaignValue, unit_changed, with_item, with_skill}
 use Rattle.atl_records.specs.Amounts.{region_amount, unit_amount}
 use Rattle.atl_campaign.specs.Totals.{total}
-use Rattle.atl_campaign.proofs.CoverLaws.{Items, Rows, Skills, Stays, KeepsUnmarked, Units, apart_by, apart_by_thing, changed_there, marks-refl, part_by_part, put_stays, shown_still, thing_stays}
+use Rattle.atl_campaign.proofs.CoverLaws.{Items, Rows, Skills, PartStaysMarked, KeepsUnmarked, Units, unmarked_differs_from_put, apart_by_thing, holds_of_changed, marks-refl, part_by_part, put_stays, shown_still, thing_stays}
 use Rattle.atl_records.proofs.EveryLaws.{every-insert, get-insert_other, none_some, there-insert}
 use Rattle.atl_records.proofs.HoldingLaws.{get-set_other, set_again}
 use Rattle.atl_campaign.proofs.RegionLaws.{get-insert_same, same_len}
@@ -50,18 +50,18 @@ pub record MayHaveWithoutNewGuard (w : WorldValue) (u : Unit) (h : HoldingValue)
 -- (MayHaveWithoutNewGuard)
 pub may_hold_money : (w : WorldValue) (c : CampaignValue) (n money : ℕ) (u : Unit) → get c.units n ≡ Some u → money ≤ holding_limit → IsSteady w c → MayHaveWithoutNewGuard w u (record u.holding { money = money })
 may_hold_money w c n money u is most steady =
-    let place = steady.known.units n u is in
+    let location = steady.known.units n u is in
     let holding = (steady.numbers.units n u is).1 in
     record {
       limits = record { men = holding.men; money = most; items = holding.items };
       name = steady.names.units n u is;
-      items = place.items;
-      skills = place.skills;
+      items = location.items;
+      skills = location.skills;
       days = steady.days n u is;
       guard = λ g. g;
     }
 
--- the structure that the first unit is inside, or the second where None is given for the first
+-- the structure that a unit is inside, or, if None is given for it, the one that the default unit is inside
 abbrev pub structure_in : Option Unit → Unit → ℕ
 structure_in (Some y) z = y.structure
 structure_in None z = z.structure
@@ -204,16 +204,16 @@ module _ (w : WorldValue) (c : CampaignValue) (n : ℕ) (u : Unit) (h : HoldingV
 abbrev goods_of : Unit → FinMap nat_cmp ℕ × FinMap nat_cmp ℕ
 goods_of u = (u.holding.items, u.holding.days)
 
--- changing a unit by f, which leaves its goods alone, with its row marked, marks all that changes (MarksChanges)
+-- a change of a unit that leaves its goods alone, with its row marked, marks all that changes (MarksChanges)
 pub marks-unit_row : (f : Unit → Unit) → ((u : Unit) → goods_of (f u) ≡ goods_of u) → (c : MarkedCampaign) (n : ℕ) → MarksChanges c (record { value = unit_changed f c.value n; marks = mark_unit_row c n })
 marks-unit_row f same c n =
     let after : FinMap nat_cmp Unit → Option Unit → MarkedCampaign = λ m o. record { value = record c.value { units = m }; marks = record c.marks { units = marked_with c.marks.units n o; rows = marked_with c.marks.rows n o } } in
-    changed_there (λ m o. MarksChanges c (after m o)) f c.value.units n (marks-refl c) (λ u is.
+    holds_of_changed (λ m o. MarksChanges c (after m o)) f c.value.units n (marks-refl c) (λ u is.
     let next = after (insert c.value.units n (f u)) (Some u) in
     part_by_part c next
-    (λ p. elim p as (Stays c.marks next.marks) [ Units ↦ put_stays c.marks.units n | Rows ↦ put_stays c.marks.rows n | _ ↦ λ k h. h ])
+    (λ p. elim p as (PartStaysMarked c.marks next.marks) [ Units ↦ put_stays c.marks.units n | Rows ↦ put_stays c.marks.rows n | _ ↦ λ k h. h ])
     (λ p. elim p as (KeepsUnmarked next.marks c.value next.value) [
-      | Rows ↦ λ k free. ap (option_map bare) (get-insert_other c.value.units n k (f u) (apart_by c.marks.rows n k free))
+      | Rows ↦ λ k free. ap (option_map without_goods) (get-insert_other c.value.units n k (f u) (unmarked_differs_from_put c.marks.rows n k free))
       | Items ↦ λ k free. shown_still (λ o. get (items_under o) k.1) c.value.units n k.0 u (f u) is (λ _. ap (λ (g : FinMap nat_cmp ℕ × FinMap nat_cmp ℕ). get g.0 k.1) (same u))
       | Skills ↦ λ k free. shown_still (λ o. get (days_under o) k.1) c.value.units n k.0 u (f u) is (λ _. ap (λ (g : FinMap nat_cmp ℕ × FinMap nat_cmp ℕ). get g.1 k.1) (same u))
       | _ ↦ λ k free. refl
@@ -233,9 +233,9 @@ module _ (c : MarkedCampaign) (n item amount : ℕ) where
   other_amount u is =
       let next = after_item (insert c.value.units n (with_other u)) (Some u) in
       part_by_part c next
-      (λ p. elim p as (Stays c.marks next.marks) [ Units ↦ put_stays c.marks.units n | Items ↦ λ k h. thing_stays c.marks.goods c.marks.items n item k.0 k.1 h | _ ↦ λ k h. h ])
+      (λ p. elim p as (PartStaysMarked c.marks next.marks) [ Units ↦ put_stays c.marks.units n | Items ↦ λ k h. thing_stays c.marks.goods c.marks.items n item k.0 k.1 h | _ ↦ λ k h. h ])
       (λ p. elim p as (KeepsUnmarked next.marks c.value next.value) [
-        | Rows ↦ λ k free. shown_still (option_map bare) c.value.units n k u (with_other u) is (λ _. refl)
+        | Rows ↦ λ k free. shown_still (option_map without_goods) c.value.units n k u (with_other u) is (λ _. refl)
         | Items ↦ λ k free. shown_still (λ o. get (items_under o) k.1) c.value.units n k.0 u (with_other u) is (λ here. get-set_other u.holding.items item amount k.1 (apart_by_thing c.marks.goods c.marks.items n item k.0 k.1 free here))
         | Skills ↦ λ k free. shown_still (λ o. get (days_under o) k.1) c.value.units n k.0 u (with_other u) is (λ _. refl)
         | _ ↦ λ k free. refl
@@ -244,7 +244,7 @@ module _ (c : MarkedCampaign) (n item amount : ℕ) where
   -- setting an item of a unit, with its mark if the amount is another than before, marks all that changes
   -- (MarksChanges)
   pub marks-item : MarksChanges c (record { value = with_item c.value n item amount; marks = mark_item c n item amount })
-  marks-item = changed_there (λ units o. MarksChanges c (after_item units (unless_has item amount o))) with_other c.value.units n (marks-refl c) (λ u is. by_amount u is (has_amount u.holding.items item amount) refl)
+  marks-item = holds_of_changed (λ units o. MarksChanges c (after_item units (unit_if_other_amount item amount o))) with_other c.value.units n (marks-refl c) (λ u is. by_amount u is (has_amount u.holding.items item amount) refl)
     where
       -- for marks-item: setting the item of unit u, which is n, marks all that changes (MarksChanges), whether u has
       -- the amount already (b) or not
@@ -259,12 +259,12 @@ pub marks-skill : (c : MarkedCampaign) (n skill days : ℕ) → MarksChanges c (
 marks-skill c n skill days =
     let with_other : Unit → Unit = λ u. record u { holding = record u.holding { days = with_amount_of u.holding.days skill days } } in
     let after : FinMap nat_cmp Unit → Option Unit → MarkedCampaign = λ m o. record { value = record c.value { units = m }; marks = record c.marks { units = marked_with c.marks.units n o; skills = thing_marked c.marks.skills n skill o } } in
-    changed_there (λ m o. MarksChanges c (after m o)) with_other c.value.units n (marks-refl c) (λ u is.
+    holds_of_changed (λ m o. MarksChanges c (after m o)) with_other c.value.units n (marks-refl c) (λ u is.
     let next = after (insert c.value.units n (with_other u)) (Some u) in
     part_by_part c next
-    (λ p. elim p as (Stays c.marks next.marks) [ Units ↦ put_stays c.marks.units n | Skills ↦ λ k h. thing_stays c.marks.goods c.marks.skills n skill k.0 k.1 h | _ ↦ λ k h. h ])
+    (λ p. elim p as (PartStaysMarked c.marks next.marks) [ Units ↦ put_stays c.marks.units n | Skills ↦ λ k h. thing_stays c.marks.goods c.marks.skills n skill k.0 k.1 h | _ ↦ λ k h. h ])
     (λ p. elim p as (KeepsUnmarked next.marks c.value next.value) [
-      | Rows ↦ λ k free. shown_still (option_map bare) c.value.units n k u (with_other u) is (λ _. refl)
+      | Rows ↦ λ k free. shown_still (option_map without_goods) c.value.units n k u (with_other u) is (λ _. refl)
       | Items ↦ λ k free. shown_still (λ o. get (items_under o) k.1) c.value.units n k.0 u (with_other u) is (λ _. refl)
       | Skills ↦ λ k free. shown_still (λ o. get (days_under o) k.1) c.value.units n k.0 u (with_other u) is (λ here. get-set_other u.holding.days skill days k.1 (apart_by_thing c.marks.goods c.marks.skills n skill k.0 k.1 free here))
       | _ ↦ λ k free. refl

@@ -18,10 +18,10 @@ use Rattle.std.proofs.lemmas.Map.Keys.{Less-from_sorted}
 use Rattle.std.proofs.lemmas.Option.{get_or_from_slice_get, slice_get_within}
 use Rattle.atl_world.specs.SortedNumbers.{IsAt, BelongsAt}
 use Rattle.atl_world.proofs.GeneralLaws.{key_itself, same_key}
-use Rattle.atl_world.proofs.SortedListLaws.{rising-empty, rising-insert, rising-remove, contains-belongs, from_list-remove}
+use Rattle.atl_world.proofs.SortedListLaws.{sorted-empty, sorted-insert, sorted-remove, contains-belongs, from_list-remove}
 use Rattle.atl_world.proofs.Maps.{entries_of, len_of}
-use Rattle.atl_world.proofs.SumLaws.{taken_back}
-use Rattle.atl_world.proofs.TrackLaws.{there_itself, remove_none}
+use Rattle.atl_world.proofs.SumLaws.{remove_undoes_insert}
+use Rattle.atl_world.proofs.TrackLaws.{get_inserted, remove_none}
 use Rattle.atl_campaign.specs.declared.index.IndexEntry.{IndexEntry}
 use Rattle.atl_campaign.specs.Index.{index_numbers, slots_of}
 
@@ -30,8 +30,8 @@ pub some_none : {X : Type 0} (x : X) {P : Type 0} → Some x ≡ None → P
 some_none x e = cc
 
 -- the numbers of the index entries are strictly ascending
-abbrev IsSorted : List IndexEntry → Type 0
-IsSorted ps = IsStrictlySortedBy nat_cmp (index_numbers ps)
+abbrev IsSortedIndex : List IndexEntry → Type 0
+IsSortedIndex ps = IsStrictlySortedBy nat_cmp (index_numbers ps)
 
 -- the map from numbers to slots that the index entries stand for
 abbrev pub as_map : List IndexEntry → finmap.FinMap nat_cmp ℕ
@@ -59,7 +59,7 @@ module _ {X Y : Type 0} (f : X → Y) where
   map-remove (y ∷ xs) zero = refl
   map-remove (y ∷ xs) (suc i) = ap (λ ys. f y ∷ ys) (map-remove xs i)
 
--- the first parts of the index entries as pairs of number and slot are the entries' numbers
+-- the keys of index entries, taken as pairs of number and slot, are the entries' numbers
 keys_are : (ps : List IndexEntry) → keys_of (slots_of ps) ≡ index_numbers ps
 keys_are [] = refl
 keys_are (p ∷ ps) = ap (λ ns. p.number ∷ ns) (keys_are ps)
@@ -101,89 +101,89 @@ module _ {X : Type 0} where
 -- ---- what the index has under a number
 
 -- an option that is not Some is None
-pub nothing : {X : Type 0} (o : Option X) → is_some o ≡ false → o ≡ None
-nothing None h = refl
-nothing (Some x) h = absurd (false≢true (sym h))
+pub not_some_is_none : {X : Type 0} (o : Option X) → is_some o ≡ false → o ≡ None
+not_some_is_none None h = refl
+not_some_is_none (Some x) h = absurd (false≢true (sym h))
 
 -- a number that no index entry has is not in the map that the index entries stand for
 unlisted : (ps : List IndexEntry) (n : ℕ) → set.contains {R = nat_cmp} (set.from_list (index_numbers ps)) n ≡ false → finmap.get (as_map ps) n ≡ None
 unlisted ps n h =
     finmap.get-from_entries nat_cmp_total (slots_of ps) n
-    ∙ nothing _ (is_some-find nat_cmp n (slots_of ps) ∙ ap (list_any (eq_by_cmp nat_cmp n)) (keys_are ps) ∙ sym (set.contains-from_list nat_cmp_total (index_numbers ps) n) ∙ h)
+    ∙ not_some_is_none _ (is_some-find nat_cmp n (slots_of ps) ∙ ap (list_any (eq_by_cmp nat_cmp n)) (keys_are ps) ∙ sym (set.contains-from_list nat_cmp_total (index_numbers ps) n) ∙ h)
 
 -- a number that no index entry has, and that would be inserted at index i (BelongsAt), is not in the entries' map
-pub get-belongs : (ps : List IndexEntry) (n i : ℕ) → IsSorted ps → BelongsAt (index_numbers ps) n i → finmap.get (as_map ps) n ≡ None
+pub get-belongs : (ps : List IndexEntry) (n i : ℕ) → IsSortedIndex ps → BelongsAt (index_numbers ps) n i → finmap.get (as_map ps) n ≡ None
 get-belongs ps n i s b = unlisted ps n (contains-belongs (index_numbers ps) n i s b)
 
 -- a number removed from a set is not in it
-taken : (t : set.FinSet nat_cmp) (n : ℕ) → set.contains (set.remove t n) n ≡ false
-taken t n = set.contains-remove nat_cmp_total t n n ∙ ap (λ b. not b && set.contains t n) (key_itself n)
+removed_is_absent : (t : set.FinSet nat_cmp) (n : ℕ) → set.contains (set.remove t n) n ≡ false
+removed_is_absent t n = set.contains-remove nat_cmp_total t n n ∙ ap (λ b. not b && set.contains t n) (key_itself n)
 
 -- once the entry of a number is removed from sorted index entries, their map doesn't have the number
-gone : (ps : List IndexEntry) (n i : ℕ) → IsSorted ps → IsAt (index_numbers ps) n i → finmap.get (as_map (remove ps i)) n ≡ None
-gone ps n i s h =
-    unlisted (remove ps i) n (ap (λ ns. set.contains {R = nat_cmp} (set.from_list ns) n) (map-remove (λ (p : IndexEntry). p.number) ps i) ∙ ap (λ t. set.contains t n) (from_list-remove (index_numbers ps) n i s h) ∙ taken (set.from_list (index_numbers ps)) n)
+removed_entry_is_absent : (ps : List IndexEntry) (n i : ℕ) → IsSortedIndex ps → IsAt (index_numbers ps) n i → finmap.get (as_map (remove ps i)) n ≡ None
+removed_entry_is_absent ps n i s h =
+    unlisted (remove ps i) n (ap (λ ns. set.contains {R = nat_cmp} (set.from_list ns) n) (map-remove (λ (p : IndexEntry). p.number) ps i) ∙ ap (λ t. set.contains t n) (from_list-remove (index_numbers ps) n i s h) ∙ removed_is_absent (set.from_list (index_numbers ps)) n)
 
 -- the index at which the index entries have a number (IsAt) is below how many entries there are
-inside : (ps : List IndexEntry) (n i : ℕ) → IsAt (index_numbers ps) n i → i < length ps
-inside ps n i h = let size = length-map ps (λ (p : IndexEntry). p.number) in let l = h.within in omega (arith, size, l)
+index_is_within : (ps : List IndexEntry) (n i : ℕ) → IsAt (index_numbers ps) n i → i < length ps
+index_is_within ps n i h = let size = length-map ps (λ (p : IndexEntry). p.number) in let l = h.within in omega (arith, size, l)
 
 -- the index entry at the index of a number (IsAt) has that number
-number-stands : (ps : List IndexEntry) (n i : ℕ) (d : IndexEntry) → IsAt (index_numbers ps) n i → (get_or ps i d).number ≡ n
-number-stands ps n i d h =
-    sym (get_or-map (λ (p : IndexEntry). p.number) ps i d d.number (inside ps n i h)) ∙ get_or_default (index_numbers ps) i d.number 0 h.within ∙ h.number_there
+number_at_index : (ps : List IndexEntry) (n i : ℕ) (d : IndexEntry) → IsAt (index_numbers ps) n i → (get_or ps i d).number ≡ n
+number_at_index ps n i d h =
+    sym (get_or-map (λ (p : IndexEntry). p.number) ps i d d.number (index_is_within ps n i h)) ∙ get_or_default (index_numbers ps) i d.number 0 h.within ∙ h.number_there
 
 -- the map of the index entries is their map without a number's entry, with the slot of that entry put in again
-put_again : (ps : List IndexEntry) (n i : ℕ) (d : IndexEntry) → IsSorted ps → IsAt (index_numbers ps) n i → as_map ps ≡ finmap.insert (as_map (remove ps i)) n (get_or ps i d).slot
+put_again : (ps : List IndexEntry) (n i : ℕ) (d : IndexEntry) → IsSortedIndex ps → IsAt (index_numbers ps) n i → as_map ps ≡ finmap.insert (as_map (remove ps i)) n (get_or ps i d).slot
 put_again ps n i d s h =
     let p = get_or ps i d in
-    sym (ap as_map (put_back ps i d (inside ps n i h))) ∙ ap from_entries (map-insert (λ (p : IndexEntry). (p.number, p.slot)) (remove ps i) i p)
-    ∙ ap (λ k. from_entries (insert (slots_of (remove ps i)) i (k, p.slot))) (number-stands ps n i d h) ∙ from_entries-insert (slots_of (remove ps i)) i n p.slot (gone ps n i s h)
+    sym (ap as_map (put_back ps i d (index_is_within ps n i h))) ∙ ap from_entries (map-insert (λ (p : IndexEntry). (p.number, p.slot)) (remove ps i) i p)
+    ∙ ap (λ k. from_entries (insert (slots_of (remove ps i)) i (k, p.slot))) (number_at_index ps n i d h) ∙ from_entries-insert (slots_of (remove ps i)) i n p.slot (removed_entry_is_absent ps n i s h)
 
 -- the map of sorted index entries has under a number the slot of the entry with this number
-pub get-stands : (ps : List IndexEntry) (n i : ℕ) (d : IndexEntry) → IsSorted ps → IsAt (index_numbers ps) n i → finmap.get (as_map ps) n ≡ Some (get_or ps i d).slot
-get-stands ps n i d s h = ap (λ m. finmap.get m n) (put_again ps n i d s h) ∙ there_itself (as_map (remove ps i)) n (get_or ps i d).slot
+pub get-at_index : (ps : List IndexEntry) (n i : ℕ) (d : IndexEntry) → IsSortedIndex ps → IsAt (index_numbers ps) n i → finmap.get (as_map ps) n ≡ Some (get_or ps i d).slot
+get-at_index ps n i d s h = ap (λ m. finmap.get m n) (put_again ps n i d s h) ∙ get_inserted (as_map (remove ps i)) n (get_or ps i d).slot
 
 -- ---- an entry that is inserted
 
 -- inserting an index entry where its number belongs puts it into the map of the entries
-pub map-added : (ps : List IndexEntry) (n i k : ℕ) → IsSorted ps → BelongsAt (index_numbers ps) n i → as_map (insert ps i (record { number = n; slot = k })) ≡ finmap.insert (as_map ps) n k
+pub map-added : (ps : List IndexEntry) (n i k : ℕ) → IsSortedIndex ps → BelongsAt (index_numbers ps) n i → as_map (insert ps i (record { number = n; slot = k })) ≡ finmap.insert (as_map ps) n k
 map-added ps n i k s b =
     ap from_entries (map-insert (λ (p : IndexEntry). (p.number, p.slot)) ps i (record { number = n; slot = k })) ∙ from_entries-insert (slots_of ps) i n k (get-belongs ps n i s b)
 
 -- sorted index entries stay sorted when one is inserted where its number belongs
-pub rising-added : (ps : List IndexEntry) (n i k : ℕ) → IsSorted ps → BelongsAt (index_numbers ps) n i → IsSorted (insert ps i (record { number = n; slot = k }))
-rising-added ps n i k s b = rw (map-insert (λ (p : IndexEntry). p.number) ps i (record { number = n; slot = k })) (rising-insert (index_numbers ps) n i s b)
+pub sorted-added : (ps : List IndexEntry) (n i k : ℕ) → IsSortedIndex ps → BelongsAt (index_numbers ps) n i → IsSortedIndex (insert ps i (record { number = n; slot = k }))
+sorted-added ps n i k s b = rw (map-insert (λ (p : IndexEntry). p.number) ps i (record { number = n; slot = k })) (sorted-insert (index_numbers ps) n i s b)
 
 -- ---- an entry that is removed
 
 -- removing the index entry with a number removes the number from the map of the entries
-pub map-without : (ps : List IndexEntry) (n i : ℕ) → IsSorted ps → IsAt (index_numbers ps) n i → as_map (remove ps i) ≡ finmap.remove (as_map ps) n
+pub map-without : (ps : List IndexEntry) (n i : ℕ) → IsSortedIndex ps → IsAt (index_numbers ps) n i → as_map (remove ps i) ≡ finmap.remove (as_map ps) n
 map-without ps n i s h =
     let d : IndexEntry = record { number = 0; slot = 0 } in
-    sym (ap (λ m. finmap.remove m n) (put_again ps n i d s h) ∙ taken_back (as_map (remove ps i)) n (get_or ps i d).slot (gone ps n i s h))
+    sym (ap (λ m. finmap.remove m n) (put_again ps n i d s h) ∙ remove_undoes_insert (as_map (remove ps i)) n (get_or ps i d).slot (removed_entry_is_absent ps n i s h))
 
 -- sorted index entries stay sorted when one is removed
-pub rising-without : (ps : List IndexEntry) (n i : ℕ) → IsSorted ps → IsAt (index_numbers ps) n i → IsSorted (remove ps i)
-rising-without ps n i s h = rw (map-remove (λ (p : IndexEntry). p.number) ps i) (rising-remove (index_numbers ps) i s h.within)
+pub sorted-without : (ps : List IndexEntry) (n i : ℕ) → IsSortedIndex ps → IsAt (index_numbers ps) n i → IsSortedIndex (remove ps i)
+sorted-without ps n i s h = rw (map-remove (λ (p : IndexEntry). p.number) ps i) (sorted-remove (index_numbers ps) i s h.within)
 
 -- removing a number that no index entry has from the map of the entries changes nothing
-pub map-missing : (ps : List IndexEntry) (n i : ℕ) → IsSorted ps → BelongsAt (index_numbers ps) n i → as_map ps ≡ finmap.remove (as_map ps) n
+pub map-missing : (ps : List IndexEntry) (n i : ℕ) → IsSortedIndex ps → BelongsAt (index_numbers ps) n i → as_map ps ≡ finmap.remove (as_map ps) n
 map-missing ps n i s b = sym (remove_none (as_map ps) n (get-belongs ps n i s b))
 
 -- ---- the whole index
 
 -- the empty list of index entries is sorted
-pub rising-none : IsSorted []
-rising-none = rising-empty
+pub sorted-none : IsSortedIndex []
+sorted-none = sorted-empty
 
--- the list of the map that sorted index entries stand for has these entries as pairs of number and slot
-pub entries-places : (ps : List IndexEntry) → IsSorted ps → finmap.entries (as_map ps) ≡ slots_of ps
-entries-places ps s = entries_of (slots_of ps) (rw (keys_are ps) s)
+-- the entries of the map that sorted index entries stand for are these index entries, as pairs of number and slot
+pub entries-index : (ps : List IndexEntry) → IsSortedIndex ps → finmap.entries (as_map ps) ≡ slots_of ps
+entries-index ps s = entries_of (slots_of ps) (rw (keys_are ps) s)
 
 -- the map that sorted index entries stand for has as many numbers as there are entries
-pub len-places : (ps : List IndexEntry) → IsSorted ps → finmap.len (as_map ps) ≡ length ps
-len-places ps s = len_of (slots_of ps) (rw (keys_are ps) s) ∙ length-map ps (λ (p : IndexEntry). (p.number, p.slot))
+pub len-index : (ps : List IndexEntry) → IsSortedIndex ps → finmap.len (as_map ps) ≡ length ps
+len-index ps s = len_of (slots_of ps) (rw (keys_are ps) s) ∙ length-map ps (λ (p : IndexEntry). (p.number, p.slot))
 
 -- ---- the index that a search gives: of a number, or where it belongs
 
@@ -199,7 +199,7 @@ found-by_search ps n (Ok i) l h =
 found-by_search ps n (Err i) l h = tt
 
 -- sorted index entries have first the numbers below n, then n, then those above it, as the binary search requires
-searchable : (ps : List IndexEntry) (n : ℕ) → IsSorted ps → IsNonDecreasingBy (λ (p : IndexEntry). ordering_index (nat_cmp p.number n)) ps
+searchable : (ps : List IndexEntry) (n : ℕ) → IsSortedIndex ps → IsNonDecreasingBy (λ (p : IndexEntry). ordering_index (nat_cmp p.number n)) ps
 searchable ps n s = searchable_from_sorted nat_cmp_total (λ (p : IndexEntry). p.number) ps n (λ k d low h.
     let ns = index_numbers ps in
     let size : length ns ≡ length ps = length-map ps (λ (p : IndexEntry). p.number) in
@@ -208,7 +208,7 @@ searchable ps n s = searchable_from_sorted nat_cmp_total (λ (p : IndexEntry). p
     ap is_lt (λ i. nat_cmp (sym (at (k + 1) h) i) (sym (at k (omega arith)) i)) ∙ ap is_lt (nat_cmp_total.antisymm (get_or ns (k + 1) d.number) (get_or ns k d.number)) ∙ ap (λ r. is_lt (ordering_reverse r)) up)
 
 -- if the binary search doesn't find a number, the number belongs at the index that it gives (BelongsAt)
-pub missing-by_search : (ps : List IndexEntry) (n : ℕ) (r : Result ℕ ℕ) → IsSorted ps → IsSearchInRange r (length ps) → IsBinarySearchResult (λ p. nat_cmp p.number n) ps r → IfErr r (λ i. BelongsAt (index_numbers ps) n i)
+pub missing-by_search : (ps : List IndexEntry) (n : ℕ) (r : Result ℕ ℕ) → IsSortedIndex ps → IsSearchInRange r (length ps) → IsBinarySearchResult (λ p. nat_cmp p.number n) ps r → IfErr r (λ i. BelongsAt (index_numbers ps) n i)
 missing-by_search ps n (Ok i) s l h = tt
 missing-by_search ps n (Err i) s l h =
     let d : IndexEntry = record { number = 0; slot = 0 } in
@@ -218,16 +218,16 @@ missing-by_search ps n (Err i) s l h =
     record {
       within = omega (arith, size, l);
       before = λ k m. let less = ranked (get_or ps k d).number n Less (sym (parts.0 k d (omega arith) m)) in let same = at k (omega (arith, m, l)) in omega (arith, less, same);
-      behind = λ k m w. let more = ranked (get_or ps k d).number n Greater (sym (parts.1 k d m (omega (arith, w, size)))) in let same = at k (omega (arith, w, size)) in omega (arith, more, same);
+      after = λ k m w. let more = ranked (get_or ps k d).number n Greater (sym (parts.1 k d m (omega (arith, w, size)))) in let same = at k (omega (arith, w, size)) in omega (arith, more, same);
     }
 
 -- a number above that of the last of sorted index entries belongs at their end (BelongsAt)
-pub BelongsAt-above : (ps : List IndexEntry) (p : IndexEntry) (n : ℕ) → IsSorted ps → slice_get ps (length ps - 1) ≡ Some p → p.number < n → BelongsAt (index_numbers ps) n (length ps)
+pub BelongsAt-above : (ps : List IndexEntry) (p : IndexEntry) (n : ℕ) → IsSortedIndex ps → slice_get ps (length ps - 1) ≡ Some p → p.number < n → BelongsAt (index_numbers ps) n (length ps)
 BelongsAt-above ps p n s is above =
     record {
       within = omega (arith, size);
       before = λ k m. by_order k (cases_order k last) m;
-      behind = λ k m w. absurd (omega (arith, size, m, w));
+      after = λ k m w. absurd (omega (arith, size, m, w));
     }
   where
     -- for BelongsAt-above: the numbers of the index entries ps
@@ -256,4 +256,4 @@ BelongsAt-above ps p n s is above =
     by_order k (inr (inl before)) m =
         let less = ranked (get_or ns k 0) (get_or ns last 0) Less (sym (Less-from_sorted nat_cmp ns k last 0 s before (omega (arith, size, some)))) in
         omega (arith, less, end, above)
-    by_order k (inr (inr behind)) m = absurd (omega (arith, behind, m))
+    by_order k (inr (inr after)) m = absurd (omega (arith, after, m))

@@ -23,15 +23,15 @@ use Rattle.atl_records.specs.declared.books.Thing.TheVariants.{Money, People, It
 use Rattle.atl_records.specs.declared.records.Faction.{Faction}
 use Rattle.atl_records.specs.declared.records.Unit.{Unit}
 use Rattle.atl_records.specs.Holdings.{IsHolding}
-use Rattle.atl_campaign.specs.Campaign.{CampaignValue, numbers_of}
+use Rattle.atl_campaign.specs.Campaign.{CampaignValue, numbers_of_faction}
 use Rattle.atl_records.specs.Books.{booked, after_booking, amount_in, LeavesRoomForJoining}
 use Rattle.atl_records.specs.Amounts.{unit_amount}
 use Rattle.atl_campaign.specs.Totals.{total, Balances}
-use Rattle.atl_campaign.specs.Founding.{things_of}
+use Rattle.atl_campaign.specs.Founding.{thing_count}
 use Rattle.atl_records.specs.Every.{Every}
 use Rattle.atl_campaign.proofs.GoodLaws.{posted-there}
-use Rattle.atl_campaign.specs.Good.{AreInRange, AreAmountsWithin, HaveMen, AreNamed, IsPlaced, AreKnown, IsNumbered, AreNumbered, AreDays, GoneHaveNone, UnitlessAreGone, AreOwned, IsAboard, AreAfloat, guards, AreOfOneFaction, IsMail, IsSteady, IsSound, amount_bound}
-use Rattle.atl_campaign.specs.Joining.{joined, new_faction, first_unit, home_of, is_full, name_taken}
+use Rattle.atl_campaign.specs.Good.{AreInRange, AreAmountsWithin, HaveMen, AreNamed, IsPlaced, AreKnown, IsNumbered, AreNumbered, AreDays, GoneHaveNone, UnitlessAreGone, AreOwned, IsAboard, AreAfloat, guards, AreOfOneFaction, HasValidMail, IsSteady, IsSound, amount_bound}
+use Rattle.atl_campaign.specs.Joining.{after_join, new_faction, first_unit, home_of, is_full, name_taken}
 use Rattle.atl_campaign.specs.Ordered.{put_number, first_not_below}
 use Rattle.atl_records.proofs.BookLaws.{booked-after_booking, AreBooks-after_booking, IsWithin-after_booking, LeavesRoomForJoining-within, booked_for}
 use Rattle.atl_records.proofs.EveryLaws.{every-empty, every-insert, every-from_none, get-insert_other, there-new, there-insert, passes-listed, none_some}
@@ -41,24 +41,24 @@ use Rattle.atl_campaign.proofs.TotalLaws.{total-with_unit}
 
 -- ---- the books
 
--- for joined-balances: if the total x is what is booked, b, and n more come, which are p + q, then x + n is b + p + q
+-- for joined-balances: a total x that is what is booked (b) still is, once n more come, and as much (p and q) is booked
 total_after_join : (x n : ℕ) (b p q : ℤ) → pos x ≡ b → pos n ≡ p +ℤ q → pos (x + n) ≡ (b +ℤ p) +ℤ q
 total_after_join x n b p q h g = omega (arith, ints)
 
 -- the first unit of a faction that joins has 0 of each item, which is what the join books of the item
-none : (w : WorldValue) (word : ℕ) (c : CampaignValue) (i : ℕ) → (2 + i == 0) ≡ false → (2 + i == 1) ≡ false → pos (unit_amount (Item i) (first_unit w word c).holding) ≡ booked_for (Item i) Money (pos w.rules.start_money) +ℤ booked_for (Item i) People (pos 1)
-none w word c i a b =
+no_item_is_booked : (w : WorldValue) (word : ℕ) (c : CampaignValue) (i : ℕ) → (2 + i == 0) ≡ false → (2 + i == 1) ≡ false → pos (unit_amount (Item i) (first_unit w word c).holding) ≡ booked_for (Item i) Money (pos w.rules.start_money) +ℤ booked_for (Item i) People (pos 1)
+no_item_is_booked w word c i a b =
     ap (λ o. pos (unwrap_or o 0)) (get-empty nat_cmp i) ∙ sym (ap (λ q. cond q (pos w.rules.start_money) (pos 0) +ℤ cond (2 + i == 1) (pos 1) (pos 0)) a ∙ ap (λ q. pos 0 +ℤ cond q (pos 1) (pos 0)) b)
 
 -- what the first unit of a faction that joins holds of a thing is what the join books of the thing
 held_booked : (w : WorldValue) (word : ℕ) (c : CampaignValue) (t : Thing) → pos (unit_amount t (first_unit w word c).holding) ≡ booked_for t Money (pos w.rules.start_money) +ℤ booked_for t People (pos 1)
 held_booked w word c Money = omega (arith, ints)
 held_booked w word c People = refl
-held_booked w word c (Item i) = none w word c i (grind (arith, nat_tests)) (grind (arith, nat_tests))
+held_booked w word c (Item i) = no_item_is_booked w word c i (grind (arith, nat_tests)) (grind (arith, nat_tests))
 
 -- the books still balance once a faction joined, if no unit has the next unit's number
-pub joined-balances : (w : WorldValue) (name pass : List ℕ) (word : ℕ) (c : CampaignValue) → get c.units c.next_unit ≡ None → Balances c → Balances (joined w name pass word c)
-unfolding joined total
+pub joined-balances : (w : WorldValue) (name pass : List ℕ) (word : ℕ) (c : CampaignValue) → get c.units c.next_unit ≡ None → Balances c → Balances (after_join w name pass word c)
+unfolding after_join total
 joined-balances w name pass word c free h t =
     let one = after_booking c.books Joining Money (pos w.rules.start_money) in
     ap pos (total-with_unit c c.next_unit (first_unit w word c) t free)
@@ -82,16 +82,16 @@ joining_small w c sound =
 len_new : {V : Type 0} (m : FinMap nat_cmp V) (k : ℕ) (v : V) → get m k ≡ None → len (insert m k v) ≡ len m + 1
 len_new m k v h = len-insert nat_cmp_total m k v ∙ ap (λ o. cond (is_some o) (len m) (len m + 1)) h
 
--- for room: if f factions, u units and the next unit number n fail the test for a full campaign, f and u are below
--- their limits, and n is at most last_unit
-few : (f u n : ℕ) → ((nat_le last_faction f || nat_le most_units u) || nat_lt last_unit n) ≡ false → (f < last_faction) × (u < most_units) × (n ≤ last_unit)
-few f u n h = (grind (arith, nat_tests), grind (arith, nat_tests), grind (arith, nat_tests))
+-- for room: f factions and u units are below their limits, and the next unit number n is at most last_unit, if the test
+-- for a full campaign fails
+counts_below_limits : (f u n : ℕ) → ((nat_le last_faction f || nat_le most_units u) || nat_lt last_unit n) ≡ false → (f < last_faction) × (u < most_units) × (n ≤ last_unit)
+counts_below_limits f u n h = (grind (arith, nat_tests), grind (arith, nat_tests), grind (arith, nat_tests))
 
 -- a campaign that is not full has fewer factions and units than the limits, and a unit number left
-pub room : (c : CampaignValue) → is_full c ≡ false → (len c.factions < last_faction) × (len c.units < most_units) × (c.next_unit ≤ last_unit)
-room c h = few (len c.factions) (len c.units) c.next_unit h
+pub room_to_join : (c : CampaignValue) → is_full c ≡ false → (len c.factions < last_faction) × (len c.units < most_units) × (c.next_unit ≤ last_unit)
+room_to_join c h = counts_below_limits (len c.factions) (len c.units) c.next_unit h
 
--- if the numbers from n on have no value in a map, they still have none once a value is put below n
+-- the numbers from n on still have no value in a map once a value is put under a number below n
 still_free : {V : Type 0} (m : FinMap nat_cmp V) (n k : ℕ) (v : V) → ((q : ℕ) → n ≤ q → get m q ≡ None) → k < n → (q : ℕ) → n ≤ q → get (insert m k v) q ≡ None
 still_free m n k v free below q h = get-insert_other m k q v (λ same. omega arith) ∙ free q h
 
@@ -118,9 +118,9 @@ some_put : {P : Type 0} (n : ℕ) (xs : List ℕ) → put_number n xs ≡ [] →
 unfolding put_number
 some_put n xs e = absurd (omega (arith, ap length e, length-append (take (first_not_below n xs) xs) (n ∷ drop (first_not_below n xs) xs)))
 
--- if name_taken is false of a name, no faction joined under this name
-untaken : (c : CampaignValue) (name : List ℕ) → name_taken c name ≡ false → Every (λ n f. f.joined_as ≢ name) c.factions
-untaken c name h n f is same =
+-- no faction joined under a name of which name_taken is false
+name_is_free : (c : CampaignValue) (name : List ℕ) → name_taken c name ≡ false → Every (λ n f. f.joined_as ≢ name) c.factions
+name_is_free c name h n f is same =
     let differs = every-from_none (λ (g : Faction). pointwise nat_eq g.joined_as name) c.factions h n f is in
     let equal = (bytes_eq-Decides f.joined_as name).1 same in
     absurd (true≢false (sym equal ∙ differs))
@@ -143,10 +143,10 @@ module _ (w : WorldValue) (name pass : List ℕ) (word : ℕ) (c : CampaignValue
   units = insert c.units c.next_unit unit
 
   -- in a campaign that isn't full, counts and numbers stay in their ranges (AreInRange) once a faction joined
-  joined-numbers : is_full c ≡ false → IsWorld w → AreNumbered c → AreInRange w c → AreInRange w (joined w name pass word c)
-  unfolding joined
+  joined-numbers : is_full c ≡ false → IsWorld w → AreNumbered c → AreInRange w c → AreInRange w (after_join w name pass word c)
+  unfolding after_join
   joined-numbers full world next old =
-      let r = room c full in
+      let r = room_to_join c full in
       let one = after_booking c.books Joining Money (pos w.rules.start_money) in
       record {
         month = old.month;
@@ -160,22 +160,22 @@ module _ (w : WorldValue) (name pass : List ℕ) (word : ℕ) (c : CampaignValue
         regions = old.regions;
         units = every-insert (λ n u. (1 ≤ n) × IsHolding u.holding) c.units c.next_unit unit (old.next_unit_least, record { men = omega arith; money = world.rules.start_money; items = every-empty (λ item amount. (1 ≤ amount) × (amount ≤ holding_limit)) }) old.units;
         structures = old.structures;
-        books = AreBooks-after_booking (things_of w) one Joining People (pos 1) (AreBooks-after_booking (things_of w) c.books Joining Money (pos w.rules.start_money) old.books (omega arith)) (omega arith);
+        books = AreBooks-after_booking (thing_count w) one Joining People (pos 1) (AreBooks-after_booking (thing_count w) c.books Joining Money (pos w.rules.start_money) old.books (omega arith)) (omega arith);
       }
 
   -- names and pass texts still keep their rules (AreNamed) once a faction joined, if its own name and pass text do, and
   -- the name is not taken
-  joined-names : is_full c ≡ false → name_taken c name ≡ false → IsTrue (name_ok name) → IsTrue (pass_ok pass) → AreNamed c → AreNamed (joined w name pass word c)
-  unfolding joined
+  joined-names : is_full c ≡ false → name_taken c name ≡ false → IsTrue (name_ok name) → IsTrue (pass_ok pass) → AreNamed c → AreNamed (after_join w name pass word c)
+  unfolding after_join
   joined-names full free named passes old =
-      let own = untaken c name free in
+      let own = name_is_free c name free in
       record {
         pass = old.pass;
         factions = every-insert (λ n f. IsTrue (name_ok f.joined_as) × IsTrue (name_ok f.name) × IsTrue (pass_ok f.pass)) c.factions c.next_faction member (named, named, passes) old.factions;
         joined = every-insert (λ n f. Every (λ m g. f.joined_as ≡ g.joined_as → n ≡ m) factions) c.factions c.next_faction member
             (every-insert (λ m g. name ≡ g.joined_as → c.next_faction ≡ m) c.factions c.next_faction member (λ _. refl) (λ m g is same. absurd (own m g is (sym same))))
             (λ n f is. every-insert (λ m g. f.joined_as ≡ g.joined_as → n ≡ m) c.factions c.next_faction member (λ same. absurd (own n f is same)) (old.joined n f is));
-        units = every-insert (λ n u. IsTrue (name_ok u.holding.name)) c.units c.next_unit unit (unit_name_ok c.next_unit (room c full).2) old.units;
+        units = every-insert (λ n u. IsTrue (name_ok u.holding.name)) c.units c.next_unit unit (unit_name_ok c.next_unit (room_to_join c full).2) old.units;
         structures = old.structures;
       }
 
@@ -184,14 +184,14 @@ module _ (w : WorldValue) (name pass : List ℕ) (word : ℕ) (c : CampaignValue
   home_there world = passes-listed (is_land w.terrains) w.regions (word % length (land_of w)) 0 (omega (arith, world.some_land))
 
   -- everything that a campaign names by number still exists once a faction joined
-  joined-known : IsWorld w → AreKnown w c → AreKnown w (joined w name pass word c)
-  unfolding joined
+  joined-known : IsWorld w → AreKnown w c → AreKnown w (after_join w name pass word c)
+  unfolding after_join
   joined-known world old =
       let home = home_there world in
       record {
         regions = old.regions;
         markets = old.markets;
-        units = every-insert (λ n u. IsPlaced w (joined w name pass word c) u) c.units c.next_unit unit record {
+        units = every-insert (λ n u. IsPlaced w (after_join w name pass word c) u) c.units c.next_unit unit record {
           faction = there-new c.factions c.next_faction member;
           region = (old.regions (home_of w word)).1 (home.0, home.1);
           structure = λ inside. absurd (inside refl);
@@ -210,8 +210,8 @@ module _ (w : WorldValue) (name pass : List ℕ) (word : ℕ) (c : CampaignValue
 
   -- after a join, factions and structures are still numbered without a gap, and units have numbers below the next unit
   -- number (AreNumbered)
-  joined-next : AreNumbered c → AreNumbered (joined w name pass word c)
-  unfolding joined
+  joined-next : AreNumbered c → AreNumbered (after_join w name pass word c)
+  unfolding after_join
   joined-next old = record {
     factions = still_numbered c.factions c.next_faction member old.factions;
     structures = old.structures;
@@ -219,8 +219,8 @@ module _ (w : WorldValue) (name pass : List ℕ) (word : ℕ) (c : CampaignValue
   }
 
   -- days of study stay within their limits when a faction joins
-  joined-days : AreDays c → AreDays (joined w name pass word c)
-  unfolding joined
+  joined-days : AreDays c → AreDays (after_join w name pass word c)
+  unfolding after_join
   joined-days old = every-insert (λ n u. Every (λ s days. (1 ≤ days) × (days ≤ most_days * u.holding.men)) u.holding.days) c.units c.next_unit unit (every-empty (λ s days. (1 ≤ days) × (days ≤ most_days * 1))) old
 
   module _ (next : AreNumbered c) where
@@ -233,28 +233,28 @@ module _ (w : WorldValue) (name pass : List ℕ) (word : ℕ) (c : CampaignValue
     free_unit = next.units c.next_unit (omega arith)
 
     -- each faction that was there before another joined still has the same units
-    same_units : (n : ℕ) (f : Faction) → get c.factions n ≡ Some f → numbers_of n units ≡ numbers_of n c.units
+    same_units : (n : ℕ) (f : Faction) → get c.factions n ≡ Some f → numbers_of_faction n units ≡ numbers_of_faction n c.units
     same_units n f is = numbers_where-insert_other (λ (u : Unit). u.faction == n) c.units c.next_unit unit free_unit (other_key c.factions c.next_faction n f free_faction is)
 
     -- factions that are gone still have no units when another joins
-    joined-gone : GoneHaveNone c → GoneHaveNone (joined w name pass word c)
-    unfolding joined
-    joined-gone old = every-insert (λ n f. f.gone ≡ true → numbers_of n units ≡ []) c.factions c.next_faction member (λ e. absurd (false≢true e)) (λ n f is gone. same_units n f is ∙ old n f is gone)
+    joined-gone : GoneHaveNone c → GoneHaveNone (after_join w name pass word c)
+    unfolding after_join
+    joined-gone old = every-insert (λ n f. f.gone ≡ true → numbers_of_faction n units ≡ []) c.factions c.next_faction member (λ e. absurd (false≢true e)) (λ n f is gone. same_units n f is ∙ old n f is gone)
 
     -- the faction that joins has a unit
-    own_unit : numbers_of c.next_faction units ≡ [] → false ≡ true
+    own_unit : numbers_of_faction c.next_faction units ≡ [] → false ≡ true
     own_unit none =
         let same : (c.next_faction == c.next_faction) ≡ true = grind (arith, nat_tests) in
-        some_put c.next_unit (numbers_of c.next_faction c.units) (sym (numbers_where-insert_new (λ (u : Unit). u.faction == c.next_faction) c.units c.next_unit unit free_unit same) ∙ none)
+        some_put c.next_unit (numbers_of_faction c.next_faction c.units) (sym (numbers_where-insert_new (λ (u : Unit). u.faction == c.next_faction) c.units c.next_unit unit free_unit same) ∙ none)
 
     -- all factions without units are still gone when a faction joins
-    joined-none : UnitlessAreGone c → UnitlessAreGone (joined w name pass word c)
-    unfolding joined
-    joined-none old = every-insert (λ n f. numbers_of n units ≡ [] → f.gone ≡ true) c.factions c.next_faction member own_unit (λ n f is none. old n f is (sym (same_units n f is) ∙ none))
+    joined-none : UnitlessAreGone c → UnitlessAreGone (after_join w name pass word c)
+    unfolding after_join
+    joined-none old = every-insert (λ n f. numbers_of_faction n units ≡ [] → f.gone ≡ true) c.factions c.next_faction member own_unit (λ n f is none. old n f is (sym (same_units n f is) ∙ none))
 
     -- structures are still owned by units inside them, or by nobody where no unit is inside, when a faction joins
-    joined-owners : AreOwned c → AreOwned (joined w name pass word c)
-    unfolding joined
+    joined-owners : AreOwned c → AreOwned (after_join w name pass word c)
+    unfolding after_join
     joined-owners old n s is = let o = old n s is in record {
       owned = λ some. let (u, there, inside) = o.owned some in (u, still_there c.units c.next_unit s.owner unit u free_unit there, inside);
       ownerless = λ none. every-insert (λ m u. u.structure ≢ n) c.units c.next_unit unit (λ same. none_some s (sym next.structures.first ∙ ap (get c.structures) same ∙ is)) (o.ownerless none);
@@ -262,35 +262,35 @@ module _ (w : WorldValue) (name pass : List ℕ) (word : ℕ) (c : CampaignValue
 
     -- when a faction joins, each mail is still of a faction that is there and not gone, short enough, and with the
     -- faction's number in its header (IsMail)
-    joined-mail : IsMail c → IsMail (joined w name pass word c)
-    unfolding joined
+    joined-mail : HasValidMail c → HasValidMail (after_join w name pass word c)
+    unfolding after_join
     joined-mail old n text is = let (own, active) = old n text is in let (f, there, stays) = active in (own, (f, still_there c.factions c.next_faction n member f free_faction there, stays))
 
   -- when a faction joins, units on water are still inside ships, and structures there are complete ships (AreAfloat)
-  joined-water : IsWorld w → AreAfloat w c → AreAfloat w (joined w name pass word c)
-  unfolding joined
+  joined-water : IsWorld w → AreAfloat w c → AreAfloat w (after_join w name pass word c)
+  unfolding after_join
   joined-water world old =
       let home = home_there world in
       let dry : is_land_at w (home_of w word) ≡ true = ap (λ p. option_map_or (is_land w.terrains) p false) home.1 ∙ home.2 in
       record {
-        units = every-insert (λ n u. is_land_at w u.region ≡ false → IsAboard w (joined w name pass word c) u) c.units c.next_unit unit (λ wet. absurd (true≢false (sym dry ∙ wet))) old.units;
+        units = every-insert (λ n u. is_land_at w u.region ≡ false → IsAboard w (after_join w name pass word c) u) c.units c.next_unit unit (λ wet. absurd (true≢false (sym dry ∙ wet))) old.units;
         structures = old.structures;
       }
 
   -- guards stay of one faction in each region when a faction joins
-  joined-guarded : AreOfOneFaction guards c → AreOfOneFaction guards (joined w name pass word c)
-  unfolding joined
+  joined-guarded : AreOfOneFaction guards c → AreOfOneFaction guards (after_join w name pass word c)
+  unfolding after_join
   joined-guarded old = every-insert (λ n u. Every (λ m v. guards u ≡ true → guards v ≡ true → u.region ≡ v.region → u.faction ≡ v.faction) units) c.units c.next_unit unit (λ m v is e. absurd (true≢false (sym e)))
       (λ n u is. every-insert (λ m v. guards u ≡ true → guards v ≡ true → u.region ≡ v.region → u.faction ≡ v.faction) c.units c.next_unit unit (λ _ e. absurd (true≢false (sym e))) (old n u is))
 
   -- every unit still has men when a faction joins
-  joined-men : HaveMen c → HaveMen (joined w name pass word c)
-  unfolding joined
+  joined-men : HaveMen c → HaveMen (after_join w name pass word c)
+  unfolding after_join
   joined-men old = every-insert (λ n u. 1 ≤ u.holding.men) c.units c.next_unit unit (omega arith) old
 
   -- the amounts of the books are still within their bound (`amount_bound`) when a faction joins
-  joined-amounts : IsWorld w → AreNumbered c → AreAmountsWithin c → AreAmountsWithin (joined w name pass word c)
-  unfolding joined
+  joined-amounts : IsWorld w → AreNumbered c → AreAmountsWithin c → AreAmountsWithin (after_join w name pass word c)
+  unfolding after_join
   joined-amounts world next old =
       let more = len_new c.factions c.next_faction member (next.factions.free c.next_faction (omega arith)) in
       let one = after_booking c.books Joining Money (pos w.rules.start_money) in
@@ -299,7 +299,7 @@ module _ (w : WorldValue) (name pass : List ℕ) (word : ℕ) (c : CampaignValue
 
   module _ (full : is_full c ≡ false) (free : name_taken c name ≡ false) (named : IsTrue (name_ok name)) (passes : IsTrue (pass_ok pass)) (world : IsWorld w) where
     -- a campaign stays steady when a faction joins, if the join is not refused, and name and pass text keep their rules
-    joined-steady : IsSteady w c → IsSteady w (joined w name pass word c)
+    joined-steady : IsSteady w c → IsSteady w (after_join w name pass word c)
     joined-steady old = record {
       numbers = joined-numbers full world old.next old.numbers;
       names = joined-names full free named passes old.names;
@@ -314,7 +314,7 @@ module _ (w : WorldValue) (name pass : List ℕ) (word : ℕ) (c : CampaignValue
 
     -- a sound campaign that a faction joins stays sound, if the join is not refused, and name and pass text keep their
     -- rules
-    pub joined-sound : IsSound w c → IsSound w (joined w name pass word c)
+    pub joined-sound : IsSound w c → IsSound w (after_join w name pass word c)
     joined-sound old = let next = old.steady.next in record {
       steady = joined-steady old.steady;
       men = joined-men old.men;

@@ -14,7 +14,7 @@ use Rattle.std.proofs.lemmas.List.{get_or_default, take_more, take-append-drop}
 use Rattle.std.proofs.lemmas.List.Folds.{list_any-append}
 use Rattle.std.proofs.lemmas.Map.Keys.{IsDistinct-head, IsDistinct-tail, IsDistinct-push, sorted_from_all_adjacent}
 
--- if P holds of each element of a list, it holds of x in the midst of the list
+-- P holds of an element x in the midst of a list, if it holds of each element of the list
 at_middle : {K : Type 0} (P : K → Type 0) (front rest : List K) (x : K) → AllByRecursion P (front ++ x ∷ rest) → P x
 at_middle P [] rest x h = h.0
 at_middle P (y ∷ front) rest x h = at_middle P front rest x h.1
@@ -28,11 +28,11 @@ pub next_of : {K : Type 0} (keys : List K) (i : ℕ) (x : K) → i < length keys
 next_of keys i x h is = rest_at keys i x h ∙ ap (λ y. y ∷ drop (i + 1) keys) (sym is)
 
 -- for seen_more: `c || (b || false)` is true if b is, and else what c is
-added : (b c : Bool) → cond b true c ≡ (c || (b || false))
-added true true = refl
-added true false = refl
-added false true = refl
-added false false = refl
+cond_is_or : (b c : Bool) → cond b true c ≡ (c || (b || false))
+cond_is_or true true = refl
+cond_is_or true false = refl
+cond_is_or false true = refl
+cond_is_or false false = refl
 
 module _ {K : Type 0} {R : K → K → Ordering} (o : IsTotalOrder R) where
   -- a list with an element that compares equal to one before it is not distinct
@@ -43,8 +43,8 @@ module _ {K : Type 0} {R : K → K → Ordering} (o : IsTotalOrder R) where
       clash front rest x (sym (ap (λ b. b || list_any (eq_by_cmp R x) front) other) ∙ h) (IsDistinct-tail (eq_by_cmp R) y (front ++ x ∷ rest) apart)
 
   -- keys of which one compares equal to one before it are not distinct
-  pub stands_twice : (keys : List K) (i : ℕ) (x : K) → i < length keys → x ≡ get_or keys i x → list_any (eq_by_cmp R x) (take i keys) ≡ true → IsDistinct (eq_by_cmp R) keys → ⊥
-  stands_twice keys i x h is twice apart =
+  pub is_twice : (keys : List K) (i : ℕ) (x : K) → i < length keys → x ≡ get_or keys i x → list_any (eq_by_cmp R x) (take i keys) ≡ true → IsDistinct (eq_by_cmp R) keys → ⊥
+  is_twice keys i x h is twice apart =
       let parts : take i keys ++ x ∷ drop (i + 1) keys ≡ keys = ap (λ y. take i keys ++ y ∷ drop (i + 1) keys) is ∙ ap (λ ys. take i keys ++ ys) (sym (rest_at keys i x h)) ∙ take-append-drop i keys in
       clash (take i keys) (drop (i + 1) keys) x twice (subst (IsDistinct (eq_by_cmp R)) (sym parts) apart)
 
@@ -56,7 +56,7 @@ module _ {K : Type 0} {R : K → K → Ordering} (o : IsTotalOrder R) where
   -- key q is among the first i + 1 keys exactly if it is x, the key at index i, or among the first i
   pub seen_more : (keys : List K) (i : ℕ) (x q : K) → i < length keys → x ≡ get_or keys i x → cond (eq_by_cmp R x q) true (list_any (eq_by_cmp R q) (take i keys)) ≡ list_any (eq_by_cmp R q) (take (i + 1) keys)
   seen_more keys i x q h is =
-      ap (λ b. cond b true (list_any (eq_by_cmp R q) (take i keys))) ((eq_by_cmp_equiv o).symm x q) ∙ added (eq_by_cmp R q x) (list_any (eq_by_cmp R q) (take i keys))
+      ap (λ b. cond b true (list_any (eq_by_cmp R q) (take i keys))) ((eq_by_cmp_equiv o).symm x q) ∙ cond_is_or (eq_by_cmp R q x) (list_any (eq_by_cmp R q) (take i keys))
       ∙ sym (list_any-append (eq_by_cmp R q) (take i keys) (x ∷ [])) ∙ ap (list_any (eq_by_cmp R q)) (ap (λ y. take i keys ++ y ∷ []) is ∙ sym (take_more keys i x h))
 
 module _ {A B : Type 0} (f : A → B) (e : B → B → Bool) where
@@ -82,7 +82,7 @@ module _ {A B : Type 0} (f : A → B) (e : B → B → Bool) where
   IsDistinct-of_map [] h = tt
   IsDistinct-of_map (x ∷ xs) h = (each_of_map x xs h.0, IsDistinct-of_map xs h.1)
 
--- if P and Q follow from each other, a result that tells whether P holds, if it is Ok, tells whether Q does
+-- an Ok result that decides whether P holds also decides whether Q holds, if P and Q follow from each other
 pub IfOk-decided : {E P Q : Type 0} (r : Result Bool E) → (P → Q) → (Q → P) → IfOk r (λ yes. Decides yes P) → IfOk r (λ yes. Decides yes Q)
 IfOk-decided (Ok answer) there back h = (λ e. there (h.0 e), λ q. h.1 (back q))
 IfOk-decided (Err x) there back h = tt

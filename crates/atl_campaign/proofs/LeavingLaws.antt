@@ -22,7 +22,7 @@ use Rattle.atl_campaign.specs.Owners.{after_handover, heir, is_owned_by, without
 use Rattle.atl_campaign.specs.Campaign.{MarkedCampaign, CampaignValue, numbers_inside, structure_changed, with_owner}
 use Rattle.atl_records.specs.Amounts.{unit_amount}
 use Rattle.atl_campaign.specs.Totals.{total}
-use Rattle.atl_campaign.proofs.CoverLaws.{Stays, Structures, KeepsUnmarked, apart_by, changed_there, marks-refl, marks-trans, marks-unit, part_by_part, put_stays}
+use Rattle.atl_campaign.proofs.CoverLaws.{PartStaysMarked, Structures, KeepsUnmarked, unmarked_differs_from_put, holds_of_changed, marks-refl, marks-trans, marks-unit, part_by_part, put_stays}
 use Rattle.atl_records.proofs.EveryLaws.{every-insert, get-insert_other, none_some}
 use Rattle.atl_campaign.proofs.HoldingLaws.{structure_in}
 use Rattle.atl_campaign.proofs.InsideLaws.{inside_is_listed, is_no_zero, listed_is_inside}
@@ -370,11 +370,11 @@ module _ (w : WorldValue) (c : CampaignValue) (n : ℕ) (u : Unit) (is : get c.u
 pub marks-structure : (f : Structure → Structure) (c : MarkedCampaign) (n : ℕ) → MarksChanges c (record { value = structure_changed f c.value n; marks = mark_structure c n })
 marks-structure f c n =
     let after : FinMap nat_cmp Structure → Option Structure → MarkedCampaign = λ m o. record { value = record c.value { structures = m }; marks = record c.marks { structures = marked_with c.marks.structures n o } } in
-    changed_there (λ m o. MarksChanges c (after m o)) f c.value.structures n (marks-refl c) (λ v is.
+    holds_of_changed (λ m o. MarksChanges c (after m o)) f c.value.structures n (marks-refl c) (λ v is.
     let next = after (insert c.value.structures n (f v)) (Some v) in
     part_by_part c next
-    (λ p. elim p as (Stays c.marks next.marks) [ Structures ↦ put_stays c.marks.structures n | _ ↦ λ k h. h ])
-    (λ p. elim p as (KeepsUnmarked next.marks c.value next.value) [ Structures ↦ λ k free. get-insert_other c.value.structures n k (f v) (apart_by c.marks.structures n k free) | _ ↦ λ k free. refl ]))
+    (λ p. elim p as (PartStaysMarked c.marks next.marks) [ Structures ↦ put_stays c.marks.structures n | _ ↦ λ k h. h ])
+    (λ p. elim p as (KeepsUnmarked next.marks c.value next.value) [ Structures ↦ λ k free. get-insert_other c.value.structures n k (f v) (unmarked_differs_from_put c.marks.structures n k free) | _ ↦ λ k free. refl ]))
 
 -- handing a structure on, with its mark, marks all that changes (MarksChanges)
 pub marks-after_handover : (c : MarkedCampaign) (s from to : ℕ) → MarksChanges c (handed_marked c s from to)
@@ -402,8 +402,8 @@ marks_gone : (c : MarkedCampaign) (n : ℕ) (o : Option Unit) → MarksChanges c
 marks_gone c n None = marks-refl c
 marks_gone c n (Some u) = marks-trans c (taken_marked c n) (gone_marked_at c n (Some u)) (marks-taken c n) (marks-after_handover (taken_marked c n) u.structure n (heir c.value u.structure n))
 
--- if d is c without unit n, with the unit, its goods and a structure that got another owner marked as in gone_marked,
--- all that changes is marked (MarksChanges)
+-- all that changes from campaign c to d is marked (MarksChanges), if d is c without unit n, with the marks that
+-- gone_marked gives
 pub marks-without : (c d : MarkedCampaign) (n : ℕ) → d.value ≡ without_unit c.value n → d.marks ≡ (gone_marked c n).marks → MarksChanges c d
 unfolding gone_marked
 marks-without c d n what marks =

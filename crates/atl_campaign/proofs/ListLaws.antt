@@ -7,11 +7,11 @@ use Rattle.std.specs.Ordering.{nat_cmp, is_eq}
 use Rattle.std.specs.Cmp.{nat_cmp_total, ranked}
 use Rattle.std.specs.FinMap.{FinMap, get, insert, remove, empty, get-empty, get-insert, get-remove, nat_cmp-IsAntisymmetric}
 use Rattle.std.proofs.lemmas.Bool.{cases_eq}
-use Rattle.atl_world.proofs.SumLaws.{numbers_where-insert_other, numbers_where-insert_known, put_back, taken_back}
-use Rattle.atl_world.specs.Sums.{changed, changed_at, numbers_where}
+use Rattle.atl_world.proofs.SumLaws.{numbers_where-insert_other, numbers_where-insert_known, put_back_keeps_map, remove_undoes_insert}
+use Rattle.atl_world.specs.Sums.{with_changed_value, with_changed_option, numbers_where}
 use Rattle.atl_world.proofs.Maps.{entries-empty}
 use Rattle.atl_campaign.specs.Ordered.{put_number, take_number}
-use Rattle.atl_campaign.specs.KeptLists.{AreInsideLists, AreLists, AreUnitLists, SameLists, ListsUnit, UnlistsUnit, list_of, list_keys_of, listed_apart, relisted_inside, unlisted_apart}
+use Rattle.atl_campaign.specs.KeptLists.{AreInsideLists, AreLists, AreUnitLists, SameLists, ListsUnit, UnlistsUnit, list_of, list_keys_of, listed_unless, relisted_inside, unlisted_unless}
 use Rattle.atl_campaign.specs.declared.lists.ListKeys.{ListKeys}
 use Rattle.atl_campaign.specs.declared.lists.UnitLists.{UnitLists}
 use Rattle.atl_records.specs.declared.records.Unit.{Unit}
@@ -19,20 +19,20 @@ use Rattle.atl_campaign.proofs.OrderedLaws.{numbers_where-insert_new, numbers_wh
 use Rattle.atl_records.proofs.EveryLaws.{same_number, other_number}
 
 -- for gone and others: a number compares equal to itself
-itself : (k : ℕ) → is_eq (nat_cmp k k) ≡ true
-itself k = elim (nat_cmp k k) as (λ o. nat_cmp k k ≡ o → is_eq o ≡ true) [
+number_compares_equal : (k : ℕ) → is_eq (nat_cmp k k) ≡ true
+number_compares_equal k = elim (nat_cmp k k) as (λ o. nat_cmp k k ≡ o → is_eq o ≡ true) [
   | Less ↦ λ e. let l = ranked k k Less (sym e) in absurd (omega arith)
   | Equal ↦ λ _. refl
   | Greater ↦ λ e. let l = ranked k k Greater (sym e) in absurd (omega arith)
 ] refl
 
 -- a unit that is removed is not found any more
-gone : (units : FinMap nat_cmp Unit) (k : ℕ) → get (remove units k) k ≡ None
-gone units k = get-remove nat_cmp_total units k k ∙ ap (λ b. cond b None (get units k)) (itself k)
+removed_unit_is_absent : (units : FinMap nat_cmp Unit) (k : ℕ) → get (remove units k) k ≡ None
+removed_unit_is_absent units k = get-remove nat_cmp_total units k k ∙ ap (λ b. cond b None (get units k)) (number_compares_equal k)
 
--- once a list is put under k, P holds of each list, if it holds of that one, and of each old list under another key
-by_key : (lists : FinMap nat_cmp (List ℕ)) (k : ℕ) (xs : List ℕ) (P : ℕ → List ℕ → Type 0) → P k xs → ((r : ℕ) → k ≢ r → P r (list_of lists r)) → (r : ℕ) → P r (list_of (insert lists k xs) r)
-by_key lists k xs P here there r =
+-- P holds of each list once a list is put under k, if it holds of that list, and of each old list under another key
+each_list_after_put : (lists : FinMap nat_cmp (List ℕ)) (k : ℕ) (xs : List ℕ) (P : ℕ → List ℕ → Type 0) → P k xs → ((r : ℕ) → k ≢ r → P r (list_of lists r)) → (r : ℕ) → P r (list_of (insert lists k xs) r)
+each_list_after_put lists k xs P here there r =
     rw (get-insert nat_cmp_total lists k xs r)
     (elim (nat_cmp r k) as (λ o. nat_cmp r k ≡ o → P r (unwrap_or (cond (is_eq o) (Some xs) (get lists r)) [])) [
       | Less ↦ λ e. there r (λ same. let l = ranked r k Less (sym e) in omega arith)
@@ -46,7 +46,7 @@ module _ (belongs_to : Unit → ℕ) where
       → AreLists belongs_to (insert units k u) (insert lists (belongs_to u) (put_number k (list_of lists (belongs_to u))))
   AreLists-added units lists k u fresh old =
       let own = belongs_to u in
-      by_key lists own (put_number k (list_of lists own)) (λ r xs. xs ≡ numbers_where (λ v. belongs_to v == r) (insert units k u))
+      each_list_after_put lists own (put_number k (list_of lists own)) (λ r xs. xs ≡ numbers_where (λ v. belongs_to v == r) (insert units k u))
       (ap (put_number k) (old own) ∙ sym (numbers_where-insert_new (λ v. belongs_to v == own) units k u fresh (same_number own)))
       (λ r ne. old r ∙ sym (numbers_where-insert_other (λ v. belongs_to v == r) units k u fresh (other_number own r ne)))
 
@@ -61,7 +61,7 @@ module _ (belongs_to : Unit → ℕ) where
       → AreLists belongs_to units (insert lists (belongs_to u) (take_number k (list_of lists (belongs_to u))))
   AreLists-undone units lists k u fresh old =
       let own = belongs_to u in
-      by_key lists own (take_number k (list_of lists own)) (λ r xs. xs ≡ numbers_where (λ v. belongs_to v == r) units)
+      each_list_after_put lists own (take_number k (list_of lists own)) (λ r xs. xs ≡ numbers_where (λ v. belongs_to v == r) units)
       (ap (take_number k) (old own ∙ numbers_where-insert_new (λ v. belongs_to v == own) units k u fresh (same_number own)) ∙ taken_put k _)
       (λ r ne. old r ∙ numbers_where-insert_other (λ v. belongs_to v == r) units k u fresh (other_number own r ne))
 
@@ -69,7 +69,7 @@ module _ (belongs_to : Unit → ℕ) where
   pub AreLists-removed : (units : FinMap nat_cmp Unit) (lists : FinMap nat_cmp (List ℕ)) (k : ℕ) (u : Unit) → get units k ≡ Some u → AreLists belongs_to units lists
       → AreLists belongs_to (remove units k) (insert lists (belongs_to u) (take_number k (list_of lists (belongs_to u))))
   AreLists-removed units lists k u is old =
-      AreLists-undone (remove units k) lists k u (gone units k) (subst (λ (m : FinMap nat_cmp Unit). AreLists belongs_to m lists) (put_back units k u is) old)
+      AreLists-undone (remove units k) lists k u (removed_unit_is_absent units k) (subst (λ (m : FinMap nat_cmp Unit). AreLists belongs_to m lists) (put_back_keeps_map units k u is) old)
 
 -- ---- lists under a key, and those of the same numbers
 
@@ -93,11 +93,11 @@ module _ (belongs_to : Unit → ℕ) (units : FinMap nat_cmp Unit) (old new : Fi
 
 -- putting a list under a key changes no list under another key
 pub listed_else : (lists : FinMap nat_cmp (List ℕ)) (k : ℕ) (xs : List ℕ) (r : ℕ) → k ≢ r → list_of (insert lists k xs) r ≡ list_of lists r
-listed_else lists k xs r = by_key lists k xs (λ q ys. k ≢ q → ys ≡ list_of lists q) (λ apart. absurd (apart refl)) (λ q _ _. refl) r
+listed_else lists k xs r = each_list_after_put lists k xs (λ q ys. k ≢ q → ys ≡ list_of lists q) (λ apart. absurd (apart refl)) (λ q _ _. refl) r
 
 -- a list put under a key is found there
 pub listed_there : (lists : FinMap nat_cmp (List ℕ)) (k : ℕ) (xs : List ℕ) → list_of (insert lists k xs) k ≡ xs
-listed_there lists k xs = ap (λ o. unwrap_or o []) (get-insert nat_cmp_total lists k xs k ∙ ap (λ b. cond b (Some xs) (get lists k)) (itself k))
+listed_there lists k xs = ap (λ o. unwrap_or o []) (get-insert nat_cmp_total lists k xs k ∙ ap (λ b. cond b (Some xs) (get lists k)) (number_compares_equal k))
 
 -- lists that have just the units of each key (AreLists) have them again once a number is put into one list and taken
 -- out of it
@@ -105,7 +105,7 @@ pub AreLists-undone_at : (belongs_to : Unit → ℕ) (units : FinMap nat_cmp Uni
     → AreLists belongs_to units old → AreLists belongs_to units new
 AreLists-undone_at belongs_to units old mid new n key put same is =
     AreLists-same belongs_to units (insert mid key (take_number n (list_of mid key))) new same
-    (by_key mid key (take_number n (list_of mid key)) (λ r xs. xs ≡ numbers_where (λ v. belongs_to v == r) units)
+    (each_list_after_put mid key (take_number n (list_of mid key)) (λ r xs. xs ≡ numbers_where (λ v. belongs_to v == r) units)
     (ap (take_number n) (ap (λ l. list_of l key) put ∙ listed_there old key (put_number n (list_of old key))) ∙ taken_put n (list_of old key) ∙ is key)
     (λ r ne. ap (λ l. list_of l r) put ∙ listed_else old key (put_number n (list_of old key)) r ne ∙ is r))
 
@@ -113,7 +113,7 @@ AreLists-undone_at belongs_to units old mid new n key put same is =
 pub none_taken : (lists : FinMap nat_cmp (List ℕ)) (key n : ℕ) → get lists key ≡ None → SameLists lists (insert lists key (take_number n (list_of lists key)))
 unfolding take_number
 none_taken lists key n none k =
-    sym (by_key lists key (take_number n (list_of lists key)) (λ q xs. xs ≡ list_of lists q)
+    sym (each_list_after_put lists key (take_number n (list_of lists key)) (λ q xs. xs ≡ list_of lists q)
     (ap (λ o. take_number n (unwrap_or o [])) none ∙ sym (ap (λ o. unwrap_or o []) none)) (λ q ne. refl) k)
 
 -- ---- the lists of structures, which are lists by a key but for that under 0
@@ -122,14 +122,14 @@ none_taken lists key n none k =
 abbrev AreListsBut0 : (some all : FinMap nat_cmp (List ℕ)) → Type 0
 AreListsBut0 some all = (k : ℕ) → list_of some k ≡ cond (k == 0) [] (list_of all k)
 
--- if `some` has the lists of `all`, but none under 0 (AreListsBut0), it still does once f changes the list of a key in
+-- `some` still has the lists of `all`, but an empty one under 0 (AreListsBut0), once f changes the list of a key in
 -- both, or in `all` alone where the key is 0
 AreListsBut0-changed : (f : List ℕ → List ℕ) (some all : FinMap nat_cmp (List ℕ)) (key : ℕ) → AreListsBut0 some all → AreListsBut0 (cond (key == 0) some (insert some key (f (list_of some key)))) (insert all key (f (list_of all key)))
 AreListsBut0-changed f some all key bare =
     elim (cases_eq key 0) [
-      | inl none ↦ rw none (by_key all 0 (f (list_of all 0)) (λ r xs. list_of some r ≡ cond (r == 0) [] xs) (bare 0) (λ r _. bare r))
+      | inl none ↦ rw none (each_list_after_put all 0 (f (list_of all 0)) (λ r xs. list_of some r ≡ cond (r == 0) [] xs) (bare 0) (λ r _. bare r))
       | inr there ↦ rw (other_number key 0 there)
-          (by_key some key (f (list_of some key)) (λ r xs. xs ≡ cond (r == 0) [] (list_of (insert all key (f (list_of all key))) r))
+          (each_list_after_put some key (f (list_of some key)) (λ r xs. xs ≡ cond (r == 0) [] (list_of (insert all key (f (list_of all key))) r))
           (rw (other_number key 0 there, listed_there all key (f (list_of all key))) (ap f (rw (other_number key 0 there) at (bare key))))
           (λ r ne. rw (listed_else all key (f (list_of all key)) r ne) (bare r)))
     ]
@@ -146,21 +146,22 @@ module _ (units : FinMap nat_cmp Unit) (lists : FinMap nat_cmp (List ℕ)) (are 
   -- the lists `whole` have just the units of each structure number, and under 0 those inside no structure
   whole_listed : AreLists (λ u. u.structure) units whole
   unfolding whole outside
-  whole_listed = by_key lists 0 outside (λ r xs. xs ≡ numbers_where (λ u. u.structure == r) units) refl (λ r ne. rw (other_number r 0 (λ e. ne (sym e))) at (are r))
+  whole_listed = each_list_after_put lists 0 outside (λ r xs. xs ≡ numbers_where (λ u. u.structure == r) units) refl (λ r ne. rw (other_number r 0 (λ e. ne (sym e))) at (are r))
 
   -- the lists by structure (`lists`) are those of `whole`, but under 0, where they have none (AreListsBut0)
   AreListsBut0-whole : AreListsBut0 lists whole
   unfolding whole
-  AreListsBut0-whole = by_key lists 0 outside (λ r xs. list_of lists r ≡ cond (r == 0) [] xs) (are 0) (λ r ne. rw (other_number r 0 (λ e. ne (sym e))) refl)
+  AreListsBut0-whole = each_list_after_put lists 0 outside (λ r xs. list_of lists r ≡ cond (r == 0) [] xs) (are 0) (λ r ne. rw (other_number r 0 (λ e. ne (sym e))) refl)
 
--- lists with just the units of each structure number, but none under 0, are lists of the units inside (AreInsideLists)
+-- lists with just the units of each structure number, but an empty list under 0, are lists of the units inside
+-- (AreInsideLists)
 bare_inside : (units : FinMap nat_cmp Unit) (some all : FinMap nat_cmp (List ℕ)) → AreListsBut0 some all → AreLists (λ u. u.structure) units all → AreInsideLists units some
 bare_inside units some all bare are k = bare k ∙ ap (cond (k == 0) []) (are k)
 
 module _ (units : FinMap nat_cmp Unit) (old new : FinMap nat_cmp (List ℕ)) (n key : ℕ) (u : Unit) (own : u.structure ≡ key) where
   -- the lists by structure still have just the units inside (AreInsideLists) once a new unit is put into the list of
   -- its structure, if it is inside one
-  pub AreInsideLists-came : get units n ≡ None → new ≡ listed_apart old n key 0 → AreInsideLists units old → AreInsideLists (insert units n u) new
+  pub AreInsideLists-came : get units n ≡ None → new ≡ listed_unless old n key 0 → AreInsideLists units old → AreInsideLists (insert units n u) new
   AreInsideLists-came fresh put is =
       let all = whole units old is in
       rw put
@@ -169,7 +170,7 @@ module _ (units : FinMap nat_cmp Unit) (old new : FinMap nat_cmp (List ℕ)) (n 
 
   -- the lists by structure still have just the units inside (AreInsideLists) once a unit is removed and taken out of
   -- the list of its structure, if it is inside one
-  pub AreInsideLists-went : get units n ≡ Some u → SameLists new (unlisted_apart old n key 0) → AreInsideLists units old → AreInsideLists (remove units n) new
+  pub AreInsideLists-went : get units n ≡ Some u → SameLists new (unlisted_unless old n key 0) → AreInsideLists units old → AreInsideLists (remove units n) new
   AreInsideLists-went there same is k =
       let all = whole units old is in
       same k
@@ -215,13 +216,13 @@ AreUnitLists-kept units lists n u v is same old = record {
 
 -- a unit inserted under a number is found under that number
 put_there : (units : FinMap nat_cmp Unit) (n : ℕ) (u : Unit) → get (insert units n u) n ≡ Some u
-put_there units n u = get-insert nat_cmp_total units n u n ∙ ap (λ b. cond b (Some u) (get units n)) (itself n)
+put_there units n u = get-insert nat_cmp_total units n u n ∙ ap (λ b. cond b (Some u) (get units n)) (number_compares_equal n)
 
 -- the lists by region, faction and structure have just the units of each (AreUnitLists) again once a new unit is put
 -- into them and taken out again
 pub AreUnitLists-back : (units : FinMap nat_cmp Unit) (n : ℕ) (u : Unit) (l : ListKeys) (old mid new : UnitLists) → get units n ≡ None → list_keys_of u ≡ l → ListsUnit n l old mid → UnlistsUnit n l mid new → AreUnitLists units old → AreUnitLists units new
 AreUnitLists-back units n u l old mid new fresh own puts takes is =
-    subst (λ (m : FinMap nat_cmp Unit). AreUnitLists m new) (taken_back units n u fresh) (takes (insert units n u) u own (put_there units n u) (puts units u own fresh is))
+    subst (λ (m : FinMap nat_cmp Unit). AreUnitLists m new) (remove_undoes_insert units n u fresh) (takes (insert units n u) u own (put_there units n u) (puts units u own fresh is))
 
 -- ---- a unit that is listed elsewhere
 
@@ -233,16 +234,16 @@ module _ (belongs_to : Unit → ℕ) where
   AreLists-moved units lists k u v is apart old =
       let from = belongs_to u in
       let to = belongs_to v in
-      by_key (insert lists to (put_number k (list_of lists to))) from (take_number k (list_of lists from)) (λ r xs. xs ≡ numbers_where (λ w. belongs_to w == r) (insert units k v))
+      each_list_after_put (insert lists to (put_number k (list_of lists to))) from (take_number k (list_of lists from)) (λ r xs. xs ≡ numbers_where (λ w. belongs_to w == r) (insert units k v))
       (ap (take_number k) (old from) ∙ sym (numbers_where-lost (λ w. belongs_to w == from) units k u v is (same_number from) (other_number to from (λ e. apart (sym e)))))
-      (λ r ne. by_key lists to (put_number k (list_of lists to)) (λ r xs. from ≢ r → xs ≡ numbers_where (λ w. belongs_to w == r) (insert units k v))
+      (λ r ne. each_list_after_put lists to (put_number k (list_of lists to)) (λ r xs. from ≢ r → xs ≡ numbers_where (λ w. belongs_to w == r) (insert units k v))
       (λ _. ap (put_number k) (old to) ∙ sym (numbers_where-gained (λ w. belongs_to w == to) units k u v is (other_number from to apart) (same_number to)))
       (λ q ne2 ne3. old q ∙ sym (numbers_where-insert_known (λ w. belongs_to w == q) units k u v is (other_number from q ne3 ∙ sym (other_number to q ne2)))) r ne)
 
   -- the lists still have just the units of each key (AreLists) once a changed unit is moved to its new key's list,
   -- whether that key differs from the old one or not
   relisted : (units : FinMap nat_cmp Unit) (lists : FinMap nat_cmp (List ℕ)) (k : ℕ) (u v : Unit) → get units k ≡ Some u → AreLists belongs_to units lists
-      → AreLists belongs_to (insert units k v) (unlisted_apart (listed_apart lists k (belongs_to v) (belongs_to u)) k (belongs_to u) (belongs_to v))
+      → AreLists belongs_to (insert units k v) (unlisted_unless (listed_unless lists k (belongs_to v) (belongs_to u)) k (belongs_to u) (belongs_to v))
   relisted units lists k u v is old =
       let from = belongs_to u in
       let to = belongs_to v in
@@ -253,17 +254,17 @@ module _ (belongs_to : Unit → ℕ) where
 
   -- if the lists `old` have just the units of each key (AreLists), so do the lists `new`, which are `old` with a
   -- changed unit moved from the list of its old key to that of its new one
-  pub AreLists-relisted : (units : FinMap nat_cmp Unit) (old mid new : FinMap nat_cmp (List ℕ)) (n from to : ℕ) (u v : Unit) → get units n ≡ Some u → belongs_to u ≡ from → belongs_to v ≡ to → mid ≡ listed_apart old n to from → SameLists new (unlisted_apart mid n from to)
+  pub AreLists-relisted : (units : FinMap nat_cmp Unit) (old mid new : FinMap nat_cmp (List ℕ)) (n from to : ℕ) (u v : Unit) → get units n ≡ Some u → belongs_to u ≡ from → belongs_to v ≡ to → mid ≡ listed_unless old n to from → SameLists new (unlisted_unless mid n from to)
       → AreLists belongs_to units old → AreLists belongs_to (insert units n v) new
   AreLists-relisted units old mid new n from to u v is own goes put same lists =
-      AreLists-same belongs_to (insert units n v) (unlisted_apart mid n from to) new same
-      (subst (λ m. AreLists belongs_to (insert units n v) (unlisted_apart m n from to)) (sym put)
-      (subst (λ q. AreLists belongs_to (insert units n v) (unlisted_apart (listed_apart old n to q) n q to)) own
-      (subst (λ q. AreLists belongs_to (insert units n v) (unlisted_apart (listed_apart old n q (belongs_to u)) n (belongs_to u) q)) goes (relisted units old n u v is lists))))
+      AreLists-same belongs_to (insert units n v) (unlisted_unless mid n from to) new same
+      (subst (λ m. AreLists belongs_to (insert units n v) (unlisted_unless m n from to)) (sym put)
+      (subst (λ q. AreLists belongs_to (insert units n v) (unlisted_unless (listed_unless old n to q) n q to)) own
+      (subst (λ q. AreLists belongs_to (insert units n v) (unlisted_unless (listed_unless old n q (belongs_to u)) n (belongs_to u) q)) goes (relisted units old n u v is lists))))
 
   -- lists that have just the units of each key (AreLists) have them again once a number is put under a key and taken
   -- out again, or neither where the key is `other`
-  pub AreLists-apart : (units : FinMap nat_cmp Unit) (old mid new : FinMap nat_cmp (List ℕ)) (n key other : ℕ) → mid ≡ listed_apart old n key other → SameLists new (unlisted_apart mid n key other) → AreLists belongs_to units old → AreLists belongs_to units new
+  pub AreLists-apart : (units : FinMap nat_cmp Unit) (old mid new : FinMap nat_cmp (List ℕ)) (n key other : ℕ) → mid ≡ listed_unless old n key other → SameLists new (unlisted_unless mid n key other) → AreLists belongs_to units old → AreLists belongs_to units new
   AreLists-apart units old mid new n key other put same is =
       elim (key == other) as (λ b. mid ≡ cond b old (insert old key (put_number n (list_of old key))) → SameLists new (cond b mid (insert mid key (take_number n (list_of mid key)))) → AreLists belongs_to units new) [
         | true ↦ λ p s. AreLists-same belongs_to units mid new s (subst (λ m. AreLists belongs_to units m) (sym p) is)
@@ -281,7 +282,7 @@ AreInsideLists-relisted units old new n from to u v is own goes same lists =
           let all = whole units old lists in
           let put = insert all to (put_number n (list_of all to)) in
           let taken = insert put from (take_number n (list_of put from)) in
-          let bare = AreListsBut0-changed (take_number n) (listed_apart old n to 0) put from (AreListsBut0-changed (put_number n) old all to (AreListsBut0-whole units old lists)) in
+          let bare = AreListsBut0-changed (take_number n) (listed_unless old n to 0) put from (AreListsBut0-changed (put_number n) old all to (AreListsBut0-whole units old lists)) in
           λ k.
           same k ∙ rw (other_number from to apart)
           (bare_inside (insert units n v) _ taken bare
@@ -290,18 +291,18 @@ AreInsideLists-relisted units old new n from to u v is own goes same lists =
 
 -- the lists by region, faction and structure still have just the units of each (AreUnitLists) when unit n, if it is
 -- there, changes, but none of these three
-pub AreUnitLists-changed : (f : Unit → Unit) → ((u : Unit) → list_keys_of u ≡ list_keys_of (f u)) → (units : FinMap nat_cmp Unit) (lists : UnitLists) (n : ℕ) → AreUnitLists units lists → AreUnitLists (changed f units n) lists
+pub AreUnitLists-changed : (f : Unit → Unit) → ((u : Unit) → list_keys_of u ≡ list_keys_of (f u)) → (units : FinMap nat_cmp Unit) (lists : UnitLists) (n : ℕ) → AreUnitLists units lists → AreUnitLists (with_changed_value f units n) lists
 AreUnitLists-changed f stays units lists n is = by_unit (get units n) refl
   where
     -- for AreUnitLists-changed: the lists still have just the units of each region, faction and structure once unit n,
     -- if it is there (o), changes, but none of these three
-    by_unit : (o : Option Unit) → get units n ≡ o → AreUnitLists (changed_at f units n o) lists
+    by_unit : (o : Option Unit) → get units n ≡ o → AreUnitLists (with_changed_option f units n o) lists
     by_unit None e = is
     by_unit (Some u) e = AreUnitLists-kept units lists n u (f u) e (stays u) is
 
 -- the lists by region, faction and structure still have just the units of each (AreUnitLists) when unit n changes, but
 -- none of these three, or memory runs out and nothing changes
-pub AreUnitLists-set : {A E : Type 0} (r : Result A E) (f : Unit → Unit) → ((u : Unit) → list_keys_of u ≡ list_keys_of (f u)) → (old new : FinMap nat_cmp Unit) (lists : UnitLists) (n : ℕ) → OnOk r (new ≡ changed f old n) → OnErr r (new ≡ old)
+pub AreUnitLists-set : {A E : Type 0} (r : Result A E) (f : Unit → Unit) → ((u : Unit) → list_keys_of u ≡ list_keys_of (f u)) → (old new : FinMap nat_cmp Unit) (lists : UnitLists) (n : ℕ) → OnOk r (new ≡ with_changed_value f old n) → OnErr r (new ≡ old)
     → AreUnitLists old lists → AreUnitLists new lists
 AreUnitLists-set (Ok a) f stays old new lists n put same is = subst (λ (units : FinMap nat_cmp Unit). AreUnitLists units lists) (sym put) (AreUnitLists-changed f stays old lists n is)
 AreUnitLists-set (Err e) f stays old new lists n put same is = subst (λ (units : FinMap nat_cmp Unit). AreUnitLists units lists) (sym same) is

@@ -105,15 +105,15 @@ module _ {R V : Type 0} (number : R → ℕ) (value : R → V) where
 
 -- ---- rows with keys
 
--- if P and a key other than r's mean a number other than r's, rows of which P holds and whose keys differ from r's have
--- other numbers than r
+-- for HaveDistinctNumbers-keys: rows of which P holds, and whose keys differ from r's, have other numbers than r, if P
+-- and another key mean another number
 each_apart : {R K : Type 0} (key : R → K) (number : R → ℕ) (same : K → K → Bool) (P : R → Type 0) (r : R) → ((s : R) → P s → same (key r) (key s) ≡ false → number s ≢ number r)
     → (rows : List R) → AllByRecursion P rows → AllByRecursion (λ y. same (key r) y ≡ false) (map key rows) → AllByRecursion (λ s. number s ≢ number r) rows
 each_apart key number same P r apart [] h d = tt
 each_apart key number same P r apart (s ∷ rows) h d = (apart s h.0 d.0, each_apart key number same P r apart rows h.1 d.1)
 
--- if P for two rows and different keys mean different numbers, no two rows of a list with distinct keys, of which P
--- holds, have the same number
+-- no two rows have the same number, if P holds of each row, the rows have distinct keys, and rows of which P holds have
+-- different numbers if their keys differ
 pub HaveDistinctNumbers-keys : {R K : Type 0} (key : R → K) (number : R → ℕ) (same : K → K → Bool) (P : R → Type 0) → ((r s : R) → P r → P s → same (key r) (key s) ≡ false → number s ≢ number r)
     → (rows : List R) → AllByRecursion P rows → IsDistinct same (map key rows) → HaveDistinctNumbers number rows
 unfolding IsDistinct
@@ -122,7 +122,7 @@ HaveDistinctNumbers-keys key number same P apart (r ∷ rows) h d = (each_apart 
 
 -- ---- tests of each row
 
--- if P holds of whatever passes a test, and all rows pass it, P holds of each row
+-- P holds of each row, if all rows pass a test, and P holds of whatever passes it
 pub each_passes : {R : Type 0} (p : R → Bool) (P : R → Type 0) → ((r : R) → p r ≡ true → P r) → (rows : List R) → list_all p rows ≡ true → AllByRecursion P rows
 each_passes p P good [] h = tt
 each_passes p P good (r ∷ rows) h = let parts = and_parts (p r) (list_all p rows) h in (good r parts.0, each_passes p P good rows parts.1)
@@ -207,12 +207,12 @@ module _ {R V : Type 0} (number : R → ℕ) (value : R → V) where
 
 -- ---- facts of each row
 
--- if S follows from P and Q, and P and Q hold of each row, S holds of each row
-pub each_with : {R : Type 0} (P Q S : R → Type 0) → ((r : R) → P r → Q r → S r) → (rows : List R) → AllByRecursion P rows → AllByRecursion Q rows → AllByRecursion S rows
-each_with P Q S f [] p q = tt
-each_with P Q S f (r ∷ rows) p q = (f r p.0 q.0, each_with P Q S f rows p.1 q.1)
+-- S holds of each row, if P and Q hold of each row, and S follows from both
+pub each_follows_from_two : {R : Type 0} (P Q S : R → Type 0) → ((r : R) → P r → Q r → S r) → (rows : List R) → AllByRecursion P rows → AllByRecursion Q rows → AllByRecursion S rows
+each_follows_from_two P Q S f [] p q = tt
+each_follows_from_two P Q S f (r ∷ rows) p q = (f r p.0 q.0, each_follows_from_two P Q S f rows p.1 q.1)
 
--- if Q follows from P, and P holds of each row, Q holds of each row
-pub each_so : {R : Type 0} (P Q : R → Type 0) → ((r : R) → P r → Q r) → (rows : List R) → AllByRecursion P rows → AllByRecursion Q rows
-each_so P Q f [] p = tt
-each_so P Q f (r ∷ rows) p = (f r p.0, each_so P Q f rows p.1)
+-- Q holds of each row, if P holds of each row, and Q follows from P
+pub each_follows : {R : Type 0} (P Q : R → Type 0) → ((r : R) → P r → Q r) → (rows : List R) → AllByRecursion P rows → AllByRecursion Q rows
+each_follows P Q f [] p = tt
+each_follows P Q f (r ∷ rows) p = (f r p.0, each_follows P Q f rows p.1)

@@ -22,8 +22,8 @@ abbrev cleared : RoomySet → RoomySet
 cleared marks = record marks { numbers = set.empty }
 
 -- the given dirty set with region n added, if that region is there
-abbrev marking : FinMap nat_cmp Region → RoomySet → ℕ → RoomySet
-marking regions marks n = record marks { numbers = marked_with marks.numbers n (get regions n) }
+abbrev with_region_marked : FinMap nat_cmp Region → RoomySet → ℕ → RoomySet
+with_region_marked regions marks n = record marks { numbers = marked_with marks.numbers n (get regions n) }
 
 -- empty dirty sets mark no stock, so each marked stock is of a marked region (AreStocksWithin)
 within-none : AreStocksWithin set.empty set.empty empty
@@ -33,7 +33,7 @@ within-none = record { stocks_within = λ q e. e; items_within = nothing }
     nothing : (q : ℕ) → is_some (get {X = FinMap nat_cmp (Prim.Unit {0})} {R = nat_cmp} empty q) ≡ true → set.contains {R = nat_cmp} set.empty q ≡ true
     nothing q e = absurd (false≢true (sym (ap is_some (get-empty nat_cmp q)) ∙ e))
 
--- without regions, empty dirty sets without room have room for all marks, and mark no stock (AreRegions)
+-- if there are no regions, empty dirty sets need no room for marks, and mark no stock (AreRegions)
 pub AreRegions-none : AreRegions empty (nothing_marked 0) (nothing_marked 0) (nothing_marked 0) empty
 AreRegions-none = record { within = within-none; rows_fit = Room-empty Region; markets_fit = Room-empty Region; stocks_fit = Room-empty Region }
 
@@ -55,13 +55,13 @@ module _ (regions : FinMap nat_cmp Region) (rows markets stocks : RoomySet) (ite
 
   -- once a region's row is marked, there is still room for all marks, and still no stock is marked without its region
   -- (AreRegions)
-  pub AreRegions-row : (n : ℕ) → AreRegions regions (marking regions rows n) markets stocks items
+  pub AreRegions-row : (n : ℕ) → AreRegions regions (with_region_marked regions rows n) markets stocks items
   AreRegions-row n = record { within = h.within; rows_fit = Room-put regions rows.numbers rows.room n (get regions n) refl h.rows_fit; markets_fit = h.markets_fit; stocks_fit = h.stocks_fit }
 
   module _ (n : ℕ) (r : Region) (is : get regions n ≡ Some r) where
     -- once one stock of a region, and so the region, is marked, there is still room for all marks, and still no stock
     -- is marked without its region (AreRegions)
-    pub AreRegions-item : (group : FinMap nat_cmp (Prim.Unit {0})) → AreRegions regions rows (marking regions markets n) stocks (insert items n group)
+    pub AreRegions-item : (group : FinMap nat_cmp (Prim.Unit {0})) → AreRegions regions rows (with_region_marked regions markets n) stocks (insert items n group)
     AreRegions-item group = record {
       within = subst (λ o. AreStocksWithin (marked_with markets.numbers n o) stocks.numbers (insert items n group)) (sym is) (record {
         stocks_within = within_more _ markets.numbers n h.within.stocks_within;
@@ -74,7 +74,7 @@ module _ (regions : FinMap nat_cmp Region) (rows markets stocks : RoomySet) (ite
 
     -- once all stocks of a region, and so the region, are marked, there is still room for all marks, and still no stock
     -- is marked without its region (AreRegions)
-    pub AreRegions-stocks : AreRegions regions rows (marking regions markets n) (marking regions stocks n) items
+    pub AreRegions-stocks : AreRegions regions rows (with_region_marked regions markets n) (with_region_marked regions stocks n) items
     AreRegions-stocks = record {
       within = subst (λ o. AreStocksWithin (marked_with markets.numbers n o) (marked_with stocks.numbers n o) items) (sym is) (record {
         stocks_within = within_both stocks.numbers markets.numbers n h.within.stocks_within;

@@ -8,7 +8,7 @@ use Rattle.std.proofs.lemmas.Fmt.{decimal_by_steps, length-decimal-le}
 use Rattle.std.proofs.lemmas.List.{get_or_append_left}
 use Rattle.std.proofs.lemmas.List.Folds.{list_all-append}
 use Rattle.std.proofs.Math.Seq.{get_or-append_seam}
-use Rattle.atl_world.specs.Names.{name_ok, is_name_byte, is_short, has_no_edge_space}
+use Rattle.atl_world.specs.Names.{name_ok, is_name_byte, has_allowed_length, has_no_edge_space}
 use Rattle.atl_records.specs.Limits.{last_unit}
 
 -- a decimal digit is a byte that may be in a name
@@ -31,8 +31,8 @@ record EndsInDigit (ds : List ℕ) : Type 0 where
   most : last ≤ 57
 
 -- bytes that end in a digit (EndsInDigit) may all be in a name
-all_digits : (ds : List ℕ) → EndsInDigit ds → list_all is_name_byte ds ≡ true
-all_digits ds e =
+all_name_bytes : (ds : List ℕ) → EndsInDigit ds → list_all is_name_byte ds ≡ true
+all_name_bytes ds e =
     ap (list_all is_name_byte) e.is ∙ list_all-append is_name_byte e.front (e.last ∷ []) ∙ both_true e.digits (both_true (digit_ok e.last e.least e.most) refl)
 
 -- the bytes of a decimal number below 2^64 end in a digit (EndsInDigit)
@@ -45,14 +45,14 @@ decimal_ends n h = decimal_by_steps (λ _ ds. EndsInDigit ds) one more n h
 
     -- for decimal_ends: bytes that end in a digit (EndsInDigit) still do with one digit more
     more : (n : ℕ) (ds : List ℕ) → 10 ≤ n → EndsInDigit ds → EndsInDigit (ds ++ (48 + n % 10) ∷ [])
-    more n ds h e = record { front = ds; last = 48 + n % 10; is = refl; digits = all_digits ds e; least = omega arith; most = omega arith }
+    more n ds h e = record { front = ds; last = 48 + n % 10; is = refl; digits = all_name_bytes ds e; least = omega arith; most = omega arith }
 
 -- 1 to 40 bytes pass is_short, the test of how long a name is
-short : (bs : List ℕ) → 1 ≤ length bs → length bs ≤ 40 → is_short bs ≡ true
-short bs h k = grind (arith, nat_tests)
+length_is_short : (bs : List ℕ) → 1 ≤ length bs → length bs ≤ 40 → has_allowed_length bs ≡ true
+length_is_short bs h k = grind (arith, nat_tests)
 
--- a word of 1 to 20 bytes of names that does not begin with a space, to be the front of a name
-pub record IsFront (word : List ℕ) : Type 0 where
+-- a word that can be the front of a name: 1 to 20 bytes that may be in names, the first of which is not a space
+pub record IsNamePrefix (word : List ℕ) : Type 0 where
   -- each byte of the word may be in a name
   pub bytes : list_all is_name_byte word ≡ true
   -- the word does not begin with a space
@@ -62,7 +62,7 @@ pub record IsFront (word : List ℕ) : Type 0 where
   -- the word has at most 20 bytes
   pub few : length word ≤ 20
 
-module _ (word : List ℕ) (front : IsFront word) where
+module _ (word : List ℕ) (front : IsNamePrefix word) where
   -- a word that can be the front of a name (IsFront), followed by digits, neither begins nor ends with a space
   open_ends : (digits : List ℕ) (last : ℕ) → 48 ≤ last → has_no_edge_space (word ++ (digits ++ last ∷ [])) ≡ true
   open_ends digits last h =
@@ -80,8 +80,8 @@ module _ (word : List ℕ) (front : IsFront word) where
       let e = decimal_ends n (omega arith) in
       let few : length (decimal n) ≤ 20 = length-decimal-le 20 n (omega arith) (omega arith) (omega arith) in
       let size = length-append word (decimal n) in
-      both_true (both_true (short (word ++ decimal n) (omega (arith, size, front.some)) (omega (arith, size, few, front.few))) (ap (λ ds. has_no_edge_space (word ++ ds)) e.is ∙ open_ends e.front e.last e.least))
-      (list_all-append is_name_byte word (decimal n) ∙ both_true front.bytes (all_digits (decimal n) e))
+      both_true (both_true (length_is_short (word ++ decimal n) (omega (arith, size, front.some)) (omega (arith, size, few, front.few))) (ap (λ ds. has_no_edge_space (word ++ ds)) e.is ∙ open_ends e.front e.last e.least))
+      (list_all-append is_name_byte word (decimal n) ∙ both_true front.bytes (all_name_bytes (decimal n) e))
 
 -- `Unit ` followed by a number up to last_unit keeps the rule of names
 pub unit_name_ok : (n : ℕ) → n ≤ last_unit → name_ok (codes "Unit " ++ decimal n) ≡ true

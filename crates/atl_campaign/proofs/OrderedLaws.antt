@@ -10,14 +10,15 @@ use Rattle.std.specs.FinMap.Entries.{by_order, below_all}
 use Rattle.std.proofs.lemmas.Bool.{and_parts, false≢true}
 use Rattle.std.proofs.lemmas.Bool.Decides.{nat_tests}
 use Rattle.atl_world.specs.Sums.{numbers_where}
-use Rattle.atl_world.proofs.SumLaws.{chosen-cons, numbers_where-insert_other, put_back, put_over}
+use Rattle.atl_world.proofs.SumLaws.{chosen-cons, numbers_where-insert_other, put_back_keeps_map, put_over}
 use Rattle.std.specs.List.{remove}
 use Rattle.atl_campaign.specs.Ordered.{first_not_below, put_number, take_number}
 use Rattle.atl_records.proofs.EveryLaws.{is_true, none_some}
 
 -- ---- put_number and take_number as recursions
 
--- for put_number-cons: n is put in front of a first element x if n is at most x (t), and else into the rest of the list
+-- for put_number-cons: n is put in front of a first element x where t is true, as n is at most x, and else into the
+-- rest of the list
 put_step : (t : Bool) (n x : ℕ) (xs : List ℕ) → take (cond (not t) (1 + first_not_below n xs) 0) (x ∷ xs) ++ n ∷ drop (cond (not t) (1 + first_not_below n xs) 0) (x ∷ xs) ≡ cond t (n ∷ x ∷ xs) (x ∷ put_number n xs)
 unfolding put_number
 put_step true n x xs = refl
@@ -33,8 +34,8 @@ pub put_number-nil : (n : ℕ) → put_number n [] ≡ n ∷ []
 unfolding put_number
 put_number-nil n = refl
 
--- for take_number-cons: taking n out removes a first element x if n is at most x (t), and else takes n out of the rest
--- of the list
+-- for take_number-cons: taking n out removes a first element x where t is true, as n is at most x, and else takes n out
+-- of the rest of the list
 take_step : (t : Bool) (n x : ℕ) (xs : List ℕ) → remove (x ∷ xs) (cond (not t) (1 + first_not_below n xs) 0) ≡ cond t xs (x ∷ take_number n xs)
 unfolding take_number
 take_step true n x xs = refl
@@ -51,12 +52,12 @@ unfolding take_number
 take_number-nil n = refl
 
 -- for taken_first: a number is at most itself (nat_le)
-itself : (n : ℕ) → nat_le n n ≡ true
-itself n = grind (arith, nat_tests)
+number_at_most_itself : (n : ℕ) → nat_le n n ≡ true
+number_at_most_itself n = grind (arith, nat_tests)
 
 -- taking n out of a list that begins with n leaves the rest
 taken_first : (n : ℕ) (xs : List ℕ) → take_number n (n ∷ xs) ≡ xs
-taken_first n xs = take_number-cons n n xs ∙ ap (λ b. cond b xs (n ∷ take_number n xs)) (itself n)
+taken_first n xs = take_number-cons n n xs ∙ ap (λ b. cond b xs (n ∷ take_number n xs)) (number_at_most_itself n)
 
 -- putting a number in and taking it out again gives the list back
 pub taken_put : (n : ℕ) (xs : List ℕ) → take_number n (put_number n xs) ≡ xs
@@ -69,22 +70,22 @@ taken_put n (x ∷ xs) =
 
 -- ---- the numbers whose values pass a test
 
--- if comparing k with q gives less, k is less than q
-pub below : (k q : ℕ) → is_lt (nat_cmp k q) ≡ true → k < q
-below k q h =
+-- k is less than q, if comparing k with q gives less
+pub less_by_cmp : (k q : ℕ) → is_lt (nat_cmp k q) ≡ true → k < q
+less_by_cmp k q h =
     elim (nat_cmp k q) as (λ r. nat_cmp k q ≡ r → is_lt r ≡ true → k < q) [
       | Less ↦ λ e _. ranked k q Less (sym e)
       | Equal ↦ λ e g. absurd (false≢true g)
       | Greater ↦ λ e g. absurd (false≢true g)
     ] refl h
 
--- for put_first: if n comes first once it is put into ys, it also does if x, which is greater, is in front of ys (where
--- t is true)
+-- for put_first: n comes first once it is put into ys, with a greater x in front where t is true, if it comes first
+-- once it is put into ys alone
 first_holds : (n x : ℕ) (t : Bool) (xs ys : List ℕ) → n < x → put_number n ys ≡ n ∷ ys → put_number n (cond t (x ∷ ys) ys) ≡ n ∷ cond t (x ∷ ys) ys
 first_holds n x true xs ys l h = let e : nat_le n x ≡ true = grind (arith, nat_tests) in put_number-cons n x ys ∙ ap (λ b. cond b (n ∷ x ∷ ys) (x ∷ put_number n ys)) e
 first_holds n x false xs ys l h = h
 
--- for chosen-put_new: putting n into a list leaves a lower number x in front, whether x is listed (t) or not
+-- for chosen-put_new: putting n into a list leaves a lower number x in front, whether x is listed (t is true) or not
 later_step : (n x : ℕ) (t : Bool) (ys zs : List ℕ) → x < n → zs ≡ put_number n ys → cond t (x ∷ zs) zs ≡ put_number n (cond t (x ∷ ys) ys)
 later_step n x true ys zs l h = let e : nat_le n x ≡ false = grind (arith, nat_tests) in ap (λ q. x ∷ q) h ∙ sym (put_number-cons n x ys ∙ ap (λ b. cond b (n ∷ x ∷ ys) (x ∷ put_number n ys)) e)
 later_step n x false ys zs l h = h
@@ -106,7 +107,7 @@ module _ {X : Type 0} (p : X → Bool) where
   put_first : (k : ℕ) (es : List (ℕ × X)) → is_sorted nat_cmp es ≡ true → (e : ℕ × X) → k < e.0 → below_all nat_cmp e.0 es ≡ true → put_number k (chosen (e ∷ es)) ≡ k ∷ chosen (e ∷ es)
   put_first k [] s e l b = ap (put_number k) (chosen-cons p e []) ∙ first_holds k e.0 (p e.1) [] [] l (put_number-nil k) ∙ ap (λ ns. k ∷ ns) (sym (chosen-cons p e []))
   put_first k (f ∷ es) s e l b =
-      let rest : put_number k (chosen (f ∷ es)) ≡ k ∷ chosen (f ∷ es) = put_first k es (and_parts _ _ s).1 f (omega (arith, below e.0 f.0 (and_parts _ _ b).0)) (and_parts _ _ s).0 in
+      let rest : put_number k (chosen (f ∷ es)) ≡ k ∷ chosen (f ∷ es) = put_first k es (and_parts _ _ s).1 f (omega (arith, less_by_cmp e.0 f.0 (and_parts _ _ b).0)) (and_parts _ _ s).0 in
       ap (put_number k) (chosen-cons p e (f ∷ es)) ∙ first_holds k e.0 (p e.1) [] (chosen (f ∷ es)) l rest ∙ ap (λ ns. k ∷ ns) (sym (chosen-cons p e (f ∷ es)))
 
   -- putting a new entry that passes the test into sorted entries puts its number among the numbers of those that pass
@@ -133,7 +134,7 @@ module _ {X : Type 0} (p : X → Bool) where
   pub numbers_where-lost : (m : FinMap nat_cmp X) (k : ℕ) (u v : X) → get m k ≡ Some u → p u ≡ true → p v ≡ false → numbers_where p (insert m k v) ≡ take_number k (numbers_where p m)
   numbers_where-lost m k u v is passed fails =
       let base = keyed.remove m k in
-      let before : numbers_where p m ≡ put_number k (numbers_where p base) = ap (numbers_where p) (put_back m k u is) ∙ numbers_where-insert_new base k u (removed m k) passed in
+      let before : numbers_where p m ≡ put_number k (numbers_where p base) = ap (numbers_where p) (put_back_keeps_map m k u is) ∙ numbers_where-insert_new base k u (removed m k) passed in
       let after : numbers_where p (insert m k v) ≡ numbers_where p base = ap (numbers_where p) (put_over m k v) ∙ numbers_where-insert_other p base k v (removed m k) fails in
       after ∙ sym (taken_put k (numbers_where p base)) ∙ ap (take_number k) (sym before)
 
@@ -141,5 +142,5 @@ module _ {X : Type 0} (p : X → Bool) where
   pub numbers_where-gained : (m : FinMap nat_cmp X) (k : ℕ) (u v : X) → get m k ≡ Some u → p u ≡ false → p v ≡ true → numbers_where p (insert m k v) ≡ put_number k (numbers_where p m)
   numbers_where-gained m k u v is failed passes =
       let base = keyed.remove m k in
-      let before : numbers_where p m ≡ numbers_where p base = ap (numbers_where p) (put_back m k u is) ∙ numbers_where-insert_other p base k u (removed m k) failed in
+      let before : numbers_where p m ≡ numbers_where p base = ap (numbers_where p) (put_back_keeps_map m k u is) ∙ numbers_where-insert_other p base k u (removed m k) failed in
       ap (numbers_where p) (put_over m k v) ∙ numbers_where-insert_new base k v (removed m k) passes ∙ ap (put_number k) (sym before)

@@ -6,16 +6,17 @@ use Rattle.std.specs.Ordering.{nat_cmp}
 use Rattle.atl_world.proofs.TrackLaws.{remove_none}
 use Rattle.atl_records.specs.declared.records.Unit.{Unit}
 use Rattle.atl_campaign.specs.Marking.{mark_structure, handed_marked, put_marked, place_marked, place_marked_at, taken_marked, gone_marked, gone_marked_at, whole_marked}
-use Rattle.atl_campaign.specs.Owners.{heir, is_owned_by, after_handover, placed, with_place, with_place_at, without_unit, without_unit_at}
+use Rattle.atl_campaign.specs.Owners.{heir, is_owned_by, after_handover, with_position, with_place, with_place_at, without_unit, without_unit_at}
 use Rattle.atl_campaign.specs.Campaign.{MarkedCampaign, with_owner}
 
--- the campaign with the given units, and with unit n, its row and all its goods marked, if it was there
-abbrev without : MarkedCampaign → ℕ → FinMap nat_cmp Unit → Option Unit → MarkedCampaign
-without c n units o = record { value = record c.value { units = units }; marks = whole_marked c.marks n o }
+-- the campaign with the given units, and with unit n, its row and all its goods marked, unless None is given for the
+-- unit
+abbrev with_units_marked : MarkedCampaign → ℕ → FinMap nat_cmp Unit → Option Unit → MarkedCampaign
+with_units_marked c n units o = record { value = record c.value { units = units }; marks = whole_marked c.marks n o }
 
 -- removing a unit that is not there, without handing a structure on (`taken_marked`), changes nothing
 pub taken_none : (c : MarkedCampaign) (n : ℕ) → get c.value.units n ≡ None → c ≡ taken_marked c n
-taken_none c n none = sym (ap (λ m. without c n m (get c.value.units n)) (remove_none c.value.units n none) ∙ ap (without c n c.value.units) none)
+taken_none c n none = sym (ap (λ m. with_units_marked c n m (get c.value.units n)) (remove_none c.value.units n none) ∙ ap (with_units_marked c n c.value.units) none)
 
 -- ---- what becomes of the campaign, but for its marks
 
@@ -31,15 +32,15 @@ after_handover-what c s from to = by_test (is_owned_by (get c.value.structures s
 
 -- handing structure s on from n to `next`, and then t from nobody to n, with their marks, does to the campaign's value
 -- what `after_handover` does twice
-twice : (c : MarkedCampaign) (s n next t : ℕ) → (handed_marked (handed_marked c s n next) t 0 n).value ≡ after_handover (after_handover c.value s n next) t 0 n
-twice c s n next t = after_handover-what (handed_marked c s n next) t 0 n ∙ ap (λ d. after_handover d t 0 n) (after_handover-what c s n next)
+value-handed_twice : (c : MarkedCampaign) (s n next t : ℕ) → (handed_marked (handed_marked c s n next) t 0 n).value ≡ after_handover (after_handover c.value s n next) t 0 n
+value-handed_twice c s n next t = after_handover-what (handed_marked c s n next) t 0 n ∙ ap (λ d. after_handover d t 0 n) (after_handover-what c s n next)
 
 -- moving the given unit with its marks (`place_marked_at`) does to the campaign's value what `with_place_at` does
 place_at : (c : MarkedCampaign) (n r s : ℕ) (o : Option Unit) → (place_marked_at c n r s o).value ≡ with_place_at c.value n r s o
 place_at c n r s None = refl
 place_at c n r s (Some u) =
     by_test (u.structure == s) (handed_marked (handed_marked (put_marked c n r s) u.structure n (heir c.value u.structure n)) s 0 n) (put_marked c n r s)
-    ∙ ap (λ d. if u.structure == s then placed c.value n r s else d) (twice (put_marked c n r s) u.structure n (heir c.value u.structure n) s)
+    ∙ ap (λ d. if u.structure == s then with_position c.value n r s else d) (value-handed_twice (put_marked c n r s) u.structure n (heir c.value u.structure n) s)
 
 -- moving a unit with its marks (`place_marked`) does to the campaign's value what `with_place` does
 pub place-what : (c : MarkedCampaign) (n r s : ℕ) → (place_marked c n r s).value ≡ with_place c.value n r s

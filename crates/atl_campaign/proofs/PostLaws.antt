@@ -7,7 +7,7 @@ use Rattle.std.specs.FinSet.{FinSet, contains, contains-union, contains-from_lis
 use Rattle.atl_campaign.specs.Covers.{MarksChanges, SameBut, StaysMarked}
 use Rattle.atl_campaign.specs.Marking.{mark_all_mail, mark_campaign_row, mark_report}
 use Rattle.atl_campaign.specs.Campaign.{MarkedCampaign, with_month, with_report, without_mail}
-use Rattle.atl_campaign.proofs.CoverLaws.{Mail, Reports, Row, Stays, KeepsUnmarked, apart_by, part_by_part, put_stays}
+use Rattle.atl_campaign.proofs.CoverLaws.{Mail, Reports, Row, PartStaysMarked, KeepsUnmarked, unmarked_differs_from_put, part_by_part, put_stays}
 use Rattle.atl_records.proofs.EveryLaws.{get-insert_other}
 
 -- setting the month, with the mark of the campaign row, marks all that changes (MarksChanges)
@@ -15,7 +15,7 @@ pub marks-month : (c : MarkedCampaign) (n : ℕ) → MarksChanges c (record { va
 marks-month c n =
     let next : MarkedCampaign = record { value = with_month c.value n; marks = mark_campaign_row c } in
     part_by_part c next
-    (λ p. elim p as (Stays c.marks next.marks) [ Row ↦ λ k h. refl | _ ↦ λ k h. h ])
+    (λ p. elim p as (PartStaysMarked c.marks next.marks) [ Row ↦ λ k h. refl | _ ↦ λ k h. h ])
     (λ p. elim p as (KeepsUnmarked next.marks c.value next.value) [ Row ↦ λ k free. absurd (true≢false free) | _ ↦ λ k free. refl ])
 
 -- storing a report, with its mark, marks all that changes (MarksChanges)
@@ -23,8 +23,8 @@ pub marks-report : (c : MarkedCampaign) (n : ℕ) (text : List ℕ) → MarksCha
 marks-report c n text =
     let next : MarkedCampaign = record { value = with_report c.value n text; marks = mark_report c n } in
     part_by_part c next
-    (λ p. elim p as (Stays c.marks next.marks) [ Reports ↦ put_stays c.marks.reports n | _ ↦ λ k h. h ])
-    (λ p. elim p as (KeepsUnmarked next.marks c.value next.value) [ Reports ↦ λ k free. get-insert_other c.value.reports n k text (apart_by c.marks.reports n k free) | _ ↦ λ k free. refl ])
+    (λ p. elim p as (PartStaysMarked c.marks next.marks) [ Reports ↦ put_stays c.marks.reports n | _ ↦ λ k h. h ])
+    (λ p. elim p as (KeepsUnmarked next.marks c.value next.value) [ Reports ↦ λ k free. get-insert_other c.value.reports n k text (unmarked_differs_from_put c.marks.reports n k free) | _ ↦ λ k free. refl ])
 
 -- ---- the mail that is removed
 
@@ -52,5 +52,5 @@ pub marks-no_mail : (c : MarkedCampaign) → MarksChanges c (record { value = wi
 marks-no_mail c =
     let next : MarkedCampaign = record { value = without_mail c.value; marks = mark_all_mail c } in
     part_by_part c next
-    (λ p. elim p as (Stays c.marks next.marks) [ Mail ↦ all_stay c.marks.mail c.value.mail | _ ↦ λ k h. h ])
+    (λ p. elim p as (PartStaysMarked c.marks next.marks) [ Mail ↦ all_stay c.marks.mail c.value.mail | _ ↦ λ k h. h ])
     (λ p. elim p as (KeepsUnmarked next.marks c.value next.value) [ Mail ↦ all_gone c.marks.mail c.value.mail | _ ↦ λ k free. refl ])

@@ -21,10 +21,10 @@ use Rattle.atl_campaign.specs.RowRules.{Key, one_key, HaveDistinctKeys}
 use Rattle.atl_campaign.specs.Rows.{rows_by}
 use Rattle.atl_campaign.proofs.AssemblyLaws.{min_small}
 use Rattle.atl_records.proofs.EveryLaws.{none_some, every-empty, every-insert, every-from_each, each-from_every, sorted}
-use Rattle.atl_campaign.proofs.HasLaws.{IsWhole, same}
+use Rattle.atl_campaign.proofs.HasLaws.{FitsU32, is_same_key}
 use Rattle.atl_campaign.proofs.KeyLaws.{IsDistinct-map}
 use Rattle.atl_campaign.proofs.MapOfRowsLaws.{HaveDistinctNumbers, rows_found}
-use Rattle.atl_campaign.proofs.OrderedLaws.{below}
+use Rattle.atl_campaign.proofs.OrderedLaws.{less_by_cmp}
 
 -- ---- facts of each row, in another order
 
@@ -44,18 +44,18 @@ all_pass p P good (r ∷ rows) h = ap (λ b. b && list_all p rows) (good r h.0) 
 -- ---- numbers that are written and read
 
 -- a number of at most 32 bits, written to a row, is read as itself
-pub read_whole : (n : ℕ) → n ≤ most_u32 → as_u32 (pos n) ≡ n
-read_whole n h = min_small n most_u32 h
+pub written_is_read : (n : ℕ) → n ≤ most_u32 → as_u32 (pos n) ≡ n
+written_is_read n h = min_small n most_u32 h
 
 -- a number of at most 32 bits, written to a row, is whole: one that is read as itself
-pub written_whole : (n : ℕ) → n ≤ most_u32 → IsWhole (pos n)
-written_whole n h = ap pos (sym (read_whole n h))
+pub written_fits_u32 : (n : ℕ) → n ≤ most_u32 → FitsU32 (pos n)
+written_fits_u32 n h = ap pos (sym (written_is_read n h))
 
 -- ---- maps
 
 -- two maps are equal if each has all values of the other under the same numbers
-pub agree : {V : Type 0} (m k : FinMap nat_cmp V) → Every (λ n v. get k n ≡ Some v) m → Every (λ n v. get m n ≡ Some v) k → m ≡ k
-agree {V} m k there back = same_map nat_cmp_total nat_cmp-IsAntisymmetric m k (λ n.
+pub equal_by_values : {V : Type 0} (m k : FinMap nat_cmp V) → Every (λ n v. get k n ≡ Some v) m → Every (λ n v. get m n ≡ Some v) k → m ≡ k
+equal_by_values {V} m k there back = same_map nat_cmp_total nat_cmp-IsAntisymmetric m k (λ n.
     elim (get m n) as (λ o. get m n ≡ o → get m n ≡ get k n) [
       | Some v ↦ λ is. is ∙ sym (there n v is)
       | None ↦ λ is. elim (get k n) as (λ q. get k n ≡ q → get m n ≡ get k n) [
@@ -76,7 +76,7 @@ module _ {R V : Type 0} (number : R → ℕ) (value : R → V) where
 
   -- rows make the map m if their values are all in m, and the map that they make has all values of m
   pub by_number_is : (m : FinMap nat_cmp V) (rows : List R) → AllByRecursion (λ r. get m (number r) ≡ Some (value r)) rows → Every (λ n v. get (by_number number value rows) n ≡ Some v) m → by_number number value rows ≡ m
-  by_number_is m rows there back = agree (by_number number value rows) m (every_by (λ n v. get m n ≡ Some v) rows there) back
+  by_number_is m rows there back = equal_by_values (by_number number value rows) m (every_by (λ n v. get m n ≡ Some v) rows there) back
 
 -- ---- a row for each entry
 
@@ -132,7 +132,7 @@ module _ {V R : Type 0} (row : ℕ → V → R) where
 
 -- ---- keys
 
--- if comparing by o and then by p gives Equal, both o and p are Equal
+-- the orderings o and p are both Equal, if comparing by o and then by p (`ordering_then`) gives Equal
 then_eq : (o p : Ordering) → is_eq (ordering_then o p) ≡ true → (o ≡ Equal) × (is_eq p ≡ true)
 then_eq Less p h = absurd (false≢true h)
 then_eq Equal p h = (refl, h)
@@ -154,7 +154,7 @@ pub record SameKey (a b : Key) : Type 0 where
   pub third : a.2 ≡ b.2
 
 -- keys that compare equal have the same three numbers
-same_key : (a b : Key) → same a b ≡ true → SameKey a b
+same_key : (a b : Key) → is_same_key a b ≡ true → SameKey a b
 same_key a b h =
     let outer = then_eq (ordering_then (int_cmp a.0 b.0) (int_cmp a.1 b.1)) (int_cmp a.2 b.2) h in
     let inner = then_eq (int_cmp a.0 b.0) (int_cmp a.1 b.1) (ap is_eq outer.0) in
@@ -165,16 +165,16 @@ same_key a b h =
     }
 
 -- keys that don't have the same three numbers do not compare equal
-pub apart_keys : (a b : Key) → ¬ (SameKey a b) → same a b ≡ false
-apart_keys a b h = elim (same a b) as (λ t. same a b ≡ t → same a b ≡ false) [ true ↦ λ e. absurd (h (same_key a b e)) | false ↦ λ e. e ] refl
+pub apart_keys : (a b : Key) → ¬ (SameKey a b) → is_same_key a b ≡ false
+apart_keys a b h = elim (is_same_key a b) as (λ t. is_same_key a b ≡ t → is_same_key a b ≡ false) [ true ↦ λ e. absurd (h (same_key a b e)) | false ↦ λ e. e ] refl
 
 -- if the integers m and n are equal, so are the natural numbers m and n
-pub same_size : (m n : ℕ) → pos m ≡ pos n → m ≡ n
-same_size m n e = cc
+pub pos_is_injective : (m n : ℕ) → pos m ≡ pos n → m ≡ n
+pos_is_injective m n e = cc
 
 -- keys of one number each, the first number below the second, do not compare equal
-pub apart_numbers : (m n : ℕ) → m < n → same (one_key (pos m)) (one_key (pos n)) ≡ false
-apart_numbers m n l = apart_keys (one_key (pos m)) (one_key (pos n)) (λ k. let e = same_size m n k.first in omega arith)
+pub apart_numbers : (m n : ℕ) → m < n → is_same_key (one_key (pos m)) (one_key (pos n)) ≡ false
+apart_numbers m n l = apart_keys (one_key (pos m)) (one_key (pos n)) (λ k. let e = pos_is_injective m n k.first in omega arith)
 
 -- ---- rows that are listed one after another
 
@@ -235,7 +235,7 @@ Rise {V} es = InOrder (λ (e f : ℕ × V). e.0 < f.0) es
 -- a number that below_all finds below all entries is less than the number of each
 below_each : {V : Type 0} (k : ℕ) (es : List (ℕ × V)) → below_all nat_cmp k es ≡ true → AllByRecursion (λ f. k < f.0) es
 below_each k [] h = tt
-below_each k (e ∷ es) h = (below k e.0 (and_parts _ _ h).0, below_each k es (and_parts _ _ h).1)
+below_each k (e ∷ es) h = (less_by_cmp k e.0 (and_parts _ _ h).0, below_each k es (and_parts _ _ h).1)
 
 -- the numbers of entries that pass is_sorted are strictly rising (Rise)
 rise_sorted : {V : Type 0} (es : List (ℕ × V)) → is_sorted nat_cmp es ≡ true → Rise es
@@ -263,9 +263,9 @@ module _ {V R : Type 0} (row : ℕ → V → R) (e : R → R → Bool) (apart : 
 -- ---- keys in another order
 
 -- comparing two keys for equality gives the same result in either order
-same_symm : (a b : Key) → same a b ≡ same b a
+same_symm : (a b : Key) → is_same_key a b ≡ is_same_key b a
 same_symm = (eq_by_cmp_equiv (then_total (then_total (on_total (λ (t : Key). t.0) int_cmp_total) (on_total (λ (t : Key). t.1) int_cmp_total)) (on_total (λ (t : Key). t.2) int_cmp_total))).symm
 
 -- if rows have distinct keys, they have distinct keys in any order
-pub keys_permuted : {R : Type 0} (key : R → Key) (xs ys : List R) → IsPermutation xs ys → IsDistinct (λ a b. same (key a) (key b)) xs → HaveDistinctKeys key ys
-keys_permuted key xs ys h d = IsDistinct-map key same ys (IsDistinct-IsPermutation (λ a b. same (key a) (key b)) (λ a b. same_symm (key a) (key b)) xs ys h d)
+pub keys_permuted : {R : Type 0} (key : R → Key) (xs ys : List R) → IsPermutation xs ys → IsDistinct (λ a b. is_same_key (key a) (key b)) xs → HaveDistinctKeys key ys
+keys_permuted key xs ys h d = IsDistinct-map key is_same_key ys (IsDistinct-IsPermutation (λ a b. is_same_key (key a) (key b)) (λ a b. same_symm (key a) (key b)) xs ys h d)

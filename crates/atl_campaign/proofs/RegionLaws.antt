@@ -7,14 +7,14 @@ use Rattle.std.specs.declared.cmp.Ordering.TheVariants.{Less, Equal, Greater}
 use Rattle.std.specs.FinMap.{FinMap, get, insert, len, get-insert, len-insert, nat_cmp-IsAntisymmetric}
 use Rattle.atl_world.specs.Worlds.{WorldValue}
 use Rattle.atl_world.specs.Limits.{most_amount}
-use Rattle.atl_world.specs.Sums.{sum_over, changed, changed_at}
+use Rattle.atl_world.specs.Sums.{sum_over, with_changed_value, with_changed_option}
 use Rattle.atl_world.proofs.SumLaws.{sum_over-insert_known}
 use Rattle.atl_records.specs.declared.books.BooksEntry.{BooksEntry}
 use Rattle.atl_records.specs.declared.books.Thing.{Thing}
 use Rattle.atl_records.specs.declared.records.Region.{Region}
 use Rattle.atl_records.specs.declared.records.Unit.{Unit}
 use Rattle.atl_records.specs.Books.{Account, AreBooks, BooksValue, amount_in, thing_index, after_booking, amount_number}
-use Rattle.atl_campaign.specs.Founding.{things_of}
+use Rattle.atl_campaign.specs.Founding.{thing_count}
 use Rattle.atl_records.specs.Every.{Every, HasValue}
 use Rattle.atl_campaign.specs.Good.{IsRegion, AreInRange, AreKnown, AreOfMarkets, IsSteady}
 use Rattle.atl_campaign.specs.Campaign.{CampaignValue, region_changed, with_booking}
@@ -32,7 +32,7 @@ module _ (w : WorldValue) (c : CampaignValue) (regions : FinMap nat_cmp Region) 
   stocked = record c { regions = regions; books = books }
 
   module _ (few : len regions ≡ len c.regions) (there : (n : ℕ) → HasValue c.regions n ↔ HasValue regions n)
-      (within : Every (λ n r. IsRegion w n r) regions) (marketed : Every (λ n r. AreOfMarkets w n r.stocks) regions) (booked : AreBooks (things_of w) books) where
+      (within : Every (λ n r. IsRegion w n r) regions) (marketed : Every (λ n r. AreOfMarkets w n r.stocks) regions) (booked : AreBooks (thing_count w) books) where
     -- counts and numbers stay in their ranges (AreInRange) with the given regions and books, which are in range
     stocked-numbers : AreInRange w c → AreInRange w stocked
     stocked-numbers old = record {
@@ -102,8 +102,8 @@ module _ {V : Type 0} where
       ] refl
 
   -- changing a value that is there puts the changed value under its number
-  pub changed-known : (f : V → V) (m : FinMap nat_cmp V) (n : ℕ) (v : V) → get m n ≡ Some v → changed f m n ≡ insert m n (f v)
-  changed-known f m n v is = ap (changed_at f m n) is
+  pub changed-known : (f : V → V) (m : FinMap nat_cmp V) (n : ℕ) (v : V) → get m n ≡ Some v → with_changed_value f m n ≡ insert m n (f v)
+  changed-known f m n v is = ap (with_changed_option f m n) is
 
 -- a region's peasants, money and stocks stay in range (IsRegion) with another number of peasants, up to most_amount
 pub IsRegion-peasants : {w : WorldValue} {n : ℕ} (r : Region) (peasants : ℕ) → peasants ≤ most_amount → IsRegion w n r → IsRegion w n (record r { peasants = peasants })
@@ -143,18 +143,18 @@ module _ (f : Region → Region) (c : CampaignValue) (n : ℕ) (r : Region) (is 
 -- ---- the books
 
 -- the campaign stays steady when an amount of one of the world's things is booked
-pub steady-amount : (w : WorldValue) (c : CampaignValue) (e : BooksEntry) (t : Thing) (n : ℤ) → thing_index t < things_of w → IsSteady w c → IsSteady w (with_booking c e t n)
+pub steady-amount : (w : WorldValue) (c : CampaignValue) (e : BooksEntry) (t : Thing) (n : ℤ) → thing_index t < thing_count w → IsSteady w c → IsSteady w (with_booking c e t n)
 steady-amount w c e t n there old =
-    stocked-steady w c c.regions (after_booking c.books e t n) refl (λ k. (λ h. h, λ h. h)) old.numbers.regions old.known.markets (AreBooks-after_booking (things_of w) c.books e t n old.numbers.books there) old
+    stocked-steady w c c.regions (after_booking c.books e t n) refl (λ k. (λ h. h, λ h. h)) old.numbers.regions old.known.markets (AreBooks-after_booking (thing_count w) c.books e t n old.numbers.books there) old
 
 -- booking an amount doesn't change the total that regions and units have of any thing
-pub total-amount : (c : CampaignValue) (e : BooksEntry) (u t : Thing) (n : ℤ) → total (with_booking c e u n) t ≡ total c t
+pub total-booking : (c : CampaignValue) (e : BooksEntry) (u t : Thing) (n : ℤ) → total (with_booking c e u n) t ≡ total c t
 unfolding total
-total-amount c e u t n = refl
+total-booking c e u t n = refl
 
 -- booking an amount changes no amount of the books that has another number (`amount_number`)
-pub amount-other : (books : BooksValue) (e f : BooksEntry) (t u : Thing) (n : ℤ) → amount_number e t ≢ amount_number f u → amount_in (after_booking books f u n) e t ≡ amount_in books e t
-amount-other books e f t u n apart =
+pub booking-other_amount : (books : BooksValue) (e f : BooksEntry) (t u : Thing) (n : ℤ) → amount_number e t ≢ amount_number f u → amount_in (after_booking books f u n) e t ≡ amount_in books e t
+booking-other_amount books e f t u n apart =
     elim (cases_account (e, t) (f, u)) [
       | inl same ↦ absurd (apart (ap (λ (a : Account). amount_number a.0 a.1) same))
       | inr other ↦ other_amount books f u (amount_in books f u +ℤ n) e t other

@@ -8,19 +8,19 @@ use Rattle.atl_campaign.specs.declared.parts.StoredBooks.{StoredBooks}
 use Rattle.atl_records.specs.declared.books.BooksEntry.{BooksEntry}
 use Rattle.atl_records.specs.Books.{Account, BooksValue, amount_in, is_zero, thing_at}
 use Rattle.atl_records.specs.Grids.{accounts_under, listed_of}
-use Rattle.atl_records.proofs.BookLaws.{zero_not}
+use Rattle.atl_records.proofs.BookLaws.{nonzero_fails_is_zero}
 use Rattle.atl_campaign.specs.Rows.{has_row, amounts_rows, books_row, amount_rows, rows_of_sort, rows_under}
 
 -- numbers m and n that are equal as integers (pos m, pos n) are equal
-same_size : {m n : ℕ} → pos m ≡ pos n → m ≡ n
-same_size e = cc
+pos_is_injective : {m n : ℕ} → pos m ≡ pos n → m ≡ n
+pos_is_injective e = cc
 
 -- for rows of which `shown` gives the amount that `row` made them with
 module _ {R : Type 0} (shown : R → ℤ) (row : ℕ → ℕ → R) (shows : (thing amount : ℕ) → shown (row thing amount) ≡ pos amount) where
   -- a first amount that is not 0 in a list of things with amounts gives one row, in front of the rows of the others
   pub amount_rows_one : (thing amount : ℕ) (es : List (ℕ × ℕ)) → amount ≢ 0 → amount_rows shown row ((thing, amount) ∷ es) ≡ row thing amount ∷ amount_rows shown row es
   amount_rows_one thing amount es h =
-      ap (λ b. cond (not b) (row thing amount ∷ amount_rows shown row es) (amount_rows shown row es)) (ap is_zero (shows thing amount) ∙ zero_not (pos amount) (λ e. h (same_size e)))
+      ap (λ b. cond (not b) (row thing amount ∷ amount_rows shown row es) (amount_rows shown row es)) (ap is_zero (shows thing amount) ∙ nonzero_fails_is_zero (pos amount) (λ e. h (pos_is_injective e)))
 
 -- a first amount that is not 0 among a unit's items, or its days of skills, gives one row, in front of the others' rows
 pub sort_rows_one : (n sort thing amount : ℕ) (es : List (ℕ × ℕ)) → amount ≢ 0 → rows_of_sort n sort ((thing, amount) ∷ es) ≡ has_row n sort thing amount ∷ rows_of_sort n sort es
@@ -52,15 +52,15 @@ more_under books entry n = ap (rows_under books) (map-range_with_len_more (λ i.
 pub rows_under-some : (books : BooksValue) (entry : BooksEntry) (n : ℕ) → amount_in books entry (thing_at n) ≢ pos 0 → rows_under books (accounts_under (n + 1) entry) ≡ rows_under books (accounts_under n entry) ++ books_row entry (thing_at n) (amount_in books entry (thing_at n)) ∷ []
 rows_under-some books entry n h =
     let z = amount_in books entry (thing_at n) in
-    more_under books entry n ∙ ap (λ rows. rows_under books (accounts_under n entry) ++ rows) (rows_under_one books (entry, thing_at n) ∙ ap (λ b. cond (not b) (books_row entry (thing_at n) z ∷ []) []) (zero_not z h))
+    more_under books entry n ∙ ap (λ rows. rows_under books (accounts_under n entry) ++ rows) (rows_under_one books (entry, thing_at n) ∙ ap (λ b. cond (not b) (books_row entry (thing_at n) z ∷ []) []) (nonzero_fails_is_zero z h))
 
 -- the rows of an entry of the books for n + 1 things are those for n things, if the amount of thing n is 0
 pub rows_under-none : (books : BooksValue) (entry : BooksEntry) (n : ℕ) → amount_in books entry (thing_at n) ≡ pos 0 → rows_under books (accounts_under (n + 1) entry) ≡ rows_under books (accounts_under n entry)
 rows_under-none books entry n h =
     more_under books entry n ∙ ap (λ rows. rows_under books (accounts_under n entry) ++ rows) (rows_under_one books (entry, thing_at n) ∙ ap (λ z. cond (not (is_zero z)) (books_row entry (thing_at n) z ∷ []) []) h) ∙ append-nil (rows_under books (accounts_under n entry))
 
--- if the rows of the books that are written and those of the entries to come are together `all`, they still are once
--- the rows of the next entry are written
+-- the rows of the books written so far, and those of the entries to come, still are `all` together once the rows of the
+-- next entry are written
 pub entry_added : (books : BooksValue) (things : ℕ) (x : BooksEntry) (now rest : List BooksEntry) (before after all : List StoredBooks) → now ≡ x ∷ rest → after ≡ before ++ rows_under books (accounts_under things x)
     → before ++ rows_under books (flat_map (accounts_under things) now) ≡ all → after ++ rows_under books (flat_map (accounts_under things) rest) ≡ all
 entry_added books things x now rest before after all next is so_far =

@@ -23,9 +23,9 @@ use Rattle.atl_campaign.proofs.IndexLaws.{some_none}
 same_some : {X : Type 0} {x y : X} {o : Option X} → o ≡ Some x → o ≡ Some y → x ≡ y
 same_some e h = cc
 
--- P holds of the test whether q is n, if q ≡ n gives P true and q ≢ n gives P false
-by_number : (q n : ℕ) (P : Bool → Type 0) → (q ≡ n → P true) → (q ≢ n → P false) → P (eq_by_cmp nat_cmp q n)
-by_number q n P same apart =
+-- P holds of the result of the test whether q is n, if q ≡ n gives P true, and q ≢ n gives P false
+by_equality : (q n : ℕ) (P : Bool → Type 0) → (q ≡ n → P true) → (q ≢ n → P false) → P (eq_by_cmp nat_cmp q n)
+by_equality q n P same apart =
     elim (nat_cmp q n) as (λ r. nat_cmp q n ≡ r → P (is_eq r)) [
       | Less ↦ λ e. apart (λ h. let l = ranked q n Less (sym e) in omega arith)
       | Equal ↦ λ e. same (nat_cmp-IsAntisymmetric q n e)
@@ -115,7 +115,7 @@ module _ {V : Type 0} where
   pub values_changed : (i : FinMap nat_cmp ℕ) (s t : slab.Slab V) (n k : ℕ) (x : V) → slab.Updates s t k (Some x) → HaveOwnSlots i s → get i n ≡ Some k → values_of i t ≡ insert (values_of i s) n x
   values_changed i s t n k x u held is = same_map nat_cmp_total nat_cmp-IsAntisymmetric _ _ (λ q.
       get_values i t (HaveOwnSlots-changed i s t k x u held) q
-      ∙ by_number q n (λ b. value_in_slot t (get i q) ≡ cond b (Some x) (value_in_slot s (get i q)))
+      ∙ by_equality q n (λ b. value_in_slot t (get i q) ≡ cond b (Some x) (value_in_slot s (get i q)))
       (λ same. ap (λ m. value_in_slot t (get i m)) same ∙ ap (value_in_slot t) is ∙ u.changed)
       (λ apart. kept s t k (Some x) (get i q) u (λ j h same. apart (held.by_one q n k (h ∙ ap Some same) is)))
       ∙ sym (get-insert nat_cmp_total (values_of i s) n x q ∙ ap (cond (eq_by_cmp nat_cmp q n) (Some x)) (get_values i s held q)))
@@ -125,16 +125,16 @@ module _ {V : Type 0} where
   -- the numbers of an index still lead to distinct slots in use (HaveOwnSlots) when a vacant slot is used for a number
   pub HaveOwnSlots-added : (i : FinMap nat_cmp ℕ) (s t : slab.Slab V) (n k : ℕ) (x : V) → slab.Updates s t k (Some x) → slab.get s k ≡ None → HaveOwnSlots i s → HaveOwnSlots (insert i n k) t
   HaveOwnSlots-added i s t n k x u vacant held = record {
-    in_use = λ m j h. by_number m n (λ b. cond b (Some k) (get i m) ≡ Some j → is_some (slab.get t j) ≡ true)
+    in_use = λ m j h. by_equality m n (λ b. cond b (Some k) (get i m) ≡ Some j → is_some (slab.get t j) ≡ true)
         (λ same e. ap (λ m. is_some (slab.get t m)) (same_some e refl) ∙ ap is_some u.changed)
         (λ apart e. ap is_some (u.others j (λ same. vacant_slot s j k same vacant (held.in_use m j e))) ∙ held.in_use m j e)
         (sym (get-insert nat_cmp_total i n k m) ∙ h);
-    by_one = λ a b j h g. by_number a n (λ c. cond c (Some k) (get i a) ≡ Some j → a ≡ b)
-        (λ a_same e. by_number b n (λ c. cond c (Some k) (get i b) ≡ Some j → a ≡ b)
+    by_one = λ a b j h g. by_equality a n (λ c. cond c (Some k) (get i a) ≡ Some j → a ≡ b)
+        (λ a_same e. by_equality b n (λ c. cond c (Some k) (get i b) ≡ Some j → a ≡ b)
         (λ b_same _. a_same ∙ sym b_same)
         (λ b_apart f. absurd (vacant_slot s j k (same_some e refl) vacant (held.in_use b j f)))
         (sym (get-insert nat_cmp_total i n k b) ∙ g))
-        (λ a_apart e. by_number b n (λ c. cond c (Some k) (get i b) ≡ Some j → a ≡ b)
+        (λ a_apart e. by_equality b n (λ c. cond c (Some k) (get i b) ≡ Some j → a ≡ b)
         (λ b_same f. absurd (vacant_slot s j k (same_some f refl) vacant (held.in_use a j e)))
         (λ b_apart f. held.by_one a b j e f)
         (sym (get-insert nat_cmp_total i n k b) ∙ g))
@@ -146,7 +146,7 @@ module _ {V : Type 0} where
   pub values_added : (i : FinMap nat_cmp ℕ) (s t : slab.Slab V) (n k : ℕ) (x : V) → slab.Updates s t k (Some x) → slab.get s k ≡ None → HaveOwnSlots i s → values_of (insert i n k) t ≡ insert (values_of i s) n x
   values_added i s t n k x u vacant held = same_map nat_cmp_total nat_cmp-IsAntisymmetric _ _ (λ q.
       get_values (insert i n k) t (HaveOwnSlots-added i s t n k x u vacant held) q ∙ ap (value_in_slot t) (get-insert nat_cmp_total i n k q)
-      ∙ by_number q n (λ b. value_in_slot t (cond b (Some k) (get i q)) ≡ cond b (Some x) (value_in_slot s (get i q)))
+      ∙ by_equality q n (λ b. value_in_slot t (cond b (Some k) (get i q)) ≡ cond b (Some x) (value_in_slot s (get i q)))
       (λ same. u.changed)
       (λ apart. kept s t k (Some x) (get i q) u (λ j h same. vacant_slot s j k same vacant (held.in_use q j h)))
       ∙ sym (get-insert nat_cmp_total (values_of i s) n x q ∙ ap (cond (eq_by_cmp nat_cmp q n) (Some x)) (get_values i s held q)))
@@ -156,13 +156,13 @@ module _ {V : Type 0} where
   -- the numbers of an index still lead to distinct slots in use (HaveOwnSlots) when a number and its slot are given up
   pub HaveOwnSlots-removed : (i : FinMap nat_cmp ℕ) (s t : slab.Slab V) (n k : ℕ) → slab.Updates s t k None → get i n ≡ Some k → HaveOwnSlots i s → HaveOwnSlots (remove i n) t
   HaveOwnSlots-removed i s t n k u is held = record {
-    in_use = λ m j h. by_number m n (λ b. cond b None (get i m) ≡ Some j → is_some (slab.get t j) ≡ true)
+    in_use = λ m j h. by_equality m n (λ b. cond b None (get i m) ≡ Some j → is_some (slab.get t j) ≡ true)
         (λ same e. some_none j (sym e))
         (λ apart e. ap is_some (u.others j (λ same. apart (held.by_one m n k (e ∙ ap Some same) is))) ∙ held.in_use m j e)
         (sym (get-remove nat_cmp_total i n m) ∙ h);
-    by_one = λ a b j h g. by_number a n (λ c. cond c None (get i a) ≡ Some j → a ≡ b)
+    by_one = λ a b j h g. by_equality a n (λ c. cond c None (get i a) ≡ Some j → a ≡ b)
         (λ same e. some_none j (sym e))
-        (λ apart e. by_number b n (λ c. cond c None (get i b) ≡ Some j → a ≡ b)
+        (λ apart e. by_equality b n (λ c. cond c None (get i b) ≡ Some j → a ≡ b)
         (λ same f. some_none j (sym f))
         (λ b_apart f. held.by_one a b j e f)
         (sym (get-remove nat_cmp_total i n b) ∙ g))
@@ -173,7 +173,7 @@ module _ {V : Type 0} where
   pub values_removed : (i : FinMap nat_cmp ℕ) (s t : slab.Slab V) (n k : ℕ) → slab.Updates s t k None → get i n ≡ Some k → HaveOwnSlots i s → values_of (remove i n) t ≡ remove (values_of i s) n
   values_removed i s t n k u is held = same_map nat_cmp_total nat_cmp-IsAntisymmetric _ _ (λ q.
       get_values (remove i n) t (HaveOwnSlots-removed i s t n k u is held) q ∙ ap (value_in_slot t) (get-remove nat_cmp_total i n q)
-      ∙ by_number q n (λ b. value_in_slot t (cond b None (get i q)) ≡ cond b None (value_in_slot s (get i q)))
+      ∙ by_equality q n (λ b. value_in_slot t (cond b None (get i q)) ≡ cond b None (value_in_slot s (get i q)))
       (λ same. refl)
       (λ apart. kept s t k None (get i q) u (λ j h same. apart (held.by_one q n k (h ∙ ap Some same) is)))
       ∙ sym (get-remove nat_cmp_total (values_of i s) n q ∙ ap (cond (eq_by_cmp nat_cmp q n) None) (get_values i s held q)))
@@ -266,15 +266,15 @@ lent_same n F G h j = inl (n, λ w. h w j)
 -- ---- sorted by number
 
 -- a number that below_all finds below all entries is less than each of their numbers
-rise : {V : Type 0} (k : ℕ) (es : List (ℕ × V)) → below_all nat_cmp k es ≡ true → AllByRecursion (λ n. nat_cmp k n ≡ Less) (keys_of es)
-rise k [] h = tt
-rise k (e ∷ es) h = (is_less (nat_cmp k e.0) (and_parts _ _ h).0, rise k es (and_parts _ _ h).1)
+less_than_each_key : {V : Type 0} (k : ℕ) (es : List (ℕ × V)) → below_all nat_cmp k es ≡ true → AllByRecursion (λ n. nat_cmp k n ≡ Less) (keys_of es)
+less_than_each_key k [] h = tt
+less_than_each_key k (e ∷ es) h = (is_less (nat_cmp k e.0) (and_parts _ _ h).0, less_than_each_key k es (and_parts _ _ h).1)
 
 -- the numbers of entries that pass is_sorted rise strictly
 pub keys_rise : {V : Type 0} (es : List (ℕ × V)) → is_sorted nat_cmp es ≡ true → IsStrictlySortedBy nat_cmp (keys_of es)
 unfolding IsStrictlySortedBy
 keys_rise [] h = tt
-keys_rise (e ∷ es) h = (rise e.0 es (and_parts _ _ h).0, keys_rise es (and_parts _ _ h).1)
+keys_rise (e ∷ es) h = (less_than_each_key e.0 es (and_parts _ _ h).0, keys_rise es (and_parts _ _ h).1)
 
 module _ {V : Type 0} (s : slab.Slab V) where
   -- putting the entry of number n, whose slot is in use, in front of entries puts n in front of their numbers

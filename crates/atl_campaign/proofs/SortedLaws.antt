@@ -6,7 +6,7 @@ use Rattle.std.specs.Prelude.{nat_lt}
 use Rattle.std.proofs.lemmas.Bool.Decides.{nat_tests}
 use Rattle.atl_campaign.specs.Ordered.{IsSorted, put_number, take_number}
 use Rattle.atl_campaign.proofs.OrderedLaws.{put_number-cons, put_number-nil, take_number-cons, take_number-nil}
-use Rattle.atl_campaign.proofs.MapOfRowsLaws.{each_so}
+use Rattle.atl_campaign.proofs.MapOfRowsLaws.{each_follows}
 
 -- if x is at most each number of a list, it is at most the one at index i
 at_most_indexed : (x : ℕ) (xs : List ℕ) (i d : ℕ) → AllByRecursion (λ y. x ≤ y) xs → i < length xs → x ≤ get_or xs i d
@@ -14,7 +14,7 @@ at_most_indexed x [] i d h l = absurd (omega arith)
 at_most_indexed x (y ∷ xs) zero d h l = h.0
 at_most_indexed x (y ∷ xs) (suc i) d h l = at_most_indexed x xs i d h.1 (omega arith)
 
--- of two indices of a sorted list, the later has a number at least as great
+-- a sorted list has at a later index a number at least as great as at an earlier one
 rises : (xs : List ℕ) (i j d : ℕ) → IsSorted xs → i ≤ j → j < length xs → get_or xs i d ≤ get_or xs j d
 rises [] i j d h le l = absurd (omega arith)
 rises (x ∷ xs) zero zero d h le l = omega arith
@@ -22,17 +22,17 @@ rises (x ∷ xs) zero (suc j) d h le l = at_most_indexed x xs j d h.0 (omega ari
 rises (x ∷ xs) (suc i) zero d h le l = absurd (omega arith)
 rises (x ∷ xs) (suc i) (suc j) d h le l = rises xs i j d h.1 (omega arith) (omega arith)
 
--- if a is at most b, and b is below n, a is below n
-lower : (a b n : ℕ) → a ≤ b → nat_lt b n ≡ true → nat_lt a n ≡ true
-lower a b n le h = grind (arith, nat_tests)
+-- a is below n, if it is at most b, and b is below n
+less_by_transitivity : (a b n : ℕ) → a ≤ b → nat_lt b n ≡ true → nat_lt a n ≡ true
+less_by_transitivity a b n le h = grind (arith, nat_tests)
 
 -- in a sorted list the numbers below n come first
-pub parted : (n : ℕ) (xs : List ℕ) → IsSorted xs → IsPartitionedBy (λ y. nat_lt y n) xs
-parted n xs h i j d le l e = lower (get_or xs i d) (get_or xs j d) n (rises xs i j d h le l) e
+pub sorted_is_partitioned : (n : ℕ) (xs : List ℕ) → IsSorted xs → IsPartitionedBy (λ y. nat_lt y n) xs
+sorted_is_partitioned n xs h i j d le l e = less_by_transitivity (get_or xs i d) (get_or xs j d) n (rises xs i j d h le l) e
 
 -- ---- a number put in
 
--- if x is at most n and at most each number of a list, it still is at most each once n is put in
+-- x is at most each number of a list once n is put in, if it is at most n, and at most each number of the old list
 put_least : (x n : ℕ) (xs : List ℕ) → x ≤ n → AllByRecursion (λ y. x ≤ y) xs → AllByRecursion (λ y. x ≤ y) (put_number n xs)
 put_least x n [] le h = subst (AllByRecursion (λ y. x ≤ y)) (sym (put_number-nil n)) (le, tt)
 put_least x n (y ∷ xs) le h = subst (AllByRecursion (λ y. x ≤ y)) (sym (put_number-cons n y xs)) (either (put_least x n xs le h.1) (nat_le n y))
@@ -42,9 +42,9 @@ put_least x n (y ∷ xs) le h = subst (AllByRecursion (λ y. x ≤ y)) (sym (put
     either rest true = (le, h)
     either rest false = (h.0, rest)
 
--- if n is at most x, and x is at most each of a list, n is at most each
+-- n is at most each number of a list, if it is at most x, and x is at most each of them
 lower_all : (n x : ℕ) (xs : List ℕ) → n ≤ x → AllByRecursion (λ y. x ≤ y) xs → AllByRecursion (λ y. n ≤ y) xs
-lower_all n x xs le h = each_so (λ y. x ≤ y) (λ y. n ≤ y) (λ y l. omega arith) xs h
+lower_all n x xs le h = each_follows (λ y. x ≤ y) (λ y. n ≤ y) (λ y l. omega arith) xs h
 
 -- a sorted list stays sorted when a number is put in
 pub IsSorted-put : (n : ℕ) (xs : List ℕ) → IsSorted xs → IsSorted (put_number n xs)

@@ -17,8 +17,8 @@ is_less Equal h = absurd (false≢true h)
 is_less Greater h = absurd (false≢true h)
 
 -- a number above another does not compare equal to it
-above : (k q : ℕ) → is_lt (nat_cmp q k) ≡ true → is_eq (nat_cmp k q) ≡ false
-above k q h = ap is_eq (nat_cmp_total.antisymm k q) ∙ ap (λ o. is_eq (ordering_reverse o)) (is_less (nat_cmp q k) h)
+above_compares_unequal : (k q : ℕ) → is_lt (nat_cmp q k) ≡ true → is_eq (nat_cmp k q) ≡ false
+above_compares_unequal k q h = ap is_eq (nat_cmp_total.antisymm k q) ∙ ap (λ o. is_eq (ordering_reverse o)) (is_less (nat_cmp q k) h)
 
 module _ {W : Type 0} where
   -- a number below all entries is below one in their midst
@@ -29,7 +29,7 @@ module _ {W : Type 0} where
   -- the number of an entry of a sorted list is not found among those before it
   not_in_front : (es fs : List (ℕ × W)) (k : ℕ) (w : W) → is_sorted nat_cmp (es ++ (k, w) ∷ fs) ≡ true → find nat_cmp k es ≡ None
   not_in_front [] fs k w h = refl
-  not_in_front (e ∷ es) fs k w h = ap (λ b. cond b (Some e.1) (find nat_cmp k es)) (above k e.0 (is_below e.0 es fs k w (and_parts _ _ h).0)) ∙ not_in_front es fs k w (and_parts _ _ h).1
+  not_in_front (e ∷ es) fs k w h = ap (λ b. cond b (Some e.1) (find nat_cmp k es)) (above_compares_unequal k e.0 (is_below e.0 es fs k w (and_parts _ _ h).0)) ∙ not_in_front es fs k w (and_parts _ _ h).1
 
   -- the next entry of a map whose first entries are those of m has a number that is not in m
   pub comes_new : (m n : FinMap nat_cmp W) (k : ℕ) (w : W) (fs : List (ℕ × W)) → entries m ++ (k, w) ∷ fs ≡ entries n → get m k ≡ None

@@ -7,24 +7,24 @@ use Rattle.std.specs.FinMap.{FinMap, get, get-empty, get-insert, insert, remove,
 use Rattle.std.specs.FinSet as set
 use Rattle.std.proofs.lemmas.Bool.{false≢true}
 use Rattle.atl_world.specs.RoomySets.{RoomySet, HasRoomForMarks}
-use Rattle.atl_world.specs.Sums.{changed_at}
+use Rattle.atl_world.specs.Sums.{with_changed_option}
 use Rattle.atl_world.specs.Tracking.{marked_with}
-use Rattle.atl_world.proofs.GeneralLaws.{one_more}
+use Rattle.atl_world.proofs.GeneralLaws.{insert_adds_at_most_one}
 use Rattle.atl_world.proofs.SumLaws.{put_same}
 use Rattle.atl_world.proofs.TrackLaws.{Room-empty, Room-of, Room-unmarked, Room-lent, Room-over, Room-inserted, Room-without, fits-inserted}
 use Rattle.atl_records.specs.declared.records.Unit.{Unit}
 use Rattle.atl_records.specs.Holdings.{has_amount, with_amount_of}
 use Rattle.atl_records.proofs.HoldingLaws.{set_again}
-use Rattle.atl_campaign.specs.Marks.{MarkedThings, AreWithin, thing_marked}
+use Rattle.atl_campaign.specs.Marks.{MarkedThings, AreUnitPartsWithin, thing_marked}
 use Rattle.atl_campaign.specs.UnitRoom.{AreUnits}
-use Rattle.atl_campaign.specs.Roster.{Roster, unless_has, with_item_at}
+use Rattle.atl_campaign.specs.Roster.{Roster, unit_if_other_amount, with_item_at}
 
 -- ---- what is marked
 
 -- for within_both: if c implies d, `b || c` implies `b || d`
-either : (b c d : Bool) → (c ≡ true → d ≡ true) → (b || c) ≡ true → (b || d) ≡ true
-either true c d h e = refl
-either false c d h e = h e
+or_keeps_implication : (b c d : Bool) → (c ≡ true → d ≡ true) → (b || c) ≡ true → (b || d) ≡ true
+or_keeps_implication true c d h e = refl
+or_keeps_implication false c d h e = h e
 
 -- for within_things: if o being Some implies d, `cond b (Some v) o` being Some implies `b || d`
 either_there : {V : Type 0} (b : Bool) (v : V) (o : Option V) (d : Bool) → (is_some o ≡ true → d ≡ true) → is_some (cond b (Some v) o) ≡ true → (b || d) ≡ true
@@ -32,18 +32,18 @@ either_there true v o d h e = refl
 either_there false v o d h e = h e
 
 -- for within_more: `b || d` is true if d is
-more : (b d : Bool) → d ≡ true → (b || d) ≡ true
-more true d e = refl
-more false d e = e
+or_of_true : (b d : Bool) → d ≡ true → (b || d) ≡ true
+or_of_true true d e = refl
+or_of_true false d e = e
 
 -- if each number of set g is in set r, each still is once n is added to both
 pub within_both : (g r : set.FinSet nat_cmp) (n : ℕ) → ((q : ℕ) → set.contains g q ≡ true → set.contains r q ≡ true) → (q : ℕ) → set.contains (set.insert g n) q ≡ true → set.contains (set.insert r n) q ≡ true
 within_both g r n h q e =
-    set.contains-insert nat_cmp_total r n q ∙ either (eq_by_cmp nat_cmp q n) (set.contains g q) (set.contains r q) (h q) (sym (set.contains-insert nat_cmp_total g n q) ∙ e)
+    set.contains-insert nat_cmp_total r n q ∙ or_keeps_implication (eq_by_cmp nat_cmp q n) (set.contains g q) (set.contains r q) (h q) (sym (set.contains-insert nat_cmp_total g n q) ∙ e)
 
 -- if each number of which `marked` is true is in set r, each is also in r with n added
 pub within_more : (marked : ℕ → Bool) (r : set.FinSet nat_cmp) (n : ℕ) → ((q : ℕ) → marked q ≡ true → set.contains r q ≡ true) → (q : ℕ) → marked q ≡ true → set.contains (set.insert r n) q ≡ true
-within_more marked r n h q e = set.contains-insert nat_cmp_total r n q ∙ more (eq_by_cmp nat_cmp q n) (set.contains r q) (h q e)
+within_more marked r n h q e = set.contains-insert nat_cmp_total r n q ∙ or_of_true (eq_by_cmp nat_cmp q n) (set.contains r q) (h q e)
 
 -- if each number that has a value in map g is in set r, each still is once n is added to both
 pub within_things : {V : Type 0} (g : FinMap nat_cmp V) (r : set.FinSet nat_cmp) (n : ℕ) (v : V) → ((q : ℕ) → is_some (get g q) ≡ true → set.contains r q ≡ true) → (q : ℕ) → is_some (get (insert g n v) q) ≡ true → set.contains (set.insert r n) q ≡ true
@@ -51,16 +51,16 @@ within_things g r n v h q e =
     set.contains-insert nat_cmp_total r n q ∙ either_there (eq_by_cmp nat_cmp q n) v (get g q) (set.contains r q) (h q) (sym (ap is_some (get-insert nat_cmp_total g n v q)) ∙ e)
 
 -- empty dirty sets mark no part of a unit, so each unit with a marked part is marked (AreWithin)
-within-none : AreWithin set.empty set.empty set.empty empty empty
+within-none : AreUnitPartsWithin set.empty set.empty set.empty empty empty
 within-none = record { rows_within = λ q e. e; goods_within = λ q e. e; items_within = nothing; skills_within = nothing }
   where
     -- for within-none: a number with marks in the empty map of marked things is in the empty set, as there is none
     nothing : (q : ℕ) → is_some (get {X = FinMap nat_cmp (Prim.Unit {0})} {R = nat_cmp} empty q) ≡ true → set.contains {R = nat_cmp} set.empty q ≡ true
     nothing q e = absurd (false≢true (sym (ap is_some (get-empty nat_cmp q)) ∙ e))
 
-module _ (marks rows goods : set.FinSet nat_cmp) (items skills : MarkedThings) (n : ℕ) (h : AreWithin marks rows goods items skills) where
+module _ (marks rows goods : set.FinSet nat_cmp) (items skills : MarkedThings) (n : ℕ) (h : AreUnitPartsWithin marks rows goods items skills) where
   -- each unit with a marked part is still marked (AreWithin) once a unit is marked with its row and its goods
-  within-whole : AreWithin (set.insert marks n) (set.insert rows n) (set.insert goods n) items skills
+  within-whole : AreUnitPartsWithin (set.insert marks n) (set.insert rows n) (set.insert goods n) items skills
   within-whole = record {
     rows_within = within_both rows marks n h.rows_within;
     goods_within = within_both goods marks n h.goods_within;
@@ -69,7 +69,7 @@ module _ (marks rows goods : set.FinSet nat_cmp) (items skills : MarkedThings) (
   }
 
   -- each unit with a marked part is still marked (AreWithin) once a unit and its row are marked
-  within-row : AreWithin (set.insert marks n) (set.insert rows n) goods items skills
+  within-row : AreUnitPartsWithin (set.insert marks n) (set.insert rows n) goods items skills
   within-row = record {
     rows_within = within_both rows marks n h.rows_within;
     goods_within = within_more _ marks n h.goods_within;
@@ -78,7 +78,7 @@ module _ (marks rows goods : set.FinSet nat_cmp) (items skills : MarkedThings) (
   }
 
   -- each unit with a marked part is still marked (AreWithin) once a unit and some items of it are marked
-  within-item : (group : FinMap nat_cmp (Prim.Unit {0})) → AreWithin (set.insert marks n) rows goods (insert items n group) skills
+  within-item : (group : FinMap nat_cmp (Prim.Unit {0})) → AreUnitPartsWithin (set.insert marks n) rows goods (insert items n group) skills
   within-item group = record {
     rows_within = within_more _ marks n h.rows_within;
     goods_within = within_more _ marks n h.goods_within;
@@ -87,7 +87,7 @@ module _ (marks rows goods : set.FinSet nat_cmp) (items skills : MarkedThings) (
   }
 
   -- each unit with a marked part is still marked (AreWithin) once a unit and some skills of it are marked
-  within-skill : (group : FinMap nat_cmp (Prim.Unit {0})) → AreWithin (set.insert marks n) rows goods items (insert skills n group)
+  within-skill : (group : FinMap nat_cmp (Prim.Unit {0})) → AreUnitPartsWithin (set.insert marks n) rows goods items (insert skills n group)
   within-skill group = record {
     rows_within = within_more _ marks n h.rows_within;
     goods_within = within_more _ marks n h.goods_within;
@@ -98,8 +98,8 @@ module _ (marks rows goods : set.FinSet nat_cmp) (items skills : MarkedThings) (
 -- ---- units
 
 -- the given dirty set with number n added
-abbrev marking : RoomySet → ℕ → RoomySet
-marking marks n = record marks { numbers = set.insert marks.numbers n }
+abbrev with_number_marked : RoomySet → ℕ → RoomySet
+with_number_marked marks n = record marks { numbers = set.insert marks.numbers n }
 
 -- the given dirty set with no number left in it, and its room unchanged
 abbrev cleared : RoomySet → RoomySet
@@ -109,7 +109,7 @@ cleared marks = record marks { numbers = set.empty }
 abbrev nothing_marked : ℕ → RoomySet
 nothing_marked room = record { numbers = set.empty; room = room }
 
--- without units, empty dirty sets without room have room for all marks, and mark no part of a unit (AreUnits)
+-- if there are no units, empty dirty sets need no room for marks, and mark no part of a unit (AreUnits)
 pub AreUnits-none : AreUnits empty (nothing_marked 0) (nothing_marked 0) (nothing_marked 0) empty empty
 AreUnits-none = record { within = within-none; marks_fit = Room-empty Unit; rows_fit = Room-empty Unit; goods_fit = Room-empty Unit }
 
@@ -135,7 +135,7 @@ module _ (units : FinMap nat_cmp Unit) (marks rows goods : RoomySet) (items skil
 
   -- once a lent unit is replaced, and marked with its row and its goods, there is still room for all marks, and still
   -- no part of a unit is marked without the unit (AreUnits)
-  pub AreUnits-lent : (n : ℕ) (u w : Unit) → get units n ≡ Some u → Before → AreUnits (insert units n w) (marking marks n) (marking rows n) (marking goods n) items skills
+  pub AreUnits-lent : (n : ℕ) (u w : Unit) → get units n ≡ Some u → Before → AreUnits (insert units n w) (with_number_marked marks n) (with_number_marked rows n) (with_number_marked goods n) items skills
   AreUnits-lent n u w is h = record {
     within = within-whole marks.numbers rows.numbers goods.numbers items skills n h.within;
     marks_fit = Room-lent units marks.numbers marks.room n (Some u) w is refl h.marks_fit;
@@ -145,7 +145,7 @@ module _ (units : FinMap nat_cmp Unit) (marks rows goods : RoomySet) (items skil
 
   -- once a unit's row is changed and marked, there is still room for all marks, and still no part of a unit is marked
   -- without the unit (AreUnits)
-  pub AreUnits-row : (n : ℕ) (u w : Unit) → get units n ≡ Some u → Before → AreUnits (insert units n w) (marking marks n) (marking rows n) goods items skills
+  pub AreUnits-row : (n : ℕ) (u w : Unit) → get units n ≡ Some u → Before → AreUnits (insert units n w) (with_number_marked marks n) (with_number_marked rows n) goods items skills
   AreUnits-row n u w is h = record {
     within = within-row marks.numbers rows.numbers goods.numbers items skills n h.within;
     marks_fit = Room-lent units marks.numbers marks.room n (Some u) w is refl h.marks_fit;
@@ -155,7 +155,7 @@ module _ (units : FinMap nat_cmp Unit) (marks rows goods : RoomySet) (items skil
 
   -- once an item of a unit is changed and marked, there is still room for all marks, and still no part of a unit is
   -- marked without the unit (AreUnits)
-  pub AreUnits-item : (n : ℕ) (u w : Unit) (group : FinMap nat_cmp (Prim.Unit {0})) → get units n ≡ Some u → Before → AreUnits (insert units n w) (marking marks n) rows goods (insert items n group) skills
+  pub AreUnits-item : (n : ℕ) (u w : Unit) (group : FinMap nat_cmp (Prim.Unit {0})) → get units n ≡ Some u → Before → AreUnits (insert units n w) (with_number_marked marks n) rows goods (insert items n group) skills
   AreUnits-item n u w group is h = record {
     within = within-item marks.numbers rows.numbers goods.numbers items skills n h.within group;
     marks_fit = Room-lent units marks.numbers marks.room n (Some u) w is refl h.marks_fit;
@@ -165,7 +165,7 @@ module _ (units : FinMap nat_cmp Unit) (marks rows goods : RoomySet) (items skil
 
   -- once a skill of a unit is changed and marked, there is still room for all marks, and still no part of a unit is
   -- marked without the unit (AreUnits)
-  pub AreUnits-skill : (n : ℕ) (u w : Unit) (group : FinMap nat_cmp (Prim.Unit {0})) → get units n ≡ Some u → Before → AreUnits (insert units n w) (marking marks n) rows goods items (insert skills n group)
+  pub AreUnits-skill : (n : ℕ) (u w : Unit) (group : FinMap nat_cmp (Prim.Unit {0})) → get units n ≡ Some u → Before → AreUnits (insert units n w) (with_number_marked marks n) rows goods items (insert skills n group)
   AreUnits-skill n u w group is h = record {
     within = within-skill marks.numbers rows.numbers goods.numbers items skills n h.within group;
     marks_fit = Room-lent units marks.numbers marks.room n (Some u) w is refl h.marks_fit;
@@ -175,7 +175,7 @@ module _ (units : FinMap nat_cmp Unit) (marks rows goods : RoomySet) (items skil
 
   -- once unit n, found as `o`, is removed and marked, there is still room for all marks, and still no part of a unit is
   -- marked without the unit (AreUnits)
-  gone_at : (n : ℕ) (o : Option Unit) → get units n ≡ o → is_some o ≡ true → Before → AreUnits (remove units n) (marking marks n) (marking rows n) (marking goods n) items skills
+  gone_at : (n : ℕ) (o : Option Unit) → get units n ≡ o → is_some o ≡ true → Before → AreUnits (remove units n) (with_number_marked marks n) (with_number_marked rows n) (with_number_marked goods n) items skills
   gone_at n None is there h = absurd (false≢true there)
   gone_at n (Some u) is there h = record {
     within = within-whole marks.numbers rows.numbers goods.numbers items skills n h.within;
@@ -186,7 +186,7 @@ module _ (units : FinMap nat_cmp Unit) (marks rows goods : RoomySet) (items skil
 
   -- once a unit is removed and marked, there is still room for all marks, and still no part of a unit is marked without
   -- the unit (AreUnits)
-  pub AreUnits-gone : (n : ℕ) → is_some (get units n) ≡ true → Before → AreUnits (remove units n) (marking marks n) (marking rows n) (marking goods n) items skills
+  pub AreUnits-gone : (n : ℕ) → is_some (get units n) ≡ true → Before → AreUnits (remove units n) (with_number_marked marks n) (with_number_marked rows n) (with_number_marked goods n) items skills
   AreUnits-gone n there h = gone_at n (get units n) refl there h
 
 -- ---- a unit that is new
@@ -200,20 +200,20 @@ pub record IsWider (units : FinMap nat_cmp Unit) (marks more : RoomySet) : Type 
 
 -- a dirty set with room for one unit more (IsWider) has room for its numbers and for all units, a new one included
 room_inserted : (units : FinMap nat_cmp Unit) (marks more : RoomySet) (n : ℕ) (w : Unit) → IsWider units marks more → set.len more.numbers + len (insert units n w) ≤ more.room
-room_inserted units marks more n w h = let l = one_more units n w in let as_many = ap set.len h.same in omega (arith, h.room, l, as_many)
+room_inserted units marks more n w h = let l = insert_adds_at_most_one units n w in let as_many = ap set.len h.same in omega (arith, h.room, l, as_many)
 
 -- a dirty set with room for one unit more (IsWider) has room for a new number
 pub fits-new : (units : FinMap nat_cmp Unit) (marks more : RoomySet) (n : ℕ) (w : Unit) → IsWider units marks more → set.len (set.insert more.numbers n) ≤ more.room
 fits-new units marks more n w h = fits-inserted units more.numbers more.room n w (room_inserted units marks more n w h)
 
 -- a dirty set with room for one unit more (IsWider) has room for all units once a new one is marked
-HasRoom-added : (units : FinMap nat_cmp Unit) (marks more : RoomySet) (n : ℕ) (w : Unit) → IsWider units marks more → HasRoomForMarks (insert units n w) (marking more n)
+HasRoom-added : (units : FinMap nat_cmp Unit) (marks more : RoomySet) (n : ℕ) (w : Unit) → IsWider units marks more → HasRoomForMarks (insert units n w) (with_number_marked more n)
 HasRoom-added units marks more n w h = Room-inserted units more.numbers more.room n w (room_inserted units marks more n w h)
 
--- once a new unit is added, and marked in dirty sets with room for one more, there is still room for all marks, and
--- still no part of a unit is marked without the unit (AreUnits)
+-- the units' invariant (AreUnits) still holds once a new unit is added, and marked in dirty sets with room for one unit
+-- more (IsWider)
 pub AreUnits-added : (units : FinMap nat_cmp Unit) (marks rows goods marks2 rows2 goods2 : RoomySet) (items skills : MarkedThings) (n : ℕ) (w : Unit) → IsWider units marks marks2 → IsWider units rows rows2 → IsWider units goods goods2
-    → AreUnits units marks rows goods items skills → AreUnits (insert units n w) (marking marks2 n) (marking rows2 n) (marking goods2 n) items skills
+    → AreUnits units marks rows goods items skills → AreUnits (insert units n w) (with_number_marked marks2 n) (with_number_marked rows2 n) (with_number_marked goods2 n) items skills
 AreUnits-added units marks rows goods marks2 rows2 goods2 items skills n w wider wider2 wider3 h = record {
   within = rw (wider.same, wider2.same, wider3.same) (within-whole marks.numbers rows.numbers goods.numbers items skills n h.within);
   marks_fit = HasRoom-added units marks marks2 n w wider;
@@ -238,6 +238,6 @@ module _ (r : Roster) (n item amount : ℕ) where
   pub with_item_again : (u : Unit) → get r.values n ≡ Some u → has_amount u.holding.items item amount ≡ true → with_item_at with_other r n item amount ≡ r
   with_item_again u is has =
       let same : with_other u ≡ u = ap (λ items. record u { holding = record u.holding { items = items } }) (set_again u.holding.items item amount has) in
-      ap (λ o. after (changed_at with_other r.values n o) (unless_has item amount o)) is
+      ap (λ o. after (with_changed_option with_other r.values n o) (unit_if_other_amount item amount o)) is
       ∙ ap (λ b. after (insert r.values n (with_other u)) (if b then None else Some u)) has
       ∙ same_values r (insert r.values n (with_other u)) (put_same r.values n u (with_other u) is same)

@@ -4,7 +4,7 @@ use Rattle.std.specs.Ordering.{nat_cmp}
 use Rattle.std.specs.FinMap.{FinMap, empty, insert}
 use Rattle.std.specs.FinSet as set
 use Rattle.atl_world.specs.MarkedMaps.{MarkedMapValue}
-use Rattle.atl_world.specs.Sums.{changed}
+use Rattle.atl_world.specs.Sums.{with_changed_value}
 use Rattle.atl_campaign.specs.declared.assembly.maps.CampaignMaps.{CampaignMaps}
 use Rattle.atl_campaign.specs.declared.parts.Parts.{Parts}
 use Rattle.atl_campaign.specs.declared.parts.StoredHas.{StoredHas}
@@ -13,7 +13,7 @@ use Rattle.atl_campaign.specs.declared.parts.StoredRegion.{StoredRegion}
 use Rattle.atl_campaign.specs.declared.parts.StoredUnit.{StoredUnit}
 use Rattle.atl_records.specs.declared.records.Region.{Region}
 use Rattle.atl_records.specs.declared.records.Unit.{Unit}
-use Rattle.atl_campaign.specs.FromRows.{as_u32, by_number, faction_of, region_of, region_with, structure_of, unit_with}
+use Rattle.atl_campaign.specs.FromRows.{as_u32, by_number, faction_of, region_of, region_with_stocks, structure_of, unit_with_goods}
 use Rattle.atl_campaign.specs.Regions.{unmarked_regions}
 
 -- a map with none of its numbers marked
@@ -34,11 +34,11 @@ campaign_maps_of p = record {
 
 -- the unit that a row of `unit` says, without items and days of study
 abbrev pub bare_unit : StoredUnit → Unit
-bare_unit r = unit_with r empty empty
+bare_unit r = unit_with_goods r empty empty
 
 -- the region that a row of `region` says, with nothing in stock
 abbrev pub bare_region : StoredRegion → Region
-bare_region r = region_with r empty
+bare_region r = region_with_stocks r empty
 
 -- ---- row by row
 
@@ -59,4 +59,4 @@ with_market_row r x = record x { stocks = insert x.stocks (as_u32 r.item) (as_u3
 -- row, if there is one
 abbrev pub with_rows_added : {R V : Type 0} → (R → ℕ) → (R → V → V) → List R → FinMap nat_cmp V → FinMap nat_cmp V
 with_rows_added owner more [] m = m
-with_rows_added owner more (r ∷ rows) m = with_rows_added owner more rows (changed (more r) m (owner r))
+with_rows_added owner more (r ∷ rows) m = with_rows_added owner more rows (with_changed_value (more r) m (owner r))

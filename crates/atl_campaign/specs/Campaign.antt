@@ -3,7 +3,7 @@ use Rattle.std.specs.Prelude.{◌==◌, ◌+◌, not, if◌then◌else◌, List,
 use Rattle.std.specs.Ordering.{nat_cmp}
 use Rattle.std.specs.Coded.{Coded, code_by, coded×, coded_ℕ, coded_list}
 use Rattle.std.specs.FinMap.{FinMap, code, empty, insert}
-use Rattle.atl_world.specs.Sums.{changed, numbers_where}
+use Rattle.atl_world.specs.Sums.{with_changed_value, numbers_where}
 use Rattle.atl_records.specs.declared.records.Faction.{Faction}
 use Rattle.atl_records.specs.declared.records.Region.{Region}
 use Rattle.atl_records.specs.declared.records.Structure.{Structure}
@@ -53,14 +53,32 @@ pub record MarkedCampaign : Type 0 where
   -- the marks: what of the campaign changed since it was last written
   pub marks : Marks
 
--- for proofs alone: a campaign encoded as nested pairs of its fields
+-- for proofs alone: a campaign encoded as nested pairs of its fields, as the kit asks of a type that contracts see
 abbrev pub campaign_code : Coded CampaignValue
 campaign_code =
-    code_by (ℕ × (List ℕ × (ℕ × (ℕ × (ℕ × (FinMap nat_cmp Faction × (FinMap nat_cmp Region × (FinMap nat_cmp Unit × (FinMap nat_cmp Structure × (FinMap nat_cmp (List ℕ) × (FinMap nat_cmp (List ℕ) × BooksValue)))))))))))
+    code_by (ℕ × (List ℕ × (ℕ × (ℕ × (ℕ
+    × (FinMap nat_cmp Faction × (FinMap nat_cmp Region × (FinMap nat_cmp Unit × (FinMap nat_cmp Structure
+    × (FinMap nat_cmp (List ℕ) × (FinMap nat_cmp (List ℕ) × BooksValue)))))))))))
     (coded× coded_ℕ (coded× (coded_list coded_ℕ) (coded× coded_ℕ (coded× coded_ℕ (coded× coded_ℕ
-    (coded× (code coded_ℕ faction.the_row.coded) (coded× (code coded_ℕ region.the_row.coded) (coded× (code coded_ℕ unit.the_row.coded) (coded× (code coded_ℕ structure.the_row.coded)
+    (coded× (code coded_ℕ faction.the_row.coded) (coded× (code coded_ℕ region.the_row.coded)
+    (coded× (code coded_ℕ unit.the_row.coded) (coded× (code coded_ℕ structure.the_row.coded)
     (coded× (code coded_ℕ (coded_list coded_ℕ)) (coded× (code coded_ℕ (coded_list coded_ℕ)) books_code)))))))))))
-    (λ s. (s.month, (s.pass, (s.next_faction, (s.next_unit, (s.next_structure, (s.factions, (s.regions, (s.units, (s.structures, (s.mail, (s.reports, s.books))))))))))))
+    (λ s. (
+      s.month,
+      (
+        s.pass,
+        (
+          s.next_faction,
+          (
+            s.next_unit,
+            (
+              s.next_structure,
+              (s.factions, (s.regions, (s.units, (s.structures, (s.mail, (s.reports, s.books)))))),
+            ),
+          ),
+        ),
+      ),
+    ))
     (λ p. record {
       month = p.0;
       pass = p.1.0;
@@ -79,7 +97,11 @@ campaign_code =
 
 -- for proofs alone: a campaign with marks encoded as the pair of both
 abbrev pub marked_code : Coded MarkedCampaign
-marked_code = code_by (CampaignValue × Marks) (coded× campaign_code marks_code) (λ m. (m.value, m.marks)) (λ p. record { value = p.0; marks = p.1 }) (λ _. refl)
+marked_code =
+    code_by (CampaignValue × Marks) (coded× campaign_code marks_code)
+    (λ m. (m.value, m.marks))
+    (λ p. record { value = p.0; marks = p.1 })
+    (λ _. refl)
 
 -- a campaign without anything: month 0, an empty pass text, next numbers 1, no factions, regions, units, structures,
 -- mail or reports, and books of no things
@@ -108,12 +130,12 @@ abbrev pub active : CampaignValue → List ℕ
 active c = numbers_where (λ f. not f.gone) c.factions
 
 -- the numbers of the units in a region, in rising order
-abbrev pub numbers_in : ℕ → FinMap nat_cmp Unit → List ℕ
-numbers_in r units = numbers_where (λ u. u.region == r) units
+abbrev pub numbers_in_region : ℕ → FinMap nat_cmp Unit → List ℕ
+numbers_in_region r units = numbers_where (λ u. u.region == r) units
 
 -- the numbers of the units of a faction, in rising order
-abbrev pub numbers_of : ℕ → FinMap nat_cmp Unit → List ℕ
-numbers_of f units = numbers_where (λ u. u.faction == f) units
+abbrev pub numbers_of_faction : ℕ → FinMap nat_cmp Unit → List ℕ
+numbers_of_faction f units = numbers_where (λ u. u.faction == f) units
 
 -- the numbers of the units inside a structure, in rising order; none for 0, which is no structure
 abbrev pub numbers_inside : ℕ → FinMap nat_cmp Unit → List ℕ
@@ -121,23 +143,23 @@ numbers_inside s units = if s == 0 then [] else numbers_where (λ u. u.structure
 
 -- ---- one entry changed; where there is none under the number nothing changes
 
--- the campaign with f applied to faction n, if there is one
+-- the campaign with faction n, if there is one, changed by the function f
 abbrev pub faction_changed : (Faction → Faction) → CampaignValue → ℕ → CampaignValue
-faction_changed f c n = record c { factions = changed f c.factions n }
+faction_changed f c n = record c { factions = with_changed_value f c.factions n }
 
--- the campaign with f applied to region n, if there is one
+-- the campaign with region n, if there is one, changed by the function f
 abbrev pub region_changed : (Region → Region) → CampaignValue → ℕ → CampaignValue
-region_changed f c n = record c { regions = changed f c.regions n }
+region_changed f c n = record c { regions = with_changed_value f c.regions n }
 
--- the campaign with f applied to unit n, if there is one
+-- the campaign with unit n, if there is one, changed by the function f
 abbrev pub unit_changed : (Unit → Unit) → CampaignValue → ℕ → CampaignValue
-unit_changed f c n = record c { units = changed f c.units n }
+unit_changed f c n = record c { units = with_changed_value f c.units n }
 
--- the campaign with f applied to structure n, if there is one
+-- the campaign with structure n, if there is one, changed by the function f
 abbrev pub structure_changed : (Structure → Structure) → CampaignValue → ℕ → CampaignValue
-structure_changed f c n = record c { structures = changed f c.structures n }
+structure_changed f c n = record c { structures = with_changed_value f c.structures n }
 
--- the campaign in which faction n, if there is one, shows the name given last
+-- the campaign in which faction n, if there is one, shows the given name
 abbrev pub with_faction_name : CampaignValue → ℕ → List ℕ → CampaignValue
 with_faction_name c n name = faction_changed (λ f. record f { name = name }) c n
 
@@ -145,57 +167,57 @@ with_faction_name c n name = faction_changed (λ f. record f { name = name }) c 
 abbrev pub with_gone : CampaignValue → ℕ → CampaignValue
 with_gone c n = faction_changed (λ f. record f { gone = true }) c n
 
--- the campaign in which region n, if there is one, has the number of peasants given last
+-- the campaign in which region n, if there is one, has the given number of peasants
 abbrev pub with_peasants : CampaignValue → ℕ → ℕ → CampaignValue
 with_peasants c n peasants = region_changed (λ r. record r { peasants = peasants }) c n
 
--- the campaign in which region n, if there is one, has the money given last
+-- the campaign in which region n, if there is one, has the given money
 abbrev pub with_region_money : CampaignValue → ℕ → ℕ → CampaignValue
 with_region_money c n money = region_changed (λ r. record r { money = money }) c n
 
--- the campaign in which `region`, if it is there, has as much of `item` in stock as is given last; 0 of an item isn't
--- listed
+-- the campaign in which `region`, if it is there, has the given amount of `item` in stock; 0 of an item isn't listed
 abbrev pub with_stock : CampaignValue → (region item : ℕ) → ℕ → CampaignValue
 with_stock c n item amount = region_changed (λ r. record r { stocks = with_amount_of r.stocks item amount }) c n
 
--- the campaign in which unit n, if there is one, has the name given last
+-- the campaign in which unit n, if there is one, has the given name
 abbrev pub with_unit_name : CampaignValue → ℕ → List ℕ → CampaignValue
 with_unit_name c n name = unit_changed (λ u. record u { holding = record u.holding { name = name } }) c n
 
--- the campaign in which unit n, if there is one, has the number of men given last
+-- the campaign in which unit n, if there is one, has the given number of men
 abbrev pub with_men : CampaignValue → ℕ → ℕ → CampaignValue
 with_men c n men = unit_changed (λ u. record u { holding = record u.holding { men = men } }) c n
 
--- the campaign in which unit n, if there is one, has the money given last
+-- the campaign in which unit n, if there is one, has the given money
 abbrev pub with_money : CampaignValue → ℕ → ℕ → CampaignValue
 with_money c n money = unit_changed (λ u. record u { holding = record u.holding { money = money } }) c n
 
--- the campaign in which `unit`, if it is there, has as much of `item` as is given last; 0 of an item isn't listed
+-- the campaign in which `unit`, if it is there, has the given amount of `item`; 0 of an item isn't listed
 abbrev pub with_item : CampaignValue → (unit item : ℕ) → ℕ → CampaignValue
-with_item c n item amount = unit_changed (λ u. record u { holding = record u.holding { items = with_amount_of u.holding.items item amount } }) c n
+with_item c n item amount =
+    unit_changed (λ u. record u { holding = record u.holding { items = with_amount_of u.holding.items item amount } }) c n
 
--- the campaign in which `unit`, if it is there, has the days of `skill` given last, over all its men; 0 days aren't
--- listed
+-- the campaign in which `unit`, if it is there, has the given days of `skill`, over all its men; 0 days aren't listed
 abbrev pub with_skill : CampaignValue → (unit skill : ℕ) → ℕ → CampaignValue
-with_skill c n skill days = unit_changed (λ u. record u { holding = record u.holding { days = with_amount_of u.holding.days skill days } }) c n
+with_skill c n skill days =
+    unit_changed (λ u. record u { holding = record u.holding { days = with_amount_of u.holding.days skill days } }) c n
 
--- the campaign in which unit n, if there is one, has its guard flag set, or cleared, as is given last
+-- the campaign in which unit n, if there is one, has its guard flag set or cleared, as the given value says
 abbrev pub with_guard : CampaignValue → ℕ → Bool → CampaignValue
 with_guard c n guard = unit_changed (λ u. record u { holding = record u.holding { guard = guard } }) c n
 
--- the campaign in which as much of structure n, if there is one, is done as is given last
+-- the campaign in which as much of structure n, if there is one, is done as the given number says
 abbrev pub with_done : CampaignValue → ℕ → ℕ → CampaignValue
 with_done c n done = structure_changed (λ s. record s { done = done }) c n
 
--- the campaign in which structure n, if there is one, has the name given last
+-- the campaign in which structure n, if there is one, has the given name
 abbrev pub with_structure_name : CampaignValue → ℕ → List ℕ → CampaignValue
 with_structure_name c n name = structure_changed (λ s. record s { name = name }) c n
 
--- the campaign in which structure n, if there is one, is in the region given last
+-- the campaign in which structure n, if there is one, is in the given region
 abbrev pub with_structure_region : CampaignValue → ℕ → ℕ → CampaignValue
 with_structure_region c n region = structure_changed (λ s. record s { region = region }) c n
 
--- the campaign in which structure n, if there is one, has the owner given last: a unit's number, or 0 for nobody
+-- the campaign in which structure n, if there is one, has the given owner: a unit's number, or 0 for nobody
 abbrev pub with_owner : CampaignValue → ℕ → ℕ → CampaignValue
 with_owner c n owner = structure_changed (λ s. record s { owner = owner }) c n
 

@@ -21,8 +21,8 @@ abbrev pub unstocked : Region → Region
 unstocked r = record r { stocks = empty }
 
 -- a unit without its goods: without items and days of study
-abbrev pub bare : Unit → Unit
-bare u = record u { holding = record u.holding { items = empty; days = empty } }
+abbrev pub without_goods : Unit → Unit
+without_goods u = record u { holding = record u.holding { items = empty; days = empty } }
 
 -- the amounts of a unit's items, by the items' numbers; no amounts where None is given for the unit
 abbrev pub items_under : Option Unit → FinMap nat_cmp ℕ
@@ -35,22 +35,28 @@ days_under None = empty
 days_under (Some u) = u.holding.days
 
 -- of each item, or each skill (`under` picks which), that is not marked, each unit has as much in both maps
-abbrev pub SameThings : FinSet nat_cmp → MarkedThings → (Option Unit → FinMap nat_cmp ℕ) → FinMap nat_cmp Unit → FinMap nat_cmp Unit → Type 0
-SameThings goods things under before after = (n thing : ℕ) → is_thing_marked goods things n thing ≡ false → get (under (get after n)) thing ≡ get (under (get before n)) thing
+abbrev pub SameThings : FinSet nat_cmp → MarkedThings → (Option Unit → FinMap nat_cmp ℕ) → FinMap nat_cmp Unit
+    → FinMap nat_cmp Unit → Type 0
+SameThings goods things under before after =
+    (n thing : ℕ) → is_thing_marked goods things n thing ≡ false
+    → get (under (get after n)) thing ≡ get (under (get before n)) thing
 
 -- what the campaign row says of a campaign: its month, its pass text and its next numbers
 abbrev pub said_by_campaign_row : CampaignValue → ℕ × (List ℕ × (ℕ × (ℕ × ℕ)))
 said_by_campaign_row c = (c.month, (c.pass, (c.next_faction, (c.next_unit, c.next_structure))))
 
--- all that is not marked in m is the same in the campaigns before and after
+-- all that is not marked in the marks m is the same in the campaigns `before` and `after`
 pub record Covers (m : Marks) (before after : CampaignValue) : Type 0 where
   -- a faction that is not marked is the same in the campaigns before and after, or is in neither
   pub factions : SameBut m.factions before.factions after.factions
   -- A region whose row is not marked is the same in the campaigns before and after but for its stocks, or is in
   -- neither.
-  pub regions : (n : ℕ) → contains m.regions n ≡ false → option_map unstocked (get after.regions n) ≡ option_map unstocked (get before.regions n)
+  pub regions :
+      (n : ℕ) → contains m.regions n ≡ false
+      → option_map unstocked (get after.regions n) ≡ option_map unstocked (get before.regions n)
   -- A stock that is not marked is the same in the campaigns before and after.
-  pub stocks : (n item : ℕ) → is_thing_marked m.stocks m.stock_items n item ≡ false → stock_of after n item ≡ stock_of before n item
+  pub stocks :
+      (n item : ℕ) → is_thing_marked m.stocks m.stock_items n item ≡ false → stock_of after n item ≡ stock_of before n item
   -- a structure that is not marked is the same in the campaigns before and after, or is in neither
   pub structures : SameBut m.structures before.structures after.structures
   -- the mail of a faction whose mail is not marked is the same in the campaigns before and after, or is in neither
@@ -58,14 +64,16 @@ pub record Covers (m : Marks) (before after : CampaignValue) : Type 0 where
   -- the report of a faction whose report is not marked is the same in the campaigns before and after, or is in neither
   pub reports : SameBut m.reports before.reports after.reports
   -- A unit whose row is not marked is the same in the campaigns before and after but for its goods, or is in neither.
-  pub units : (n : ℕ) → contains m.rows n ≡ false → option_map bare (get after.units n) ≡ option_map bare (get before.units n)
+  pub units : (n : ℕ) → contains m.rows n ≡ false → option_map without_goods (get after.units n) ≡ option_map without_goods (get before.units n)
   -- what a unit has of an item that is not marked is the same in the campaigns before and after, or listed in neither
   pub items : SameThings m.goods m.items items_under before.units after.units
   -- the days that a unit has of a skill that is not marked are the same in the campaigns before and after, or listed in
   -- neither
   pub days : SameThings m.goods m.skills days_under before.units after.units
   -- an amount of the books that is not marked is the same in the campaigns before and after
-  pub books : (e : BooksEntry) (t : Thing) → contains m.books (amount_number e t) ≡ false → amount_in after.books e t ≡ amount_in before.books e t
+  pub books :
+      (e : BooksEntry) (t : Thing) → contains m.books (amount_number e t) ≡ false
+      → amount_in after.books e t ≡ amount_in before.books e t
   -- the month, the pass text and the next numbers are the same in the campaigns before and after if the campaign row is
   -- not marked
   pub row : m.row ≡ false → said_by_campaign_row after ≡ said_by_campaign_row before
@@ -76,8 +84,10 @@ StaysMarked before after = (n : ℕ) → contains before n ≡ true → contains
 
 -- each item, skill or stock that is marked before some changes, by itself or with all of its unit or region, is marked
 -- after them
-abbrev pub ThingsStayMarked : (goods : FinSet nat_cmp) (things : MarkedThings) (goods_after : FinSet nat_cmp) (things_after : MarkedThings) → Type 0
-ThingsStayMarked goods things goods_after things_after = (n thing : ℕ) → is_thing_marked goods things n thing ≡ true → is_thing_marked goods_after things_after n thing ≡ true
+abbrev pub ThingsStayMarked : (goods : FinSet nat_cmp) (things : MarkedThings)
+    (goods_after : FinSet nat_cmp) (things_after : MarkedThings) → Type 0
+ThingsStayMarked goods things goods_after things_after =
+    (n thing : ℕ) → is_thing_marked goods things n thing ≡ true → is_thing_marked goods_after things_after n thing ≡ true
 
 -- no mark is lost: all that is marked in `before`, the marks before some changes, is marked in `after`, those after
 -- them

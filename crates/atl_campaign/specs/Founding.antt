@@ -2,7 +2,7 @@
 use Rattle.std.specs.Prelude.{◌+◌, List, length, ℕ, pos}
 use Rattle.std.specs.FinMap.{empty}
 use Rattle.atl_world.specs.Worlds.{WorldValue}
-use Rattle.atl_world.specs.Sums.{sum_over, mapped}
+use Rattle.atl_world.specs.Sums.{sum_over, map_values}
 use Rattle.atl_world.specs.declared.world.RegionPlan.{RegionPlan}
 use Rattle.atl_records.specs.declared.books.BooksEntry.TheVariants.{Founding}
 use Rattle.atl_records.specs.declared.books.Thing.TheVariants.{Money, People}
@@ -15,13 +15,16 @@ abbrev pub founded_region : RegionPlan → Region
 founded_region plan = record { peasants = plan.peasants; money = plan.money; stocks = empty }
 
 -- how many things the books of a world count: money, people, and each item
-abbrev pub things_of : WorldValue → ℕ
-things_of w = 2 + length w.items
+abbrev pub thing_count : WorldValue → ℕ
+thing_count w = 2 + length w.items
 
 -- the campaign right after founding: month 0, the world's regions, what they hold booked, and no faction or unit
 unfoldable pub founded_of : WorldValue → List ℕ → CampaignValue
-founded_of w pass = let regions = mapped founded_region w.regions in record empty_campaign {
+founded_of w pass = let regions = map_values founded_region w.regions in record empty_campaign {
   pass = pass;
   regions = regions;
-  books = after_booking (after_booking (no_amounts (things_of w)) Founding Money (pos (sum_over (λ r. r.money) regions))) Founding People (pos (sum_over (λ r. r.peasants) regions));
+  books =
+      after_booking
+      (after_booking (no_amounts (thing_count w)) Founding Money (pos (sum_over (λ r. r.money) regions)))
+      Founding People (pos (sum_over (λ r. r.peasants) regions));
 }

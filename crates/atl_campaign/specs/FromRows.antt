@@ -19,7 +19,7 @@ use Rattle.atl_records.specs.declared.records.Region.{Region}
 use Rattle.atl_records.specs.declared.records.Structure.{Structure}
 use Rattle.atl_records.specs.declared.records.Unit.{Unit}
 use Rattle.atl_records.specs.Books.{BooksValue, entry_numbered, no_amounts, thing_at, with_amount}
-use Rattle.atl_campaign.specs.Founding.{things_of}
+use Rattle.atl_campaign.specs.Founding.{thing_count}
 use Rattle.atl_campaign.specs.Rows.{is_zero}
 use Rattle.atl_campaign.specs.Campaign.{CampaignValue}
 
@@ -50,7 +50,8 @@ faction_of r = record { number = as_u32 r.number; joined_as = r.joined_as; name 
 
 -- the structure that a row of `structure` says, without its number, which is its key
 abbrev pub structure_of : StoredStructure → Structure
-structure_of r = record { kind = as_u16 r.kind; name = r.name; region = as_u32 r.region; done = as_u32 r.done; owner = as_u32 r.owner }
+structure_of r =
+    record { kind = as_u16 r.kind; name = r.name; region = as_u32 r.region; done = as_u32 r.done; owner = as_u32 r.owner }
 
 -- ---- the rows of a table
 
@@ -72,34 +73,42 @@ abbrev pub things_had : ℕ → ℕ → List StoredHas → FinMap nat_cmp ℕ
 things_had n sort has = by_number (λ r. as_u32 r.thing) (λ r. as_u32 r.amount) (filter (is_of_unit_and_sort n sort) has)
 
 -- the unit that a row of `unit` says, with the given items and days of study
-abbrev pub unit_with : StoredUnit → FinMap nat_cmp ℕ → FinMap nat_cmp ℕ → Unit
-unit_with r items days = record {
+abbrev pub unit_with_goods : StoredUnit → FinMap nat_cmp ℕ → FinMap nat_cmp ℕ → Unit
+unit_with_goods r items days = record {
   faction = as_u32 r.faction;
   region = as_u32 r.region;
   structure = as_u32 r.structure;
-  holding = record { name = r.name; men = as_u32 r.men; money = as_u32 r.money; guard = is_set r.guard; items = items; days = days };
+  holding = record {
+    name = r.name;
+    men = as_u32 r.men;
+    money = as_u32 r.money;
+    guard = is_set r.guard;
+    items = items;
+    days = days;
+  };
 }
 
 -- the unit that a row of `unit` says, with the items and days of study that the rows of `has` give to it
 abbrev pub unit_of : List StoredHas → StoredUnit → Unit
-unit_of has r = unit_with r (things_had (as_u32 r.number) 0 has) (things_had (as_u32 r.number) 1 has)
+unit_of has r = unit_with_goods r (things_had (as_u32 r.number) 0 has) (things_had (as_u32 r.number) 1 has)
 
 -- the stocks of region n in the rows of `market`: amounts by the numbers of the items
 abbrev pub stocks_of : ℕ → List StoredMarket → FinMap nat_cmp ℕ
 stocks_of n markets = by_number (λ r. as_u32 r.item) (λ r. as_u32 r.stock) (filter (λ r. as_u32 r.region == n) markets)
 
 -- the region that a row of `region` says, with the given stocks
-abbrev pub region_with : StoredRegion → FinMap nat_cmp ℕ → Region
-region_with r stocks = record { peasants = as_u32 r.peasants; money = as_u32 r.money; stocks = stocks }
+abbrev pub region_with_stocks : StoredRegion → FinMap nat_cmp ℕ → Region
+region_with_stocks r stocks = record { peasants = as_u32 r.peasants; money = as_u32 r.money; stocks = stocks }
 
 -- the region that a row of `region` says, with the stocks that the rows of `market` give to it
 abbrev pub region_of : List StoredMarket → StoredRegion → Region
-region_of markets r = region_with r (stocks_of (as_u32 r.number) markets)
+region_of markets r = region_with_stocks r (stocks_of (as_u32 r.number) markets)
 
 -- the books with the amount of a row put in, if the row's entry exists and its thing is one of the books'
 abbrev pub with_books_row : BooksValue → StoredBooks → BooksValue
 with_books_row books r =
-    option_map_or (λ e. if nat_lt (as_u32 r.thing) books.things then with_amount books e (thing_at (as_u32 r.thing)) r.amount else books)
+    option_map_or (λ e.
+    if nat_lt (as_u32 r.thing) books.things then with_amount books e (thing_at (as_u32 r.thing)) r.amount else books)
     (entry_numbered (as_u32 r.entry)) books
 
 -- the books with the amount of each row put in, in the order of the rows
@@ -111,7 +120,15 @@ put_amounts (r ∷ rs) books = put_amounts rs (with_books_row books r)
 
 -- what is read where there is no campaign row: all numbers 0, and no pass text
 abbrev pub no_campaign_row : StoredCampaignRow
-no_campaign_row = record { id = pos 0; format = pos 0; month = pos 0; next_faction = pos 0; next_unit = pos 0; next_structure = pos 0; pass = [] }
+no_campaign_row = record {
+  id = pos 0;
+  format = pos 0;
+  month = pos 0;
+  next_faction = pos 0;
+  next_unit = pos 0;
+  next_structure = pos 0;
+  pass = [];
+}
 
 -- the campaign row: the first row of the table `campaign`, or `no_campaign_row` where the table is empty
 abbrev pub campaign_row_of : Parts → StoredCampaignRow
@@ -131,5 +148,5 @@ campaign_of w p = record {
   structures = by_number (λ r. as_u32 r.number) structure_of p.structures;
   mail = by_number (λ r. as_u32 r.faction) (λ r. r.text) p.mail;
   reports = by_number (λ r. as_u32 r.faction) (λ r. r.text) p.reports;
-  books = put_amounts p.books (no_amounts (things_of w));
+  books = put_amounts p.books (no_amounts (thing_count w));
 }

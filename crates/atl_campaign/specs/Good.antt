@@ -18,9 +18,9 @@ use Rattle.atl_records.specs.declared.records.Region.{Region}
 use Rattle.atl_records.specs.declared.records.Structure.{Structure}
 use Rattle.atl_records.specs.declared.records.Unit.{Unit}
 use Rattle.atl_records.specs.Books.{amount_in, AreBooks, IsWithin}
-use Rattle.atl_campaign.specs.Founding.{things_of}
+use Rattle.atl_campaign.specs.Founding.{thing_count}
 use Rattle.atl_records.specs.Holdings.{IsHolding}
-use Rattle.atl_campaign.specs.Campaign.{CampaignValue, numbers_of}
+use Rattle.atl_campaign.specs.Campaign.{CampaignValue, numbers_of_faction}
 use Rattle.atl_campaign.specs.Stocks.{stock_limit}
 use Rattle.atl_campaign.specs.Totals.{Balances}
 use Rattle.atl_records.specs.Every.{Every, HasValue}
@@ -73,13 +73,13 @@ pub record AreInRange (w : WorldValue) (c : CampaignValue) : Type 0 where
   -- of each structure at least 1 is done, and at most its kind's size
   pub structures : Every (λ n s. (1 ≤ s.done) × (s.done ≤ size_of w s.kind)) c.structures
   -- the books have as many things as the world, and each amount they list is of one of these things and not 0
-  pub books : AreBooks (things_of w) c.books
+  pub books : AreBooks (thing_count w) c.books
 
 -- each amount of the books, without its sign, is at most `amount_bound`
 abbrev pub AreAmountsWithin : CampaignValue → Type 0
 AreAmountsWithin c = (e : BooksEntry) (t : Thing) → IsWithin (amount_bound c) (amount_in c.books e t)
 
--- each unit has a man at least
+-- each unit has at least one man
 abbrev pub HaveMen : CampaignValue → Type 0
 HaveMen c = Every (λ n u. 1 ≤ u.holding.men) c.units
 
@@ -100,9 +100,10 @@ pub record AreNamed (c : CampaignValue) : Type 0 where
 
 -- ---- of what is named by its number: all of it exists
 
--- a unit's faction, region, items and skills exist; its structure, unless that is 0 (none), exists and is in the unit's
--- region
-pub record IsPlacedAmong (w : WorldValue) (factions : FinMap nat_cmp Faction) (regions : FinMap nat_cmp Region) (structures : FinMap nat_cmp Structure) (u : Unit) : Type 0 where
+-- a unit's faction and region are among the given ones, and its items and skills exist in the world. Its structure,
+-- unless that is 0 (none), is among the given ones, and in the unit's region.
+pub record IsPlacedAmong (w : WorldValue) (factions : FinMap nat_cmp Faction) (regions : FinMap nat_cmp Region)
+    (structures : FinMap nat_cmp Structure) (u : Unit) : Type 0 where
   -- the unit's faction exists
   pub faction : HasValue factions u.faction
   -- the unit's region exists
@@ -119,8 +120,10 @@ pub record IsPlacedAmong (w : WorldValue) (factions : FinMap nat_cmp Faction) (r
 abbrev pub IsPlaced : WorldValue → CampaignValue → Unit → Type 0
 IsPlaced w c u = IsPlacedAmong w c.factions c.regions c.structures u
 
--- a structure's kind and region exist, and so does its owner, unless that is 0 (nobody)
-pub record IsBuiltAmong (w : WorldValue) (regions : FinMap nat_cmp Region) (units : FinMap nat_cmp Unit) (s : Structure) : Type 0 where
+-- a structure's kind exists in the world, and its region is among the given ones; its owner, unless that is 0 (nobody),
+-- is one of the given units
+pub record IsBuiltAmong (w : WorldValue) (regions : FinMap nat_cmp Region) (units : FinMap nat_cmp Unit)
+    (s : Structure) : Type 0 where
   -- the structure's kind exists in the world
   pub kind : s.kind < length w.kinds
   -- the structure's region exists
@@ -137,14 +140,14 @@ IsBuilt w c s = IsBuiltAmong w c.regions c.units s
 abbrev pub AreOfMarkets : WorldValue → ℕ → FinMap nat_cmp ℕ → Type 0
 AreOfMarkets w n stocks = Every (λ i amount. IsSome (market_of w n i)) stocks
 
--- all mail (`sent`) and all reports (`told`) are of the given factions
-pub record AreOfFactions (factions : FinMap nat_cmp Faction) (sent told : FinMap nat_cmp (List ℕ)) : Type 0 where
+-- all mail (`sent`) and all reports (`reported`) are of the given factions
+pub record AreOfFactions (factions : FinMap nat_cmp Faction) (sent reported : FinMap nat_cmp (List ℕ)) : Type 0 where
   -- each mail is of a faction that exists
   pub mail : Every (λ n text. HasValue factions n) sent
   -- each report is of a faction that exists
-  pub reports : Every (λ n text. HasValue factions n) told
+  pub reports : Every (λ n text. HasValue factions n) reported
 
--- all mail and reports of the campaign are of factions that are there
+-- all mail and reports of the campaign are of factions that exist
 abbrev pub ArePosted : CampaignValue → Type 0
 ArePosted c = AreOfFactions c.factions c.mail c.reports
 
@@ -192,15 +195,15 @@ AreDays c = Every (λ n u. Every (λ s days. (1 ≤ days) × (days ≤ most_days
 
 -- each faction that is gone has no unit
 abbrev pub GoneHaveNone : CampaignValue → Type 0
-GoneHaveNone c = Every (λ n f. f.gone ≡ true → numbers_of n c.units ≡ []) c.factions
+GoneHaveNone c = Every (λ n f. f.gone ≡ true → numbers_of_faction n c.units ≡ []) c.factions
 
 -- each faction without units is gone
 abbrev pub UnitlessAreGone : CampaignValue → Type 0
-UnitlessAreGone c = Every (λ n f. numbers_of n c.units ≡ [] → f.gone ≡ true) c.factions
+UnitlessAreGone c = Every (λ n f. numbers_of_faction n c.units ≡ [] → f.gone ≡ true) c.factions
 
 -- ---- of owners
 
--- the owner of structure n is a unit inside the structure, or 0 (nobody) where no unit is inside
+-- the owner of structure n is one of the given units inside the structure, or 0 (nobody) where none of them is inside
 pub record IsOwnedAmong (units : FinMap nat_cmp Unit) (n : ℕ) (s : Structure) : Type 0 where
   -- if the structure has an owner, this is a unit that exists and is inside the structure
   pub owned : s.owner ≢ 0 → (u : Unit) × (get units s.owner ≡ Some u) × (u.structure ≡ n)
@@ -240,13 +243,14 @@ guards u = u.holding.guard && nat_lt 0 u.holding.men
 
 -- in each region, all units that pass the test are of one faction
 abbrev pub AreOfOneFaction : (Unit → Bool) → CampaignValue → Type 0
-AreOfOneFaction test c = Every (λ n u. Every (λ m v. test u ≡ true → test v ≡ true → u.region ≡ v.region → u.faction ≡ v.faction) c.units) c.units
+AreOfOneFaction test c =
+    Every (λ n u. Every (λ m v. test u ≡ true → test v ≡ true → u.region ≡ v.region → u.faction ≡ v.faction) c.units) c.units
 
 -- ---- of mail and reports
 
 -- each mail is of a faction that is there and not gone, is short enough, and has a header with the faction's number
-abbrev pub IsMail : CampaignValue → Type 0
-IsMail c = Every (λ n text. IsMailingOf n text × IsActive c n) c.mail
+abbrev pub HasValidMail : CampaignValue → Type 0
+HasValidMail c = Every (λ n text. IsMailingOf n text × IsActive c n) c.mail
 
 -- each faction has a report
 abbrev pub AreReported : CampaignValue → Type 0
@@ -302,7 +306,7 @@ pub record IsSound (w : WorldValue) (c : CampaignValue) : Type 0 where
   -- the books of the campaign balance
   pub balances : Balances c
   -- each mail is of a faction that is there and not gone, is short enough, and has the faction's number in its header
-  pub mail : IsMail c
+  pub mail : HasValidMail c
 
 -- a good campaign, as it is between commands: a sound one in which each faction has a report
 pub record IsGood (w : WorldValue) (c : CampaignValue) : Type 0 where

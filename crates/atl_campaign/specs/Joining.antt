@@ -42,13 +42,20 @@ first_unit w word c = record {
   faction = c.next_faction;
   region = home_of w word;
   structure = 0;
-  holding = record { name = codes "Unit " ++ decimal c.next_unit; men = 1; money = w.rules.start_money; guard = false; items = empty; days = empty };
+  holding = record {
+    name = codes "Unit " ++ decimal c.next_unit;
+    men = 1;
+    money = w.rules.start_money;
+    guard = false;
+    items = empty;
+    days = empty;
+  };
 }
 
 -- the campaign with a faction of the given name and pass text, and its unit, added under the next numbers, and what
 -- they bring booked. The word of the dice, a number, picks where the unit is.
-unfoldable pub joined : WorldValue → List ℕ → List ℕ → ℕ → CampaignValue → CampaignValue
-joined w name pass word c = record c {
+unfoldable pub after_join : WorldValue → List ℕ → List ℕ → ℕ → CampaignValue → CampaignValue
+after_join w name pass word c = record c {
   next_faction = c.next_faction + 1;
   next_unit = c.next_unit + 1;
   factions = insert c.factions c.next_faction (new_faction c.next_faction name pass);
@@ -62,7 +69,7 @@ unfoldable pub join_of : WorldValue → List ℕ → List ℕ → ℕ → Campai
 join_of w name pass word c =
     if name_taken c name then Err NameTaken
     else (if is_full c then Err Full
-    else Ok (joined w name pass word c, (c.next_faction, c.next_unit)))
+    else Ok (after_join w name pass word c, (c.next_faction, c.next_unit)))
 
 -- what `join`, with a name, a pass text and a word of the dice, may answer: what the definition `join_of` gives, or the
 -- fault Memory. After a fault the campaign `new` that is left is the old one.

@@ -25,13 +25,15 @@ AreLists belongs_to units lists = (k : ℕ) → list_of lists k ≡ numbers_wher
 abbrev pub SameLists : FinMap nat_cmp (List ℕ) → FinMap nat_cmp (List ℕ) → Type 0
 SameLists new old = (k : ℕ) → list_of new k ≡ list_of old k
 
--- the lists with n put into the list of `key`, unless `key` is `other`: where n is already, or 0, which has no list
-abbrev pub listed_apart : FinMap nat_cmp (List ℕ) → ℕ → ℕ → ℕ → FinMap nat_cmp (List ℕ)
-listed_apart lists n key other = if key == other then lists else insert lists key (put_number n (list_of lists key))
+-- the lists with n put into the list of `key`, unless `key` is `other`: the key in whose list n is already, or 0, which
+-- has no list
+abbrev pub listed_unless : FinMap nat_cmp (List ℕ) → ℕ → ℕ → ℕ → FinMap nat_cmp (List ℕ)
+listed_unless lists n key other = if key == other then lists else insert lists key (put_number n (list_of lists key))
 
--- the lists with n taken out of the list of `key`, unless `key` is `other`: where n stays, or 0, which has no list
-abbrev pub unlisted_apart : FinMap nat_cmp (List ℕ) → ℕ → ℕ → ℕ → FinMap nat_cmp (List ℕ)
-unlisted_apart lists n key other = if key == other then lists else insert lists key (take_number n (list_of lists key))
+-- the lists with n taken out of the list of `key`, unless `key` is `other`: the key in whose list n is to stay, or 0,
+-- which has no list
+abbrev pub unlisted_unless : FinMap nat_cmp (List ℕ) → ℕ → ℕ → ℕ → FinMap nat_cmp (List ℕ)
+unlisted_unless lists n key other = if key == other then lists else insert lists key (take_number n (list_of lists key))
 
 -- under each structure are the numbers of the units inside it, in rising order, and under 0 none
 abbrev pub AreInsideLists : FinMap nat_cmp Unit → FinMap nat_cmp (List ℕ) → Type 0
@@ -39,7 +41,7 @@ AreInsideLists units lists = (s : ℕ) → list_of lists s ≡ numbers_inside s 
 
 -- the lists with n moved from the list of structure `from` to that of `to`; structure 0 has no list
 abbrev pub relisted_inside : FinMap nat_cmp (List ℕ) → ℕ → ℕ → ℕ → FinMap nat_cmp (List ℕ)
-relisted_inside lists n from to = if from == to then lists else unlisted_apart (listed_apart lists n to 0) n from 0
+relisted_inside lists n from to = if from == to then lists else unlisted_unless (listed_unless lists n to 0) n from 0
 
 -- each unit is in the list of its region, of its faction, and of its structure unless that is 0, and in no other
 pub record AreUnitLists (units : FinMap nat_cmp Unit) (lists : UnitLists) : Type 0 where
@@ -54,25 +56,34 @@ pub record AreUnitLists (units : FinMap nat_cmp Unit) (lists : UnitLists) : Type
 abbrev pub list_keys_of : Unit → ListKeys
 list_keys_of u = record { faction = u.faction; region = u.region; structure = u.structure }
 
--- if `old` has the lists of some units without a unit n, `new` has the lists with a unit n added, whose keys are l
+-- `new` lists one unit more than `old`: if `old` has the lists of units without a unit n, `new` has those of the same
+-- units with a unit n, whose keys are l
 abbrev pub ListsUnit : ℕ → ListKeys → UnitLists → UnitLists → Type 0
-ListsUnit n l old new = (units : FinMap nat_cmp Unit) (u : Unit) → list_keys_of u ≡ l → get units n ≡ None → AreUnitLists units old → AreUnitLists (insert units n u) new
+ListsUnit n l old new =
+    (units : FinMap nat_cmp Unit) (u : Unit) → list_keys_of u ≡ l → get units n ≡ None
+    → AreUnitLists units old → AreUnitLists (insert units n u) new
 
--- if `old` has the lists of some units without a unit n, `new` has the lists of the same units
+-- `new` lists the same units as `old`, of units without a number n: if `old` has the lists of such units, so has `new`
 abbrev pub KeepsLists : ℕ → UnitLists → UnitLists → Type 0
 KeepsLists n old new = (units : FinMap nat_cmp Unit) → get units n ≡ None → AreUnitLists units old → AreUnitLists units new
 
--- if `old` has the lists of some units, `new` has the lists without unit n, whose keys are l
+-- `new` lists one unit less than `old`: if `old` has the lists of units with a unit n, whose keys are l, `new` has
+-- those of the same units without n
 abbrev pub UnlistsUnit : ℕ → ListKeys → UnitLists → UnitLists → Type 0
-UnlistsUnit n l old new = (units : FinMap nat_cmp Unit) (u : Unit) → list_keys_of u ≡ l → get units n ≡ Some u → AreUnitLists units old → AreUnitLists (remove units n) new
+UnlistsUnit n l old new =
+    (units : FinMap nat_cmp Unit) (u : Unit) → list_keys_of u ≡ l → get units n ≡ Some u
+    → AreUnitLists units old → AreUnitLists (remove units n) new
 
--- if `old` has the lists of some units, `new` has the lists of the same units
+-- `new` lists the same units as `old`: if `old` has the lists of some units, so has `new`
 abbrev pub KeepsAll : UnitLists → UnitLists → Type 0
 KeepsAll old new = (units : FinMap nat_cmp Unit) → AreUnitLists units old → AreUnitLists units new
 
--- if `old` has the lists of some units, `new` has the lists with the keys of unit n changed from `from` to `to`
+-- `new` lists unit n under the keys `to`, and `old` under `from`: if `old` has the lists of units with n, `new` has
+-- those of the same units, but for n's keys
 abbrev pub RelistsUnit : ℕ → ListKeys → ListKeys → UnitLists → UnitLists → Type 0
-RelistsUnit n from to old new = (units : FinMap nat_cmp Unit) (u v : Unit) → list_keys_of u ≡ from → list_keys_of v ≡ to → get units n ≡ Some u → AreUnitLists units old → AreUnitLists (insert units n v) new
+RelistsUnit n from to old new =
+    (units : FinMap nat_cmp Unit) (u v : Unit) → list_keys_of u ≡ from → list_keys_of v ≡ to → get units n ≡ Some u
+    → AreUnitLists units old → AreUnitLists (insert units n v) new
 
 -- only amounts of the books for the first `things` things are marked, and the dirty set has room for all of these
 pub record MarksAmounts (things : ℕ) (marks : RoomySet) : Type 0 where
@@ -81,9 +92,9 @@ pub record MarksAmounts (things : ℕ) (marks : RoomySet) : Type 0 where
   -- only amounts of the books for the first `things` things are marked
   pub numbers : AreOfThings things marks.numbers
 
--- the lists are those of the units, and only amounts of the books for the first `things` things are marked, with room
--- for all of these
-pub record AreKept (units : FinMap nat_cmp Unit) (lists : UnitLists) (things : ℕ) (marks : RoomySet) : Type 0 where
+-- the invariant of a `Campaign`: its lists are those of its units, and only amounts of the books for the first `things`
+-- things are marked, with room for all of these
+pub record AreListsAndMarksKept (units : FinMap nat_cmp Unit) (lists : UnitLists) (things : ℕ) (marks : RoomySet) : Type 0 where
   -- the lists are those of the units by region, by faction and by structure
   pub unit_lists : AreUnitLists units lists
   -- only amounts of the books for the first `things` things are marked, and the dirty set has room for all of these

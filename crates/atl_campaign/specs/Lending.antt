@@ -9,7 +9,7 @@ use Rattle.atl_records.specs.declared.records.Unit.{Unit}
 use Rattle.atl_campaign.specs.contracts.campaign.Campaign.{the_row}
 use Rattle.atl_records.specs.contracts.holding.Holding as holding
 
--- `with_holding` where unit n is looked up: n gets the holding h; for None nothing changes
+-- `with_holding` once unit n is looked up: n gets the holding h; where n isn't there (None), nothing changes
 abbrev pub with_holding_at : CampaignValue → ℕ → HoldingValue → Option Unit → CampaignValue
 with_holding_at c n h None = c
 with_holding_at c n h (Some u) = record c { units = insert c.units n (record u { holding = h }) }

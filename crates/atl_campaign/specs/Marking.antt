@@ -10,13 +10,14 @@ use Rattle.atl_records.specs.declared.books.BooksEntry.{BooksEntry}
 use Rattle.atl_records.specs.declared.books.Thing.{Thing}
 use Rattle.atl_records.specs.declared.records.Unit.{Unit}
 use Rattle.atl_campaign.specs.Marks.{Marks, amount_marked, thing_marked}
-use Rattle.atl_campaign.specs.Owners.{heir, is_owned_by, placed}
+use Rattle.atl_campaign.specs.Owners.{heir, is_owned_by, with_position}
 use Rattle.atl_campaign.specs.Campaign.{MarkedCampaign, with_owner}
 use Rattle.atl_campaign.specs.Regions.{MarkedRegions, region_to_restock}
 use Rattle.atl_campaign.specs.Roster.{Roster, unit_to_supply}
 
 -- the marks of a campaign, put together from those of its factions, regions, units and so on, and of the campaign row
-abbrev pub marks_of_parts : (factions : FinSet nat_cmp) → MarkedRegions → Roster → (structures mail reports books : FinSet nat_cmp) → Bool → Marks
+abbrev pub marks_of_parts : (factions : FinSet nat_cmp) → MarkedRegions → Roster
+    → (structures mail reports books : FinSet nat_cmp) → Bool → Marks
 marks_of_parts factions regions units structures mail reports books row = record {
   factions = factions;
   regions = regions.rows;
@@ -45,7 +46,8 @@ mark_unit c n = whole_marked c.marks n (get c.value.units n)
 
 -- the marks after unit n was added: it, its row and all its goods are marked too
 abbrev pub mark_unit_added : MarkedCampaign → ℕ → Marks
-mark_unit_added c n = record c.marks { units = insert c.marks.units n; rows = insert c.marks.rows n; goods = insert c.marks.goods n }
+mark_unit_added c n =
+    record c.marks { units = insert c.marks.units n; rows = insert c.marks.rows n; goods = insert c.marks.goods n }
 
 -- the marks after a unit was added under the next number: it, its row, its goods and the campaign row are marked too
 abbrev pub mark_unit_begun : MarkedCampaign → Marks
@@ -53,10 +55,13 @@ mark_unit_begun c = record (mark_unit_added c c.value.next_unit) { row = true }
 
 -- the marks after the row of unit n changed, if it is there: it and its row are marked too, and none of its goods
 abbrev pub mark_unit_row : MarkedCampaign → ℕ → Marks
-mark_unit_row c n = record c.marks { units = marked_with c.marks.units n (get c.value.units n); rows = marked_with c.marks.rows n (get c.value.units n) }
+mark_unit_row c n = record c.marks {
+  units = marked_with c.marks.units n (get c.value.units n);
+  rows = marked_with c.marks.rows n (get c.value.units n);
+}
 
--- the marks after an amount of an item of unit n was set: if the unit is there and had another amount of it, the unit
--- and that item are marked too, not its row
+-- the marks after an amount of an item of unit n was set. If the unit is there and had another amount of it, the unit
+-- and that item are marked too, not its row.
 abbrev pub mark_item : MarkedCampaign → (unit item : ℕ) → ℕ → Marks
 mark_item c n item amount =
     let unit = unit_to_supply c.value.units n item amount in
@@ -64,7 +69,10 @@ mark_item c n item amount =
 
 -- the marks after a skill of unit n changed, if the unit is there: the unit and that skill are marked too, not its row
 abbrev pub mark_skill : MarkedCampaign → ℕ → ℕ → Marks
-mark_skill c n skill = record c.marks { units = marked_with c.marks.units n (get c.value.units n); skills = thing_marked c.marks.skills n skill (get c.value.units n) }
+mark_skill c n skill = record c.marks {
+  units = marked_with c.marks.units n (get c.value.units n);
+  skills = thing_marked c.marks.skills n skill (get c.value.units n);
+}
 
 -- the campaign with an item of unit n marked, if there is such a unit and it has another amount of it than `amount`,
 -- and nothing else changed
@@ -88,7 +96,10 @@ mark_region c n = record c.marks { regions = marked_with c.marks.regions n (get 
 abbrev pub mark_stock : MarkedCampaign → (region item : ℕ) → ℕ → Marks
 mark_stock c n item amount =
     let region = region_to_restock c.value.regions n item amount in
-    record c.marks { markets = marked_with c.marks.markets n region; stock_items = thing_marked c.marks.stock_items n item region }
+    record c.marks {
+      markets = marked_with c.marks.markets n region;
+      stock_items = thing_marked c.marks.stock_items n item region;
+    }
 
 -- the marks after a stock of a region was set without memory for a mark of its own: if the region is there and had
 -- another amount, all its stocks are marked too
@@ -97,8 +108,8 @@ mark_all_stocks c n item amount =
     let region = region_to_restock c.value.regions n item amount in
     record c.marks { markets = marked_with c.marks.markets n region; stocks = marked_with c.marks.stocks n region }
 
--- the last argument is the marks after a stock was set: if its amount changed, that stock alone is marked too
--- (`mark_stock`), or all stocks of its region (`mark_all_stocks`)
+-- the last argument is the marks after a stock was set. If the stock's amount changed, that stock alone is marked too
+-- (`mark_stock`), or all stocks of its region (`mark_all_stocks`).
 abbrev pub MarksStock : MarkedCampaign → (region item : ℕ) → ℕ → Marks → Type 0
 MarksStock c n item amount m = (m ≡ mark_stock c n item amount) ⊎ (m ≡ mark_all_stocks c n item amount)
 
@@ -126,18 +137,23 @@ mark_all_mail c = record c.marks { mail = union c.marks.mail (from_list (keys c.
 
 -- the campaign with structure s handed from owner `from` to `to` and marked; unchanged unless `from` owns it
 abbrev pub handed_marked : MarkedCampaign → ℕ → ℕ → ℕ → MarkedCampaign
-handed_marked c s from to = if is_owned_by (get c.value.structures s) from then record { value = with_owner c.value s to; marks = mark_structure c s } else c
+handed_marked c s from to =
+    if is_owned_by (get c.value.structures s) from
+    then record { value = with_owner c.value s to; marks = mark_structure c s }
+    else c
 
 -- the campaign with unit n, if it is there, put in region r and structure s, and the unit and its row marked; no owner
 -- changes
 abbrev pub put_marked : MarkedCampaign → ℕ → ℕ → ℕ → MarkedCampaign
-put_marked c n r s = record { value = placed c.value n r s; marks = mark_unit_row c n }
+put_marked c n r s = record { value = with_position c.value n r s; marks = mark_unit_row c n }
 
--- `place_marked` where unit n is looked up: n is put in region r and structure s, structures left and entered may get
--- other owners, and changes are marked; for None nothing changes
+-- `place_marked` once unit n is looked up: n is put in region r and structure s, structures left and entered may get
+-- other owners, and changes are marked. Where n isn't there (None), nothing changes.
 abbrev pub place_marked_at : MarkedCampaign → ℕ → ℕ → ℕ → Option Unit → MarkedCampaign
 place_marked_at c n r s None = c
-place_marked_at c n r s (Some u) = if u.structure == s then put_marked c n r s else handed_marked (handed_marked (put_marked c n r s) u.structure n (heir c.value u.structure n)) s 0 n
+place_marked_at c n r s (Some u) =
+    if u.structure == s then put_marked c n r s
+    else handed_marked (handed_marked (put_marked c n r s) u.structure n (heir c.value u.structure n)) s 0 n
 
 -- the campaign with unit n, if it is there, put in region r and structure s; the unit, its row, and structures that get
 -- another owner are marked
@@ -148,8 +164,8 @@ place_marked c n r s = place_marked_at c n r s (get c.value.units n)
 abbrev pub taken_marked : MarkedCampaign → ℕ → MarkedCampaign
 taken_marked c n = record { value = record c.value { units = remove c.value.units n }; marks = mark_unit c n }
 
--- `gone_marked` where unit n is looked up: n is removed, a structure that it owned gets its next owner, and changes are
--- marked; for None nothing changes
+-- `gone_marked` once unit n is looked up: n is removed, a structure that it owned gets its next owner, and changes are
+-- marked. Where n isn't there (None), nothing changes.
 abbrev pub gone_marked_at : MarkedCampaign → ℕ → Option Unit → MarkedCampaign
 gone_marked_at c n None = c
 gone_marked_at c n (Some u) = handed_marked (taken_marked c n) u.structure n (heir c.value u.structure n)

@@ -70,9 +70,43 @@ things_code = map.code coded_ℕ (map.code coded_ℕ coded_unit)
 abbrev pub marks_code : Coded Marks
 marks_code =
     let numbers = code coded_ℕ in
-    code_by (FinSet nat_cmp × (FinSet nat_cmp × (FinSet nat_cmp × (FinSet nat_cmp × (MarkedThings × (FinSet nat_cmp × (FinSet nat_cmp × (FinSet nat_cmp × (MarkedThings × (MarkedThings × (FinSet nat_cmp × (FinSet nat_cmp × (FinSet nat_cmp × (FinSet nat_cmp × Bool))))))))))))))
-    (coded× numbers (coded× numbers (coded× numbers (coded× numbers (coded× things_code (coded× numbers (coded× numbers (coded× numbers (coded× things_code (coded× things_code (coded× numbers (coded× numbers (coded× numbers (coded× numbers coded_bool))))))))))))))
-    (λ m. (m.factions, (m.regions, (m.markets, (m.stocks, (m.stock_items, (m.units, (m.rows, (m.goods, (m.items, (m.skills, (m.structures, (m.mail, (m.reports, (m.books, m.row)))))))))))))))
+    code_by (FinSet nat_cmp × (FinSet nat_cmp × (FinSet nat_cmp × (FinSet nat_cmp × (MarkedThings
+    × (FinSet nat_cmp × (FinSet nat_cmp × (FinSet nat_cmp × (MarkedThings × (MarkedThings
+    × (FinSet nat_cmp × (FinSet nat_cmp × (FinSet nat_cmp × (FinSet nat_cmp × Bool))))))))))))))
+    (coded× numbers (coded× numbers (coded× numbers (coded× numbers (coded× things_code
+    (coded× numbers (coded× numbers (coded× numbers (coded× things_code (coded× things_code
+    (coded× numbers (coded× numbers (coded× numbers (coded× numbers coded_bool))))))))))))))
+    (λ m. (
+      m.factions,
+      (
+        m.regions,
+        (
+          m.markets,
+          (
+            m.stocks,
+            (
+              m.stock_items,
+              (
+                m.units,
+                (
+                  m.rows,
+                  (
+                    m.goods,
+                    (
+                      m.items,
+                      (
+                        m.skills,
+                        (m.structures, (m.mail, (m.reports, (m.books, m.row)))),
+                      ),
+                    ),
+                  ),
+                ),
+              ),
+            ),
+          ),
+        ),
+      ),
+    ))
     (λ p. record {
       factions = p.0;
       regions = p.1.0;
@@ -92,13 +126,13 @@ marks_code =
     })
     (λ _. refl)
 
--- whether an item or skill of unit n, or a stock of region n, is marked: by itself, in the given `MarkedThings`, or
--- with all of n's, as n is in the given set
+-- whether an item or skill of unit n, or a stock of region n, is marked. It is marked by itself, in the given
+-- `MarkedThings`, or with all of n's, as n is in the given set.
 abbrev pub is_thing_marked : FinSet nat_cmp → MarkedThings → ℕ → ℕ → Bool
 is_thing_marked goods things n thing = contains goods n || is_some (map.get (group_of things n) thing)
 
 -- a unit is marked if its row, all its goods, or one of its items or skills is marked
-pub record AreWithin (units rows goods : FinSet nat_cmp) (items skills : MarkedThings) : Type 0 where
+pub record AreUnitPartsWithin (units rows goods : FinSet nat_cmp) (items skills : MarkedThings) : Type 0 where
   -- a unit whose row is marked is marked itself (it is in `units`)
   pub rows_within : (n : ℕ) → contains rows n ≡ true → contains units n ≡ true
   -- a unit all of whose goods are marked is marked itself (it is in `units`)
@@ -115,7 +149,7 @@ pub record AreStocksWithin (markets stocks : FinSet nat_cmp) (stock_items : Mark
   -- a region of which stocks are marked one by one (it has an entry in `stock_items`) is in `markets`
   pub items_within : (n : ℕ) → is_some (map.get stock_items n) ≡ true → contains markets n ≡ true
 
--- the marks of a campaign of which nothing is marked
+-- no marks: nothing of the campaign is marked
 abbrev pub no_marks : Marks
 no_marks = record {
   factions = empty;
@@ -138,7 +172,9 @@ no_marks = record {
 -- how much is marked: factions, rows of regions, structures, mail, reports, amounts of the books and the campaign row
 -- count one each. A unit counts once, whatever of it is marked, and so do the stocks of a region.
 abbrev pub marks_in : Marks → ℕ
-marks_in m = len m.factions + len m.regions + len m.markets + len m.units + len m.structures + len m.mail + len m.reports + len m.books + (if m.row then 1 else 0)
+marks_in m =
+    len m.factions + len m.regions + len m.markets + len m.units + len m.structures + len m.mail + len m.reports
+    + len m.books + (if m.row then 1 else 0)
 
 -- the dirty set of the books with the amount of an entry and a thing added
 abbrev pub amount_marked : FinSet nat_cmp → BooksEntry → Thing → FinSet nat_cmp

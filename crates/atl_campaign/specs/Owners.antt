@@ -19,7 +19,8 @@ first_other ns leaving = first_or_zero (filter (λ n. not (n == leaving)) ns)
 abbrev pub heir : CampaignValue → ℕ → ℕ → ℕ
 heir c s leaving = first_other (numbers_inside s c.units) leaving
 
--- `owner_after` where structure s is looked up: the owner of s once unit `leaving` has left it; for None 0
+-- `owner_after` once structure s is looked up: the owner of s when unit `leaving` has left it; 0 where s isn't there
+-- (None)
 abbrev pub owner_after_at : CampaignValue → ℕ → ℕ → Option Structure → ℕ
 owner_after_at c s leaving None = 0
 owner_after_at c s leaving (Some x) = if x.owner == leaving then heir c s leaving else x.owner
@@ -38,22 +39,24 @@ abbrev pub after_handover : CampaignValue → ℕ → ℕ → ℕ → CampaignVa
 after_handover c s from to = if is_owned_by (get c.structures s) from then with_owner c s to else c
 
 -- the campaign with unit n put in region r and structure s, if there is such a unit; no owner changes
-abbrev pub placed : CampaignValue → ℕ → ℕ → ℕ → CampaignValue
-placed c n r s = unit_changed (λ u. record u { region = r; structure = s }) c n
+abbrev pub with_position : CampaignValue → ℕ → ℕ → ℕ → CampaignValue
+with_position c n r s = unit_changed (λ u. record u { region = r; structure = s }) c n
 
--- `with_place` where unit n is looked up: n is put in region r and structure s, and structures left and entered may get
--- other owners; for None nothing changes
+-- `with_place` once unit n is looked up: n is put in region r and structure s, and structures left and entered may get
+-- other owners. Where n isn't there (None), nothing changes.
 abbrev pub with_place_at : CampaignValue → ℕ → ℕ → ℕ → Option Unit → CampaignValue
 with_place_at c n r s None = c
-with_place_at c n r s (Some u) = if u.structure == s then placed c n r s else after_handover (after_handover (placed c n r s) u.structure n (heir c u.structure n)) s 0 n
+with_place_at c n r s (Some u) =
+    if u.structure == s then with_position c n r s
+    else after_handover (after_handover (with_position c n r s) u.structure n (heir c u.structure n)) s 0 n
 
 -- the campaign with unit n, if it is there, put in region r and structure s, or in no structure where s is 0. A
 -- structure that n owned and leaves gets its next owner. Where n enters a structure without an owner, n owns that.
 unfoldable pub with_place : CampaignValue → ℕ → ℕ → ℕ → CampaignValue
 with_place c n r s = with_place_at c n r s (get c.units n)
 
--- `without_unit` where unit n is looked up: n is removed, and a structure that it owned gets its next owner; for None
--- nothing changes
+-- `without_unit` once unit n is looked up: n is removed, and a structure that it owned gets its next owner; where n
+-- isn't there (None), nothing changes
 abbrev pub without_unit_at : CampaignValue → ℕ → Option Unit → CampaignValue
 without_unit_at c n None = c
 without_unit_at c n (Some u) = after_handover (record c { units = remove c.units n }) u.structure n (heir c u.structure n)

@@ -5,7 +5,7 @@ use Rattle.std.specs.Coded.{Coded, code_by, coded×, coded_ℕ}
 use Rattle.std.specs.FinMap as map
 use Rattle.std.specs.FinSet as set
 use Rattle.atl_world.specs.RoomySets.{RoomySet, HasRoomForMarks}
-use Rattle.atl_world.specs.Sums.{changed}
+use Rattle.atl_world.specs.Sums.{with_changed_value}
 use Rattle.atl_world.specs.Tracking.{marked_with}
 use Rattle.atl_records.specs.Holdings.{with_amount_of}
 use Rattle.atl_records.specs.declared.records.Region.{Region}
@@ -41,18 +41,18 @@ regions_code =
 abbrev pub unmarked_regions : map.FinMap nat_cmp Region → MarkedRegions
 unmarked_regions values = record { values = values; rows = set.empty; markets = set.empty; stocks = set.empty; items = map.empty }
 
--- the regions with f applied to region n and its row marked, if there is such a region; stocks get no mark
+-- the regions with region n, if there is one, changed by the function f, and its row marked; stocks get no mark
 abbrev pub with_region_row : (Region → Region) → MarkedRegions → ℕ → MarkedRegions
-with_region_row f r n = record r { values = changed f r.values n; rows = marked_with r.rows n (map.get r.values n) }
+with_region_row f r n = record r { values = with_changed_value f r.values n; rows = marked_with r.rows n (map.get r.values n) }
 
--- the regions in which region n, if there is one, has the amount given last of an item in stock; 0 of an item isn't
--- listed
+-- the regions in which region n, if there is one, has the given amount of an item in stock; 0 of an item isn't listed
 abbrev pub with_stock_at : map.FinMap nat_cmp Region → (region item : ℕ) → ℕ → map.FinMap nat_cmp Region
-with_stock_at values n item amount = changed (λ r. record r { stocks = with_amount_of r.stocks item amount }) values n
+with_stock_at values n item amount = with_changed_value (λ r. record r { stocks = with_amount_of r.stocks item amount }) values n
 
 -- the regions with the stock of an item in region n marked; unchanged if None is given for that region
 abbrev pub with_item_marked_in : MarkedRegions → (region item : ℕ) → Option Region → MarkedRegions
-with_item_marked_in r n item region = record r { markets = marked_with r.markets n region; items = thing_marked r.items n item region }
+with_item_marked_in r n item region =
+    record r { markets = marked_with r.markets n region; items = thing_marked r.items n item region }
 
 -- the regions with all stocks of region n marked; unchanged if None is given for that region
 abbrev pub with_stocks_marked_in : MarkedRegions → (region : ℕ) → Option Region → MarkedRegions
@@ -70,12 +70,13 @@ with_stocks_marked r n = with_stocks_marked_in r n (map.get r.values n)
 abbrev pub region_to_restock : map.FinMap nat_cmp Region → (region item : ℕ) → ℕ → Option Region
 region_to_restock values n item amount = if stock_in values n item == amount then None else map.get values n
 
--- `after` has the marks of `before`, and a mark on a stock that was set if its amount changed: on that stock alone, or
--- on all stocks of its region
+-- `after` has the marks of `before`, and, if a stock was set to another amount, a mark on that stock alone, or on all
+-- stocks of its region
 abbrev pub MarksStockAt : (before after : MarkedRegions) → (region item : ℕ) → ℕ → Type 0
 MarksStockAt before after n item amount =
     let region = region_to_restock before.values n item amount in
-    (after ≡ record (with_item_marked_in before n item region) { values = after.values }) ⊎ (after ≡ record (with_stocks_marked_in before n region) { values = after.values })
+    (after ≡ record (with_item_marked_in before n item region) { values = after.values })
+    ⊎ (after ≡ record (with_stocks_marked_in before n region) { values = after.values })
 
 -- For proofs alone: there is room to mark each region's row and its stocks, and a marked stock has its region marked.
 pub record AreRegions (regions : map.FinMap nat_cmp Region) (rows markets stocks : RoomySet) (items : MarkedThings) : Type 0 where

@@ -26,13 +26,13 @@ use Rattle.atl_campaign.specs.declared.parts.StoredReport.{StoredReport}
 use Rattle.atl_campaign.specs.declared.parts.StoredBooks.{StoredBooks}
 use Rattle.atl_campaign.specs.declared.parts.StoredMarket.{StoredMarket}
 use Rattle.atl_campaign.specs.FromRows.{as_u32, as_u16, campaign_row_of}
-use Rattle.atl_campaign.specs.Founding.{things_of}
+use Rattle.atl_campaign.specs.Founding.{thing_count}
 use Rattle.atl_campaign.specs.Campaign.{CampaignValue}
 use Rattle.std.specs.FinMap.{get}
 use Rattle.atl_campaign.specs.Rows.{is_zero}
 use Rattle.atl_campaign.specs.Stocks.{stock_limit}
 
--- whether a number is from low to high
+-- whether a number is from `low` to `high`
 abbrev pub is_from : ℕ → ℕ → ℤ → Bool
 is_from low high (pos n) = nat_le low n && nat_le n high
 is_from low high (negsuc n) = false
@@ -58,7 +58,10 @@ is_within bound z = nat_le (nat_abs z) bound
 
 -- whether the campaign row's month is 0 to 9,999, and each next number from 1 to one above the highest one allowed
 abbrev pub campaign_row_in_range : StoredCampaignRow → Bool
-campaign_row_in_range h = ((is_from 0 last_month h.month && is_from 1 (last_faction + 1) h.next_faction) && is_from 1 (last_unit + 1) h.next_unit) && is_from 1 (most_structures + 1) h.next_structure
+campaign_row_in_range h =
+    ((is_from 0 last_month h.month && is_from 1 (last_faction + 1) h.next_faction)
+    && is_from 1 (last_unit + 1) h.next_unit)
+    && is_from 1 (most_structures + 1) h.next_structure
 
 -- whether the number of a row of `faction` is 1 to 9,999, and its flag `gone` 0 or 1
 abbrev pub faction_in_range : StoredFaction → Bool
@@ -71,7 +74,8 @@ region_in_range r = is_from 0 most_amount r.peasants && is_from 0 most_amount r.
 -- whether a unit row's number is 1 to 999,999,999, its men 1 to 999,999, its money 0 to 999,999,999, and its guard flag
 -- 0 or 1
 abbrev pub unit_in_range : StoredUnit → Bool
-unit_in_range r = ((is_from 1 last_unit r.number && is_from 1 men_limit r.men) && is_from 0 holding_limit r.money) && is_from 0 1 r.guard
+unit_in_range r =
+    ((is_from 1 last_unit r.number && is_from 1 men_limit r.men) && is_from 0 holding_limit r.money) && is_from 0 1 r.guard
 
 -- whether a row of `has` is of a skill (sort 1), whose days rule 6 judges, or of 1 to 999,999,999 of an item (sort 0)
 abbrev pub has_in_range : StoredHas → Bool
@@ -172,15 +176,24 @@ pub record HaveDistinctKeysByTable (p : Parts) : Type 0 where
 
 -- whether there are at most 9,999 factions, 10,000 regions, 100,000 units and 10,000 structures
 abbrev pub are_few : Parts → Bool
-are_few p = ((nat_le (length p.factions) last_faction && nat_le (length p.regions) most_regions) && nat_le (length p.units) most_units) && nat_le (length p.structures) most_structures
+are_few p =
+    ((nat_le (length p.factions) last_faction && nat_le (length p.regions) most_regions)
+    && nat_le (length p.units) most_units)
+    && nat_le (length p.structures) most_structures
 
 -- whether each row of `faction`, `region`, `unit` and `has` is in its ranges
 abbrev pub first_tables_in_range : Parts → Bool
-first_tables_in_range p = ((list_all faction_in_range p.factions && list_all region_in_range p.regions) && list_all unit_in_range p.units) && list_all has_in_range p.has
+first_tables_in_range p =
+    ((list_all faction_in_range p.factions && list_all region_in_range p.regions) && list_all unit_in_range p.units)
+    && list_all has_in_range p.has
 
 -- whether the campaign row and all rows of the other tables, but for mail and reports, are in their ranges
 abbrev pub numbers_in_range : WorldValue → Parts → Bool
-numbers_in_range w p = (((campaign_row_in_range (campaign_row_of p) && first_tables_in_range p) && list_all (structure_in_range w) p.structures) && list_all (books_in_range (books_bound p)) p.books) && list_all (market_in_range w) p.markets
+numbers_in_range w p =
+    (((campaign_row_in_range (campaign_row_of p) && first_tables_in_range p)
+    && list_all (structure_in_range w) p.structures)
+    && list_all (books_in_range (books_bound p)) p.books)
+    && list_all (market_in_range w) p.markets
 
 -- rule 2: no two rows of a table have the same key, there are not too many rows, and each number is in its range
 pub record AreRowsInRange (w : WorldValue) (p : Parts) : Type 0 where
@@ -199,7 +212,9 @@ faction_named r = (name_ok r.joined_as && name_ok r.name) && pass_ok r.pass
 
 -- whether each name and each pass text of the rows keeps its rule
 abbrev pub are_named : Parts → Bool
-are_named p = ((pass_ok (campaign_row_of p).pass && list_all faction_named p.factions) && list_all (λ r. name_ok r.name) p.units) && list_all (λ r. name_ok r.name) p.structures
+are_named p =
+    ((pass_ok (campaign_row_of p).pass && list_all faction_named p.factions) && list_all (λ r. name_ok r.name) p.units)
+    && list_all (λ r. name_ok r.name) p.structures
 
 -- the names that factions joined under are distinct in the given rows of `faction`
 abbrev pub AreJoinedNamesDistinct : List StoredFaction → Type 0
@@ -228,4 +243,4 @@ is_entry_in f n = nat_le 1 n && nat_le n (entries_in f)
 
 -- whether a row of `books` is of an entry of the format and of a thing of the world
 abbrev pub is_booked : Format → WorldValue → StoredBooks → Bool
-is_booked f w r = is_entry_in f (as_u32 r.entry) && nat_lt (as_u32 r.thing) (things_of w)
+is_booked f w r = is_entry_in f (as_u32 r.entry) && nat_lt (as_u32 r.thing) (thing_count w)

@@ -38,7 +38,15 @@ flag false = pos 0
 
 -- the campaign row of a campaign in a format, with the id 1 and without the world text
 abbrev pub campaign_row : Format → CampaignValue → StoredCampaignRow
-campaign_row f c = record { id = pos 1; format = pos (format_number f); month = pos c.month; next_faction = pos c.next_faction; next_unit = pos c.next_unit; next_structure = pos c.next_structure; pass = c.pass }
+campaign_row f c = record {
+  id = pos 1;
+  format = pos (format_number f);
+  month = pos c.month;
+  next_faction = pos c.next_faction;
+  next_unit = pos c.next_unit;
+  next_structure = pos c.next_structure;
+  pass = c.pass;
+}
 
 -- the row of `faction` for faction n: its names, its pass text, and whether it is gone
 abbrev pub faction_row : ℕ → Faction → StoredFaction
@@ -50,11 +58,27 @@ region_row n r = record { number = pos n; peasants = pos r.peasants; money = pos
 
 -- the row of `unit` for unit n: all that it has but its items and days of study
 abbrev pub unit_row : ℕ → Unit → StoredUnit
-unit_row n u = record { number = pos n; faction = pos u.faction; name = u.holding.name; region = pos u.region; structure = pos u.structure; men = pos u.holding.men; money = pos u.holding.money; guard = flag u.holding.guard }
+unit_row n u = record {
+  number = pos n;
+  faction = pos u.faction;
+  name = u.holding.name;
+  region = pos u.region;
+  structure = pos u.structure;
+  men = pos u.holding.men;
+  money = pos u.holding.money;
+  guard = flag u.holding.guard;
+}
 
 -- the row of `structure` for structure n: its kind, name, region, how much is done, and its owner
 abbrev pub structure_row : ℕ → Structure → StoredStructure
-structure_row n s = record { number = pos n; kind = pos s.kind; name = s.name; region = pos s.region; done = pos s.done; owner = pos s.owner }
+structure_row n s = record {
+  number = pos n;
+  kind = pos s.kind;
+  name = s.name;
+  region = pos s.region;
+  done = pos s.done;
+  owner = pos s.owner;
+}
 
 -- the row of `mail` for the mailing of faction n
 abbrev pub mail_row : ℕ → List ℕ → StoredMail

@@ -16,4 +16,7 @@ LendsUnit r n u = LendsIf the_row unit.the_row r u (with_unit_at r.now n) r.now
 -- after a loan u of unit n, roster r has u's last value under n, and the unit and its row are marked.
 -- Without a loan r is unchanged.
 abbrev pub LendsRow : MutBor Roster → ℕ → Option (MutBor Unit) → Fml
-LendsRow r n u = LendsIf the_row unit.the_row r u (λ w. record r.now { values = map.insert r.now.values n w; marks = set.insert r.now.marks n; rows = set.insert r.now.rows n }) r.now
+LendsRow r n u =
+    LendsIf the_row unit.the_row r u
+    (λ w. record r.now { values = map.insert r.now.values n w; marks = set.insert r.now.marks n; rows = set.insert r.now.rows n })
+    r.now

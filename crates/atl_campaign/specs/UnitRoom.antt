@@ -3,12 +3,12 @@ use Rattle.std.specs.Ordering.{nat_cmp}
 use Rattle.std.specs.FinMap.{FinMap}
 use Rattle.atl_world.specs.RoomySets.{RoomySet, HasRoomForMarks}
 use Rattle.atl_records.specs.declared.records.Unit.{Unit}
-use Rattle.atl_campaign.specs.Marks.{MarkedThings, AreWithin}
+use Rattle.atl_campaign.specs.Marks.{MarkedThings, AreUnitPartsWithin}
 
 -- A unit of which a part is marked is marked itself, and there is room to mark each unit, its row and its goods.
 pub record AreUnits (units : FinMap nat_cmp Unit) (marks rows goods : RoomySet) (items skills : MarkedThings) : Type 0 where
   -- a unit is marked if its row, all its goods, or one of its items or skills is marked
-  pub within : AreWithin marks.numbers rows.numbers goods.numbers items skills
+  pub within : AreUnitPartsWithin marks.numbers rows.numbers goods.numbers items skills
   -- marking any unit takes no memory
   pub marks_fit : HasRoomForMarks units marks
   -- marking the row of any unit takes no memory

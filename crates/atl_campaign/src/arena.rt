@@ -114,8 +114,8 @@ impl<V: Drop> Arena<V> {
         if self.get(number).is_none() {
             return self.insert(number, value);
         }
-        if let Some(place) = self.get_mut(number) {
-            *place = value;
+        if let Some(old) = self.get_mut(number) {
+            *old = value;
         }
         Ok(())
     }
@@ -148,7 +148,7 @@ impl<V: Drop> Arena<V> {
         ensures { result ≡ map.entries self.now }
     {
         SlotEntries {
-            places: self.index.iter(),
+            entries: self.index.iter(),
             slots: &self.slots,
         }
     }
@@ -157,7 +157,7 @@ impl<V: Drop> Arena<V> {
 /// An iterator over the numbers of an `Arena` with their values, in rising order of the numbers.
 #[derive(Drop)]
 pub struct SlotEntries<'a, V> {
-    places: Iter<'a, IndexEntry>,
+    entries: Iter<'a, IndexEntry>,
     slots: &'a Slab<V>,
 }
 
@@ -170,9 +170,9 @@ impl<'a, V> Model for SlotEntries<'a, V> {
 
     ghost Value = { List (ℕ × V) };
 
-    ghost view = { λ a. slot_entries (slots_of (iter_rest a.places)) a.slots.now };
+    ghost view = { λ a. slot_entries (slots_of (iter_rest a.entries)) a.slots.now };
 
-    ghost invariant = { λ a. AreInUse (slots_of (iter_rest a.places)) a.slots.now };
+    ghost invariant = { λ a. AreInUse (slots_of (iter_rest a.entries)) a.slots.now };
 }
 
 /// Yields each number with the value in its slot, in rising order of the numbers.
@@ -188,9 +188,9 @@ impl<'a, V> Iterator for SlotEntries<'a, V> {
 
     /// The next number with its value; None after the last.
     fn next(&mut self) -> Option<(u32, &'a V)> {
-        match self.places.next() {
-            Some(place) => match self.slots.get(place.slot) {
-                Some(value) => Some((place.number, value)),
+        match self.entries.next() {
+            Some(entry) => match self.slots.get(entry.slot) {
+                Some(value) => Some((entry.number, value)),
                 None => None,
             },
             None => None,

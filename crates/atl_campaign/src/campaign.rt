@@ -2,7 +2,7 @@
 ghost use Rattle.std.specs.Prelude.{◌≡◌, ◌<◌, ◌≤◌, IfOk, OnOk, OnErr};
 ghost use Rattle.std.specs.Option.{option_copied};
 ghost use Rattle.std.specs.FinMap as map;
-ghost use Rattle.atl_campaign.specs.Campaign.{active, numbers_in, numbers_of, numbers_inside, with_mail, with_report};
+ghost use Rattle.atl_campaign.specs.Campaign.{active, numbers_in_region, numbers_of_faction, numbers_inside, with_mail, with_report};
 ghost use Rattle.atl_records.specs.Books.{amount_in, thing_index, AreBooks};
 ghost use Rattle.atl_records.specs.Limits.{possible_things};
 ghost use Rattle.atl_campaign.specs.Stocks.{stock_of};
@@ -68,7 +68,7 @@ impl Drop for Campaign {
 /// faction and structure, and there is room to mark each amount of the books.
 impl Model for Campaign {
     ghost use Rattle.atl_campaign.specs.Campaign.{MarkedCampaign, marked_code};
-    ghost use Rattle.atl_campaign.specs.KeptLists.{AreKept};
+    ghost use Rattle.atl_campaign.specs.KeptLists.{AreListsAndMarksKept};
     ghost use Rattle.atl_campaign.specs.Marking.{marks_of_parts};
 
     ghost Value = { MarkedCampaign };
@@ -94,7 +94,8 @@ impl Model for Campaign {
           a.reports.marks a.amounts_marked.numbers a.row_marked;
     } };
 
-    ghost invariant = { λ a. AreKept a.units.values a.lists a.books.things a.amounts_marked };
+    ghost invariant = { λ a. AreListsAndMarksKept a.units.values a.lists a.books.things
+        a.amounts_marked };
 }
 
 /// Reads the campaign, lends a unit's holding, and stores mail and reports.
@@ -307,7 +308,7 @@ impl Campaign {
 
     /// The numbers of the units in a region, in rising order; none where there is no such region.
     pub fn in_region(&self, region: u32) -> &[u32]
-        ensures { result.now ≡ numbers_in region self.now.value.units }
+        ensures { result.now ≡ numbers_in_region region self.now.value.units }
     {
         numbers_under(&self.lists.by_region, region)
     }
@@ -315,7 +316,7 @@ impl Campaign {
     /// The numbers of the units of a faction, in rising order; none where there is no such faction,
     /// or it is gone.
     pub fn of_faction(&self, faction: u32) -> &[u32]
-        ensures { result.now ≡ numbers_of faction self.now.value.units }
+        ensures { result.now ≡ numbers_of_faction faction self.now.value.units }
     {
         numbers_under(&self.lists.by_faction, faction)
     }

@@ -41,55 +41,55 @@ fn make_room<T: Copy + Drop>(items: &mut Vec<T>) -> Result<usize, AllocError>
     Ok(free)
 }
 
-/// Inserts `thing` at index `place` of the list behind `free` unused elements, of which there is at
-/// least one. Moves the elements before the index one place to the front, into the last unused
-/// place.
-fn put_before<T: Copy + Drop>(items: &mut Vec<T>, free: usize, place: usize, thing: T)
+/// Inserts `thing` at index `position` of the list that follows `free` unused elements, of which
+/// there is at least one. Moves the elements before the index one place to the front, into the last
+/// unused place.
+fn put_before<T: Copy + Drop>(items: &mut Vec<T>, free: usize, position: usize, thing: T)
     requires some { 0 < free }
-    requires within { free + place ≤ length items.old.items }
+    requires within { free + position ≤ length items.old.items }
     ensures part { drop (free - 1) items.new.items
-        ≡ insert (drop free items.old.items) place thing }
+        ≡ insert (drop free items.old.items) position thing }
     ensures len { length items.new.items ≡ length items.old.items }
 {
     let first = free - 1;
-    items.copy_within(free..free + place, first);
-    items[first + place] = thing;
+    items.copy_within(free..free + position, first);
+    items[first + position] = thing;
 }
 
-/// Inserts `thing` at index `place` of the list behind `free` unused elements, at most half of all,
-/// and returns how many are unused then. The elements on the nearer side move, or all if room is
-/// made. Without memory nothing changes.
-fn open<T: Copy + Drop>(
+/// Inserts `thing` at index `position` of the list that follows `free` unused elements, at most
+/// half of all. Returns how many are unused then. The elements on the nearer side move, or all if
+/// room is made. Without memory nothing changes.
+fn insert_at<T: Copy + Drop>(
     items: &mut Vec<T>,
     free: usize,
-    place: usize,
+    position: usize,
     thing: T,
 ) -> Result<usize, AllocError>
-    requires within { free + place ≤ length items.old.items }
+    requires within { free + position ≤ length items.old.items }
     requires half { free + free ≤ length items.old.items }
     ensures part { IfOk result
-        (λ left. drop left items.new.items ≡ insert (drop free items.old.items) place thing) }
+        (λ left. drop left items.new.items ≡ insert (drop free items.old.items) position thing) }
     ensures half { IfOk result (λ left. left + left ≤ length items.new.items) }
     ensures err { OnErr result (items.new.items ≡ items.old.items) }
 {
-    if items.len() - free - place <= place {
-        items.insert(free + place, thing)?;
+    if items.len() - free - position <= position {
+        items.insert(free + position, thing)?;
         return Ok(free);
     }
     let free = if free == 0 { make_room(items)? } else { free };
-    put_before(items, free, place, thing);
+    put_before(items, free, position, thing);
     Ok(free - 1)
 }
 
-/// Removes the element at index `place` of the list behind `free` unused elements, and returns how
-/// many are unused then. The elements on the nearer side move.
-fn close<T: Copy + Drop>(items: &mut Vec<T>, free: usize, place: usize) -> usize
-    requires { free + place < length items.old.items }
-    ensures part { drop result items.new.items ≡ remove (drop free items.old.items) place }
+/// Removes the element at index `position` of the list that follows `free` unused elements, and
+/// returns how many are unused then. The elements on the nearer side move.
+fn remove_at<T: Copy + Drop>(items: &mut Vec<T>, free: usize, position: usize) -> usize
+    requires { free + position < length items.old.items }
+    ensures part { drop result items.new.items ≡ remove (drop free items.old.items) position }
     ensures within { result ≤ length items.new.items }
 {
-    let hole = free + place;
-    if place < items.len() - hole {
+    let hole = free + position;
+    if position < items.len() - hole {
         items.copy_within(free..hole, free + 1);
         return free + 1;
     }
@@ -97,8 +97,8 @@ fn close<T: Copy + Drop>(items: &mut Vec<T>, free: usize, place: usize) -> usize
     free
 }
 
-/// Moves the list behind `free` unused elements to the front of the vector, if these are more than
-/// half of all. Returns how many are unused then.
+/// Moves the list that follows `free` unused elements to the front of the vector, if these are more
+/// than half of all. Returns how many are unused then.
 fn compact<T: Copy + Drop>(items: &mut Vec<T>, free: usize) -> usize
     requires { free ≤ length items.old.items }
     ensures part { drop result items.new.items ≡ drop free items.old.items }
@@ -136,21 +136,21 @@ impl<T: Copy + Drop> GapVec<T> {
     }
 
     /// Inserts an element at an index. Without memory nothing changes.
-    pub(crate) fn insert(&mut self, place: usize, thing: T) -> Result<(), AllocError>
-        requires { place ≤ length self.old }
-        ensures ok { OnOk result (self.new ≡ insert self.old place thing) }
+    pub(crate) fn insert(&mut self, position: usize, thing: T) -> Result<(), AllocError>
+        requires { position ≤ length self.old }
+        ensures ok { OnOk result (self.new ≡ insert self.old position thing) }
         ensures err { OnErr result (self.new ≡ self.old) }
     {
-        self.free = open(&mut self.items, self.free, place, thing)?;
+        self.free = insert_at(&mut self.items, self.free, position, thing)?;
         Ok(())
     }
 
     /// Removes the element at an index. It takes no memory.
-    pub(crate) fn remove(&mut self, place: usize)
-        requires { place < length self.old }
-        ensures { self.new ≡ remove self.old place }
+    pub(crate) fn remove(&mut self, position: usize)
+        requires { position < length self.old }
+        ensures { self.new ≡ remove self.old position }
     {
-        let free = close(&mut self.items, self.free, place);
+        let free = remove_at(&mut self.items, self.free, position);
         self.free = compact(&mut self.items, free);
     }
 

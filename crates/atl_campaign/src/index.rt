@@ -23,7 +23,7 @@ pub(crate) struct IndexEntry {
 #[derive(Drop)]
 pub(crate) struct Index {
     // The entries, sorted by number; no number is there twice.
-    places: GapVec<IndexEntry>,
+    entries: GapVec<IndexEntry>,
 }
 
 /// Clauses see an index as a map from numbers to slots. The entries' numbers rise strictly.
@@ -39,9 +39,9 @@ impl Model for Index {
 
     ghost coded = { map.code coded_ℕ coded_ℕ };
 
-    ghost view = { λ a. map.from_entries (slots_of a.places) };
+    ghost view = { λ a. map.from_entries (slots_of a.entries) };
 
-    ghost invariant = { λ a. IsStrictlySortedBy nat_cmp (index_numbers a.places) };
+    ghost invariant = { λ a. IsStrictlySortedBy nat_cmp (index_numbers a.entries) };
 }
 
 /// Looks up, adds and removes numbers with their slots, and yields them in rising order.
@@ -51,7 +51,7 @@ impl Index {
         ensures { result ≡ map.empty }
     {
         Index {
-            places: GapVec::new(alloc),
+            entries: GapVec::new(alloc),
         }
     }
 
@@ -60,7 +60,7 @@ impl Index {
         ensures { IfOk result (λ index. index ≡ map.empty) }
     {
         Ok(Index {
-            places: GapVec::with_room(alloc, room)?,
+            entries: GapVec::with_room(alloc, room)?,
         })
     }
 
@@ -68,9 +68,9 @@ impl Index {
     pub(crate) fn get(&self, number: u32) -> Option<usize>
         ensures { result ≡ map.get self.now number }
     {
-        let places = self.places.as_slice();
-        match position_of(places, number) {
-            Ok(place) => Some(places[place].slot),
+        let entries = self.entries.as_slice();
+        match position_of(entries, number) {
+            Ok(position) => Some(entries[position].slot),
             Err(_) => None,
         }
     }
@@ -81,9 +81,9 @@ impl Index {
         ensures ok { OnOk result (self.new ≡ map.insert self.old number slot) }
         ensures err { OnErr result (self.new ≡ self.old) }
     {
-        match position_of(self.places.as_slice(), number) {
+        match position_of(self.entries.as_slice(), number) {
             Ok(_) => unreachable!(),
-            Err(place) => self.places.insert(place, IndexEntry { number, slot })?,
+            Err(position) => self.entries.insert(position, IndexEntry { number, slot })?,
         }
         Ok(())
     }
@@ -94,11 +94,11 @@ impl Index {
         ensures slot { result ≡ map.get self.old number }
         ensures taken { self.new ≡ map.remove self.old number }
     {
-        let places = self.places.as_slice();
-        match position_of(places, number) {
-            Ok(place) => {
-                let slot = places[place].slot;
-                self.places.remove(place);
+        let entries = self.entries.as_slice();
+        match position_of(entries, number) {
+            Ok(position) => {
+                let slot = entries[position].slot;
+                self.entries.remove(position);
                 Some(slot)
             }
             Err(_) => None,
@@ -110,36 +110,36 @@ impl Index {
         ensures value { result ≡ map.len self.now }
         ensures small { result < 2 ^ 63 }
     {
-        self.places.len()
+        self.entries.len()
     }
 
     /// The numbers with their slots, in rising order.
     pub(crate) fn iter(&self) -> Iter<'_, IndexEntry>
         ensures { slots_of (iter_rest result) ≡ map.entries self.now }
     {
-        self.places.as_slice().iter()
+        self.entries.as_slice().iter()
     }
 }
 
 /// The index of a number's entry, if no number between the first entry's and this one is missing;
 /// else, or if the number has no entry, None. The index is the number less the first entry's.
-fn guess_position(places: &[IndexEntry], number: u32) -> Option<usize>
-    ensures { IfSome result (λ place. IsAt (index_numbers places.now) number place) }
+fn guess_position(entries: &[IndexEntry], number: u32) -> Option<usize>
+    ensures { IfSome result (λ position. IsAt (index_numbers entries.now) number position) }
 {
-    let first = places.first()?;
-    let place = number.checked_sub(first.number)? as usize;
-    match places.get(place) {
-        Some(found) if found.number == number => Some(place),
+    let first = entries.first()?;
+    let position = number.checked_sub(first.number)? as usize;
+    match entries.get(position) {
+        Some(found) if found.number == number => Some(position),
         _ => None,
     }
 }
 
 /// Whether a number is above the numbers of all entries, which are sorted; true if there are none.
-fn is_above(places: &[IndexEntry], number: u32) -> bool
-    requires { IsStrictlySortedBy nat_cmp (index_numbers places.now) }
-    ensures { result ≡ true → BelongsAt (index_numbers places.now) number (length places.now) }
+fn is_above(entries: &[IndexEntry], number: u32) -> bool
+    requires { IsStrictlySortedBy nat_cmp (index_numbers entries.now) }
+    ensures { result ≡ true → BelongsAt (index_numbers entries.now) number (length entries.now) }
 {
-    match places.last() {
+    match entries.last() {
         Some(last) => last.number < number,
         None => true,
     }
@@ -147,16 +147,17 @@ fn is_above(places: &[IndexEntry], number: u32) -> bool
 
 /// The index of a number's entry in sorted entries, or as Err the index where it belongs. A binary
 /// search is made only where the number is not above all, and the guess of its index failed.
-fn position_of(places: &[IndexEntry], number: u32) -> Result<usize, usize>
-    requires { IsStrictlySortedBy nat_cmp (index_numbers places.now) }
-    ensures found { IfOk result (λ place. IsAt (index_numbers places.now) number place) }
-    ensures missing { IfErr result (λ place. BelongsAt (index_numbers places.now) number place) }
+fn position_of(entries: &[IndexEntry], number: u32) -> Result<usize, usize>
+    requires { IsStrictlySortedBy nat_cmp (index_numbers entries.now) }
+    ensures found { IfOk result (λ position. IsAt (index_numbers entries.now) number position) }
+    ensures missing { IfErr result (λ position. BelongsAt (index_numbers entries.now) number
+        position) }
 {
-    if let Some(place) = guess_position(places, number) {
-        return Ok(place);
+    if let Some(position) = guess_position(entries, number) {
+        return Ok(position);
     }
-    if is_above(places, number) {
-        return Err(places.len());
+    if is_above(entries, number) {
+        return Err(entries.len());
     }
-    places.binary_search_by_key(&number, |place| place.number)
+    entries.binary_search_by_key(&number, |entry| entry.number)
 }

@@ -1,7 +1,7 @@
 //! Sorted lists of units, one for each region, faction and structure.
 ghost use Rattle.std.specs.Prelude.{◌≡◌, OnOk, OnErr};
 ghost use Rattle.std.specs.FinMap as map;
-ghost use Rattle.atl_campaign.specs.KeptLists.{list_of, list_keys_of, listed_apart, unlisted_apart, relisted_inside, AreUnitLists, SameLists, ListsUnit, KeepsLists, KeepsAll, UnlistsUnit, RelistsUnit};
+ghost use Rattle.atl_campaign.specs.KeptLists.{list_of, list_keys_of, listed_unless, unlisted_unless, relisted_inside, AreUnitLists, SameLists, ListsUnit, KeepsLists, KeepsAll, UnlistsUnit, RelistsUnit};
 ghost use Rattle.atl_campaign.specs.Ordered.{put_number, take_number};
 
 use crate::numbers::Numbers;
@@ -76,7 +76,7 @@ impl UnitLists {
                 return Err(e);
             }
         }
-        match list_apart(alloc, &mut self.by_structure, number, listing.structure, 0) {
+        match list_unless(alloc, &mut self.by_structure, number, listing.structure, 0) {
             Ok(()) => Ok(()),
             Err(e) => {
                 unlist_number(&mut self.by_region, listing.region, number);
@@ -92,7 +92,7 @@ impl UnitLists {
     {
         unlist_number(&mut self.by_region, listing.region, number);
         unlist_number(&mut self.by_faction, listing.faction, number);
-        unlist_apart(&mut self.by_structure, number, listing.structure, 0);
+        unlist_unless(&mut self.by_structure, number, listing.structure, 0);
     }
 
     /// Moves a unit into the lists of another region and structure; the faction has to stay the
@@ -108,7 +108,7 @@ impl UnitLists {
         ensures ok { OnOk result (RelistsUnit number from to self.old self.new) }
         ensures err { OnErr result (KeepsAll self.old self.new) }
     {
-        list_apart(alloc, &mut self.by_region, number, to.region, from.region)?;
+        list_unless(alloc, &mut self.by_region, number, to.region, from.region)?;
         match relist_inside(
             alloc,
             &mut self.by_structure,
@@ -118,11 +118,11 @@ impl UnitLists {
         ) {
             Ok(()) => {}
             Err(e) => {
-                unlist_apart(&mut self.by_region, number, to.region, from.region);
+                unlist_unless(&mut self.by_region, number, to.region, from.region);
                 return Err(e);
             }
         }
-        unlist_apart(&mut self.by_region, number, from.region, to.region);
+        unlist_unless(&mut self.by_region, number, from.region, to.region);
         Ok(())
     }
 }
@@ -142,21 +142,21 @@ fn relist_inside(
     if from == to {
         return Ok(());
     }
-    list_apart(alloc, lists, number, to, 0)?;
-    unlist_apart(lists, number, from, 0);
+    list_unless(alloc, lists, number, to, 0)?;
+    unlist_unless(lists, number, from, 0);
     Ok(())
 }
 
 /// Puts a number into the list under `key`, unless `key` is `other`: the key whose list it is in
 /// already, or 0, which has no list. Without memory for it nothing changes.
-fn list_apart(
+fn list_unless(
     alloc: Global,
     lists: &mut Numbered<Numbers>,
     number: u32,
     key: u32,
     other: u32,
 ) -> Result<(), AllocError>
-    ensures ok { OnOk result (lists.new ≡ listed_apart lists.old number key other) }
+    ensures ok { OnOk result (lists.new ≡ listed_unless lists.old number key other) }
     ensures err { OnErr result (lists.new ≡ lists.old) }
 {
     if key == other {
@@ -167,8 +167,8 @@ fn list_apart(
 
 /// Takes a number out of the list under `key`, unless `key` is `other`: the key in whose list it is
 /// to stay, or 0, which has no list. It takes no memory.
-fn unlist_apart(lists: &mut Numbered<Numbers>, number: u32, key: u32, other: u32)
-    ensures { SameLists lists.new (unlisted_apart lists.old number key other) }
+fn unlist_unless(lists: &mut Numbered<Numbers>, number: u32, key: u32, other: u32)
+    ensures { SameLists lists.new (unlisted_unless lists.old number key other) }
 {
     if key != other {
         unlist_number(lists, key, number);

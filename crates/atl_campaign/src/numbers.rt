@@ -27,7 +27,7 @@ impl Model for Numbers {
 /// The index of the first number of a sorted list that is not below `number`; the length if none.
 fn first_not_below(items: &[u32], number: u32) -> usize
     requires { IsSorted items.now }
-    ensures place { result ≡ first_not_below number items.now }
+    ensures position { result ≡ first_not_below number items.now }
     ensures small { result ≤ length items.now }
 {
     items.partition_point(|item| *item < number)
@@ -50,8 +50,8 @@ impl Numbers {
         ensures ok { OnOk result (self.new ≡ put_number number self.old) }
         ensures err { OnErr result (self.new ≡ self.old) }
     {
-        let place = first_not_below(self.as_slice(), number);
-        self.items.insert(place, number)?;
+        let position = first_not_below(self.as_slice(), number);
+        self.items.insert(position, number)?;
         Ok(())
     }
 
@@ -61,9 +61,9 @@ impl Numbers {
     pub(crate) fn take(&mut self, number: u32)
         ensures { self.new ≡ take_number number self.old }
     {
-        let place = first_not_below(self.as_slice(), number);
-        if place < self.items.len() {
-            self.items.remove(place);
+        let position = first_not_below(self.as_slice(), number);
+        if position < self.items.len() {
+            self.items.remove(position);
         }
     }
 

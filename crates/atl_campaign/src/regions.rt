@@ -4,7 +4,7 @@ ghost use Rattle.std.specs.Prelude.{◌≡◌, ◌≤◌, ◌+◌, ◌*◌, ◌�
 ghost use Rattle.std.specs.FinMap as map;
 ghost use Rattle.std.specs.FinSet as set;
 ghost use Rattle.atl_world.specs.Limits.{number_count};
-ghost use Rattle.atl_world.specs.Tracking.{Lists, marked_with};
+ghost use Rattle.atl_world.specs.Tracking.{IsAscendingListOf, marked_with};
 ghost use Rattle.atl_campaign.specs.Marks.{AreStocksWithin};
 ghost use Rattle.atl_campaign.specs.Regions.{MarksStockAt, unmarked_regions, with_item_marked, with_stocks_marked, with_region_row, with_stock_at};
 ghost use Rattle.atl_campaign.specs.Stocks.{stock_in};
@@ -44,7 +44,13 @@ impl Model for Regions {
 
     ghost coded = { regions_code };
 
-    ghost view = { λ a. record { values = a.values; rows = a.rows.numbers; markets = a.markets.numbers; stocks = a.stocks.numbers; items = a.items } };
+    ghost view = { λ a. record {
+      values = a.values;
+      rows = a.rows.numbers;
+      markets = a.markets.numbers;
+      stocks = a.stocks.numbers;
+      items = a.items;
+    } };
 
     ghost invariant = { λ a. AreRegions a.values a.rows a.markets a.stocks a.items };
 }
@@ -119,7 +125,7 @@ impl Regions {
     }
 
     /// The number of regions whose rows are marked, plus the number of regions with a marked stock.
-    pub(crate) fn marked(&self) -> usize
+    pub(crate) fn marked_count(&self) -> usize
         ensures value { result ≡ set.len self.now.rows + set.len self.now.markets }
         ensures small { result ≤ 2 * number_count }
         ensures within { AreStocksWithin self.now.markets self.now.stocks self.now.items }
@@ -129,14 +135,14 @@ impl Regions {
 
     /// The numbers of the regions whose rows are marked, in rising order.
     pub(crate) fn marked_rows(&self) -> MarkedNumbers<'_>
-        ensures { Lists self.now.rows result }
+        ensures { IsAscendingListOf self.now.rows result }
     {
         self.rows.iter()
     }
 
     /// The numbers of the regions all of whose stocks are marked, in rising order.
     pub(crate) fn marked_stocks(&self) -> MarkedNumbers<'_>
-        ensures { Lists self.now.stocks result }
+        ensures { IsAscendingListOf self.now.stocks result }
     {
         self.stocks.iter()
     }

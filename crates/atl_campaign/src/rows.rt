@@ -219,7 +219,7 @@ fn has_row(number: u32, sort: u32, thing: u32, amount: u32) -> StoredHas
 }
 
 /// Adds a row of `has` for each thing of a sort, items or skills, of which a unit has more than 0.
-fn add_sort(
+fn add_sort_rows(
     rows: &mut Sequence<StoredHas>,
     number: u32,
     sort: u32,
@@ -243,8 +243,8 @@ fn add_held(
 ) -> Result<(), AllocError>
     ensures { OnOk result (rows.new ≡ rows.old ++ held_rows number holding.now) }
 {
-    add_sort(rows, number, ITEM_SORT, holding.items())?;
-    add_sort(rows, number, SKILL_SORT, holding.days())
+    add_sort_rows(rows, number, ITEM_SORT, holding.items())?;
+    add_sort_rows(rows, number, SKILL_SORT, holding.days())
 }
 
 /// The rows of `has` for the items and days of study of all units, unit by unit.

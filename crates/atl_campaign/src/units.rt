@@ -3,10 +3,10 @@
 ghost use Rattle.std.specs.Prelude.{◌≡◌, ◌≤◌, ◌⊎◌, IfOk, OnOk, OnErr, option_copied, None};
 ghost use Rattle.std.specs.FinMap as map;
 ghost use Rattle.std.specs.FinSet as set;
-ghost use Rattle.atl_world.specs.Tracking.{Lists};
+ghost use Rattle.atl_world.specs.Tracking.{IsAscendingListOf};
 ghost use Rattle.atl_records.specs.Limits.{holding_limit, men_limit, most_map_entries};
 ghost use Rattle.atl_records.specs.Holdings.{with_amount_of};
-ghost use Rattle.atl_campaign.specs.Marks.{AreWithin};
+ghost use Rattle.atl_campaign.specs.Marks.{AreUnitPartsWithin};
 ghost use Rattle.atl_campaign.specs.Roster.{no_units, unmarked_units, with_unit_at, with_unit_row, with_item_at, with_skill_at, without_unit_at, item_marked_at, skill_marked_at};
 
 use crate::arena::{Arena, SlotEntries};
@@ -48,7 +48,14 @@ impl Model for Units {
 
     ghost coded = { roster_code };
 
-    ghost view = { λ a. record { values = a.units; marks = a.marks.numbers; rows = a.rows.numbers; goods = a.goods.numbers; items = a.items; skills = a.skills } };
+    ghost view = { λ a. record {
+      values = a.units;
+      marks = a.marks.numbers;
+      rows = a.rows.numbers;
+      goods = a.goods.numbers;
+      items = a.items;
+      skills = a.skills;
+    } };
 
     ghost invariant = { λ a. AreUnits a.units a.marks a.rows a.goods a.items a.skills };
 }
@@ -111,11 +118,12 @@ impl Units {
         self.units.len()
     }
 
-    /// How many units have a mark, on whatever of them. Units that are gone count too.
-    pub(crate) fn marked(&self) -> usize
+    /// The number of units of which something is marked. Units that are gone count too.
+    pub(crate) fn marked_count(&self) -> usize
         ensures value { result ≡ set.len self.now.marks }
         ensures small { result ≤ most_map_entries }
-        ensures within { AreWithin self.now.marks self.now.rows self.now.goods self.now.items
+        ensures within { AreUnitPartsWithin self.now.marks self.now.rows self.now.goods
+            self.now.items
             self.now.skills }
     {
         self.marks.len()
@@ -123,21 +131,21 @@ impl Units {
 
     /// The numbers of the units of which something is marked, in rising order.
     pub(crate) fn marked_numbers(&self) -> MarkedNumbers<'_>
-        ensures { Lists self.now.marks result }
+        ensures { IsAscendingListOf self.now.marks result }
     {
         self.marks.iter()
     }
 
     /// The numbers of the units whose rows are marked, in rising order.
     pub(crate) fn marked_rows(&self) -> MarkedNumbers<'_>
-        ensures { Lists self.now.rows result }
+        ensures { IsAscendingListOf self.now.rows result }
     {
         self.rows.iter()
     }
 
     /// The numbers of the units all of whose goods are marked, in rising order.
     pub(crate) fn marked_goods(&self) -> MarkedNumbers<'_>
-        ensures { Lists self.now.goods result }
+        ensures { IsAscendingListOf self.now.goods result }
     {
         self.goods.iter()
     }

@@ -2,7 +2,7 @@
 use crate::database::{Opening, Work, work_on};
 use crate::failure::Failure;
 use crate::options;
-use crate::printing::print_result;
+use crate::printing::check_printed;
 use crate::subcommand::Subcommand;
 use atl_service::Service;
 use clap::{Arg, ArgMatches};
@@ -31,6 +31,7 @@ pub struct ShowBooks;
 
 /// Prints the books of the campaign in the file `--db`.
 impl Subcommand for ShowBooks {
+    // The word on the command line that names the subcommand.
     const NAME: &'static str = "books";
 
     // What the help says of `books`.
@@ -46,6 +47,6 @@ impl Subcommand for ShowBooks {
     fn run(rt: &HostRuntime, options: &ArgMatches<'_>) -> Result<(), Failure> {
         let path = options::text_of(options, options::DB)?;
         let text = work_on(rt, path, Opening::Kept, &MakeBooksText)?;
-        print_result(rt.print(text.as_str()))
+        check_printed(rt.print(text.as_str()))
     }
 }

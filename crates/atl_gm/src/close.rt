@@ -40,6 +40,7 @@ pub struct Close;
 
 /// Closes the month `--month` of the file `--db`, by `--pass` and `--seed`, and prints its number.
 impl Subcommand for Close {
+    // The word on the command line that names the subcommand.
     const NAME: &'static str = "close";
 
     // What the help says of `close`.

@@ -30,11 +30,12 @@ impl Work for Command {
 /// How the program gets the campaign of a file: it founds, opens or upgrades it.
 #[derive(Clone, Copy)]
 pub enum Opening<'a> {
-    /// It is founded by a world text, with the moderator's pass text. The file may be made for it.
+    /// The campaign is founded by a world text, with the moderator's pass text. The file may be
+    /// made for it.
     Founded { world: &'a str, pass: &'a str },
-    /// It is opened from the file.
+    /// The campaign is opened from the file.
     Kept,
-    /// It is in the file in the first format, and is upgraded by a new world text.
+    /// The campaign is in the file in the first format, and is upgraded by a new world text.
     Upgraded { world: &'a str },
 }
 
@@ -60,7 +61,7 @@ fn has_folder(rt: &HostRuntime, path: &str) -> Result<bool, Failure> {
 
 /// Why a path without a file is refused: NotACampaign, or Store where the folder isn't there
 /// either.
-fn without_file(rt: &HostRuntime, path: &str) -> Failure {
+fn missing_file_failure(rt: &HostRuntime, path: &str) -> Failure {
     match has_folder(rt, path) {
         Ok(true) => Failure::NotACampaign,
         Ok(false) => Failure::Store,
@@ -73,7 +74,9 @@ fn without_file(rt: &HostRuntime, path: &str) -> Failure {
 fn confirm_file(rt: &HostRuntime, path: &str) -> Result<(), Failure> {
     let metadata = match fs::metadata(rt, path) {
         Ok(metadata) => metadata,
-        Err(error) if error.kind() == ErrorKind::NotFound => return Err(without_file(rt, path)),
+        Err(error) if error.kind() == ErrorKind::NotFound => return Err(missing_file_failure(
+            rt, path,
+        )),
         Err(error) => return Err(Failure::of_system(error, Failure::Store)),
     };
     if !metadata.is_file() || HEADER_BYTES <= metadata.len() {

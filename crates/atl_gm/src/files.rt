@@ -5,27 +5,27 @@ use std::io::Read;
 use std::{fs, io};
 
 /// The failure for an error of reading: File, or Memory.
-fn unread(error: io::Error) -> Failure {
+fn read_failure(error: io::Error) -> Failure {
     Failure::of_system(error, Failure::File)
 }
 
 /// Reads the text of the file at the path.
 pub fn text_at(rt: &HostRuntime, path: &str) -> Result<String, Failure> {
-    fs::read_to_string(rt, path).map_err(unread)
+    fs::read_to_string(rt, path).map_err(read_failure)
 }
 
 /// The first `most` bytes of the file at the path, or all bytes of a shorter file. Nothing after
 /// them is read.
 pub fn first_bytes_at(rt: &HostRuntime, path: &str, most: u64) -> Result<Vec<u8>, Failure> {
-    let file = fs::open(rt, path).map_err(unread)?;
+    let file = fs::open(rt, path).map_err(read_failure)?;
     let mut bytes = Vec::new(rt.alloc());
     match file.take(most).read_to_end(&mut bytes) {
         Ok(_) => Ok(bytes),
-        Err(error) => Err(unread(error)),
+        Err(error) => Err(read_failure(error)),
     }
 }
 
 /// Reads the text on standard input.
 pub fn text_on_input<R: Input>(rt: &R, alloc: Global) -> Result<String, Failure> {
-    io::read_to_string(alloc, rt.reader()).map_err(unread)
+    io::read_to_string(alloc, rt.reader()).map_err(read_failure)
 }

@@ -3,7 +3,7 @@ use crate::database::{Opening, Work, work_on};
 use crate::failure::Failure;
 use crate::files::text_at;
 use crate::options;
-use crate::printing::print_result;
+use crate::printing::check_printed;
 use crate::subcommand::Subcommand;
 use atl_service::Service;
 use clap::{Arg, ArgMatches};
@@ -31,6 +31,7 @@ pub struct Found;
 /// Founds a campaign in the file `--db`, by the file `--world` and the moderator's `--pass`, and
 /// prints its number of regions.
 impl Subcommand for Found {
+    // The word on the command line that names the subcommand.
     const NAME: &'static str = "found";
 
     // What the help says of `found`.
@@ -66,6 +67,6 @@ impl Subcommand for Found {
             opening,
             &CountRegions,
         )?;
-        print_result(println!(rt; "founded, {regions} regions"))
+        check_printed(println!(rt; "founded, {regions} regions"))
     }
 }

@@ -41,6 +41,7 @@ pub struct Join;
 /// Has the faction `--name` join the campaign in `--db`, by `--pass` and `--seed`, and prints its
 /// number and that of its unit.
 impl Subcommand for Join {
+    // The word on the command line that names the subcommand.
     const NAME: &'static str = "join";
 
     // What the help says of `join`.

@@ -14,7 +14,10 @@ use std::alloc::{AllocError, Global};
 const READ_BYTES: u64 = MOST_BYTES as u64 + 1;
 
 /// The command Mail by the options: the faction, its pass text, and the bytes of the file `--file`.
-fn mailing(rt: &HostRuntime, options: &ArgMatches<'_>) -> Result<atl_service::Command, Failure> {
+fn mail_command(
+    rt: &HostRuntime,
+    options: &ArgMatches<'_>,
+) -> Result<atl_service::Command, Failure> {
     let faction = options::number_of(options, options::FACTION)?;
     let pass = options::text_of(options, options::PASS)?;
     let path = options::text_of(options, options::FILE)?;
@@ -33,6 +36,7 @@ pub struct Mail;
 /// Stores the mailing in `--file` for `--faction`, by its `--pass`, in the campaign in `--db`, and
 /// prints how many orders it has, and its faulty lines.
 impl Subcommand for Mail {
+    // The word on the command line that names the subcommand.
     const NAME: &'static str = "mail";
 
     // What the help says of `mail`.
@@ -50,7 +54,7 @@ impl Subcommand for Mail {
 
     /// Stores the mailing, and prints how many orders it has, and its faulty lines.
     fn run(rt: &HostRuntime, options: &ArgMatches<'_>) -> Result<(), Failure> {
-        let mail = mailing(rt, options)?;
+        let mail = mail_command(rt, options)?;
         print_answer_of(rt, options, &mail)
     }
 }

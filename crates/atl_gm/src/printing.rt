@@ -8,7 +8,7 @@ use clap::ArgMatches;
 use std::io;
 
 /// Turns an error of printing into the failure Output.
-pub fn print_result(written: io::Result<()>) -> Result<(), Failure> {
+pub fn check_printed(written: io::Result<()>) -> Result<(), Failure> {
     match written {
         Ok(()) => Ok(()),
         Err(_) => Err(Failure::Output),
@@ -48,16 +48,16 @@ pub fn print_answer_of<W: Work<Done = Answer>>(
 /// and prints nothing of it.
 pub fn print_answer<R: Print>(rt: &R, answer: &Answer) -> Result<(), Failure> {
     match answer {
-        Answer::Joined { faction, unit } => print_result(println!(rt;
+        Answer::Joined { faction, unit } => check_printed(println!(rt;
             "faction {faction}, unit {unit}"
         )),
-        Answer::Mailed { orders, faults } => print_result(print_mailing(
+        Answer::Mailed { orders, faults } => check_printed(print_mailing(
             rt,
             *orders,
             faults.as_slice(),
         )),
-        Answer::MonthDone { month } => print_result(println!(rt; "month {month} closed")),
-        Answer::Text(text) => print_result(rt.print(text.as_str())),
+        Answer::MonthDone { month } => check_printed(println!(rt; "month {month} closed")),
+        Answer::Text(text) => check_printed(rt.print(text.as_str())),
         Answer::Refused(refusal) => Err(Failure::Refused(*refusal)),
         Answer::Fault(Fault::Store) => Err(Failure::Store),
         Answer::Fault(_) => Err(Failure::Memory),

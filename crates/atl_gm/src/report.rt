@@ -8,7 +8,10 @@ use clap::{Arg, ArgMatches};
 use std::alloc::{AllocError, Global};
 
 /// The command Report, with the faction's number and pass text from the options.
-fn request(rt: &HostRuntime, options: &ArgMatches<'_>) -> Result<atl_service::Command, Failure> {
+fn report_command(
+    rt: &HostRuntime,
+    options: &ArgMatches<'_>,
+) -> Result<atl_service::Command, Failure> {
     let faction = options::number_of(options, options::FACTION)?;
     let pass = options::text_of(options, options::PASS)?;
     Ok(atl_service::Command::Report {
@@ -22,6 +25,7 @@ pub struct Report;
 
 /// Prints the stored report of `--faction`, by its `--pass`, from the campaign in `--db`.
 impl Subcommand for Report {
+    // The word on the command line that names the subcommand.
     const NAME: &'static str = "report";
 
     // What the help says of `report`.
@@ -38,7 +42,7 @@ impl Subcommand for Report {
 
     /// Prints the stored report of the faction.
     fn run(rt: &HostRuntime, options: &ArgMatches<'_>) -> Result<(), Failure> {
-        let request = request(rt, options)?;
+        let request = report_command(rt, options)?;
         print_answer_of(rt, options, &request)
     }
 }

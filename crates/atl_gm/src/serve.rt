@@ -23,7 +23,7 @@ struct Serving<'a> {
 }
 
 /// The failure for a port that can't be bound: Net, or Memory.
-fn unbound(error: io::Error) -> Failure {
+fn bind_failure(error: io::Error) -> Failure {
     Failure::of_system(error, Failure::Net)
 }
 
@@ -36,7 +36,7 @@ impl<'a> Work for Serving<'a> {
     /// Listens on the port, and serves the connections one after the other.
     fn run<S: Alter>(&self, service: &mut Service<S>) -> Result<(), Failure> {
         let address = (Ipv4Addr::LOCALHOST, self.port);
-        let listener = TcpListener::bind(self.rt, address).map_err(unbound)?;
+        let listener = TcpListener::bind(self.rt, address).map_err(bind_failure)?;
         match serve_each(
             self.rt.alloc(),
             self.rt,
@@ -58,6 +58,7 @@ pub struct Serve;
 /// Serves the campaign in `--db` at the port `--port` for `--count` connections, with the dice of
 /// `--seed`.
 impl Subcommand for Serve {
+    // The word on the command line that names the subcommand.
     const NAME: &'static str = "serve";
 
     // What the help says of `serve`.

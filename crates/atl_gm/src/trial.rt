@@ -56,7 +56,7 @@ fn first_report(
 
 /// Founds a campaign in memory by the world text, has a faction join, and returns the answer to the
 /// command for its report, or to a join that failed.
-fn answer(alloc: Global, world_text: &str) -> Result<Answer, Failure> {
+fn report_answer(alloc: Global, world_text: &str) -> Result<Answer, Failure> {
     let join = join(alloc)?;
     let report = report(alloc)?;
     let conn = Connection::open_in_memory(alloc)?;
@@ -70,6 +70,7 @@ pub struct Trial;
 
 /// Reads the world text on standard input, and prints the first report of the faction Avalon.
 impl Subcommand for Trial {
+    // The word on the command line that names the subcommand.
     const NAME: &'static str = "trial";
 
     // What the help says of `trial`.
@@ -80,7 +81,7 @@ impl Subcommand for Trial {
     fn run(rt: &HostRuntime, _options: &ArgMatches<'_>) -> Result<(), Failure> {
         let alloc = rt.alloc();
         let text = text_on_input(rt, alloc)?;
-        let answer = answer(alloc, text.as_str())?;
+        let answer = report_answer(alloc, text.as_str())?;
         print_answer(rt, &answer)
     }
 }

@@ -4,7 +4,7 @@ use crate::database::{Opening, Work, work_on};
 use crate::failure::Failure;
 use crate::files::text_at;
 use crate::options;
-use crate::printing::print_result;
+use crate::printing::check_printed;
 use crate::subcommand::Subcommand;
 use atl_service::Service;
 use clap::{Arg, ArgMatches};
@@ -35,6 +35,7 @@ pub struct Upgrade;
 
 /// Upgrades the campaign in `--db` by the world file `--world`, and prints the number of markets.
 impl Subcommand for Upgrade {
+    // The word on the command line that names the subcommand.
     const NAME: &'static str = "upgrade";
 
     // What the help says of `upgrade`.
@@ -61,6 +62,6 @@ impl Subcommand for Upgrade {
             world: world.as_str(),
         };
         let markets = work_on(rt, path, opening, &CountMarkets)?;
-        print_result(println!(rt; "upgraded, {markets} markets"))
+        check_printed(println!(rt; "upgraded, {markets} markets"))
     }
 }

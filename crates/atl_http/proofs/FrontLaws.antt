@@ -31,8 +31,8 @@ after_prefix_step x y w p =
       | false ↦ refl
     ]
 
--- If the first bytes are equal, and the rest of a path begins with the rest of a prefix, the path is the prefix
--- followed by `rest`.
+-- For `after_prefix_is`: a path is the prefix followed by `rest`, if comparing their first bytes, and then what follows
+-- in both, gives `rest`. The result of comparing the first bytes is `t`.
 after_prefix_by : (x y : ℕ) (w p rest : List ℕ) (t : Bool) → (y == x) ≡ t → (after_prefix w p ≡ Some rest → p ≡ w ++ rest) → cond t (after_prefix w p) None ≡ Some rest → y ∷ p ≡ x ∷ (w ++ rest)
 after_prefix_by x y w p rest true e ih k =
     let same : y ≡ x = grind (arith, nat_tests) in
@@ -89,8 +89,8 @@ first_digit : (b : ℕ) (p : List ℕ) (t : Bool) → is_ascii_digit b ≡ t →
 first_digit b p true e h = grind (arith, nat_tests)
 first_digit b p false e h = cc
 
--- looking up a text that isn't empty in the row of a parameter finds the row's key, if the text has no slash and
--- doesn't begin with `param_token`, the sign for a parameter in the router's rows
+-- Looking up a text that isn't empty in the row of a parameter finds the row's key, if the text has no slash. Its first
+-- byte must not be `param_token`, the sign for a parameter in the router's rows.
 key_found : (key b : ℕ) (p : List ℕ) → (param_token == b) ≡ false → has_slash (b ∷ p) ≡ false → first (number_row key) (b ∷ p) ≡ Some key
 unfolding seek
 key_found key b p e h =
@@ -101,7 +101,8 @@ key_found key b p e h =
 abbrev IsKeyOrNone : ℕ → Option ℕ → Type 0
 IsKeyOrNone key found = (found ≡ Some key) ⊎ (found ≡ None)
 
--- if two lookups, a and b, find the key or nothing, so does a with b as its fallback (`or_else`)
+-- two lookups of which the second is the fallback of the first (`or_else`) find the key or nothing, if each of them
+-- does
 or_either : (key : ℕ) (a b : Option ℕ) → IsKeyOrNone key a → IsKeyOrNone key b → IsKeyOrNone key (or_else a b)
 or_either key a b (inl e) h = inl (ap (λ x. or_else x b) e)
 or_either key a b (inr e) h = subst (λ x. IsKeyOrNone key (or_else x b)) (sym e) h
@@ -117,40 +118,41 @@ unfolding seek
 end_alone key [] = inl refl
 end_alone key (b ∷ p) = inr (end_none key b p)
 
--- a row whose text is matched to its end, if a test t keeps it, or else no row, finds its key or nothing: for
--- `one_or_none`
-row_kept_or_not : (key b : ℕ) (p : List ℕ) (t : Bool) → IsKeyOrNone key (seek 0 (cond t (([], key) ∷ []) []) p)
-row_kept_or_not key b p true = end_alone key p
-row_kept_or_not key b p false = inr (seek-empty 0 p)
+-- For `one_or_none`: a path is looked up in a table that has the route's row if the test `t` is true, and else no row.
+-- Either way the lookup gives the route's key, or nothing.
+one_row_or_none_finds_key_or_none : (key b : ℕ) (p : List ℕ) (t : Bool) → IsKeyOrNone key (seek 0 (cond t (([], key) ∷ []) []) p)
+one_row_or_none_finds_key_or_none key b p true = end_alone key p
+one_row_or_none_finds_key_or_none key b p false = inr (seek-empty 0 p)
 
 -- after a parameter at the end of its row, the lookup finds the key or nothing, whether the rest has a slash or not
-after_by : (key b : ℕ) (p : List ℕ) (t : Bool) → has_slash (b ∷ p) ≡ t → IsKeyOrNone key (after_param (([], key) ∷ []) (b ∷ p))
-after_by key b p true h = inr (after_param-stop [] (Some key) b p refl h)
-after_by key b p false h = inl (after_param-end [] (Some key) b p tt refl h)
+parameter_key_or_none : (key b : ℕ) (p : List ℕ) (t : Bool) → has_slash (b ∷ p) ≡ t → IsKeyOrNone key (after_param (([], key) ∷ []) (b ∷ p))
+parameter_key_or_none key b p true h = inr (after_param-stop [] (Some key) b p refl h)
+parameter_key_or_none key b p false h = inl (after_param-end [] (Some key) b p tt refl h)
 
 -- looking up a text that isn't empty in the row of a parameter finds its key or nothing
 one_or_none : (key b : ℕ) (p : List ℕ) → IsKeyOrNone key (first (number_row key) (b ∷ p))
 unfolding seek
 one_or_none key b p =
-    or_either key (seek 0 (cond (param_token == b) (([], key) ∷ []) []) p) (or_else (after_param (([], key) ∷ []) (b ∷ p)) None) (row_kept_or_not key b p (param_token == b))
-    (or_either key (after_param (([], key) ∷ []) (b ∷ p)) None (after_by key b p (has_slash (b ∷ p)) refl) (inr refl))
+    or_either key (seek 0 (cond (param_token == b) (([], key) ∷ []) []) p) (or_else (after_param (([], key) ∷ []) (b ∷ p)) None) (one_row_or_none_finds_key_or_none key b p (param_token == b))
+    (or_either key (after_param (([], key) ∷ []) (b ∷ p)) None (parameter_key_or_none key b p (has_slash (b ∷ p)) refl) (inr refl))
 
--- a choice between a number and None, by three tests of which the last is false, is None: for `number_by`, of a text
--- that isn't all digits
+-- For `number_by`: a choice between a number and None is None, if the last of its three tests is false. That test is
+-- whether all bytes are digits.
 none_if_not_digits : (x y : Bool) (n : Option ℕ) → cond (x && (y && false)) n None ≡ None
 none_if_not_digits true true n = refl
 none_if_not_digits true false n = refl
 none_if_not_digits false y n = refl
 
--- a byte is below 128 if it passes a test that only such bytes pass (t is the result): for `all_utf8`
-small_by : (test : ℕ → Bool) (b : ℕ) (t : Bool) → test b ≡ t → (test b ≡ true → b < 128) → (t ≡ false → ⊥) → b < 128
-small_by test b true e small h = small e
-small_by test b false e small h = absurd (h refl)
+-- For `all_utf8`: a byte that doesn't fail a test is below 128, if only bytes below 128 pass the test. The result of
+-- the test is `t`.
+ascii_if_test_passes : (test : ℕ → Bool) (b : ℕ) (t : Bool) → test b ≡ t → (test b ≡ true → b < 128) → (t ≡ false → ⊥) → b < 128
+ascii_if_test_passes test b true e small h = small e
+ascii_if_test_passes test b false e small h = absurd (h refl)
 
 -- a text whose bytes pass a test for ASCII is UTF-8
 all_utf8 : (test : ℕ → Bool) → ((b : ℕ) → test b ≡ true → b < 128) → (p : List ℕ) → list_all test p ≡ true → IsUtf8 p
 all_utf8 test small p h =
-    IsUtf8-from_ascii p (IsAscii-from_all p (λ k d l. small_by test (get_or p k d) (test (get_or p k d)) refl (small (get_or p k d)) (λ e.
+    IsUtf8-from_ascii p (IsAscii-from_all p (λ k d l. ascii_if_test_passes test (get_or p k d) (test (get_or p k d)) refl (small (get_or p k d)) (λ e.
     let none = list_all_at test p k d l e in
     cc)))
 
@@ -162,28 +164,28 @@ digits_utf8 p h = all_utf8 is_ascii_digit (λ b e. grind (arith, nat_tests)) p h
 pub ascii_utf8 : (p : List ℕ) → list_all (λ b. ltb b 128) p ≡ true → IsUtf8 p
 ascii_utf8 p h = all_utf8 (λ b. ltb b 128) (λ b e. grind (arith, nat_tests)) p h
 
--- Looking up a text in the row of a parameter finds the row's key, and the text is UTF-8 or no number; or it finds
--- nothing, and the text is no number.
-abbrev pub NumberSays : ℕ → List ℕ → Type 0
-NumberSays key rest = ((first (number_row key) rest ≡ Some key) × ((number_of rest ≡ None) ⊎ IsUtf8 rest)) ⊎ ((first (number_row key) rest ≡ None) × (number_of rest ≡ None))
+-- What looking up a text in the row of a parameter finds: the row's key, and then the text is UTF-8 or no number; or
+-- nothing, and then the text is no number.
+abbrev pub IsNumberLookup : ℕ → List ℕ → Type 0
+IsNumberLookup key rest = ((first (number_row key) rest ≡ Some key) × ((number_of rest ≡ None) ⊎ IsUtf8 rest)) ⊎ ((first (number_row key) rest ≡ None) × (number_of rest ≡ None))
 
--- the lookup of a text that is no number may find the key or nothing: `NumberSays` allows either for such a text
-found_or_none : (key : ℕ) (rest : List ℕ) → number_of rest ≡ None → IsKeyOrNone key (first (number_row key) rest) → NumberSays key rest
+-- the lookup of a text that is no number may find the key or nothing: `IsNumberLookup` allows either for such a text
+found_or_none : (key : ℕ) (rest : List ℕ) → number_of rest ≡ None → IsKeyOrNone key (first (number_row key) rest) → IsNumberLookup key rest
 found_or_none key rest none (inl e) = inl (e, inl none)
 found_or_none key rest none (inr e) = inr (e, none)
 
--- looking up a text that isn't empty finds the key, and the text is UTF-8 or no number; or it finds nothing, and the
--- text is no number (`NumberSays`), whether all its bytes are digits (t) or not
-number_by : (key b : ℕ) (p : List ℕ) (t : Bool) → list_all is_ascii_digit (b ∷ p) ≡ t → NumberSays key (b ∷ p)
+-- For `number_says`: `IsNumberLookup` holds of a text that isn't empty. The test `t` says whether all its bytes are
+-- digits.
+number_by : (key b : ℕ) (p : List ℕ) (t : Bool) → list_all is_ascii_digit (b ∷ p) ≡ t → IsNumberLookup key (b ∷ p)
 unfolding number_of
 number_by key b p true e = inl (key_found key b p (first_digit b p (is_ascii_digit b) refl e) (no_slash (b ∷ p) e), inr (digits_utf8 (b ∷ p) e))
 number_by key b p false e =
     let none : number_of (b ∷ p) ≡ None = rw e (none_if_not_digits (nat_lt 0 (length (b ∷ p))) (nat_le (length (b ∷ p)) 9) (Some (digits_value 10 (b ∷ p)))) in
     found_or_none key (b ∷ p) none (one_or_none key b p)
 
--- looking up any text finds the key, and the text is UTF-8 or no number; or it finds nothing, and the text is no number
--- (`NumberSays`)
-pub number_says : (key : ℕ) (rest : List ℕ) → NumberSays key rest
+-- `IsNumberLookup` holds of each text: looking it up finds the key, and the text is UTF-8 or no number; or it finds
+-- nothing, and the text is no number
+pub number_says : (key : ℕ) (rest : List ℕ) → IsNumberLookup key rest
 unfolding seek number_of
 number_says key [] = inr (refl, refl)
 number_says key (b ∷ p) = number_by key b p (list_all is_ascii_digit (b ∷ p)) refl

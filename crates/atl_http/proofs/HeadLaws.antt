@@ -12,7 +12,7 @@ use Rattle.atl_http.specs.declared.problem.Problem.TheVariants.{BadRequest}
 use Rattle.atl_http.specs.declared.problem.Problem.{Problem}
 use Rattle.atl_http.specs.declared.route.Route.{Route}
 use Rattle.atl_http.specs.declared.request.Progress.{Progress}
-use Rattle.atl_http.specs.declared.request.Progress.TheVariants.{Lacks, Ends}
+use Rattle.atl_http.specs.declared.request.Progress.TheVariants.{Missing, Ends}
 use Rattle.atl_http.specs.declared.request.Verdict.TheVariants.{More, Refused}
 use Rattle.atl_http.specs.Checks.{head_checks, verdict_with_body, verdict_of}
 use Rattle.atl_http.specs.Finding.{field_pairs, EndsAs}
@@ -70,7 +70,7 @@ exceeds_stays : (input more : List ℕ) → RequestExceeds most_fields input →
 exceeds_stays input more (front, rest, e, head, reads, over) = (front, rest ++ more, ap (λ l. l ++ more) e ∙ append_assoc front rest more, head, reads, over)
 
 -- if each head that the input may begin with, whatever bytes follow, has more than 32 fields, the same is true of the
--- input with more bytes behind it (`RequestOverflows`)
+-- input with more bytes after it (`RequestOverflows`)
 overflows_stays : (input more : List ℕ) → RequestOverflows most_fields input → RequestOverflows most_fields (input ++ more)
 overflows_stays input more over again head rest reads = over (more ++ again) head rest (subst (λ l. ReadsRequest l head rest) (append_assoc input more again) reads)
 
@@ -96,7 +96,7 @@ short_front input h none goes_on =
 
 -- The input has a whole head with `rest` after it, and these results of checks lead to the verdict on this head.
 abbrev LeadsToVerdict : (input rest : List ℕ) → Result (Route × ℕ × List ℕ) Problem → Type 0
-LeadsToVerdict input rest checks = (head : RequestHead) × HasHead input head rest × ((behind : List ℕ) → verdict_with_body checks behind ≡ verdict_of head behind)
+LeadsToVerdict input rest checks = (head : RequestHead) × HasHead input head rest × ((after : List ℕ) → verdict_with_body checks after ≡ verdict_of head after)
 
 -- if the first 8,192 bytes were parsed as a whole head, the input has this head, and the checks of its spans lead to
 -- the verdict on the head (`LeadsToVerdict`)
@@ -109,13 +109,13 @@ finds_head input front method target rest headers fields spans e (lies, (head, a
     ∙ ap (λ t. head_checks spans.version (span_bytes front spans.method) t (field_pairs front fields)) target_is
     ∙ ap (λ fs. head_checks spans.version (span_bytes front spans.method) (span_bytes front spans.path) (field_pairs front fs)) fields_are
     ∙ ap (λ l. head_checks spans.version (span_bytes l spans.method) (span_bytes l spans.path) (field_pairs l (take spans.headers headers))) e in
-    (head, subst (λ l. HasHead input head l) (sym rest_is) (whole_head input headers spans head lies_front at_front room), λ behind. ap (λ c. verdict_with_body c behind) checked ∙ verdict_is input headers spans head behind at_front)
+    (head, subst (λ l. HasHead input head l) (sym rest_is) (whole_head input headers spans head lies_front at_front room), λ after. ap (λ c. verdict_with_body c after) checked ∙ verdict_is input headers spans head after at_front)
 
--- if an input has a whole head, a progress that is the verdict by the head's checks, or a count of missing bytes
--- (`EndsAs`), is that on the input, too (`ComesTo`)
-pub comes_whole : (input rest : List ℕ) (checks : Result (Route × ℕ × List ℕ) Problem) (told : Progress) → LeadsToVerdict input rest checks → EndsAs checks rest told → ComesTo input told
+-- a progress is right for an input with a whole head (`ComesTo`), if it is right by the checks of the head and the
+-- bytes after it (`EndsAs`)
+pub comes_whole : (input rest : List ℕ) (checks : Result (Route × ℕ × List ℕ) Problem) (progress : Progress) → LeadsToVerdict input rest checks → EndsAs checks rest progress → ComesTo input progress
 comes_whole input rest checks (Ends outcome) (head, has, same) e = whole head rest has (e ∙ same rest)
-comes_whole input rest checks (Lacks count) (head, has, same) (some, short) = (some, λ more few. whole head (rest ++ more) (head_stays input more head rest has) (sym (short more few) ∙ same (rest ++ more)))
+comes_whole input rest checks (Missing count) (head, has, same) (some, short) = (some, λ more few. whole head (rest ++ more) (head_stays input more head rest has) (sym (short more few) ∙ same (rest ++ more)))
 
 -- if the first 8,192 bytes are refused, the verdict on the input is BadRequest
 pub judges_refused : (input front : List ℕ) → front ≡ take most_head input → IsRefused front → Judges input (Refused BadRequest)
@@ -125,14 +125,14 @@ judges_refused input front e h = refused (front_refused input (subst IsRefused e
 judges_more : (input front : List ℕ) → front ≡ take most_head input → length input < most_head → HasNoRequest front × MayBecomeRequest front → Judges input More
 judges_more input front e h (none, goes_on) = unfinished (short_front input h (subst HasNoRequest e none) (subst MayBecomeRequest e goes_on)) refl
 
--- if an input has the verdict More, it still has it with fewer than one byte more, which is none: so it lacks one byte
+-- an input with the verdict More lacks at least one byte: with fewer than one byte more it is the same input
 short_by_one : (input : List ℕ) → Judges input More → (more : List ℕ) → length more < 1 → Judges (input ++ more) More
 short_by_one input h [] few = subst (λ l. Judges l More) (sym (append-nil input)) h
 short_by_one input h (x ∷ more) few = absurd (omega (arith, few))
 
 -- an unfinished input of fewer than 8,192 bytes lacks at least one byte
-pub lacks_one : (input front : List ℕ) → front ≡ take most_head input → length input < most_head → HasNoRequest front × MayBecomeRequest front → ComesTo input (Lacks 1)
-lacks_one input front e h unfinished_front = (omega arith, short_by_one input (judges_more input front e h unfinished_front))
+pub missing_one : (input front : List ℕ) → front ≡ take most_head input → length input < most_head → HasNoRequest front × MayBecomeRequest front → ComesTo input (Missing 1)
+missing_one input front e h unfinished_front = (omega arith, short_by_one input (judges_more input front e h unfinished_front))
 
 -- if P holds of a result's value, and P implies Q, then Q holds of it
 pub if_ok : {T E : Type 0} {P Q : T → Type 0} (r : Result T E) → ((x : T) → P x → Q x) → IfOk r P → IfOk r Q
@@ -140,6 +140,6 @@ if_ok (Ok x) f h = f x h
 if_ok (Err e) f h = tt
 
 -- if a progress is that on an input (`ComesTo`), the verdict of the progress is the verdict on the input (`Judges`)
-pub judges_by : (input : List ℕ) (told : Progress) → ComesTo input told → Judges input (verdict_by told)
+pub judges_by : (input : List ℕ) (progress : Progress) → ComesTo input progress → Judges input (verdict_by progress)
 judges_by input (Ends outcome) h = h
-judges_by input (Lacks count) (some, short) = subst (λ l. Judges l More) (append-nil input) (short [] some)
+judges_by input (Missing count) (some, short) = subst (λ l. Judges l More) (append-nil input) (short [] some)

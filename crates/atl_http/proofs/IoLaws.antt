@@ -7,9 +7,9 @@ use Rattle.std.specs.Prelude.{Ok, Err}
 use Rattle.atl_http.specs.declared.io.HttpFault.{HttpFault}
 use Rattle.atl_http.specs.declared.io.HttpFault.TheVariants.{Cut, ReadFault, WriteFault, Memory}
 use Rattle.atl_http.specs.declared.request.Verdict.TheVariants.{More}
-use Rattle.atl_http.specs.Heads.{Judges, IsReadSoFar, IsShortBy, ComesTo}
+use Rattle.atl_http.specs.Heads.{Judges, ReadsNoFurther, IsShortBy, ComesTo}
 use Rattle.atl_http.specs.declared.request.Progress.{Progress}
-use Rattle.atl_http.specs.declared.request.Progress.TheVariants.{Lacks}
+use Rattle.atl_http.specs.declared.request.Progress.TheVariants.{Missing}
 use Rattle.atl_http.specs.Io.{ReadsMore, Receives}
 use Rattle.std.proofs.Math.Seq.{take-add}
 
@@ -48,38 +48,38 @@ appends_next before between after bytes sent count h k =
 
 -- If a read of a request that isn't whole ends in a fault, so does reading the request, with the bytes read so far
 -- (`Receives`).
-pub stopped : (before between after : Option (List ℕ)) (seen new : List ℕ) (fault : HttpFault) → Consumes before between seen → Judges seen More → ReadsMore between after seen new (Err fault) → Receives before after new (Err fault)
-stopped before between after seen new Cut h judged (kept, at_end, same) =
+pub fault_ends_reading : (before between after : Option (List ℕ)) (seen new : List ℕ) (fault : HttpFault) → Consumes before between seen → Judges seen More → ReadsMore between after seen new (Err fault) → Receives before after new (Err fault)
+fault_ends_reading before between after seen new Cut h judged (kept, at_end, same) =
     (subst (λ l. Consumes before after l) (sym same) (consumes_kept before between after seen h kept), subst (λ l. Judges l More) (sym same) judged, at_end)
-stopped before between after seen new ReadFault h judged (kept, same) =
+fault_ends_reading before between after seen new ReadFault h judged (kept, same) =
     (subst (λ l. Consumes before after l) (sym same) (consumes_kept before between after seen h kept), subst (λ l. Judges l More) (sym same) judged)
-stopped before between after seen new WriteFault h judged none = absurd none
-stopped before between after seen new Memory h judged done = tt
+fault_ends_reading before between after seen new WriteFault h judged none = absurd none
+fault_ends_reading before between after seen new Memory h judged done = tt
 
 -- if the bytes collected (`seen`) were those read so far, then after one more read without a fault the bytes collected
 -- (`new`) are again those read
-pub went_on : (before between after : Option (List ℕ)) (seen new : List ℕ) (count : ℕ) → Consumes before between seen → ReadsMore between after seen new (Ok count) → Consumes before after new
-went_on before between after seen new count h (piece, is, few, more, same) = subst (λ l. Consumes before after l) (sym same) (consumes_more before between after seen piece h more)
+pub collected_bytes_are_read : (before between after : Option (List ℕ)) (seen new : List ℕ) (count : ℕ) → Consumes before between seen → ReadsMore between after seen new (Ok count) → Consumes before after new
+collected_bytes_are_read before between after seen new count h (piece, is, few, more, same) = subst (λ l. Consumes before after l) (sym same) (consumes_more before between after seen piece h more)
 
 -- If the bytes before the last read had the verdict More, no read was done after the request was whole or refused
--- (`IsReadSoFar`).
-pub read_so_far : (between after : Option (List ℕ)) (seen new : List ℕ) (count : ℕ) → Judges seen More → ReadsMore between after seen new (Ok count) → IsReadSoFar new
+-- (`ReadsNoFurther`).
+pub read_so_far : (between after : Option (List ℕ)) (seen new : List ℕ) (count : ℕ) → Judges seen More → ReadsMore between after seen new (Ok count) → ReadsNoFurther new
 read_so_far between after seen new count h (piece, is, few, more, same) = inr (seen, piece, same, omega (arith, is, few), h)
 
 -- ---- the number of missing bytes
 
--- if the progress on some bytes (`ComesTo`) is `Lacks count`, so is that on equal bytes
-pub lacks_of_equal : (seen items : List ℕ) (told : Progress) (count : ℕ) → seen ≡ items → told ≡ Lacks count → ComesTo seen told → ComesTo items (Lacks count)
-lacks_of_equal seen items told count e f h = subst (λ l. ComesTo l (Lacks count)) e (subst (ComesTo seen) f h)
+-- if the progress on some bytes (`ComesTo`) is `Missing count`, so is that on equal bytes
+pub missing_of_equal : (seen items : List ℕ) (progress : Progress) (count : ℕ) → seen ≡ items → progress ≡ Missing count → ComesTo seen progress → ComesTo items (Missing count)
+missing_of_equal seen items progress count e f h = subst (λ l. ComesTo l (Missing count)) e (subst (ComesTo seen) f h)
 
--- if received bytes lack at least `count` further ones (their progress is `Lacks`), the verdict on them is More
-pub more_while_lacking : (items : List ℕ) (count : ℕ) → ComesTo items (Lacks count) → Judges items More
-more_while_lacking items count (some, short) = subst (λ l. Judges l More) (append-nil items) (short [] some)
+-- if received bytes lack at least `count` further ones (their progress is `Missing`), the verdict on them is More
+pub more_while_missing : (items : List ℕ) (count : ℕ) → ComesTo items (Missing count) → Judges items More
+more_while_missing items count (some, short) = subst (λ l. Judges l More) (append-nil items) (short [] some)
 
--- if `lacking` bytes were missing, after a read of `count` bytes still `lacking` less `count` are missing (`IsShortBy`)
-pub short_by_less : (between after : Option (List ℕ)) (seen new : List ℕ) (lacking count : ℕ) → ComesTo seen (Lacks lacking) → ReadsMore between after seen new (Ok count) → IsShortBy new (lacking - count)
-short_by_less between after seen new lacking count (some, short) (piece, is, few, came, same) more fewer =
-    let together : length (piece ++ more) < lacking = (let k = length-append piece more in omega (arith, k, is, fewer)) in
+-- if `missing` bytes were missing, after a read of `count` bytes still `missing` less `count` are missing (`IsShortBy`)
+pub short_by_less : (between after : Option (List ℕ)) (seen new : List ℕ) (missing count : ℕ) → ComesTo seen (Missing missing) → ReadsMore between after seen new (Ok count) → IsShortBy new (missing - count)
+short_by_less between after seen new missing count (some, short) (piece, is, few, came, same) more fewer =
+    let together : length (piece ++ more) < missing = (let k = length-append piece more in omega (arith, k, is, fewer)) in
     subst (λ l. Judges l More) (sym (append_assoc seen piece more) ∙ ap (λ l. l ++ more) (sym same)) (short (piece ++ more) together)
 
 -- if the request isn't whole with fewer than `count` bytes added to some bytes (`IsShortBy`), it isn't with fewer added

@@ -9,11 +9,11 @@ use Rattle.atl_http.specs.Checks.{json_of}
 pub json_read : (body : List ℕ) → IsUtf8 body → json_of body ≡ read body
 json_read body h = ap (λ t. cond t (read body) None) (is_utf8-from_IsUtf8 body h)
 
--- what is read of a body if t says that it is UTF-8, else None, is None for a body that isn't UTF-8
-no_text : (t : Bool) (body : List ℕ) → is_utf8 body ≡ t → (IsUtf8 body → ⊥) → cond t (read body) None ≡ None
-no_text true body e h = absurd (h (IsUtf8-from_is_utf8 body e))
-no_text false body e h = refl
+-- For `json_none`: what is read of a body that isn't UTF-8 is None. The result of the test for UTF-8 is `t`.
+no_value_without_utf8 : (t : Bool) (body : List ℕ) → is_utf8 body ≡ t → (IsUtf8 body → ⊥) → cond t (read body) None ≡ None
+no_value_without_utf8 true body e h = absurd (h (IsUtf8-from_is_utf8 body e))
+no_value_without_utf8 false body e h = refl
 
 -- a body that is not UTF-8 has no JSON value
 pub json_none : (body : List ℕ) → (IsUtf8 body → ⊥) → json_of body ≡ None
-json_none body h = no_text (is_utf8 body) body refl h
+json_none body h = no_value_without_utf8 (is_utf8 body) body refl h

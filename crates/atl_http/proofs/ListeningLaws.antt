@@ -13,8 +13,8 @@ abbrev pub HasServed : {S : Type 0} → Ghosts S → Dice → (count : ℕ) → 
 HasServed g dice count old new = (served : ℕ) × (served ≤ count) × ServesInTurn g dice served old new
 
 -- if at most `count` requests were served and then one more without a fault, at most `count + 1` were served
-pub one_more : {S : Type 0} (g : Ghosts S) (dice : Dice) (count : ℕ) (old between new after : ServiceValue S) → after ≡ new → HasServed g dice count old between → ServesConnection g dice between (Ok tt) new → HasServed g dice (count + 1) old after
-one_more g dice count old between new after e (served, few, turn) h = (suc served, omega (arith, few), (between, turn, subst (λ s. ServesConnection g dice between (Ok tt) s) (sym e) h))
+pub one_more_is_served : {S : Type 0} (g : Ghosts S) (dice : Dice) (count : ℕ) (old between new after : ServiceValue S) → after ≡ new → HasServed g dice count old between → ServesConnection g dice between (Ok tt) new → HasServed g dice (count + 1) old after
+one_more_is_served g dice count old between new after e (served, few, turn) h = (suc served, omega (arith, few), (between, turn, subst (λ s. ServesConnection g dice between (Ok tt) s) (sym e) h))
 
 -- if at most `count` requests were served and then a peer aborted its connection, at most `count + 1` were served
 pub connection_aborted : {S : Type 0} (g : Ghosts S) (dice : Dice) (count : ℕ) (old between after : ServiceValue S) → after ≡ between → HasServed g dice count old between → HasServed g dice (count + 1) old after
@@ -22,6 +22,6 @@ connection_aborted g dice count old between after e (served, few, turn) = (serve
 
 -- if at most `done` requests were served, fewer than `count`, and the next one ends with a fault, `serve_each` for
 -- `count` connections may return this fault (`ServesEach`)
-pub ended : {S : Type 0} (g : Ghosts S) (dice : Dice) (done count : ℕ) (old between new : ServiceValue S) (fault : ListenFault) → done < count → HasServed g dice done old between → ServesConnection g dice between (Err fault) new → ServesEach g dice count old (Err fault) new
-ended g dice done count old between new Net more h none = absurd none
-ended g dice done count old between new Memory more (served, few, turn) h = (served, omega (arith, few, more), between, turn, h)
+pub fault_ends_serving : {S : Type 0} (g : Ghosts S) (dice : Dice) (done count : ℕ) (old between new : ServiceValue S) (fault : ListenFault) → done < count → HasServed g dice done old between → ServesConnection g dice between (Err fault) new → ServesEach g dice count old (Err fault) new
+fault_ends_serving g dice done count old between new Net more h none = absurd none
+fault_ends_serving g dice done count old between new Memory more (served, few, turn) h = (served, omega (arith, few, more), between, turn, h)

@@ -20,28 +20,28 @@ use Rattle.atl_http.proofs.HeadLaws.{head_stays, refused_stays}
 
 -- A final verdict on a head with its body stays the same when more bytes follow. A body that is short has the verdict
 -- More, which isn't final, so the body is whole.
-ended_at : (short : Bool) (route : Route) (size : ℕ) (pass rest more : List ℕ) → nat_lt (length rest) size ≡ short → IsFinal (cond short More (verdict_on_request (request_of route pass (take size rest)))) → cond (nat_lt (length (rest ++ more)) size) More (verdict_on_request (request_of route pass (take size (rest ++ more)))) ≡ cond short More (verdict_on_request (request_of route pass (take size rest)))
-ended_at true route size pass rest more e final = absurd final
-ended_at false route size pass rest more e final =
+verdict_with_body_stays : (short : Bool) (route : Route) (size : ℕ) (pass rest more : List ℕ) → nat_lt (length rest) size ≡ short → IsFinal (cond short More (verdict_on_request (request_of route pass (take size rest)))) → cond (nat_lt (length (rest ++ more)) size) More (verdict_on_request (request_of route pass (take size (rest ++ more)))) ≡ cond short More (verdict_on_request (request_of route pass (take size rest)))
+verdict_with_body_stays true route size pass rest more e final = absurd final
+verdict_with_body_stays false route size pass rest more e final =
     let long : size ≤ length rest = grind (arith, nat_tests) in
     let longer : nat_lt (length (rest ++ more)) size ≡ false = (let k = length-append rest more in grind (arith, nat_tests)) in
     ap (λ t. cond t More (verdict_on_request (request_of route pass (take size (rest ++ more))))) longer
     ∙ ap (λ body. verdict_on_request (request_of route pass body)) (take-append-le size rest more long)
 
 -- a final verdict by the checks of a head stays the same when more bytes follow
-ended_still : (wanted : Result (Route × ℕ × List ℕ) Problem) (rest more : List ℕ) → IsFinal (verdict_with_body wanted rest) → verdict_with_body wanted (rest ++ more) ≡ verdict_with_body wanted rest
-ended_still (Err problem) rest more final = refl
-ended_still (Ok (route, size, pass)) rest more final = ended_at (nat_lt (length rest) size) route size pass rest more refl final
+verdict_by_checks_stays : (wanted : Result (Route × ℕ × List ℕ) Problem) (rest more : List ℕ) → IsFinal (verdict_with_body wanted rest) → verdict_with_body wanted (rest ++ more) ≡ verdict_with_body wanted rest
+verdict_by_checks_stays (Err problem) rest more final = refl
+verdict_by_checks_stays (Ok (route, size, pass)) rest more final = verdict_with_body_stays (nat_lt (length rest) size) route size pass rest more refl final
 
--- an input whose head is too long still is one when more bytes follow
+-- an input that is too long (`IsTooLong`) stays so when more bytes follow
 long_stays : (input more : List ℕ) → IsTooLong input → IsTooLong (input ++ more)
 long_stays input more (long, none) =
     ((let k = length-append input more in omega (arith, long, k)), subst HasNoRequest (sym (take-append-le most_head input more long)) none)
 
--- a final verdict on an input is the verdict on the input with more bytes behind it, too
+-- a final verdict on an input is the verdict on the input with more bytes after it, too
 pub judged_still : (input more : List ℕ) (v : Verdict) → Judges input v → IsFinal v → Judges (input ++ more) v
 judged_still input more v (whole head rest h e) final =
-    whole head (rest ++ more) (head_stays input more head rest h) (e ∙ sym (ended_still (head_checks head.minor head.method head.target (fields_of head)) rest more (subst IsFinal e final)))
+    whole head (rest ++ more) (head_stays input more head rest h) (e ∙ sym (verdict_by_checks_stays (head_checks head.minor head.method head.target (fields_of head)) rest more (subst IsFinal e final)))
 judged_still input more v (too_long h e) final = too_long (long_stays input more h) e
 judged_still input more v (refused h e) final = refused (refused_stays input more h) e
 judged_still input more v (unfinished h e) final = absurd (subst IsFinal e final)
@@ -71,17 +71,17 @@ not_too_long input head rest h (long, none) =
 
 -- two final verdicts on one input are equal
 pub one_verdict : (input : List ℕ) (v w : Verdict) → Judges input v → Judges input w → IsFinal v → IsFinal w → v ≡ w
-one_verdict input v w (whole head rest h e) (whole other behind k f) final last =
-    let same = request_unique input head other rest behind h.reads k.reads in
+one_verdict input v w (whole head rest h e) (whole other after k f) final last =
+    let same = request_unique input head other rest after h.reads k.reads in
     e ∙ ap (λ x. verdict_of x rest) same.0 ∙ ap (λ r. verdict_of other r) same.1 ∙ sym f
 one_verdict input v w (whole head rest h e) (too_long k f) final last = absurd (not_too_long input head rest h k)
 one_verdict input v w (whole head rest h e) (refused k f) final last = absurd (not_refused input head rest h k)
 one_verdict input v w (whole head rest h e) (unfinished k f) final last = absurd (subst IsFinal f last)
-one_verdict input v w (too_long h e) (whole other behind k f) final last = absurd (not_too_long input other behind k h)
+one_verdict input v w (too_long h e) (whole other after k f) final last = absurd (not_too_long input other after k h)
 one_verdict input v w (too_long h e) (too_long k f) final last = e ∙ sym f
 one_verdict input v w (too_long h e) (refused k f) final last = e ∙ sym f
 one_verdict input v w (too_long h e) (unfinished k f) final last = absurd (subst IsFinal f last)
-one_verdict input v w (refused h e) (whole other behind k f) final last = absurd (not_refused input other behind k h)
+one_verdict input v w (refused h e) (whole other after k f) final last = absurd (not_refused input other after k h)
 one_verdict input v w (refused h e) (too_long k f) final last = e ∙ sym f
 one_verdict input v w (refused h e) (refused k f) final last = e ∙ sym f
 one_verdict input v w (refused h e) (unfinished k f) final last = absurd (subst IsFinal f last)

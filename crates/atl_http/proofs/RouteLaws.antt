@@ -12,7 +12,7 @@ use Rattle.std.proofs.lemmas.Slice.Eq.{bytes_eq-Decides}
 use Rattle.std.specs.Str.{IsUtf8}
 use Rattle.std.proofs.lemmas.Str.{IsUtf8-append, IsUtf8-drop, IsCharBoundary-after_ascii}
 use Rattle.atl_http.specs.Routes.{after_prefix, numbered, number_of, route_of}
-use Rattle.atl_http.specs.Routing.{rows, kept, kept_at, route_in}
+use Rattle.atl_http.specs.Routing.{rows, route_rows, kept_at, route_in}
 use Rattle.atl_http.specs.declared.route.Route.{Route}
 use Rattle.atl_http.specs.declared.route.Route.TheVariants as route
 use Rattle.atl_http.specs.declared.route.RouteKey.{RouteKey}
@@ -21,7 +21,7 @@ use Rattle.matchit.proofs.RenameLemmas.{first-rename}
 use Rattle.matchit.specs.Params.{walk, wild_from, part_of, named, AllText}
 use Rattle.std.proofs.lemmas.List.{length-drop, drop_at}
 use Rattle.std.proofs.Math.Seq.{take-length}
-use Rattle.atl_http.proofs.FrontLaws.{after_prefix_is, lookup_after_prefix, number_row, end_none, ascii_utf8, NumberSays, number_says}
+use Rattle.atl_http.proofs.FrontLaws.{after_prefix_is, lookup_after_prefix, number_row, end_none, ascii_utf8, IsNumberLookup, number_says}
 
 -- ---- the text of a number in a path
 
@@ -58,34 +58,34 @@ part_rest path n h =
     let count : length (drop n path) ≡ length path - n = length-drop n path in
     rw (one, two, ← count) (take-length (drop n path))
 
--- if the prefix of a pattern has `n` bytes and the parameter is last, walking the pattern along a path takes the path
--- without its first `n` bytes as the parameter `number`
+-- Walking a pattern along a path takes the path without its first `n` bytes as the parameter `number`. Premises: the
+-- prefix of the pattern has `n` bytes, and the pattern ends with the parameter.
 takes : (pattern text path rest : List ℕ) (start end n : ℕ) → wild_from pattern (length path) 0 0 ≡ (n, n) → (ltb n (length pattern) && (get_or pattern n 0 == param_token) && ltb (n + 1) (length pattern)) ≡ false → part_of text start end ≡ number_text → drop n path ≡ rest → n ≤ length path → walk pattern text path ((start, end) ∷ []) 0 0 ≡ (number_text, rest) ∷ []
 takes pattern text path rest start end n at last named_is rest_is h =
     rw (at, last, named_is, part_rest path n h, rest_is) refl
 
 -- The route of this key takes `rest` from the path as the parameter `number`.
-abbrev Takes : ℕ → List ℕ → List ℕ → Type 0
-Takes key path rest = walk (kept_at key).pattern (kept_at key).text path (kept_at key).names 0 0 ≡ (number_text, rest) ∷ []
+abbrev TakesNumber : ℕ → List ℕ → List ℕ → Type 0
+TakesNumber key path rest = walk (kept_at key).pattern (kept_at key).text path (kept_at key).names 0 0 ≡ (number_text, rest) ∷ []
 
 -- a prefix is no longer than the path that begins with it
 prefix_within : (n : ℕ) (front rest : List ℕ) → length front ≡ n → n ≤ length (front ++ rest)
 prefix_within n front rest e = let sum = length-append front rest in omega (arith, e, sum)
 
 -- the route of `/close/` takes what follows this prefix in a path as its parameter `number`
-takes_close : (rest : List ℕ) → Takes 0 (codes "/close/" ++ rest) rest
+takes_close : (rest : List ℕ) → TakesNumber 0 (codes "/close/" ++ rest) rest
 takes_close rest =
     let h = prefix_within 7 (codes "/close/") rest refl in
     takes (codes "/close/" ++ param_token ∷ []) (codes "/close/{number}") (codes "/close/" ++ rest) rest 8 14 7 (walk_front (codes "/close/") (length (codes "/close/" ++ rest)) 0 (is_text (codes "/close/") refl) h) refl refl refl h
 
 -- the route of `/orders/` takes what follows this prefix in a path as its parameter `number`
-takes_orders : (rest : List ℕ) → Takes 2 (codes "/orders/" ++ rest) rest
+takes_orders : (rest : List ℕ) → TakesNumber 2 (codes "/orders/" ++ rest) rest
 takes_orders rest =
     let h = prefix_within 8 (codes "/orders/") rest refl in
     takes (codes "/orders/" ++ param_token ∷ []) (codes "/orders/{number}") (codes "/orders/" ++ rest) rest 9 15 8 (walk_front (codes "/orders/") (length (codes "/orders/" ++ rest)) 0 (is_text (codes "/orders/") refl) h) refl refl refl h
 
 -- the route of `/report/` takes what follows this prefix in a path as its parameter `number`
-takes_report : (rest : List ℕ) → Takes 3 (codes "/report/" ++ rest) rest
+takes_report : (rest : List ℕ) → TakesNumber 3 (codes "/report/" ++ rest) rest
 takes_report rest =
     let h = prefix_within 8 (codes "/report/") rest refl in
     takes (codes "/report/" ++ param_token ∷ []) (codes "/report/{number}") (codes "/report/" ++ rest) rest 9 15 8 (walk_front (codes "/report/") (length (codes "/report/" ++ rest)) 0 (is_text (codes "/report/") refl) h) refl refl refl h
@@ -99,15 +99,15 @@ data Leads (path : List ℕ) : Type 0 where
   to_join : first rows path ≡ Some 1 → IsUtf8 path → route_of path ≡ Some route.Join → Leads path
   -- the router finds a route whose parameter is `rest`, and `route_of` gives that route with the number of `rest`, or
   -- none; `rest` is UTF-8 if the path is, and a path that has a route is UTF-8
-  to_number : (key : ℕ) → (rest : List ℕ) → first rows path ≡ Some key → Takes key path rest → (IsUtf8 path → IsUtf8 rest) → (route_of path ≡ None) ⊎ IsUtf8 path → route_of path ≡ route_in (kept_at key).value (Some rest) → Leads path
+  to_number : (key : ℕ) → (rest : List ℕ) → first rows path ≡ Some key → TakesNumber key path rest → (IsUtf8 path → IsUtf8 rest) → (route_of path ≡ None) ⊎ IsUtf8 path → route_of path ≡ route_in (kept_at key).value (Some rest) → Leads path
   -- the router finds nothing, and `route_of` gives none
   nowhere : first rows path ≡ None → route_of path ≡ None → Leads path
 
--- What the lookup needs of the prefix of a route with a number: what follows the prefix in a path is the parameter, is
--- UTF-8 exactly where the path is, and gives no route where it is no number.
-record Fronted (key : ℕ) (front : List ℕ) : Type 0 where
+-- What the lookup needs of the prefix of a route with a number. What follows the prefix in a path is the parameter. It
+-- is UTF-8 exactly where the path is, and gives no route where it is no number.
+record IsNumberPrefix (key : ℕ) (front : List ℕ) : Type 0 where
   -- the route takes what follows the prefix as its parameter
-  takes_rest : (rest : List ℕ) → Takes key (front ++ rest) rest
+  takes_rest : (rest : List ℕ) → TakesNumber key (front ++ rest) rest
   -- what follows the prefix is UTF-8, if the path is
   cut : (rest : List ℕ) → IsUtf8 (front ++ rest) → IsUtf8 rest
   -- the path is UTF-8, if what follows the prefix is
@@ -115,11 +115,11 @@ record Fronted (key : ℕ) (front : List ℕ) : Type 0 where
   -- if what follows the prefix is no number, the route of this key is None for it (`route_in`)
   without : (rest : List ℕ) → number_of rest ≡ None → route_in (kept_at key).value (Some rest) ≡ None
 
--- `Fronted` holds of a UTF-8 prefix that ends in an ASCII byte, if what follows the prefix is the parameter, and the
--- route is None where this is no number. What follows the prefix is then UTF-8 exactly where the path is.
-fronted : (key last : ℕ) (front : List ℕ) → length front ≡ last + 1 → IsUtf8 front → ((rest : List ℕ) → get_or (front ++ rest) last 0 < 128) → ((rest : List ℕ) → Takes key (front ++ rest) rest)
-    → ((rest : List ℕ) → number_of rest ≡ None → route_in (kept_at key).value (Some rest) ≡ None) → Fronted key front
-fronted key last front count text ascii takes_rest without = record {
+-- `IsNumberPrefix` holds of a UTF-8 prefix that ends in an ASCII byte, if what follows the prefix is the parameter, and
+-- the route is None where this is no number. What follows the prefix is then UTF-8 exactly where the path is.
+prefix_is_number_prefix : (key last : ℕ) (front : List ℕ) → length front ≡ last + 1 → IsUtf8 front → ((rest : List ℕ) → get_or (front ++ rest) last 0 < 128) → ((rest : List ℕ) → TakesNumber key (front ++ rest) rest)
+    → ((rest : List ℕ) → number_of rest ≡ None → route_in (kept_at key).value (Some rest) ≡ None) → IsNumberPrefix key front
+prefix_is_number_prefix key last front count text ascii takes_rest without = record {
   takes_rest = takes_rest;
   cut = (λ rest h.
       let inside : last < length (front ++ rest) = (let long = prefix_within (last + 1) front rest count in omega arith) in
@@ -128,35 +128,35 @@ fronted key last front count text ascii takes_rest without = record {
   without = without;
 }
 
--- the rest of a path after `/close/` is the parameter, and is UTF-8 where the path is (`Fronted`)
-fronted_close : Fronted 0 (codes "/close/")
-fronted_close = fronted 0 6 (codes "/close/") refl (ascii_utf8 (codes "/close/") refl) (λ rest. lit< tt) takes_close (λ rest e. ap (option_map route.Close) e)
+-- the rest of a path after `/close/` is the parameter, and is UTF-8 where the path is (`IsNumberPrefix`)
+fronted_close : IsNumberPrefix 0 (codes "/close/")
+fronted_close = prefix_is_number_prefix 0 6 (codes "/close/") refl (ascii_utf8 (codes "/close/") refl) (λ rest. lit< tt) takes_close (λ rest e. ap (option_map route.Close) e)
 
--- the rest of a path after `/orders/` is the parameter, and is UTF-8 where the path is (`Fronted`)
-fronted_orders : Fronted 2 (codes "/orders/")
-fronted_orders = fronted 2 7 (codes "/orders/") refl (ascii_utf8 (codes "/orders/") refl) (λ rest. lit< tt) takes_orders (λ rest e. ap (option_map route.Orders) e)
+-- the rest of a path after `/orders/` is the parameter, and is UTF-8 where the path is (`IsNumberPrefix`)
+fronted_orders : IsNumberPrefix 2 (codes "/orders/")
+fronted_orders = prefix_is_number_prefix 2 7 (codes "/orders/") refl (ascii_utf8 (codes "/orders/") refl) (λ rest. lit< tt) takes_orders (λ rest e. ap (option_map route.Orders) e)
 
--- the rest of a path after `/report/` is the parameter, and is UTF-8 where the path is (`Fronted`)
-fronted_report : Fronted 3 (codes "/report/")
-fronted_report = fronted 3 7 (codes "/report/") refl (ascii_utf8 (codes "/report/") refl) (λ rest. lit< tt) takes_report (λ rest e. ap (option_map route.Report) e)
+-- the rest of a path after `/report/` is the parameter, and is UTF-8 where the path is (`IsNumberPrefix`)
+fronted_report : IsNumberPrefix 3 (codes "/report/")
+fronted_report = prefix_is_number_prefix 3 7 (codes "/report/") refl (ascii_utf8 (codes "/report/") refl) (λ rest. lit< tt) takes_report (λ rest e. ap (option_map route.Report) e)
 
 -- the route of a key with the number in the rest of a path; None if there is no rest
-abbrev in_found : ℕ → Option (List ℕ) → Option Route
-in_found key None = None
-in_found key (Some rest) = route_in (kept_at key).value (Some rest)
+abbrev route_of_found : ℕ → Option (List ℕ) → Option Route
+route_of_found key None = None
+route_of_found key (Some rest) = route_in (kept_at key).value (Some rest)
 
 -- for a path with the prefix of a route with a number, the router finds the route that `route_of` gives: this one, or
 -- none (`Leads`)
-leads_number : (key : ℕ) (front path rest : List ℕ) → path ≡ front ++ rest → Fronted key front → first rows path ≡ first (number_row key) rest → route_of path ≡ route_in (kept_at key).value (Some rest) → NumberSays key rest → Leads path
+leads_number : (key : ℕ) (front path rest : List ℕ) → path ≡ front ++ rest → IsNumberPrefix key front → first rows path ≡ first (number_row key) rest → route_of path ≡ route_in (kept_at key).value (Some rest) → IsNumberLookup key rest → Leads path
 leads_number key front path rest p f a b (inl (e, inl none)) =
-    to_number key rest (a ∙ e) (subst (λ l. Takes key l rest) (sym p) (f.takes_rest rest)) (λ u. f.cut rest (subst IsUtf8 p u)) (inl (b ∙ f.without rest none)) b
+    to_number key rest (a ∙ e) (subst (λ l. TakesNumber key l rest) (sym p) (f.takes_rest rest)) (λ u. f.cut rest (subst IsUtf8 p u)) (inl (b ∙ f.without rest none)) b
 leads_number key front path rest p f a b (inl (e, inr text)) =
-    to_number key rest (a ∙ e) (subst (λ l. Takes key l rest) (sym p) (f.takes_rest rest)) (λ u. f.cut rest (subst IsUtf8 p u)) (inr (subst IsUtf8 (sym p) (f.joins rest text))) b
+    to_number key rest (a ∙ e) (subst (λ l. TakesNumber key l rest) (sym p) (f.takes_rest rest)) (λ u. f.cut rest (subst IsUtf8 p u)) (inr (subst IsUtf8 (sym p) (f.joins rest text))) b
 leads_number key front path rest p f a b (inr (e, none)) = nowhere (a ∙ e) (b ∙ f.without rest none)
 
--- for a path that begins with `/` and the first letter of a route with a number, the router finds the route that
--- `route_of` gives, whether the path has the route's prefix or not (`Leads`)
-leads_by : (key c : ℕ) (w q : List ℕ) (found : Option (List ℕ)) → after_prefix w q ≡ found → Fronted key (47 ∷ c ∷ w) → first rows (47 ∷ c ∷ q) ≡ option_and_then (λ rest. first (number_row key) rest) found → route_of (47 ∷ c ∷ q) ≡ in_found key found → Leads (47 ∷ c ∷ q)
+-- For a path that begins with `/` and the first letter of a route with a number, the router finds the route that
+-- `route_of` gives (`Leads`). This is so whether the path has the route's prefix or not.
+leads_by : (key c : ℕ) (w q : List ℕ) (found : Option (List ℕ)) → after_prefix w q ≡ found → IsNumberPrefix key (47 ∷ c ∷ w) → first rows (47 ∷ c ∷ q) ≡ option_and_then (λ rest. first (number_row key) rest) found → route_of (47 ∷ c ∷ q) ≡ route_of_found key found → Leads (47 ∷ c ∷ q)
 leads_by key c w q None h f a b = nowhere a b
 leads_by key c w q (Some rest) h f a b = leads_number key (47 ∷ c ∷ w) (47 ∷ c ∷ q) rest (ap (λ l. 47 ∷ c ∷ l) (after_prefix_is w q rest h)) f a b (number_says key rest)
 
@@ -183,21 +183,21 @@ letter_first c q = slash_first (47 ∷ c ∷ q) ∙ letter_step c q
 leads_close : (q : List ℕ) → Leads (47 ∷ 99 ∷ q)
 unfolding route_of
 leads_close q =
-    let same : (x : Option (List ℕ)) → numbered route.Close x None ≡ in_found 0 x = λ x. elim x as (λ x. numbered route.Close x None ≡ in_found 0 x) [ None ↦ refl | Some r ↦ refl ] in
+    let same : (x : Option (List ℕ)) → numbered route.Close x None ≡ route_of_found 0 x = λ x. elim x as (λ x. numbered route.Close x None ≡ route_of_found 0 x) [ None ↦ refl | Some r ↦ refl ] in
     leads_by 0 99 (codes "lose/") q (after_prefix (codes "lose/") q) refl fronted_close (letter_first 99 q ∙ lookup_after_prefix (codes "lose/") (number_row 0) q (is_text (codes "lose/") refl)) (same (after_prefix (codes "lose/") q))
 
 -- for each path that begins with `/o`, the router finds the route that `route_of` gives: Orders, or none (`Leads`)
 leads_orders : (q : List ℕ) → Leads (47 ∷ 111 ∷ q)
 unfolding route_of
 leads_orders q =
-    let same : (x : Option (List ℕ)) → numbered route.Orders x None ≡ in_found 2 x = λ x. elim x as (λ x. numbered route.Orders x None ≡ in_found 2 x) [ None ↦ refl | Some r ↦ refl ] in
+    let same : (x : Option (List ℕ)) → numbered route.Orders x None ≡ route_of_found 2 x = λ x. elim x as (λ x. numbered route.Orders x None ≡ route_of_found 2 x) [ None ↦ refl | Some r ↦ refl ] in
     leads_by 2 111 (codes "rders/") q (after_prefix (codes "rders/") q) refl fronted_orders (letter_first 111 q ∙ lookup_after_prefix (codes "rders/") (number_row 2) q (is_text (codes "rders/") refl)) (same (after_prefix (codes "rders/") q))
 
 -- for each path that begins with `/r`, the router finds the route that `route_of` gives: Report, or none (`Leads`)
 leads_report : (q : List ℕ) → Leads (47 ∷ 114 ∷ q)
 unfolding route_of
 leads_report q =
-    let same : (x : Option (List ℕ)) → numbered route.Report x None ≡ in_found 3 x = λ x. elim x as (λ x. numbered route.Report x None ≡ in_found 3 x) [ None ↦ refl | Some r ↦ refl ] in
+    let same : (x : Option (List ℕ)) → numbered route.Report x None ≡ route_of_found 3 x = λ x. elim x as (λ x. numbered route.Report x None ≡ route_of_found 3 x) [ None ↦ refl | Some r ↦ refl ] in
     leads_by 3 114 (codes "eport/") q (after_prefix (codes "eport/") q) refl fronted_report (letter_first 114 q ∙ lookup_after_prefix (codes "eport/") (number_row 3) q (is_text (codes "eport/") refl)) (same (after_prefix (codes "eport/") q))
 
 -- the row of the router for the route `/join` once all bytes of its text are matched
@@ -291,19 +291,19 @@ leads (a ∷ q) = leads_begin a q (a == 47) refl
 
 -- ---- the laws that the code needs
 
--- what a path finds among the routes (`kept`) is the route of the index that it finds among the rows (`rows`)
-kept_first : (path : List ℕ) (found : Option ℕ) → first rows path ≡ found → first kept path ≡ map_key kept_at found
+-- what a path finds among the routes (`route_rows`) is the route of the index that it finds among the rows (`rows`)
+kept_first : (path : List ℕ) (found : Option ℕ) → first rows path ≡ found → first route_rows path ≡ map_key kept_at found
 kept_first path found e = first-rename kept_at rows path ∙ ap (map_key kept_at) e
 
 -- if the router finds nothing for a path, and what it finds is what `route_of` gives (`Leads`), the path has no route
-missing_by : (path : List ℕ) → first kept path ≡ None → Leads path → route_of path ≡ None
+missing_by : (path : List ℕ) → first route_rows path ≡ None → Leads path → route_of path ≡ None
 missing_by path h (to_join e text is) = (let some = kept_first path (Some 1) e in cc)
 missing_by path h (to_number key rest e taken cut text is) = (let some = kept_first path (Some key) e in cc)
 missing_by path h (nowhere e is) = is
 
 -- if the router finds nothing for a path, `route_of` gives no route
-pub missing : (path : List ℕ) → first kept path ≡ None → route_of path ≡ None
-missing path h = missing_by path h (leads path)
+pub no_route_if_none_found : (path : List ℕ) → first route_rows path ≡ None → route_of path ≡ None
+no_route_if_none_found path h = missing_by path h (leads path)
 
 -- The route found for a path has UTF-8 parameters, and with them gives `route_of` of the path.
 abbrev FindsRoute : (path : List ℕ) → RouteOf RouteKey → Type 0
@@ -311,33 +311,33 @@ FindsRoute path e = AllText (walk e.pattern e.text path e.names 0 0) × (route_o
 
 -- if the router finds for a UTF-8 path what `route_of` gives (`Leads`), the route found has UTF-8 parameters and is
 -- that of `route_of` (`FindsRoute`)
-route_by : (path : List ℕ) (e : RouteOf RouteKey) → IsUtf8 path → first kept path ≡ Some e → Leads path → FindsRoute path e
-route_by path e text h (to_join at utf8 is) =
+finds_route_if_leads : (path : List ℕ) (e : RouteOf RouteKey) → IsUtf8 path → first route_rows path ≡ Some e → Leads path → FindsRoute path e
+finds_route_if_leads path e text h (to_join at utf8 is) =
     let same : kept_at 1 ≡ e = (let some = kept_first path (Some 1) at in cc) in
     subst (λ x. FindsRoute path x) same (tt, is)
-route_by path e text h (to_number key rest at taken cut utf8 is) =
+finds_route_if_leads path e text h (to_number key rest at taken cut utf8 is) =
     let same : kept_at key ≡ e = (let some = kept_first path (Some key) at in cc) in
     subst (λ x. FindsRoute path x) same (rw taken (ascii_utf8 (codes "number") refl, cut text, tt), rw taken is)
-route_by path e text h (nowhere at is) = (let none = kept_first path None at in cc)
+finds_route_if_leads path e text h (nowhere at is) = (let none = kept_first path None at in cc)
 
 -- the route found for a UTF-8 path has UTF-8 parameters and is that of `route_of` (`FindsRoute`)
-finds_route : (path : List ℕ) (e : RouteOf RouteKey) → IsUtf8 path → first kept path ≡ Some e → FindsRoute path e
-finds_route path e text h = route_by path e text h (leads path)
+finds_route : (path : List ℕ) (e : RouteOf RouteKey) → IsUtf8 path → first route_rows path ≡ Some e → FindsRoute path e
+finds_route path e text h = finds_route_if_leads path e text h (leads path)
 
 -- A lookup gives the text of the parameter `number` among the parameters taken from a path, or None if there is none.
 -- This is so if all of them are UTF-8.
 abbrev GetsParameter : {A : Type 0} → (A → List ℕ) → Option A → List (List ℕ × List ℕ) → Type 0
 GetsParameter view r taken = AllText taken → MatchOption r (named number_text taken ≡ None) (λ text. named number_text taken ≡ Some (view text))
 
--- if the text is None where the result r is None, and `view x` where r is Some x, the text is r mapped by `view`: for
--- `found_route_is`, of the parameter's text
+-- For `found_route_is`: the text of a parameter is the result `r` mapped by `view`. Premise: it is None where `r` is
+-- None, and the view of the value where `r` has one.
 matched_text_is : {A : Type 0} (view : A → List ℕ) (r : Option A) (text : Option (List ℕ)) → MatchOption r (text ≡ None) (λ x. text ≡ Some (view x)) → text ≡ option_map view r
 matched_text_is view None text h = h
 matched_text_is view (Some x) text h = h
 
 -- for a UTF-8 path, the route made from the key that the router finds and the text of the parameter `number` is that of
 -- `route_of`
-pub found_route_is : {A : Type 0} (view : A → List ℕ) (r : Option A) (path given : List ℕ) (e : RouteOf RouteKey) (route : Option Route) → given ≡ path → IsUtf8 path → first kept path ≡ Some e → GetsParameter view r (walk e.pattern e.text given e.names 0 0) → route ≡ route_in e.value (option_map view r) → route ≡ route_of path
+pub found_route_is : {A : Type 0} (view : A → List ℕ) (r : Option A) (path given : List ℕ) (e : RouteOf RouteKey) (route : Option Route) → given ≡ path → IsUtf8 path → first route_rows path ≡ Some e → GetsParameter view r (walk e.pattern e.text given e.names 0 0) → route ≡ route_in e.value (option_map view r) → route ≡ route_of path
 found_route_is view r path given e route same text at gets is =
     let says : FindsRoute path e = finds_route path e text at in
     let taken : GetsParameter view r (walk e.pattern e.text path e.names 0 0) = subst (λ l. GetsParameter view r (walk e.pattern e.text l e.names 0 0)) same gets in
@@ -351,5 +351,5 @@ no_text_by path h (to_number key rest e taken cut (inr text) is) = absurd (h tex
 no_text_by path h (nowhere e is) = is
 
 -- a path that is not UTF-8 has no route
-pub no_text : (path : List ℕ) → (IsUtf8 path → ⊥) → route_of path ≡ None
-no_text path h = no_text_by path h (leads path)
+pub no_route_without_utf8 : (path : List ℕ) → (IsUtf8 path → ⊥) → route_of path ≡ None
+no_route_without_utf8 path h = no_text_by path h (leads path)

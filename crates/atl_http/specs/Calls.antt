@@ -36,8 +36,8 @@ IsReadOutcome (Err e) came.End = ⊥
 IsReadOutcome (Err e) came.Interrupted = error_kind e ≡ kind.Interrupted
 IsReadOutcome (Err e) came.Failed = error_kind e ≢ kind.Interrupted
 
--- What one read does, by its outcome: a piece goes from the remaining bytes to the front of the buffer `room`. Any
--- other outcome takes no bytes, and End comes only at the end of the input.
+-- What one read does, by its outcome: a piece is taken from the remaining bytes, and is now at the front of the buffer
+-- `room`. Any other outcome takes no bytes, and End comes only at the end of the input.
 abbrev pub GivesBytes : (before after : Option (List ℕ)) → (room : List ℕ) → ReadOutcome → Type 0
 GivesBytes before after room (came.Piece count) = (0 < count) × (count ≤ length room) × Consumes before after (take count room)
 GivesBytes before after room came.End = Keeps before after × IsAtEnd after
@@ -50,7 +50,8 @@ no_reads = record { count = 0; last = came.Piece 0 }
 
 -- One read is done with this outcome, which is kept as the last one, and the count of reads is one more.
 abbrev pub ReadsOnce : (before after : Option (List ℕ)) → (room : List ℕ) → (old new : Reads) → ReadOutcome → Type 0
-ReadsOnce before after room old new told = GivesBytes before after room told × (new ≡ record { count = old.count + 1; last = told })
+ReadsOnce before after room old new outcome =
+    GivesBytes before after room outcome × (new ≡ record { count = old.count + 1; last = outcome })
 
 -- After this outcome another read may follow: it was a piece or an interruption.
 abbrev pub GoesOn : ReadOutcome → Type 0
@@ -67,8 +68,8 @@ ReadFaultOf reads ReadFault = (reads.last ≡ came.Failed) ⊎ (GoesOn reads.las
 ReadFaultOf reads WriteFault = ⊥
 ReadFaultOf reads Memory = GoesOn reads.last
 
--- How the reads of a request ended, by the result of reading it: at most `most_reads` were done; with Ok another might
--- follow (`GoesOn`), and a fault is one that the reads explain (`ReadFaultOf`).
+-- How the reads of a request ended, by the result of reading it: at most `most_reads` were done. With Ok another might
+-- follow (`GoesOn`); a fault is one that the reads explain (`ReadFaultOf`).
 abbrev pub EndsReading : {X : Type 0} → Reads → Result X HttpFault → Type 0
 EndsReading reads (Ok x) = (reads.count ≤ most_reads) × GoesOn reads.last
 EndsReading reads (Err fault) = (reads.count ≤ most_reads) × ReadFaultOf reads fault
@@ -104,7 +105,7 @@ with_write old written.Failed = record { interrupted = old.interrupted; last = w
 
 -- One write is done with this outcome, which is kept as the last one, and counted if it was interrupted.
 abbrev pub WritesOnce : (before after : Option (List ℕ)) → (rest : List ℕ) → (old new : Writes) → WriteOutcome → Type 0
-WritesOnce before after rest old new told = Takes before after rest told × (new ≡ with_write old told)
+WritesOnce before after rest old new outcome = Takes before after rest outcome × (new ≡ with_write old outcome)
 
 -- The writes explain the fault WriteFault: the last one failed, or `most_interrupted` were interrupted. They explain no
 -- other fault.

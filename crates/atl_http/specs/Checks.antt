@@ -16,7 +16,7 @@ use Rattle.atl_http.specs.declared.request.Verdict.TheVariants.{More, Refused, A
 use Rattle.atl_world.specs.Steps.{◌>>=◌}
 use Rattle.atl_orders.specs.Limits.{most_bytes}
 use Rattle.atl_http.specs.Routes.{number_of, path_of, route_of, method_of}
-use Rattle.atl_http.specs.Fields.{Pair, fields_of, values_of, only}
+use Rattle.atl_http.specs.Fields.{Pair, fields_of, values_of, single_value}
 
 -- the value in an option, or this problem if there is none
 abbrev pub or_problem : {A : Type 0} → Problem → Option A → Result A Problem
@@ -27,7 +27,7 @@ or_problem problem (Some x) = Ok x
 
 -- whether a request of HTTP/1.1 has exactly one field Host; a request of HTTP/1.0 needs none
 unfoldable pub has_host : (minor : ℕ) → List Pair → Bool
-has_host minor fields = minor == 0 || is_some (only (values_of (codes "Host") fields))
+has_host minor fields = minor == 0 || is_some (single_value (values_of (codes "Host") fields))
 
 -- ---- the second: a route, and its method
 
@@ -39,7 +39,10 @@ with_method method (Some route) = if bytes_eq method (method_of route) then Ok r
 
 -- the route of a request by the first two checks, or BadRequest, NoRoute or BadMethod
 unfoldable pub requested_route : (minor : ℕ) → (method target : List ℕ) → List Pair → Result Route Problem
-requested_route minor method target fields = if has_host minor fields then with_method method (route_of (path_of target)) else Err BadRequest
+requested_route minor method target fields =
+    if has_host minor fields
+    then with_method method (route_of (path_of target))
+    else Err BadRequest
 
 -- ---- the third: how many bytes the body of a POST has
 
@@ -51,11 +54,11 @@ size_within (Some n) = if nat_lt most_bytes n then Err BodyTooLong else Ok n
 -- The body length by the values of Content-Length: the number that the only value writes, or 0 without a value where
 -- the length is optional. Else NoLength without a value, BadRequest for several or for no number, and BodyTooLong for a
 -- number above the limit (`size_within`).
-abbrev pub declared : (optional : Bool) → List (List ℕ) → Result ℕ Problem
-declared true [] = Ok 0
-declared false [] = Err NoLength
-declared optional (value ∷ []) = size_within (number_of value)
-declared optional (value ∷ other ∷ more) = Err BadRequest
+abbrev pub declared_size : (optional : Bool) → List (List ℕ) → Result ℕ Problem
+declared_size true [] = Ok 0
+declared_size false [] = Err NoLength
+declared_size optional (value ∷ []) = size_within (number_of value)
+declared_size optional (value ∷ other ∷ more) = Err BadRequest
 
 -- the length, if there is no field Transfer-Encoding; else NoLength
 abbrev pub unless_coded : List (List ℕ) → Result ℕ Problem → Result ℕ Problem
@@ -64,10 +67,11 @@ unless_coded (coding ∷ more) size = Err NoLength
 
 -- the length of the body of a POST by the fields Content-Length and Transfer-Encoding, or the problem with them
 unfoldable pub posted_size : (optional : Bool) → List Pair → Result ℕ Problem
-posted_size optional fields = unless_coded (values_of (codes "Transfer-Encoding") fields) (declared optional (values_of (codes "Content-Length") fields))
+posted_size optional fields =
+    unless_coded (values_of (codes "Transfer-Encoding") fields) (declared_size optional (values_of (codes "Content-Length") fields))
 
--- the number of body bytes that are read: what Content-Length declares, which may be missing for `/close` (0), or the
--- problem with it; none for a GET
+-- The number of body bytes that are read for a route, or the problem with it. It is 0 for a GET, and else what
+-- Content-Length declares, which `/close` alone may leave out (0).
 abbrev pub size_of : Route → List Pair → Result ℕ Problem
 size_of Join fields = posted_size false fields
 size_of (Orders faction) fields = posted_size false fields
@@ -78,7 +82,7 @@ size_of (Report faction) fields = Ok 0
 
 -- the value of Atlantis-Pass, if there is exactly one; else NoPass
 unfoldable pub pass_field : List Pair → Result (List ℕ) Problem
-pass_field fields = or_problem NoPass (only (values_of (codes "Atlantis-Pass") fields))
+pass_field fields = or_problem NoPass (single_value (values_of (codes "Atlantis-Pass") fields))
 
 -- the pass text that a route needs in the head, else NoPass; empty for a join, which needs none there
 abbrev pub pass_of : Route → List Pair → Result (List ℕ) Problem
@@ -132,7 +136,10 @@ verdict_on_request (Ok asked) = Asks asked
 -- whole, else the verdict on the request
 abbrev pub verdict_with_body : Result (Route × ℕ × List ℕ) Problem → (rest : List ℕ) → Verdict
 verdict_with_body (Err problem) rest = Refused problem
-verdict_with_body (Ok (route, size, pass)) rest = if nat_lt (length rest) size then More else verdict_on_request (request_of route pass (take size rest))
+verdict_with_body (Ok (route, size, pass)) rest =
+    if nat_lt (length rest) size
+    then More
+    else verdict_on_request (request_of route pass (take size rest))
 
 -- the verdict on a whole head and the bytes after it
 abbrev pub verdict_of : RequestHead → (rest : List ℕ) → Verdict

@@ -17,7 +17,7 @@ unfoldable pub values_of : List ℕ → List Pair → List (List ℕ)
 values_of name fields = map (λ f. f.1) (filter (λ f. str_eq_ignore_ascii_case f.0 name) fields)
 
 -- the only value of a list; None if the list is empty or has several
-abbrev pub only : List (List ℕ) → Option (List ℕ)
-only [] = None
-only (value ∷ []) = Some value
-only (value ∷ other ∷ more) = None
+abbrev pub single_value : List (List ℕ) → Option (List ℕ)
+single_value [] = None
+single_value (value ∷ []) = Some value
+single_value (value ∷ other ∷ more) = None

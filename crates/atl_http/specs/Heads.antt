@@ -64,10 +64,10 @@ IsFinal More = ⊥
 IsFinal (Refused problem) = ⊤
 IsFinal (Asks asked) = ⊤
 
--- a final verdict as a verdict: Refused with the problem, or Asks with the request
-abbrev pub final : FinalVerdict → Verdict
-final (outcome.Refused problem) = Refused problem
-final (outcome.Asks asked) = Asks asked
+-- the `Verdict` that a final verdict is: Refused with the problem, or Asks with the request
+abbrev pub as_verdict : FinalVerdict → Verdict
+as_verdict (outcome.Refused problem) = Refused problem
+as_verdict (outcome.Asks asked) = Asks asked
 
 -- With fewer than `count` more bytes the request isn't whole.
 abbrev pub IsShortBy : (seen : List ℕ) → (count : ℕ) → Type 0
@@ -76,13 +76,13 @@ IsShortBy seen count = (more : List ℕ) → length more < count → Judges (see
 -- The progress on these bytes is right: the final verdict on them, or a count of missing bytes, at least 1. With fewer
 -- further bytes than the count the request isn't whole (`IsShortBy`).
 abbrev pub ComesTo : (seen : List ℕ) → Progress → Type 0
-ComesTo seen (progress.Lacks count) = (0 < count) × IsShortBy seen count
-ComesTo seen (progress.Ends outcome) = Judges seen (final outcome)
+ComesTo seen (progress.Missing count) = (0 < count) × IsShortBy seen count
+ComesTo seen (progress.Ends outcome) = Judges seen (as_verdict outcome)
 
 -- the verdict of a progress: More while bytes are missing
 abbrev pub verdict_by : Progress → Verdict
-verdict_by (progress.Lacks count) = More
-verdict_by (progress.Ends outcome) = final outcome
+verdict_by (progress.Missing count) = More
+verdict_by (progress.Ends outcome) = as_verdict outcome
 
 -- the most bytes that one read takes
 abbrev pub most_at_once : ℕ
@@ -90,8 +90,10 @@ most_at_once = 8192
 
 -- No read was done after the request was whole or refused: before the last read the verdict was More, or nothing was
 -- read at all.
-abbrev pub IsReadSoFar : List ℕ → Type 0
-IsReadSoFar seen = (seen ≡ []) ⊎ ((front : List ℕ) × (last : List ℕ) × (seen ≡ front ++ last) × (length last ≤ most_at_once) × Judges front More)
+abbrev pub ReadsNoFurther : List ℕ → Type 0
+ReadsNoFurther seen =
+    (seen ≡ [])
+    ⊎ ((front : List ℕ) × (last : List ℕ) × (seen ≡ front ++ last) × (length last ≤ most_at_once) × Judges front More)
 
 -- It doesn't matter in which pieces a request comes: bytes after a final verdict change nothing, and no input has two
 -- final verdicts.

@@ -11,16 +11,17 @@ use Rattle.atl_http.specs.declared.io.HttpFault.{HttpFault}
 use Rattle.atl_http.specs.declared.io.HttpFault.TheVariants.{Cut, ReadFault, WriteFault, Memory}
 use Rattle.atl_http.specs.declared.request.FinalVerdict.{FinalVerdict}
 use Rattle.atl_http.specs.declared.request.Verdict.TheVariants.{More}
-use Rattle.atl_http.specs.Heads.{Judges, IsReadSoFar, final, most_at_once}
+use Rattle.atl_http.specs.Heads.{Judges, ReadsNoFurther, as_verdict, most_at_once}
 use Rattle.atl_http.specs.Replies.{Reply, bytes_of}
 use Rattle.atl_http.specs.Serving.{IsReply}
 
 -- ---- reading
 
--- One read added `count` bytes from the reader to those collected before (`old`, then `new`), or none with ReadFault,
--- or with Cut at the end of the input. Memory leaves open what was read.
+-- What one read adds to the collected bytes, `old` before it and `new` after it: `count` bytes of the reader, or none
+-- with ReadFault, or with Cut at the end of the input. Memory leaves open what was read.
 abbrev pub ReadsMore : (before after : Option (List ℕ)) → (old new : List ℕ) → Result ℕ HttpFault → Type 0
-ReadsMore before after old new (Ok count) = (piece : List ℕ) × (length piece ≡ count) × (count ≤ most_at_once) × Consumes before after piece × (new ≡ old ++ piece)
+ReadsMore before after old new (Ok count) =
+    (piece : List ℕ) × (length piece ≡ count) × (count ≤ most_at_once) × Consumes before after piece × (new ≡ old ++ piece)
 ReadsMore before after old new (Err Cut) = Keeps before after × IsAtEnd after × (new ≡ old)
 ReadsMore before after old new (Err ReadFault) = Keeps before after × (new ≡ old)
 ReadsMore before after old new (Err WriteFault) = ⊥
@@ -29,7 +30,7 @@ ReadsMore before after old new (Err Memory) = ⊤
 -- The bytes `seen` were read, and no more than needed. The result is the final verdict on them. With Cut, at the end of
 -- the input, and with ReadFault the verdict on them is More. Memory leaves open what was read.
 abbrev pub Receives : (before after : Option (List ℕ)) → (seen : List ℕ) → Result FinalVerdict HttpFault → Type 0
-Receives before after seen (Ok outcome) = Consumes before after seen × IsReadSoFar seen × Judges seen (final outcome)
+Receives before after seen (Ok outcome) = Consumes before after seen × ReadsNoFurther seen × Judges seen (as_verdict outcome)
 Receives before after seen (Err Cut) = Consumes before after seen × Judges seen More × IsAtEnd after
 Receives before after seen (Err ReadFault) = Consumes before after seen × Judges seen More
 Receives before after seen (Err WriteFault) = ⊥
@@ -38,8 +39,8 @@ Receives before after seen (Err Memory) = ⊤
 -- ---- writing
 
 -- The message has the status and the bytes of the reply.
-abbrev pub Says : Reply → Message → Type 0
-Says reply message = (message.status ≡ reply.status) × (string_bytes message.bytes ≡ bytes_of reply)
+abbrev pub MatchesReply : Reply → Message → Type 0
+MatchesReply reply message = (message.status ≡ reply.status) × (string_bytes message.bytes ≡ bytes_of reply)
 
 -- All of `bytes` were added to what the writer held; or, with WriteFault, the one fault that can come, only the first
 -- `count` of them, which are fewer.
@@ -52,6 +53,7 @@ Sends before after bytes (Err Memory) = ⊥
 
 -- The message is the reply to a request with this final verdict (`IsReply`). If memory ran out there is no message, and
 -- the command has been run or not.
-abbrev pub RepliesWith : {S : Type 0} → Ghosts S → Dice → (old : ServiceValue S) → FinalVerdict → Result Message AllocError → (new : ServiceValue S) → Type 0
-RepliesWith g dice old outcome (Ok message) new = (reply : Reply) × Says reply message × IsReply g dice old outcome reply new
+abbrev pub RepliesWith : {S : Type 0} → Ghosts S → Dice → (old : ServiceValue S) → FinalVerdict
+    → Result Message AllocError → (new : ServiceValue S) → Type 0
+RepliesWith g dice old outcome (Ok message) new = (reply : Reply) × MatchesReply reply message × IsReply g dice old outcome reply new
 RepliesWith g dice old outcome (Err e) new = (new ≡ old) ⊎ ((reply : Reply) × IsReply g dice old outcome reply new)

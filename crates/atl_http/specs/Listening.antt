@@ -8,28 +8,34 @@ use Rattle.atl_http.specs.declared.listening.ListenFault.{ListenFault}
 use Rattle.atl_http.specs.declared.listening.ListenFault.TheVariants.{Net, Memory}
 use Rattle.atl_http.specs.declared.io.HttpFault.{HttpFault}
 use Rattle.atl_http.specs.declared.io.HttpFault.TheVariants as http
-use Rattle.atl_http.specs.Serving.{Known, Serves}
+use Rattle.atl_http.specs.Serving.{IoBytes, Serves}
 
 -- One request is served with this result, for some bytes read and written.
-abbrev pub IsServed : {S : Type 0} → Ghosts S → Dice → (old : ServiceValue S) → Result ℕ HttpFault → (new : ServiceValue S) → Type 0
-IsServed g dice old told new = (before : Known) × (after : Known) × Serves g dice before after old told new
+abbrev pub IsServed : {S : Type 0} → Ghosts S → Dice → (old : ServiceValue S)
+    → Result ℕ HttpFault → (new : ServiceValue S) → Type 0
+IsServed g dice old outcome new = (before : IoBytes) × (after : IoBytes) × Serves g dice before after old outcome new
 
 -- One connection's request is served: with Err Memory the service ran out of memory, with Ok it did not. Err Net never
 -- comes.
-abbrev pub ServesConnection : {S : Type 0} → Ghosts S → Dice → (old : ServiceValue S) → Result (Unit {0}) ListenFault → (new : ServiceValue S) → Type 0
-ServesConnection g dice old (Ok done) new = (told : Result ℕ HttpFault) × (told ≢ Err http.Memory) × IsServed g dice old told new
+abbrev pub ServesConnection : {S : Type 0} → Ghosts S → Dice → (old : ServiceValue S)
+    → Result (Unit {0}) ListenFault → (new : ServiceValue S) → Type 0
+ServesConnection g dice old (Ok done) new = (outcome : Result ℕ HttpFault) × (outcome ≢ Err http.Memory) × IsServed g dice old outcome new
 ServesConnection g dice old (Err Memory) new = IsServed g dice old (Err http.Memory) new
 ServesConnection g dice old (Err Net) new = ⊥
 
 -- Exactly `count` requests are served one after another, and memory runs out for none.
 abbrev pub ServesInTurn : {S : Type 0} → Ghosts S → Dice → (count : ℕ) → (old new : ServiceValue S) → Type 0
 ServesInTurn g dice zero old new = new ≡ old
-ServesInTurn {S} g dice (suc count) old new = (between : ServiceValue S) × ServesInTurn g dice count old between × ServesConnection g dice between (Ok tt) new
+ServesInTurn {S} g dice (suc count) old new =
+    (between : ServiceValue S) × ServesInTurn g dice count old between × ServesConnection g dice between (Ok tt) new
 
 -- At most `count` requests are served one after another, fewer if the network fails (Net). If memory runs out for one,
 -- it is the last.
-abbrev pub ServesEach : {S : Type 0} → Ghosts S → Dice → (count : ℕ) → (old : ServiceValue S) → Result (Unit {0}) ListenFault → (new : ServiceValue S) → Type 0
+abbrev pub ServesEach : {S : Type 0} → Ghosts S → Dice → (count : ℕ) → (old : ServiceValue S)
+    → Result (Unit {0}) ListenFault → (new : ServiceValue S) → Type 0
 ServesEach g dice count old (Ok done) new = (served : ℕ) × (served ≤ count) × ServesInTurn g dice served old new
 ServesEach g dice count old (Err Net) new = (served : ℕ) × (served < count) × ServesInTurn g dice served old new
 ServesEach {S} g dice count old (Err Memory) new =
-    (served : ℕ) × (served < count) × (between : ServiceValue S) × ServesInTurn g dice served old between × ServesConnection g dice between (Err Memory) new
+    (served : ℕ) × (served < count) × (between : ServiceValue S)
+    × ServesInTurn g dice served old between
+    × ServesConnection g dice between (Err Memory) new

@@ -69,9 +69,9 @@ problem_status BodyTooLong = 413
 problem_status p = 400
 
 -- the route whose method the reply's `Allow` line names: the route of BadMethod, else none
-abbrev pub allowed : Problem → Option Route
-allowed (BadMethod route) = Some route
-allowed p = None
+abbrev pub allowed_route : Problem → Option Route
+allowed_route (BadMethod route) = Some route
+allowed_route p = None
 
 -- the body of an error: {"error":"NAME","number":K}
 unfoldable pub error_body : (name : List ℕ) → (number : ℕ) → List ℕ
@@ -79,4 +79,10 @@ error_body name number = codes "{\"error\":\"" ▸ name ▸ codes "\",\"number\"
 
 -- the reply to a request with this problem
 abbrev pub problem_reply : Problem → Reply
-problem_reply p = record { status = problem_status p; allow = allowed p; kind = json; body = error_body (problem_name p) no_number }
+problem_reply p =
+    record {
+      status = problem_status p;
+      allow = allowed_route p;
+      kind = json;
+      body = error_body (problem_name p) no_number;
+    }

@@ -13,7 +13,10 @@ most_digits = 9
 
 -- the number that 1 to 9 decimal digits write; None for any other text
 unfoldable pub number_of : List ℕ → Option ℕ
-number_of bytes = if nat_lt 0 (length bytes) && (nat_le (length bytes) most_digits && list_all is_ascii_digit bytes) then Some (digits_value 10 bytes) else None
+number_of bytes =
+    if nat_lt 0 (length bytes) && (nat_le (length bytes) most_digits && list_all is_ascii_digit bytes)
+    then Some (digits_value 10 bytes)
+    else None
 
 -- the rest of a text (the second one) after a prefix (the first); None if the text doesn't begin with the prefix
 abbrev pub after_prefix : List ℕ → List ℕ → Option (List ℕ)

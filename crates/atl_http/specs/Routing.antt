@@ -11,7 +11,13 @@ use Rattle.atl_http.specs.Routes.{number_of}
 
 -- a route of the router: a prefix, and a number after it
 abbrev pub numbered_route : (front : List ℕ) → RouteKey → RouteOf RouteKey
-numbered_route front place = record { pattern = front ++ param_token ∷ []; text = front ++ codes "{number}"; names = (length front + 1, length front + 7) ∷ []; value = place }
+numbered_route front key =
+    record {
+      pattern = front ++ param_token ∷ [];
+      text = front ++ codes "{number}";
+      names = (length front + 1, length front + 7) ∷ [];
+      value = key;
+    }
 
 -- the route at each index of the router, which has its routes in the order of their texts
 abbrev pub kept_at : ℕ → RouteOf RouteKey
@@ -22,11 +28,16 @@ kept_at (suc (suc (suc more))) = numbered_route (codes "/report/") Report
 
 -- the rows of the router, each with the index of its route
 abbrev pub rows : Rows
-rows = (codes "/close/" ++ param_token ∷ [], 0) ∷ (codes "/join", 1) ∷ (codes "/orders/" ++ param_token ∷ [], 2) ∷ (codes "/report/" ++ param_token ∷ [], 3) ∷ []
+rows =
+    (codes "/close/" ++ param_token ∷ [], 0)
+    ∷ (codes "/join", 1)
+    ∷ (codes "/orders/" ++ param_token ∷ [], 2)
+    ∷ (codes "/report/" ++ param_token ∷ [], 3)
+    ∷ []
 
 -- the rows of the router, each with its route
-abbrev pub kept : RowsOf (RouteOf RouteKey)
-kept = rename kept_at rows
+abbrev pub route_rows : RowsOf (RouteOf RouteKey)
+route_rows = rename kept_at rows
 
 -- the route of a key of the router, with the number that the text after the prefix writes; None if a number is missing
 -- or faulty

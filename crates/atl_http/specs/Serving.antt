@@ -18,7 +18,7 @@ use Rattle.atl_http.specs.declared.request.FinalVerdict.{FinalVerdict}
 use Rattle.atl_http.specs.declared.request.FinalVerdict.TheVariants.{Refused, Asks}
 use Rattle.atl_http.specs.declared.request.Verdict.TheVariants.{More}
 use Rattle.atl_http.specs.Dice.{generator, joining_streams, word_of, first_words}
-use Rattle.atl_http.specs.Heads.{Judges, IsReadSoFar, final}
+use Rattle.atl_http.specs.Heads.{Judges, ReadsNoFurther, as_verdict}
 use Rattle.atl_http.specs.Replies.{Reply, bytes_of, problem_reply}
 use Rattle.atl_http.specs.Answered.{answer_reply}
 
@@ -41,16 +41,20 @@ command_in dice old request = command_of dice (next_faction old.campaign) (len o
 
 -- The reply is right for a final verdict. A refused request gets the reply to its problem, and changes nothing; for any
 -- other the command is run, and the reply is that to its answer.
-abbrev pub IsReply : {S : Type 0} → Ghosts S → Dice → (old : ServiceValue S) → FinalVerdict → Reply → (new : ServiceValue S) → Type 0
+abbrev pub IsReply : {S : Type 0} → Ghosts S → Dice → (old : ServiceValue S) → FinalVerdict
+    → Reply → (new : ServiceValue S) → Type 0
 IsReply g dice old (Refused problem) reply new = (reply ≡ problem_reply problem) × (new ≡ old)
-IsReply g dice old (Asks request) reply new = (answer : Answer) × Runs g old (command_in dice old request) answer new × (reply ≡ answer_reply answer)
+IsReply g dice old (Asks request) reply new =
+    (answer : Answer) × Runs g old (command_in dice old request) answer new × (reply ≡ answer_reply answer)
 
 -- The reply is right for the bytes `seen`: no more were read than needed, and the reply is that to their verdict.
-abbrev pub RepliesTo : {S : Type 0} → Ghosts S → Dice → (old : ServiceValue S) → (seen : List ℕ) → Reply → (new : ServiceValue S) → Type 0
-RepliesTo g dice old seen reply new = (outcome : FinalVerdict) × IsReadSoFar seen × Judges seen (final outcome) × IsReply g dice old outcome reply new
+abbrev pub RepliesTo : {S : Type 0} → Ghosts S → Dice → (old : ServiceValue S) → (seen : List ℕ)
+    → Reply → (new : ServiceValue S) → Type 0
+RepliesTo g dice old seen reply new =
+    (outcome : FinalVerdict) × ReadsNoFurther seen × Judges seen (as_verdict outcome) × IsReply g dice old outcome reply new
 
 -- the bytes that a reader has left and those that a writer holds, as far as they are known
-pub record Known : Type 0 where
+pub record IoBytes : Type 0 where
   -- the bytes that the reader has left; None if they aren't known
   pub left : Option (List ℕ)
   -- the bytes that the writer holds; None if they aren't known
@@ -66,19 +70,34 @@ fault_number Memory = None
 -- What serving one request does, by its result. With Ok the whole reply to the bytes seen was written; with WriteFault
 -- only the first part of it, perhaps nothing. With Cut and ReadFault nothing was written, and the service is unchanged.
 -- With Memory nothing was written, and the command has been run or not.
-abbrev pub Serves : {S : Type 0} → Ghosts S → Dice → (before after : Known) → (old : ServiceValue S) → Result ℕ HttpFault → (new : ServiceValue S) → Type 0
+abbrev pub Serves : {S : Type 0} → Ghosts S → Dice → (before after : IoBytes) → (old : ServiceValue S)
+    → Result ℕ HttpFault → (new : ServiceValue S) → Type 0
 Serves g dice before after old (Ok status) new =
-    (seen : List ℕ) × (reply : Reply) × Consumes before.left after.left seen × RepliesTo g dice old seen reply new × (status ≡ reply.status) × Appends before.held after.held (bytes_of reply)
+    (seen : List ℕ) × (reply : Reply)
+    × Consumes before.left after.left seen
+    × RepliesTo g dice old seen reply new
+    × (status ≡ reply.status)
+    × Appends before.held after.held (bytes_of reply)
 -- the input ended within the request
 Serves g dice before after old (Err Cut) new =
-    (seen : List ℕ) × Consumes before.left after.left seen × Judges seen More × IsAtEnd after.left × Keeps before.held after.held × (new ≡ old)
+    (seen : List ℕ)
+    × Consumes before.left after.left seen
+    × Judges seen More
+    × IsAtEnd after.left
+    × Keeps before.held after.held
+    × (new ≡ old)
 -- the reads failed before the request was whole
 Serves g dice before after old (Err ReadFault) new =
     (seen : List ℕ) × Consumes before.left after.left seen × Judges seen More × Keeps before.held after.held × (new ≡ old)
 -- the writes failed before the reply was whole
 Serves g dice before after old (Err WriteFault) new =
-    (seen : List ℕ) × (reply : Reply) × Consumes before.left after.left seen × RepliesTo g dice old seen reply new × (count : ℕ) × (count < length (bytes_of reply)) × Appends before.held after.held (take count (bytes_of reply))
+    (seen : List ℕ) × (reply : Reply)
+    × Consumes before.left after.left seen
+    × RepliesTo g dice old seen reply new
+    × (count : ℕ) × (count < length (bytes_of reply))
+    × Appends before.held after.held (take count (bytes_of reply))
 -- there was no memory for the request, or none for its reply
 Serves g dice before after old (Err Memory) new =
     Keeps before.held after.held
-    × ((new ≡ old) ⊎ ((seen : List ℕ) × (reply : Reply) × Consumes before.left after.left seen × RepliesTo g dice old seen reply new))
+    × ((new ≡ old)
+    ⊎ ((seen : List ℕ) × (reply : Reply) × Consumes before.left after.left seen × RepliesTo g dice old seen reply new))

@@ -2,7 +2,7 @@
 ghost use Rattle.std.specs.Prelude.{◌≡◌, ◌++◌, IfOk, OnOk, string_bytes};
 ghost use Rattle.atl_http.specs.Answered.{joined_body, pair, more_pairs, pairs, mailed_body, month_body, refusal_status, success, answer_reply};
 ghost use Rattle.atl_http.specs.Replies.{json};
-ghost use Rattle.atl_http.specs.Io.{Says};
+ghost use Rattle.atl_http.specs.Io.{MatchesReply};
 
 use crate::message::{JSON, Message, NO_NUMBER, PLAIN, error_message, reply_message};
 use atl_orders::FaultyLine;
@@ -95,7 +95,7 @@ fn refusal_status(refusal: Refusal) -> StatusCode
 
 /// The reply to a refusal: its status, and its number and name as JSON.
 fn refusal_message(alloc: Global, refusal: Refusal) -> Result<Message, AllocError>
-    ensures { IfOk result (Says (answer_reply (Answer.Refused refusal))) }
+    ensures { IfOk result (MatchesReply (answer_reply (Answer.Refused refusal))) }
 {
     error_message(
         alloc,
@@ -108,7 +108,7 @@ fn refusal_message(alloc: Global, refusal: Refusal) -> Result<Message, AllocErro
 
 /// The reply to a fault of a command: status 500, and its name with the number 0 as JSON.
 fn fault_message(alloc: Global, fault: Fault) -> Result<Message, AllocError>
-    ensures { IfOk result (Says (answer_reply (Answer.Fault fault))) }
+    ensures { IfOk result (MatchesReply (answer_reply (Answer.Fault fault))) }
 {
     error_message(
         alloc,
@@ -121,14 +121,14 @@ fn fault_message(alloc: Global, fault: Fault) -> Result<Message, AllocError>
 
 /// The reply to a command that was carried out: status 200 and `body`, which is JSON.
 fn success_message(alloc: Global, body: &str) -> Result<Message, AllocError>
-    ensures { IfOk result (Says (success json body.now)) }
+    ensures { IfOk result (MatchesReply (success json body.now)) }
 {
     reply_message(alloc, StatusCode::OK, None, JSON, body)
 }
 
 /// The reply to the answer of a command. AllocError without memory for its bytes.
 pub fn answer_message(alloc: Global, answer: &Answer) -> Result<Message, AllocError>
-    ensures { IfOk result (Says (answer_reply answer.now)) }
+    ensures { IfOk result (MatchesReply (answer_reply answer.now)) }
 {
     match answer {
         Answer::Joined { faction, unit } => {

@@ -102,7 +102,8 @@ impl Reads {
         self.count
     }
 
-    /// Reads once into the front of the buffer `room`, counts the read, and returns its outcome.
+    /// Reads once into the front of the buffer `read_buffer`, counts the read, and returns its
+    /// outcome.
     pub fn read<R: Read>(&mut self, reader: &mut R, room: &mut [u8]) -> ReadOutcome
         requires room { 0 < length room.old }
         requires few { self.old.count < most_reads }

@@ -5,7 +5,7 @@ ghost use Rattle.serde_json.specs.View.{view};
 ghost use Rattle.atl_http.specs.declared.problem.Problem.TheVariants.{BadJson};
 ghost use Rattle.atl_http.specs.Routes.{number_of, method_of};
 ghost use Rattle.atl_http.specs.Checks.{or_problem, has_host, requested_route, size_within, posted_size, size_of, pass_field, pass_of, json_of, text_at, joining, request_of, head_checks};
-ghost use Rattle.atl_http.specs.Finding.{field_pairs, Gives};
+ghost use Rattle.atl_http.specs.Finding.{field_pairs, GivesAsDefined};
 
 use crate::fields::{FieldLookup, find_value, only_value};
 use crate::problem::{CheckError, Problem};
@@ -51,7 +51,7 @@ fn requested_route(
     fields: &[HeaderSpan],
 ) -> Result<Route, CheckError>
     requires { All (IsHeaderWithin (length bytes.now)) fields.now }
-    ensures { Gives (λ route. route) result
+    ensures { GivesAsDefined (λ route. route) result
         (requested_route minor method.now target.now (field_pairs bytes.now fields.now)) }
 {
     if !has_host(minor, bytes, fields) {
@@ -74,7 +74,7 @@ fn is_method(method: &[u8], route: Route) -> bool
 /// The length of a body by a value of Content-Length: BadRequest if it is no number, BodyTooLong if
 /// it is greater than a mailing may be.
 fn size_within(text: &[u8]) -> Result<usize, CheckError>
-    ensures { Gives (λ size. size) result (size_within (number_of text.now)) }
+    ensures { GivesAsDefined (λ size. size) result (size_within (number_of text.now)) }
 {
     match number_of(text) {
         None => Err(CheckError::Failed(Problem::BadRequest)),
@@ -88,7 +88,7 @@ fn size_within(text: &[u8]) -> Result<usize, CheckError>
 #[tactic(auto, unfolding(crate::specs::Checks::posted_size))]
 fn posted_size(is_optional: bool, bytes: &[u8], fields: &[HeaderSpan]) -> Result<usize, CheckError>
     requires { All (IsHeaderWithin (length bytes.now)) fields.now }
-    ensures { Gives (λ size. size) result
+    ensures { GivesAsDefined (λ size. size) result
         (posted_size is_optional (field_pairs bytes.now fields.now)) }
 {
     if !matches!(
@@ -108,7 +108,8 @@ fn posted_size(is_optional: bool, bytes: &[u8], fields: &[HeaderSpan]) -> Result
 /// The number of body bytes that are read for a route: 0 for a GET, else the declared length.
 fn size_of(route: Route, bytes: &[u8], fields: &[HeaderSpan]) -> Result<usize, CheckError>
     requires { All (IsHeaderWithin (length bytes.now)) fields.now }
-    ensures { Gives (λ size. size) result (size_of route (field_pairs bytes.now fields.now)) }
+    ensures { GivesAsDefined (λ size. size) result
+        (size_of route (field_pairs bytes.now fields.now)) }
 {
     match route {
         Route::Join | Route::Orders(_) => posted_size(false, bytes, fields),
@@ -121,7 +122,8 @@ fn size_of(route: Route, bytes: &[u8], fields: &[HeaderSpan]) -> Result<usize, C
 #[tactic(auto, unfolding(crate::specs::Checks::pass_field))]
 fn pass_field<'a>(bytes: &'a [u8], fields: &[HeaderSpan]) -> Result<&'a [u8], CheckError>
     requires { All (IsHeaderWithin (length bytes.now)) fields.now }
-    ensures { Gives (λ pass. pass.now) result (pass_field (field_pairs bytes.now fields.now)) }
+    ensures { GivesAsDefined (λ pass. pass.now) result
+        (pass_field (field_pairs bytes.now fields.now)) }
 {
     match only_value(bytes, fields, PASS) {
         None => Err(CheckError::Failed(Problem::NoPass)),
@@ -133,7 +135,8 @@ fn pass_field<'a>(bytes: &'a [u8], fields: &[HeaderSpan]) -> Result<&'a [u8], Ch
 /// check.
 fn pass_of<'a>(route: Route, bytes: &'a [u8], fields: &[HeaderSpan]) -> Result<&'a [u8], CheckError>
     requires { All (IsHeaderWithin (length bytes.now)) fields.now }
-    ensures { Gives (λ pass. pass.now) result (pass_of route (field_pairs bytes.now fields.now)) }
+    ensures { GivesAsDefined (λ pass. pass.now) result
+        (pass_of route (field_pairs bytes.now fields.now)) }
 {
     match route {
         Route::Join => Ok(&[]),
@@ -162,7 +165,7 @@ pub fn head_checks<'a>(
     fields: &[HeaderSpan],
 ) -> Result<ParsedHead<'a>, CheckError>
     requires { All (IsHeaderWithin (length bytes.now)) fields.now }
-    ensures { Gives (λ w. (w.route, w.size, w.pass.now)) result
+    ensures { GivesAsDefined (λ w. (w.route, w.size, w.pass.now)) result
         (head_checks minor method.now target.now (field_pairs bytes.now fields.now)) }
 {
     let route = requested_route(alloc, minor, method, target, bytes, fields)?;
@@ -173,7 +176,7 @@ pub fn head_checks<'a>(
 
 /// The value of a body in JSON; BadJson if it is not UTF-8 or not JSON.
 fn json_of(alloc: Global, body: &[u8]) -> Result<Value, CheckError>
-    ensures { Gives view result (or_problem BadJson (json_of body.now)) }
+    ensures { GivesAsDefined view result (or_problem BadJson (json_of body.now)) }
 {
     let Ok(text) = str::from_utf8(body) else {
         return Err(CheckError::Failed(Problem::BadJson));
@@ -187,7 +190,7 @@ fn json_of(alloc: Global, body: &[u8]) -> Result<Value, CheckError>
 
 /// The text under a key of an object of JSON; BadJson if there is none.
 fn text_at<'a>(said: &'a Value, key: &str) -> Result<&'a str, CheckError>
-    ensures { Gives (λ text. text.now) result
+    ensures { GivesAsDefined (λ text. text.now) result
         (or_problem BadJson (text_at key.now (view said.now))) }
 {
     match said.get(key).and_then(Value::as_str) {
@@ -199,7 +202,7 @@ fn text_at<'a>(said: &'a Value, key: &str) -> Result<&'a str, CheckError>
 /// The join that a JSON body asks for, with name and pass text; else BadJson. The fifth check.
 #[tactic(auto, unfolding(crate::specs::Checks::joining))]
 fn joining(alloc: Global, body: &[u8]) -> Result<Request, CheckError>
-    ensures { Gives (λ request. request) result (joining body.now) }
+    ensures { GivesAsDefined (λ request. request) result (joining body.now) }
 {
     let said = json_of(alloc, body)?;
     let name = text_at(&said, "name")?;
@@ -218,7 +221,7 @@ pub fn request_of(
     pass: &[u8],
     body: &[u8],
 ) -> Result<Request, CheckError>
-    ensures { Gives (λ request. request) result (request_of route pass.now body.now) }
+    ensures { GivesAsDefined (λ request. request) result (request_of route pass.now body.now) }
 {
     match route {
         Route::Join => joining(alloc, body),

@@ -2,8 +2,8 @@
 ghost use Rattle.std.specs.Prelude.{◌≡◌, All, length, option_map};
 ghost use Rattle.std.specs.Str.{str_eq_ignore_ascii_case};
 ghost use Rattle.httparse.specs.Spans.{IsHeaderWithin};
-ghost use Rattle.atl_http.specs.Fields.{values_of, only};
-ghost use Rattle.atl_http.specs.Finding.{HasValues, one_more, field_pairs};
+ghost use Rattle.atl_http.specs.Fields.{values_of, single_value};
+ghost use Rattle.atl_http.specs.Finding.{HasValues, add_value, field_pairs};
 
 use httparse::spans::{HeaderSpan, Span};
 
@@ -26,8 +26,8 @@ fn is_same(name: &[u8], other: &[u8]) -> bool
 }
 
 /// Adds one more value to the result of a lookup: none becomes one, and one becomes several.
-fn with_value(found: FieldLookup, value: Span) -> FieldLookup
-    ensures { result ≡ one_more found value }
+fn add_value(found: FieldLookup, value: Span) -> FieldLookup
+    ensures { result ≡ add_value found value }
 {
     match found {
         FieldLookup::Nowhere => FieldLookup::Once(value),
@@ -44,7 +44,7 @@ pub fn find_value(bytes: &[u8], fields: &[HeaderSpan], name: &[u8]) -> FieldLook
     let mut found = FieldLookup::Nowhere;
     for field in fields {
         if is_same(field.name.of(bytes), name) {
-            found = with_value(found, field.value);
+            found = add_value(found, field.value);
         }
     }
     found
@@ -54,7 +54,7 @@ pub fn find_value(bytes: &[u8], fields: &[HeaderSpan], name: &[u8]) -> FieldLook
 pub fn only_value<'a>(bytes: &'a [u8], fields: &[HeaderSpan], name: &[u8]) -> Option<&'a [u8]>
     requires { All (IsHeaderWithin (length bytes.now)) fields.now }
     ensures { option_map (λ value. value.now) result
-        ≡ only (values_of name.now (field_pairs bytes.now fields.now)) }
+        ≡ single_value (values_of name.now (field_pairs bytes.now fields.now)) }
 {
     match find_value(bytes, fields, name) {
         FieldLookup::Once(value) => Some(value.of(bytes)),

@@ -49,6 +49,7 @@ impl HttpFault {
 
 /// Writes the fault's number and name, as `1 Cut`; of `Memory` the name alone.
 impl fmt::Display for HttpFault {
+    /// Writes the fault's number, if it has one, and its name.
     fn fmt<W: fmt::Write>(&self, f: &mut fmt::Formatter<W>) -> fmt::Result {
         match self.number() {
             Some(number) => write!(f, "{number} {self:?}"),
@@ -66,6 +67,7 @@ impl From<AllocError> for HttpFault {
 
     ghost from_gives = { λ _ e. e ≡ Memory };
 
+    /// The fault Memory.
     fn from(_e: AllocError) -> HttpFault {
         HttpFault::Memory
     }
@@ -102,8 +104,8 @@ fn read_more<R: Read>(
     }
 }
 
-/// Writes all bytes, or only the first of them and gives WriteFault: a write failed or took no
-/// byte, or 1,000,000 writes were interrupted.
+/// Writes all bytes. WriteFault if a write fails or takes no byte, or 1,000,000 writes are
+/// interrupted: then only the first bytes were written, perhaps none.
 pub fn send<W: Write>(writer: &mut W, writes: &mut Writes, bytes: &[u8]) -> Result<(), HttpFault>
     requires { writes.old ≡ no_writes }
     ensures sends { Sends (W.contents writer.old) (W.contents writer.new) bytes.now result }
@@ -121,7 +123,7 @@ pub fn send<W: Write>(writer: &mut W, writes: &mut Writes, bytes: &[u8]) -> Resu
 }
 
 /// A buffer of 8,192 zeros for the bytes of one read.
-fn room(alloc: Global) -> Result<Vec<u8>, AllocError>
+fn read_buffer(alloc: Global) -> Result<Vec<u8>, AllocError>
     ensures { IfOk result (λ room. length room.items ≡ most_at_once) }
 {
     let mut room = Vec::with_capacity(alloc, MOST_AT_ONCE)?;
@@ -130,19 +132,19 @@ fn room(alloc: Global) -> Result<Vec<u8>, AllocError>
 }
 
 /// The verdict on the bytes received so far, or how many more are missing. They are parsed only if
-/// `lacking`, the number of bytes known to be missing, is 0.
-fn progress_if_due(alloc: Global, seen: &[u8], lacking: usize) -> Result<Progress, AllocError>
-    requires { IsShortBy seen.now lacking }
+/// `missing`, the number of bytes known to be missing, is 0.
+fn progress_if_due(alloc: Global, seen: &[u8], missing: usize) -> Result<Progress, AllocError>
+    requires { IsShortBy seen.now missing }
     ensures { IfOk result (ComesTo seen.now) }
 {
-    if 0 < lacking {
-        return Ok(Progress::Lacks(lacking));
+    if 0 < missing {
+        return Ok(Progress::Missing(missing));
     }
     progress_of(alloc, seen)
 }
 
-/// Reads until the request is whole or refused, as `receive` does, with `room` as the buffer of
-/// 8,192 bytes for each read.
+/// Reads until the request is whole or refused, as `receive` does, with `read_buffer` as the buffer
+/// of 8,192 bytes for each read.
 fn receive_in<R: Read>(
     alloc: Global,
     reader: &mut R,
@@ -157,14 +159,14 @@ fn receive_in<R: Read>(
         result }
     ensures ends { EndsReading reads.new result }
 {
-    let mut lacking = 0;
+    let mut missing = 0;
     loop {
-        match progress_if_due(alloc, seen, lacking)? {
+        match progress_if_due(alloc, seen, missing)? {
             Progress::Ends(outcome) => return Ok(outcome),
-            Progress::Lacks(count) => lacking = count,
+            Progress::Missing(count) => missing = count,
         }
         match read_more(reader, reads, room, seen) {
-            Ok(count) => lacking = lacking.saturating_sub(count),
+            Ok(count) => missing = missing.saturating_sub(count),
             Err(fault) => return Err(fault),
         }
     }
@@ -185,6 +187,6 @@ pub fn receive<R: Read>(
         result }
     ensures ends { EndsReading reads.new result }
 {
-    let mut room = room(alloc)?;
+    let mut room = read_buffer(alloc)?;
     receive_in(alloc, reader, reads, &mut room, seen)
 }

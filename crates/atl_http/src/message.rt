@@ -2,7 +2,7 @@
 ghost use Rattle.std.specs.Prelude.{◌≡◌, IfOk, OnOk, ◌++◌, [], unwrap_or, string_bytes};
 ghost use Rattle.http.specs.StatusCode.{reason_phrase};
 ghost use Rattle.atl_http.specs.Replies.{json, allow_line, head_of, error_body, problem_reply};
-ghost use Rattle.atl_http.specs.Io.{Says};
+ghost use Rattle.atl_http.specs.Io.{MatchesReply};
 
 use crate::problem::Problem;
 use crate::route::Route;
@@ -28,6 +28,7 @@ pub struct Message {
 
 /// Drops the bytes of a reply.
 impl Drop for Message {
+    /// Drops the bytes of the reply.
     fn drop(self) {
         let_go!(self: Message { status, bytes });
     }
@@ -86,7 +87,12 @@ pub fn reply_message(
     body: &str,
 ) -> Result<Message, AllocError>
     ensures { IfOk result
-        (Says (record { status = status; allow = allow; kind = kind.now; body = body.now })) }
+        (MatchesReply (record {
+          status = status;
+          allow = allow;
+          kind = kind.now;
+          body = body.now;
+        })) }
 {
     let mut bytes = String::new(alloc);
     write_head(&mut bytes, status, kind, body)?;
@@ -115,7 +121,7 @@ pub fn error_message(
     number: u8,
 ) -> Result<Message, AllocError>
     ensures { IfOk result
-        (Says (record {
+        (MatchesReply (record {
           status = status;
           allow = allow;
           kind = json;
@@ -129,7 +135,7 @@ pub fn error_message(
 
 /// The reply to a request that failed a check. AllocError without memory for its bytes.
 pub fn problem_message(alloc: Global, problem: Problem) -> Result<Message, AllocError>
-    ensures { IfOk result (Says (problem_reply problem)) }
+    ensures { IfOk result (MatchesReply (problem_reply problem)) }
 {
     let allow = match problem {
         Problem::BadMethod(route) => Some(route),

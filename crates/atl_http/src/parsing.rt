@@ -43,7 +43,7 @@ fn progress_with_body(
         ))),
     };
     if rest.len() < wanted.size {
-        return Ok(Progress::Lacks(wanted.size - rest.len()));
+        return Ok(Progress::Missing(wanted.size - rest.len()));
     }
     let body = &rest[..wanted.size];
     match request_of(alloc, wanted.route, wanted.pass, body) {
@@ -76,7 +76,7 @@ pub enum HeadParse {
 /// Parses the first bytes as a head; one with more than 32 fields is refused.
 fn parse_head(front: &[u8], fields: &mut [HeaderSpan]) -> HeadParse
     requires { length fields.old ≡ most_fields }
-    ensures tells { ParsesHead front.now fields.new result }
+    ensures finds { ParsesHead front.now fields.new result }
     ensures room { length fields.new ≡ most_fields }
 {
     match parse_request(front, fields) {
@@ -114,7 +114,7 @@ fn progress_past_head(
     requires front { front.now ≡ take most_head seen.now }
     requires within { length front.now ≤ length seen.now }
     requires room { length fields.now ≡ most_fields }
-    requires tells { IsRequestWithin front.now fields.now head.now
+    requires finds { IsRequestWithin front.now fields.now head.now
         × IsRequestOf front.now fields.now head.now }
     ensures { IfOk result (ComesTo seen.now) }
 {
@@ -137,14 +137,14 @@ fn progress_in(
     let front = front_of(seen);
     match parse_head(front, fields) {
         HeadParse::Whole(head) => progress_past_head(alloc, seen, front, fields, &head),
-        HeadParse::Partial if seen.len() < MOST_HEAD => Ok(Progress::Lacks(1)),
+        HeadParse::Partial if seen.len() < MOST_HEAD => Ok(Progress::Missing(1)),
         HeadParse::Partial => Ok(Progress::Ends(FinalVerdict::Refused(Problem::BadRequest))),
         HeadParse::Refused => Ok(Progress::Ends(FinalVerdict::Refused(Problem::BadRequest))),
     }
 }
 
 /// The verdict on the bytes received so far, or how many more are missing: 1 while the head isn't
-/// whole, then the rest of the body. AllocError as of `verdict_on`.
+/// whole, and then as many as the body lacks. AllocError as of `verdict_on`.
 pub fn progress_of(alloc: Global, seen: &[u8]) -> Result<Progress, AllocError>
     ensures { IfOk result (ComesTo seen.now) }
 {

@@ -22,6 +22,7 @@ pub struct Patience<'a, C: Clock> {
 
 /// Drops the time left; the clock is only lent.
 impl<'a, C: Clock> Drop for Patience<'a, C> {
+    /// Drops the time that is left.
     fn drop(self) {
         let Patience { clock: _, left: _ } = self;
     }
@@ -66,6 +67,7 @@ pub struct Peer<'a, C: Clock> {
 
 /// Drops only references: the connection and the patience are lent.
 impl<'a, C: Clock> Drop for Peer<'a, C> {
+    /// Drops the two references.
     fn drop(self) {
         let Peer {
             stream: _,

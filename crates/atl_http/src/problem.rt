@@ -63,6 +63,7 @@ impl Problem {
 
 /// Prints a problem's name, as `NoRoute`.
 impl fmt::Display for Problem {
+    /// Writes the problem's name.
     fn fmt<W: fmt::Write>(&self, f: &mut fmt::Formatter<W>) -> fmt::Result {
         write!(f, "{}", self.name())
     }
@@ -86,6 +87,7 @@ impl From<AllocError> for CheckError {
 
     ghost from_gives = { λ _ e. e ≡ Memory };
 
+    /// The error Memory.
     fn from(_e: AllocError) -> CheckError {
         CheckError::Memory
     }

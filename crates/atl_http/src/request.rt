@@ -43,6 +43,7 @@ pub enum Request {
 
 /// Drops the name, the pass text or the mailing of a request.
 impl Drop for Request {
+    /// Drops what the request owns, whichever variant it is.
     fn drop(self) {
         match self {
             Request::Join { name: _, pass: _ } => {}
@@ -127,7 +128,7 @@ pub enum FinalVerdict {
 #[derive(Drop)]
 pub enum Progress {
     /// The request isn't whole, and needs at least this many bytes more, which is 1 or more.
-    Lacks(usize),
+    Missing(usize),
     /// The request is whole or refused.
     Ends(FinalVerdict),
 }
@@ -141,7 +142,7 @@ impl Progress {
         ensures { result ≡ verdict_by self }
     {
         match self {
-            Progress::Lacks(_) => Verdict::More,
+            Progress::Missing(_) => Verdict::More,
             Progress::Ends(FinalVerdict::Refused(problem)) => Verdict::Refused(problem),
             Progress::Ends(FinalVerdict::Asks(request)) => Verdict::Asks(request),
         }

@@ -4,7 +4,7 @@ ghost use Rattle.std.specs.List.{position, position_or_len};
 ghost use Rattle.matchit.specs.Route.{parse_route};
 ghost use Rattle.matchit.specs.Router.{InsertsRead};
 ghost use Rattle.atl_http.specs.Routes.{number_of, route_of, method_of, is_question, path_of};
-ghost use Rattle.atl_http.specs.Routing.{kept, route_in};
+ghost use Rattle.atl_http.specs.Routing.{route_rows, route_in};
 
 use http::Method;
 use matchit::Router;
@@ -91,12 +91,12 @@ pub fn path_of(target: &[u8]) -> &[u8]
     &target[..end]
 }
 
-/// Adds a route to a router; `place` is the key that the route leads to.
-fn add(router: &mut Router<RouteKey>, route: &str, place: RouteKey) -> Result<(), AllocError>
-    ensures { OnOk result (InsertsRead (parse_route route.now) place router.old router.new
+/// Adds a route to a router; `key` is the key that the route leads to.
+fn add(router: &mut Router<RouteKey>, route: &str, key: RouteKey) -> Result<(), AllocError>
+    ensures { OnOk result (InsertsRead (parse_route route.now) key router.old router.new
         (Ok tt)) }
 {
-    match router.insert(route, place) {
+    match router.insert(route, key) {
         Ok(()) => Ok(()),
         Err(_) => Err(AllocError),
     }
@@ -104,7 +104,7 @@ fn add(router: &mut Router<RouteKey>, route: &str, place: RouteKey) -> Result<()
 
 /// A router of the four routes.
 fn router(alloc: Global) -> Result<Router<RouteKey>, AllocError>
-    ensures { IfOk result (λ router. router ≡ kept) }
+    ensures { IfOk result (λ router. router ≡ route_rows) }
 {
     let mut router = Router::new(alloc);
     add(&mut router, "/join", RouteKey::Join)?;
@@ -114,12 +114,12 @@ fn router(alloc: Global) -> Result<Router<RouteKey>, AllocError>
     Ok(router)
 }
 
-/// The route of the key `place`, with the number that the text `parameter` writes; None if the
+/// The route of the key `key`, with the number that the text `parameter` writes; None if the
 /// route needs a number and `parameter` writes none.
-fn route_in(place: RouteKey, parameter: Option<&str>) -> Option<Route>
-    ensures { result ≡ route_in place (option_map (λ text. text.now) parameter.entry) }
+fn route_in(key: RouteKey, parameter: Option<&str>) -> Option<Route>
+    ensures { result ≡ route_in key (option_map (λ text. text.now) parameter.entry) }
 {
-    match (place, parameter) {
+    match (key, parameter) {
         (RouteKey::Join, _) => Some(Route::Join),
         (RouteKey::Orders, Some(text)) => number_of(text.as_bytes()).map(Route::Orders),
         (RouteKey::Close, Some(text)) => number_of(text.as_bytes()).map(Route::Close),
@@ -130,7 +130,7 @@ fn route_in(place: RouteKey, parameter: Option<&str>) -> Option<Route>
 
 /// The route of a path, by a router of the four routes.
 fn route_by(router: &Router<RouteKey>, path: &str) -> Option<Route>
-    requires { router.now ≡ kept }
+    requires { router.now ≡ route_rows }
     ensures { result ≡ route_of path.now }
 {
     match router.at(path) {

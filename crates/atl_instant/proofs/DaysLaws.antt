@@ -13,7 +13,7 @@ use Rattle.atl_phase.specs.Holdings.{with_days}
 use Rattle.atl_instant.specs.SkillDays.{left_list, raised_list}
 use Rattle.atl_instant.specs.Transfer.{DaysGoWithMen, days_going, going_of, raised_of, staying_of, after_sending, after_receiving}
 use Rattle.atl_instant.proofs.AmountsForLaws.{as_said, each_said, same_amounts}
-use Rattle.atl_records.proofs.HoldingLaws.{alike, every_amount, set_amount}
+use Rattle.atl_records.proofs.HoldingLaws.{compared_equal_is_equal, every_amount, amount_after_setting}
 
 -- the days of skills, each of which is set by a function of the skill and its days in a map
 module _ (days : FinMap nat_cmp ℕ) (f : ℕ → ℕ → ℕ) (s : ℕ) where
@@ -32,7 +32,7 @@ module _ (days : FinMap nat_cmp ℕ) (f : ℕ → ℕ → ℕ) (s : ℕ) where
   set_among [] left each = refl
   set_among ((k, v) ∷ es) left (one, each) =
       set_among es (with_amount_of left k (f k v)) each
-      ∙ ap (cond (is_among es) (f s (amount_of days s))) (set_amount left k (f k v) s)
+      ∙ ap (cond (is_among es) (f s (amount_of days s))) (amount_after_setting left k (f k v) s)
       ∙ by_key (eq_by_cmp nat_cmp s k) refl
     where
       -- for `by_key`: a choice between x and x, by any test b, is x
@@ -44,13 +44,13 @@ module _ (days : FinMap nat_cmp ℕ) (f : ℕ → ℕ → ℕ) (s : ℕ) where
       -- entry is for s (`b`) or not
       by_key : (b : Bool) → eq_by_cmp nat_cmp s k ≡ b → cond (is_among es) (f s (amount_of days s)) (cond b (f k v) (amount_of left s)) ≡ cond (b || is_among es) (f s (amount_of days s)) (amount_of left s)
       by_key true is =
-          let same : s ≡ k = alike k s is in
+          let same : s ≡ k = compared_equal_is_equal k s is in
           let here : f k v ≡ f s (amount_of days s) = ap (f k) (sym one) ∙ ap (λ j. f j (amount_of days j)) (sym same) in
           ap (cond (is_among es) (f s (amount_of days s))) here ∙ choice_of_same (is_among es) (f s (amount_of days s))
       by_key false is = refl
 
-  -- after each skill that the map `days` lists is set to f of its days, skill s has f of its days in `days`; if these
-  -- are 0, s must have had f of 0 before
+  -- After each skill that the map `days` lists is set to f of its days, skill s has f of its days in `days`. If `days`
+  -- has 0 of it, s must have f of 0 before.
   pub set_each : (left : FinMap nat_cmp ℕ) → (amount_of days s ≡ 0 → amount_of left s ≡ f s 0) → amount_of (set_all left (entries days)) s ≡ f s (amount_of days s)
   set_each left others =
       set_among (entries days) left (each-from_every (λ k v. amount_of days k ≡ v) days (λ k v there. ap (λ (o : Option ℕ). unwrap_or o 0) there))
@@ -64,11 +64,12 @@ module _ (days : FinMap nat_cmp ℕ) (f : ℕ → ℕ → ℕ) (s : ℕ) where
           let none : amount_of days s ≡ 0 = ap (λ (o : Option ℕ). unwrap_or o 0) there in
           others none ∙ ap (f s) (sym none)
 
--- if a unit has 0 days of a skill, 0 days go with n of its men
-nobody_goes : (n men : ℕ) → days_going n men 0 ≡ 0
-nobody_goes n men = ap (λ k. k / men) (zero-mul n) ∙ zero-div men
+-- no days go with n of `men` men (`days_going`), if all of them together have 0 days of the skill
+zero_days_going : (n men : ℕ) → days_going n men 0 ≡ 0
+zero_days_going n men = ap (λ k. k / men) (zero-mul n) ∙ zero-div men
 
--- to set the days of a list whose entries were mapped by f is to set f of the days of each entry of the list itself
+-- `with_days` of a list to whose days f was applied gives the same map as setting, for each entry of the list itself, f
+-- of its days
 with_days_mapped : (f : ℕ → ℕ → ℕ) (es : List (ℕ × ℕ)) (all : FinMap nat_cmp ℕ) →
     with_days all (map (λ e. (e.0, f e.0 e.1)) es) ≡ fold (λ (m : FinMap nat_cmp ℕ) (e : ℕ × ℕ). with_amount_of m e.0 (f e.0 e.1)) all es
 with_days_mapped f [] all = refl
@@ -83,10 +84,11 @@ none_listed days s none = by_option (get days s) (contains_key-keys days s ∙ n
     by_option None is = refl
     by_option (Some d) is = cc
 
--- for `days_go_with_men`: if the test whether a skill is in one of two lists fails, it fails for each list (a, b)
-neither : (a b : Bool) → (a || b) ≡ false → (a ≡ false) × (b ≡ false)
-neither true b h = cc
-neither false b h = (refl, h)
+-- for `days_go_with_men`: the tests a and b, whether a skill is in one list and in another, both fail if `a || b` is
+-- false
+both_tests_fail : (a b : Bool) → (a || b) ≡ false → (a ≡ false) × (b ≡ false)
+both_tests_fail true b h = cc
+both_tests_fail false b h = (refl, h)
 
 -- if a unit has 0 days of a skill (d), of which g go with its men, 0 stay with it
 none_stay : (d g : ℕ) → d ≡ 0 → d - g ≡ 0
@@ -98,75 +100,75 @@ none_come d g e f = omega (arith, e, f)
 
 -- no days of a skill go with n men, if the unit has none
 pub none_go : (n : ℕ) (h : HoldingValue) (s : ℕ) → amount_of h.days s ≡ 0 → going_of n h s ≡ 0
-none_go n h s none = ap (days_going n h.men) none ∙ nobody_goes n h.men
+none_go n h s none = ap (days_going n h.men) none ∙ zero_days_going n h.men
 
--- however many men went, the sender has of each skill the days that stay (`staying_of`), and the receiver those that it
--- had and those that came (`raised_of`)
+-- after n men went, the sender has the days of each skill that stay (`staying_of`), and the receiver those that it had
+-- and those that came (`raised_of`)
 pub days_go_with_men : DaysGoWithMen
 days_go_with_men n other h s = record {
   stay = as_said (staying_of n other) (keys other.days) s (λ none. none_stay (amount_of other.days s) (going_of n other s) (none_listed other.days s none));
   come =
       as_said (raised_of n other h) (keys h.days ++ keys other.days) s (λ none.
-      let apart = neither (list_any (eq_by_cmp nat_cmp s) (keys h.days)) (list_any (eq_by_cmp nat_cmp s) (keys other.days)) (sym (list_any-append (eq_by_cmp nat_cmp s) (keys h.days) (keys other.days)) ∙ none) in
+      let apart = both_tests_fail (list_any (eq_by_cmp nat_cmp s) (keys h.days)) (list_any (eq_by_cmp nat_cmp s) (keys other.days)) (sym (list_any-append (eq_by_cmp nat_cmp s) (keys h.days) (keys other.days)) ∙ none) in
       none_come (amount_of h.days s) (going_of n other s) (none_listed h.days s apart.0) (none_go n other s (none_listed other.days s apart.1)));
 }
 
 -- ---- what the code sets one by one
 
 -- a map that lists no skill with 0 days lists none with 0 days after the days of some skills are set one by one
-every_set : (f : ℕ → ℕ → ℕ) (es : List (ℕ × ℕ)) (left : FinMap nat_cmp ℕ) → Every (λ s d. 1 ≤ d) left → Every (λ s d. 1 ≤ d) (fold (λ (m : FinMap nat_cmp ℕ) (e : ℕ × ℕ). with_amount_of m e.0 (f e.0 e.1)) left es)
-every_set f [] left old = old
-every_set f (e ∷ es) left old = every_set f es (with_amount_of left e.0 (f e.0 e.1)) (every_amount (λ s d. 1 ≤ d) left e.0 (f e.0 e.1) (λ some. some) old)
+no_zeros_after_setting : (f : ℕ → ℕ → ℕ) (es : List (ℕ × ℕ)) (left : FinMap nat_cmp ℕ) → Every (λ s d. 1 ≤ d) left → Every (λ s d. 1 ≤ d) (fold (λ (m : FinMap nat_cmp ℕ) (e : ℕ × ℕ). with_amount_of m e.0 (f e.0 e.1)) left es)
+no_zeros_after_setting f [] left old = old
+no_zeros_after_setting f (e ∷ es) left old = no_zeros_after_setting f es (with_amount_of left e.0 (f e.0 e.1)) (every_amount (λ s d. 1 ≤ d) left e.0 (f e.0 e.1) (λ some. some) old)
 
--- setting, in the map `had`, each skill of `days` to `f` of its days gives the map `said`, if `said` has `f` of each
--- skill's days, `had` has it already where `days` has 0, and `had` and `said` list no skill with 0 days
-set_as_said : (days had said : FinMap nat_cmp ℕ) (f : ℕ → ℕ → ℕ) → Every (λ s d. 1 ≤ d) had → Every (λ s d. 1 ≤ d) said
+-- Setting each skill of `days` to f of its days in the map `had` gives the map `said`. For this `said` has f of the
+-- days of every skill, and `had` has it already where `days` has 0. Neither `had` nor `said` lists a skill with 0 days.
+setting_gives_map : (days had said : FinMap nat_cmp ℕ) (f : ℕ → ℕ → ℕ) → Every (λ s d. 1 ≤ d) had → Every (λ s d. 1 ≤ d) said
     → ((s : ℕ) → amount_of days s ≡ 0 → amount_of had s ≡ f s 0) → ((s : ℕ) → f s (amount_of days s) ≡ amount_of said s)
     → with_days had (map (λ e. (e.0, f e.0 e.1)) (entries days)) ≡ said
-set_as_said days had said f some some_said others each =
+setting_gives_map days had said f some some_said others each =
     let set = with_days_mapped f (entries days) had in
     same_amounts (with_days had (map (λ e. (e.0, f e.0 e.1)) (entries days))) said
-    (subst (Every (λ s d. 1 ≤ d)) (sym set) (every_set f (entries days) had some)) some_said
+    (subst (Every (λ s d. 1 ≤ d)) (sym set) (no_zeros_after_setting f (entries days) had some)) some_said
     (λ s. ap (λ (m : FinMap nat_cmp ℕ). amount_of m s) set ∙ set_each days f s had (others s) ∙ each s)
 
--- Setting each skill of `days` to f of its days gives the same map over `days` as over the empty map,
--- if f gives 0 for 0 days, and no skill of `days` has 0.
+-- Setting each skill of `days` to f of its days gives the same map in `days` itself as in the empty map. For this f
+-- gives 0 for 0 days, and `days` lists no skill with 0 days.
 pub set_again : (days : FinMap nat_cmp ℕ) (f : ℕ → ℕ → ℕ) → ((s : ℕ) → f s 0 ≡ 0) → Every (λ s d. 1 ≤ d) days
     → with_days days (map (λ e. (e.0, f e.0 e.1)) (entries days)) ≡ fold (λ (m : FinMap nat_cmp ℕ) (e : ℕ × ℕ). with_amount_of m e.0 (f e.0 e.1)) empty (entries days)
 set_again days f none some =
     let anew = fold (λ (m : FinMap nat_cmp ℕ) (e : ℕ × ℕ). with_amount_of m e.0 (f e.0 e.1)) empty (entries days) in
-    set_as_said days days anew f some (every_set f (entries days) empty (every-empty (λ s d. 1 ≤ d))) (λ s free. free ∙ sym (none s))
+    setting_gives_map days days anew f some (no_zeros_after_setting f (entries days) empty (every-empty (λ s d. 1 ≤ d))) (λ s free. free ∙ sym (none s))
     (λ s. sym (set_each days f s empty (λ free. ap (λ (o : Option ℕ). unwrap_or o 0) (get-empty nat_cmp s) ∙ sym (none s))))
 
--- the days of a skill that stay when n of `men` men go, who have `days` of it together
-abbrev rest_days : (n men : ℕ) → (skill days : ℕ) → ℕ
-rest_days n men k d = d - days_going n men d
+-- the days of a skill that stay when n of `men` men go, of the `days` that they have together
+abbrev days_staying : (n men : ℕ) → (skill days : ℕ) → ℕ
+days_staying n men k d = d - days_going n men d
 
 -- the holding that the code sets for the sender of n men is that of the definition (`after_sending`), if the sender
 -- lists no skill with 0 days
-pub fewer_is : (n : ℕ) (h : HoldingValue) → Every (λ s d. 1 ≤ d) h.days → record h { men = h.men - n; days = with_days h.days (left_list n h.men h.days) } ≡ after_sending n h
-fewer_is n h had =
+pub sender_holding_is : (n : ℕ) (h : HoldingValue) → Every (λ s d. 1 ≤ d) h.days → record h { men = h.men - n; days = with_days h.days (left_list n h.men h.days) } ≡ after_sending n h
+sender_holding_is n h had =
     ap (λ (m : FinMap nat_cmp ℕ). record h { men = h.men - n; days = m })
-    (set_as_said h.days h.days (after_sending n h).days (rest_days n h.men) had
+    (setting_gives_map h.days h.days (after_sending n h).days (days_staying n h.men) had
     (λ s d there. (each_said (staying_of n h) (keys h.days) s d there).0)
     (λ s none. none ∙ sym (none_stay 0 (days_going n h.men 0) refl))
     (λ s. sym (days_go_with_men n h h s).stay))
 
--- the days of a skill that the receiver, which had those in the map, has once n of the sender's `men` men came, who
--- have `days` of it together
+-- the days of a skill that a receiver has after n of the sender's `men` men came: those in its map before, and the part
+-- of the sender's `days` that came
 abbrev raised_days : (n men : ℕ) → FinMap nat_cmp ℕ → (skill days : ℕ) → ℕ
 raised_days n men had k d = amount_of had k + days_going n men d
 
 -- the holding that the code sets for the receiver of n men is that of the definition (`after_receiving`), if the
 -- receiver lists no skill with 0 days
-pub more_is : (n : ℕ) (other h : HoldingValue) → Every (λ s d. 1 ≤ d) h.days → record h { men = h.men + n; days = with_days h.days (raised_list n other.men other.days h.days) } ≡ after_receiving n other h
-more_is n other h had =
+pub receiver_holding_is : (n : ℕ) (other h : HoldingValue) → Every (λ s d. 1 ≤ d) h.days → record h { men = h.men + n; days = with_days h.days (raised_list n other.men other.days h.days) } ≡ after_receiving n other h
+receiver_holding_is n other h had =
     ap (λ (m : FinMap nat_cmp ℕ). record h { men = h.men + n; days = m })
-    (set_as_said other.days h.days (after_receiving n other h).days (raised_days n other.men h.days) had
+    (setting_gives_map other.days h.days (after_receiving n other h).days (raised_days n other.men h.days) had
     (λ s d there. (each_said (raised_of n other h) (keys h.days ++ keys other.days) s d there).0)
-    (λ s none. nothing_more (amount_of h.days s) (days_going n other.men 0) (nobody_goes n other.men))
+    (λ s none. nothing_more (amount_of h.days s) (days_going n other.men 0) (zero_days_going n other.men))
     (λ s. sym (days_go_with_men n other h s).come))
   where
-    -- for `more_is`: the receiver's days a stay the same if no days (g) come
+    -- for `receiver_holding_is`: the receiver's days a stay the same if no days (g) come
     nothing_more : (a g : ℕ) → g ≡ 0 → a ≡ a + g
     nothing_more a g e = omega arith

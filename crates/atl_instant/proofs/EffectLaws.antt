@@ -1,7 +1,7 @@
 -- Laws of the effect of one order that books nothing: what it keeps, above all where something goes from one unit to
--- another; and what follows for a phase that carries out such orders one by one. A unit is no worse off (`IsNoWorse`)
--- with the same faction, place, name and guard flag, and no less men, money, goods and days. A unit may have
--- (`MayHave`) what is within the limits and of the world, under a name that keeps the name rule.
+-- another. Further laws say what follows for a phase that carries out such orders one by one. A unit is no worse off
+-- (`IsNoWorse`) with the same faction, place, name and guard flag, and no less men, money, goods and days. A unit may
+-- have (`MayHave`) what is within the limits and of the world, under a name that keeps the name rule.
 use Rattle.std.proofs.Common.{◌≡◌, ◌≢◌, ◌==◌, ℕ, ◌+◌, Bool, true, false, Option, Some, None, refl, sym, ap, subst, ◌∙◌, inl, inr, arith}
 use Rattle.std.specs.Prelude.{IfSome, if◌then◌else◌}
 use Rattle.std.proofs.lemmas.Bool.{cases_eq}
@@ -34,34 +34,35 @@ use Rattle.atl_phase.specs.Unbooked.{moves_nothing}
 use Rattle.atl_campaign.proofs.HavingLaws.{MayHave, early-having}
 use Rattle.atl_phase.proofs.MeaningLaws.{same_month_by}
 use Rattle.atl_phase.proofs.NoWorseLaws.{no_worse}
-use Rattle.atl_phase.proofs.OrderEffectLaws.{no_worse_spares, well_same}
+use Rattle.atl_phase.proofs.OrderEffectLaws.{no_worse_is_relation, well_same}
 use Rattle.atl_phase.proofs.UnbookedLaws.{other_unit, unbooked_well}
-use Rattle.atl_phase.proofs.UnmailedLaws.{SparesMen}
+use Rattle.atl_phase.proofs.UnmailedLaws.{LeavesOthersMen}
 
 -- ---- what an order keeps
 
 -- a unit is no worse off after an order of faction f, and has exactly as many men as before if it isn't of that faction
-pub record IsSpared (f : ℕ) (before after : Unit) : Type 0 where
+pub record IsLeftAlone (f : ℕ) (before after : Unit) : Type 0 where
   -- the unit is no worse off after the order than before (`IsNoWorse`)
   pub better : IsNoWorse before after
   -- a unit of another faction than f, which wrote the order, has exactly as many men as before
   pub men : f ≢ before.faction → after.holding.men ≡ before.holding.men
 
--- Campaign d, which an order of faction f for unit n makes of c, spares each unit but n (`IsSpared`). Where `holds` is
--- true of c and the order fits the world (`fit`), `holds` is true of d, and month, books and balance are kept.
+-- What an order of faction f for unit n keeps, as it makes campaign d of c: each unit but n is left alone
+-- (`IsLeftAlone`). Where `holds` is true of c and the order fits the world (`fit`), `holds` is true of d, and month,
+-- books and balance are kept.
 pub record Keeps (holds : Condition) (fit : Type 0) (w : WorldValue) (c : CampaignValue) (n f : ℕ) (d : CampaignValue) : Type 0 where
   -- where `holds` is true of c and the order fits (`fit`), `holds` is true of d, and month, books and balance are kept
   pub well : holds w c → fit → StepsWell holds nothing_remaining w c d
   -- each unit but n is in d, no worse off than in c, and has exactly as many men as in c if it is of another faction
   -- than f
-  pub others : (k : ℕ) (v : Unit) → get c.units k ≡ Some v → k ≢ n → IsUnaffected (IsSpared f) d k v
+  pub others : (k : ℕ) (v : Unit) → get c.units k ≡ Some v → k ≢ n → IsUnaffected (IsLeftAlone f) d k v
 
 module _ {holds : Condition} {fit : Type 0} (w : WorldValue) (c : CampaignValue) (n f : ℕ) where
   -- an order that changes no unit but n, and keeps `holds` and the books (`StepsWell`), keeps what `Keeps` says
   pub keeps_others : (d : CampaignValue) → (holds w c → fit → StepsWell holds nothing_remaining w c d) → ((k : ℕ) → k ≢ n → get d.units k ≡ get c.units k) → Keeps holds fit w c n f d
   keeps_others d well stay = record {
     well = well;
-    others = λ k v there apart. record { unit = v; there = stay k apart ∙ there; spared = record { better = no_worse v; men = λ other. refl } };
+    others = λ k v there apart. record { unit = v; there = stay k apart ∙ there; is_unaffected = record { better = no_worse v; men = λ other. refl } };
   }
 
   -- an order that changes nothing keeps `holds`, the books and the other units (`Keeps`)
@@ -76,33 +77,34 @@ module _ {holds : Condition} {fit : Type 0} (w : WorldValue) (c : CampaignValue)
 
 -- the effect of each order for a unit of its writer's faction keeps `holds`, the books and the other units (`Keeps`)
 abbrev pub StepKeeps : Condition → OrderMeaning → Type 0
-StepKeeps holds step = (w : WorldValue) (a : Aliases) (c : CampaignValue) (t : Task) (x : Unit) → IsUnitOf c t x → IfSome (step w a t) (λ deed. Keeps holds (IsOrderOf w t.order_value) w c t.unit x.faction (deed c x).0)
+StepKeeps holds step = (w : WorldValue) (a : Aliases) (c : CampaignValue) (t : Task) (x : Unit) → IsUnitOf c t x → IfSome (step w a t) (λ effect. Keeps holds (IsOrderOf w t.order_value) w c t.unit x.faction (effect c x).0)
 
 -- a phase is orderly (`IsOrderly`), if the effect of each order keeps `holds`, the books and the other units (`Keeps`),
--- and the phase passes over a unit's own order that doesn't concern the unit
-pub orderly_by : {holds : Condition} {step : OrderMeaning} {concerns : Affects} → StepKeeps holds step
-    → ((w : WorldValue) (a : Aliases) (t : Task) (n f : ℕ) → IsOwnOrder t n f → (concerns t n f → ⊥) → step w a t ≡ None) → IsOrderly step holds nothing_remaining moves_nothing concerns IsNoWorse
+-- and the phase passes over a unit's own order that doesn't affect the unit
+pub orderly_by : {holds : Condition} {step : OrderMeaning} {affects : Affects} → StepKeeps holds step
+    → ((w : WorldValue) (a : Aliases) (t : Task) (n f : ℕ) → IsOwnOrder t n f → (affects t n f → ⊥) → step w a t ≡ None) → IsOrderly step holds nothing_remaining moves_nothing affects IsNoWorse
 orderly_by {holds} {step} keeps passed = record {
-  well = λ w a c t x h fit own. IfSome_then (step w a t) (keeps w a c t x own) (λ deed kept. kept.well h fit);
-  spares_is_relation = no_worse_spares;
-  spared = λ w a c t x h own n u there other. by_step w c t x own n u there (step w a t) (keeps w a c t x own) (λ mine. passed w a t n u.faction mine other);
+  well = λ w a c t x h fit own. IfSome_then (step w a t) (keeps w a c t x own) (λ effect kept. kept.well h fit);
+  unaffected_is_relation = no_worse_is_relation;
+  is_unaffected = λ w a c t x h own n u there other. by_step w c t x own n u there (step w a t) (keeps w a c t x own) (λ mine. passed w a t n u.faction mine other);
   bounded = λ w c h e t. omega arith;
 }
   where
-    -- a unit that an order doesn't concern is no worse off after it, whether the order is passed over or not
+    -- a unit that an order doesn't affect is no worse off after it, whether the order is passed over or not
     by_step : (w : WorldValue) (c : CampaignValue) (t : Task) (x : Unit) → IsUnitOf c t x → (n : ℕ) (u : Unit) → get c.units n ≡ Some u
-        → (o : Option OrderEffect) → IfSome o (λ deed. Keeps holds (IsOrderOf w t.order_value) w c t.unit x.faction (deed c x).0) → (IsOwnOrder t n u.faction → o ≡ None) → IfSome o (λ deed. IsUnaffected IsNoWorse (deed c x).0 n u)
+        → (o : Option OrderEffect) → IfSome o (λ effect. Keeps holds (IsOrderOf w t.order_value) w c t.unit x.faction (effect c x).0) → (IsOwnOrder t n u.faction → o ≡ None) → IfSome o (λ effect. IsUnaffected IsNoWorse (effect c x).0 n u)
     by_step w c t x own n u there None kept passes = tt
-    by_step w c t x own n u there (Some deed) kept passes =
-        let one = kept.others n u there (other_unit c t x n u own there (λ mine. let none : Some deed ≡ None = passes mine in cc)) in
-        record { unit = one.unit; there = one.there; spared = one.spared.better }
+    by_step w c t x own n u there (Some effect) kept passes =
+        let one = kept.others n u there (other_unit c t x n u own there (λ mine. let none : Some effect ≡ None = passes mine in cc)) in
+        record { unit = one.unit; there = one.there; is_unaffected = one.is_unaffected.better }
 
--- the orders of a phase leave units of other factions their men (`SparesMen`), if each keeps the other units (`Keeps`)
-pub spares_men : (holds : Condition) (step : OrderMeaning) → StepKeeps holds step → SparesMen step
-spares_men holds step keeps w a c t x own =
-    IfSome_then (step w a t) (keeps w a c t x own) (λ deed kept k v there other.
+-- the orders of a phase leave units of other factions their men (`LeavesOthersMen`), if each keeps the other units
+-- (`Keeps`)
+pub leaves_men : (holds : Condition) (step : OrderMeaning) → StepKeeps holds step → LeavesOthersMen step
+leaves_men holds step keeps w a c t x own =
+    IfSome_then (step w a t) (keeps w a c t x own) (λ effect kept k v there other.
     let one = kept.others k v there (other_unit c t x k v own there (λ mine. other mine.faction)) in
-    record { unit = one.unit; there = one.there; spared = record { faction = one.spared.better.faction; men = one.spared.men (λ same. other (sym own.faction ∙ same)) } })
+    record { unit = one.unit; there = one.there; is_unaffected = record { faction = one.is_unaffected.better.faction; men = one.is_unaffected.men (λ same. other (sym own.faction ∙ same)) } })
 
 -- ---- two units, of which one gives and the other gets
 
@@ -136,31 +138,31 @@ module _ (c : CampaignValue) (from to : ℕ) (u v : Unit) (h k : HoldingValue) (
   total-moved w both t =
       sum (total moved t) (total between t) (total c t) (unit_amount t u.holding) (unit_amount t v.holding) (unit_amount t h) (unit_amount t k) (total-unit_amount w between to v k receiver_still t) (total-unit_amount w c from u h giver t) (both t)
     where
-      -- for `total-moved`: the total a after both changes is x, that before them, if giver and receiver, who held p and
-      -- q of the thing, hold r and s after, with the same sum; b is the total between the changes
+      -- For `total-moved`: the total a after both changes is x, that before them; b is the total between the changes.
+      -- Giver and receiver held p and q of the thing, and hold r and s after, with the same sum.
       sum : (a b x p q r s : ℕ) → a + q ≡ b + s → b + p ≡ x + r → r + s ≡ p + q → a ≡ x
       sum a b x p q r s e f g = omega arith
 
-  -- A move from giver to receiver keeps the campaign early, its month and its balance (`StepsWell`), if both may hold
-  -- what they then hold, neither has its guard flag newly set, and both hold as much together as before.
+  -- A move from giver to receiver keeps the campaign early, its month and its balance (`StepsWell`). For this both may
+  -- hold what they then hold, and neither has its guard flag newly set. Together they must hold as much as before.
   pub steps-moved : (w : WorldValue) → MayHave w h → (h.guard ≡ true → u.holding.guard ≡ true) → MayHave w k → (k.guard ≡ true → v.holding.guard ≡ true) → BothHold → IsEarly w c → StepsWell IsEarly nothing_remaining w c moved
   steps-moved w less less_flag more more_flag both early =
       unbooked_well w c moved (early-having w between to v k receiver_still more more_flag (early-having w c from u h giver less less_flag early))
       (same_month_by refl) refl (total-moved w both)
 
-  -- a move leaves each unit but the giver spared (`IsSpared`), if it leaves the receiver spared
-  pub others-moved : (f : ℕ) → IsSpared f v (record v { holding = k }) → (n : ℕ) (x : Unit) → get c.units n ≡ Some x → n ≢ from → IsUnaffected (IsSpared f) moved n x
-  others-moved f spared n x there other = elim (cases_eq n to) [
+  -- a move leaves each unit but the giver alone (`IsLeftAlone`), if it leaves the receiver alone
+  pub others-moved : (f : ℕ) → IsLeftAlone f v (record v { holding = k }) → (n : ℕ) (x : Unit) → get c.units n ≡ Some x → n ≢ from → IsUnaffected (IsLeftAlone f) moved n x
+  others-moved f is_unaffected n x there other = elim (cases_eq n to) [
     | inl same ↦
         let one : Some v ≡ Some x = sym receiver ∙ ap (get c.units) (sym same) ∙ there in
         let unit : v ≡ x = cc in
-        record { unit = record v { holding = k }; there = ap (get moved.units) same ∙ get-insert_same between.units to (record v { holding = k }); spared = subst (λ y. IsSpared f y (record v { holding = k })) unit spared }
+        record { unit = record v { holding = k }; there = ap (get moved.units) same ∙ get-insert_same between.units to (record v { holding = k }); is_unaffected = subst (λ y. IsLeftAlone f y (record v { holding = k })) unit is_unaffected }
     | inr away ↦
-        record { unit = x; there = get-insert_other between.units to n (record v { holding = k }) away ∙ get-insert_other c.units from n (record u { holding = h }) other ∙ there; spared = record { better = no_worse x; men = λ apart. refl } }
+        record { unit = x; there = get-insert_other between.units to n (record v { holding = k }) away ∙ get-insert_other c.units from n (record u { holding = h }) other ∙ there; is_unaffected = record { better = no_worse x; men = λ apart. refl } }
   ]
 
--- for an order that moves something from unit `from` to `to`: P holds of the campaign after the order, if P holds of
--- that before and, where no fault applies and `from` isn't `to`, of that after the move
+-- P holds of the campaign after an order that moves something from unit `from` to `to`, if P holds of the campaign
+-- before. Where no fault applies and `from` isn't `to`, P must also hold of the campaign after the move.
 pub moved_cases : (P : CampaignValue → Type 0) (c : CampaignValue) (from to : ℕ) (u v : Unit) (h k : HoldingValue) (fault : Bool → Option EventFault) (o : Outcome) → P c
     → (to ≢ from → fault false ≡ None → P (with_holding_at (with_holding_at c from h (Some u)) to k (Some v)))
     → P (unless c (fault (to == from)) (if to == from then c else with_holding_at (with_holding_at c from h (Some u)) to k (Some v), o)).0

@@ -9,7 +9,7 @@ use Rattle.atl_records.specs.declared.records.Faction.{Faction}
 use Rattle.atl_records.specs.Every.{Every, HasValue}
 use Rattle.atl_campaign.proofs.GoodLaws.{posted-there}
 use Rattle.atl_campaign.specs.Good.{AreInRange, AreKnown, AreNamed, AreNumbered, IsSteady}
-use Rattle.atl_campaign.specs.Campaign.{CampaignValue, numbers_of, with_faction_name}
+use Rattle.atl_campaign.specs.Campaign.{CampaignValue, numbers_of_faction, with_faction_name}
 use Rattle.atl_records.proofs.EveryLaws.{every-insert, get-insert_other, none_some, there-insert}
 use Rattle.atl_campaign.proofs.RegionLaws.{changed-known, same_len}
 
@@ -99,7 +99,7 @@ module _ (c : CampaignValue) (n : ℕ) (x : Faction) (name : List ℕ) (is : get
     known = known_kept w old.known;
     next = next_kept old.next;
     days = old.days;
-    gone = every-insert (λ k f. f.gone ≡ true → numbers_of k c.units ≡ []) c.factions n renamed (old.gone n x is) old.gone;
+    gone = every-insert (λ k f. f.gone ≡ true → numbers_of_faction k c.units ≡ []) c.factions n renamed (old.gone n x is) old.gone;
     owners = old.owners;
     water = record { units = old.water.units; structures = old.water.structures };
     guarded = old.guarded;

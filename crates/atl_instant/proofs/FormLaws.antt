@@ -23,7 +23,7 @@ use Rattle.atl_campaign.specs.Marking.{mark_unit_added, mark_unit_begun}
 use Rattle.atl_campaign.specs.Campaign.{MarkedCampaign, CampaignValue, with_unit, with_unit_begun}
 use Rattle.atl_records.specs.Amounts.{unit_amount}
 use Rattle.atl_campaign.specs.Totals.{total}
-use Rattle.atl_campaign.proofs.CoverLaws.{Row, Stays, KeepsUnmarked, marks-trans, marks-unit, part_by_part}
+use Rattle.atl_campaign.proofs.CoverLaws.{Row, PartStaysMarked, KeepsUnmarked, marks-trans, marks-unit, part_by_part}
 use Rattle.atl_records.proofs.EveryLaws.{every-empty, every-insert, get-insert_other, none_some, there-insert}
 use Rattle.atl_campaign.proofs.NumberListLaws.{none_passing}
 use Rattle.atl_campaign.proofs.TotalLaws.{total-with_unit}
@@ -37,7 +37,7 @@ use Rattle.atl_world.proofs.GeneralLaws.{is_equal}
 use Rattle.atl_records.specs.declared.event.EventFault.TheVariants.{NotYours, UnitLimit}
 use Rattle.atl_records.specs.declared.event.Outcome.TheVariants.{Done}
 use Rattle.atl_phase.specs.Month.{MonthValue}
-use Rattle.atl_phase.specs.Inside.{inside, region_of}
+use Rattle.atl_phase.specs.Inside.{structure_of_unit, region_of}
 use Rattle.atl_phase.specs.Outcomes.{first_fault, unless}
 use Rattle.atl_phase.specs.PhaseOrders.{Task, orders_of}
 use Rattle.atl_phase.specs.OrderEffects.{is_of_faction}
@@ -56,14 +56,14 @@ len_new m k v h = len-insert nat_cmp_total m k v ∙ ap (λ o. cond (is_some o) 
 still_there : {V : Type 0} (m : FinMap nat_cmp V) (k q : ℕ) (v x : V) → get m k ≡ None → get m q ≡ Some x → get (insert m k v) q ≡ Some x
 still_there m k q v x free is = get-insert_other m k q v (λ same. none_some x (sym free ∙ ap (get m) (sym same) ∙ is)) ∙ is
 
--- for `room`: if the test for the unit limit is false of a count u of units and a next number n, u is below 100,000,
--- and n at most 999,999,999
+-- for `unit_limits_not_reached`: if the test for the unit limit is false of a count u of units and a next number n, u
+-- is below 100,000, and n at most 999,999,999
 below_limits : (u n : ℕ) → (nat_le most_units u || nat_lt last_unit n) ≡ false → (u < most_units) × (n ≤ last_unit)
 below_limits u n h = (grind (arith, nat_tests), grind (arith, nat_tests))
 
 -- if the unit limit isn't reached, there are fewer units than 100,000, and the next number is at most 999,999,999
-pub room : (c : CampaignValue) → is_unit_limit c ≡ false → (len c.units < most_units) × (c.next_unit ≤ last_unit)
-room c h = below_limits (len c.units) c.next_unit h
+pub unit_limits_not_reached : (c : CampaignValue) → is_unit_limit c ≡ false → (len c.units < most_units) × (c.next_unit ≤ last_unit)
+unit_limits_not_reached c h = below_limits (len c.units) c.next_unit h
 
 module _ (w : WorldValue) (c : CampaignValue) (p : ℕ) (u : Unit) (is : get c.units p ≡ Some u) (early : IsEarly w c) where
   -- the unit that unit p forms
@@ -93,7 +93,7 @@ module _ (w : WorldValue) (c : CampaignValue) (p : ℕ) (u : Unit) (is : get c.u
   -- after a unit is formed, numbers and amounts are in their ranges (`AreInRange`), if the unit limit wasn't reached
   numbers_kept : is_unit_limit c ≡ false → AreInRange w begun
   numbers_kept limit =
-      let r = room c limit in
+      let r = unit_limits_not_reached c limit in
       let n = old.numbers in
       record {
         month = n.month;
@@ -118,7 +118,7 @@ module _ (w : WorldValue) (c : CampaignValue) (p : ℕ) (u : Unit) (is : get c.u
         pass = n.pass;
         factions = n.factions;
         joined = n.joined;
-        units = every-insert (λ k x. IsTrue (name_ok x.holding.name)) c.units c.next_unit child (unit_name_ok c.next_unit (room c limit).1) n.units;
+        units = every-insert (λ k x. IsTrue (name_ok x.holding.name)) c.units c.next_unit child (unit_name_ok c.next_unit (unit_limits_not_reached c limit).1) n.units;
         structures = n.structures;
       }
 
@@ -226,7 +226,7 @@ marks-begun c u =
     marks-trans c mid next
     (marks-unit c (insert c.value.units n u) n (λ k apart. get-insert_other c.value.units n k u apart))
     (part_by_part mid next
-    (λ p. elim p as (Stays mid.marks next.marks) [ Row ↦ λ k h. refl | _ ↦ λ k h. h ])
+    (λ p. elim p as (PartStaysMarked mid.marks next.marks) [ Row ↦ λ k h. refl | _ ↦ λ k h. h ])
     (λ p. elim p as (KeepsUnmarked next.marks mid.value next.value) [ Row ↦ λ k free. absurd (true≢false free) | _ ↦ λ k free. refl ]))
 
 -- ---- one order
@@ -240,7 +240,7 @@ module _ (w : WorldValue) (c : CampaignValue) (early : IsEarly w c) where
     -- if unit n is of faction f, `with_formed_unit` adds a new unit with the faction, region and structure of unit n
     formed_is : (u : Unit) → get c.units n ≡ Some u → u.faction ≡ f → with_formed_unit c f n ≡ with_unit_begun c (new_unit c.next_unit u.faction u.region u.structure)
     formed_is u is own =
-        ap (λ g. with_unit_begun c (new_unit c.next_unit g (region_of c n) (inside c n))) (sym own)
+        ap (λ g. with_unit_begun c (new_unit c.next_unit g (region_of c n) (structure_of_unit c n))) (sym own)
         ∙ ap (λ (o : Option Unit). with_unit_begun c (new_unit c.next_unit u.faction (option_map_or (λ x. x.region) o 0) (option_map_or (λ x. x.structure) o 0))) is
 
     -- campaign d, which an order of FORM makes of c, is early and in balance, nothing is booked (`StepsWell`), and each

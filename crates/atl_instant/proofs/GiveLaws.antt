@@ -26,7 +26,7 @@ use Rattle.atl_phase.specs.OrderEffects.{IsOwnOrder}
 use Rattle.atl_phase.specs.Bounds.{IsOrderly, nothing_remaining}
 use Rattle.atl_phase.specs.Unbooked.{moves_nothing}
 use Rattle.atl_phase.proofs.OutcomeLaws.{none_fits, not_less}
-use Rattle.atl_records.proofs.HoldingLaws.{alike, amount_within, every_amount, set_amount}
+use Rattle.atl_records.proofs.HoldingLaws.{compared_equal_is_equal, amount_within, every_amount, amount_after_setting}
 use Rattle.atl_campaign.proofs.HavingLaws.{MayHave, may_have}
 use Rattle.atl_instant.specs.Give.{give, give_effect, give_fault, give_step, give_to, held_of, with_held_of}
 use Rattle.atl_instant.specs.declared.give.Gift.{Gift}
@@ -62,8 +62,8 @@ abbrev pub IsKnown : WorldValue → Gift → Type 0
 IsKnown w Money = ⊤
 IsKnown w (Item i) = i < length w.items
 
--- a unit that may hold what it holds may hold another amount of the gift, up to `holding_limit`,
--- if the gift is of the world
+-- a unit may have (`MayHave`) any amount of the gift up to `holding_limit`, if the gift is of the world, and the unit
+-- may have what it holds
 pub may_have_of : (w : WorldValue) (h : HoldingValue) (gift : Gift) (amount : ℕ) → IsKnown w gift → amount ≤ holding_limit → MayHave w h → MayHave w (with_held_of gift h amount)
 may_have_of w h Money amount known most may = record {
   limits = record { men = may.limits.men; money = most; items = may.limits.items };
@@ -80,51 +80,52 @@ may_have_of w h (Item i) amount known most may = record {
   days = may.days;
 }
 
--- a holding in which the amount of the gift is another has the same guard flag and the same men
-same_rest : (gift : Gift) (h : HoldingValue) (amount : ℕ) → ((with_held_of gift h amount).guard ≡ h.guard) × ((with_held_of gift h amount).men ≡ h.men)
-same_rest Money h amount = (refl, refl)
-same_rest (Item i) h amount = (refl, refl)
+-- another amount of the gift changes neither the guard flag nor the men of a holding
+gift_leaves_flag_and_men : (gift : Gift) (h : HoldingValue) (amount : ℕ) → ((with_held_of gift h amount).guard ≡ h.guard) × ((with_held_of gift h amount).men ≡ h.men)
+gift_leaves_flag_and_men Money h amount = (refl, refl)
+gift_leaves_flag_and_men (Item i) h amount = (refl, refl)
 
 -- giver and receiver together hold as much of each thing after a gift as before, if the giver has what it gives
-pub both_hold : (gift : Gift) (n : ℕ) (h k : HoldingValue) → n ≤ held_of gift h → (t : Thing) → unit_amount t (with_held_of gift h (held_of gift h - n)) + unit_amount t (with_held_of gift k (held_of gift k + n)) ≡ unit_amount t h + unit_amount t k
-both_hold Money n h k l things.Money = omega (arith, l)
-both_hold Money n h k l things.People = refl
-both_hold Money n h k l (things.Item j) = refl
-both_hold (Item i) n h k l things.Money = refl
-both_hold (Item i) n h k l things.People = refl
-both_hold (Item i) n h k l (things.Item j) =
+pub gift_keeps_sum : (gift : Gift) (n : ℕ) (h k : HoldingValue) → n ≤ held_of gift h → (t : Thing) → unit_amount t (with_held_of gift h (held_of gift h - n)) + unit_amount t (with_held_of gift k (held_of gift k + n)) ≡ unit_amount t h + unit_amount t k
+gift_keeps_sum Money n h k l things.Money = omega (arith, l)
+gift_keeps_sum Money n h k l things.People = refl
+gift_keeps_sum Money n h k l (things.Item j) = refl
+gift_keeps_sum (Item i) n h k l things.Money = refl
+gift_keeps_sum (Item i) n h k l things.People = refl
+gift_keeps_sum (Item i) n h k l (things.Item j) =
     let a = amount_of h.items i in
     let b = amount_of k.items i in
-    let less = set_amount h.items i (a - n) j in
-    let more = set_amount k.items i (b + n) j in
+    let less = amount_after_setting h.items i (a - n) j in
+    let more = amount_after_setting k.items i (b + n) j in
     ap (λ x. x + amount_of (with_amount_of k.items i (b + n)) j) less ∙ ap (λ x. cond (eq_by_cmp nat_cmp j i) (a - n) (amount_of h.items j) + x) more ∙ by_test (eq_by_cmp nat_cmp j i) refl
   where
-    -- for `both_hold`: if n of the giver's a, which is at least n, go to the receiver's b, the sum of both stays
+    -- for `gift_keeps_sum`: if n of the giver's a, which is at least n, go to the receiver's b, the sum of both stays
     sum : (a b n : ℕ) → n ≤ a → (a - n) + (b + n) ≡ a + b
     sum a b n l = omega arith
 
     -- giver and receiver together have as many pieces of item j as before, whether j is the item that is given or not
     by_test : (q : Bool) → eq_by_cmp nat_cmp j i ≡ q → cond q (amount_of h.items i - n) (amount_of h.items j) + cond q (amount_of k.items i + n) (amount_of k.items j) ≡ amount_of h.items j + amount_of k.items j
-    by_test true is = sum (amount_of h.items i) (amount_of k.items i) n l ∙ ap (λ x. amount_of h.items x + amount_of k.items x) (sym (alike i j is))
+    by_test true is = sum (amount_of h.items i) (amount_of k.items i) n l ∙ ap (λ x. amount_of h.items x + amount_of k.items x) (sym (compared_equal_is_equal i j is))
     by_test false is = refl
 
 -- a unit that gets a gift is no worse off
-pub better_off : (gift : Gift) (n : ℕ) (v : Unit) → IsNoWorse v (record v { holding = with_held_of gift v.holding (held_of gift v.holding + n) })
-better_off Money n v = record { faction = refl; region = refl; structure = refl; name = refl; guard = refl; men = omega arith; money = omega arith; items = λ i. omega arith; days = λ s. omega arith }
-better_off (Item i) n v = record { faction = refl; region = refl; structure = refl; name = refl; guard = refl; men = omega arith; money = omega arith; items = λ j. more j; days = λ s. omega arith }
+pub gift_receiver_no_worse : (gift : Gift) (n : ℕ) (v : Unit) → IsNoWorse v (record v { holding = with_held_of gift v.holding (held_of gift v.holding + n) })
+gift_receiver_no_worse Money n v = record { faction = refl; region = refl; structure = refl; name = refl; guard = refl; men = omega arith; money = omega arith; items = λ i. omega arith; days = λ s. omega arith }
+gift_receiver_no_worse (Item i) n v = record { faction = refl; region = refl; structure = refl; name = refl; guard = refl; men = omega arith; money = omega arith; items = λ j. more j; days = λ s. omega arith }
   where
-    -- for `better_off`: what the receiver had of the gift (x, which is y) is at most that with n added
+    -- for `gift_receiver_no_worse`: what the receiver had of the gift (x, which is y) is at most that with n added
     here : (x y n : ℕ) → x ≡ y → x ≤ y + n
     here x y n is = omega arith
 
-    -- for `better_off`: the receiver has no fewer pieces of item j, whether j is the given item i (`q`) or not
+    -- for `gift_receiver_no_worse`: the receiver has no fewer pieces of item j, whether j is the given item i (`q`) or
+    -- not
     by_test : (j : ℕ) (q : Bool) → eq_by_cmp nat_cmp j i ≡ q → amount_of v.holding.items j ≤ cond q (amount_of v.holding.items i + n) (amount_of v.holding.items j)
-    by_test j true is = here (amount_of v.holding.items j) (amount_of v.holding.items i) n (ap (amount_of v.holding.items) (alike i j is))
+    by_test j true is = here (amount_of v.holding.items j) (amount_of v.holding.items i) n (ap (amount_of v.holding.items) (compared_equal_is_equal i j is))
     by_test j false is = omega arith
 
     -- the receiver has no fewer pieces of item j after the gift than before
     more : (j : ℕ) → amount_of v.holding.items j ≤ amount_of (with_amount_of v.holding.items i (amount_of v.holding.items i + n)) j
-    more j = subst (λ x. amount_of v.holding.items j ≤ x) (sym (set_amount v.holding.items i (amount_of v.holding.items i + n) j)) (by_test j (eq_by_cmp nat_cmp j i) refl)
+    more j = subst (λ x. amount_of v.holding.items j ≤ x) (sym (amount_after_setting v.holding.items i (amount_of v.holding.items i + n) j)) (by_test j (eq_by_cmp nat_cmp j i) refl)
 
 -- ---- one order
 
@@ -139,12 +140,12 @@ module _ {fit : Type 0} (w : WorldValue) (c : CampaignValue) (from to : ℕ) (gi
         well = λ early fits.
             let least = held_within gift u.holding (early.steady.numbers.units from u giver).1 in
             steps-moved c from to u v (with_held_of gift u.holding left) (with_held_of gift v.holding more) giver receiver apart w
-            (may_have_of w u.holding gift left (known fits) (omega (arith, least)) (may_have w c from u giver early.steady)) (λ g. sym (same_rest gift u.holding left).0 ∙ g)
-            (may_have_of w v.holding gift more (known fits) can.room (may_have w c to v receiver early.steady)) (λ g. sym (same_rest gift v.holding more).0 ∙ g)
-            (both_hold gift n u.holding v.holding can.enough) early;
+            (may_have_of w u.holding gift left (known fits) (omega (arith, least)) (may_have w c from u giver early.steady)) (λ g. sym (gift_leaves_flag_and_men gift u.holding left).0 ∙ g)
+            (may_have_of w v.holding gift more (known fits) can.room (may_have w c to v receiver early.steady)) (λ g. sym (gift_leaves_flag_and_men gift v.holding more).0 ∙ g)
+            (gift_keeps_sum gift n u.holding v.holding can.enough) early;
         others =
             others-moved c from to u v (with_held_of gift u.holding left) (with_held_of gift v.holding more) giver receiver apart u.faction
-            (record { better = better_off gift n v; men = λ other. (same_rest gift v.holding more).1 });
+            (record { better = gift_receiver_no_worse gift n v; men = λ other. (gift_leaves_flag_and_men gift v.holding more).1 });
       }
 
   -- an order of GIVE or PAY of a gift of the world keeps the campaign early, and other units no worse off (`Keeps`)
@@ -167,7 +168,7 @@ pub give_keeps : StepKeeps IsEarly give_step
 give_keeps w a c t x own = by_operands t.order_value.operands
   where
     -- an order with the operands o keeps the campaign early, and all units but the giver no worse off (`Keeps`)
-    by_operands : (o : OperandsValue) → IfSome (give_effect a t.faction t.unit o) (λ deed. Keeps IsEarly (AreOperandsOf w o) w c t.unit x.faction (deed c x).0)
+    by_operands : (o : OperandsValue) → IfSome (give_effect a t.faction t.unit o) (λ effect. Keeps IsEarly (AreOperandsOf w o) w c t.unit x.faction (effect c x).0)
     by_operands (operands.UnitAndGoods to n item) = gift_kept w c t.unit (unit_of a t.faction to) (Item item) n x own.there (λ fit. fit.2)
     by_operands (operands.UnitAndNumber to n) = gift_kept w c t.unit (unit_of a t.faction to) Money n x own.there (λ fit. tt)
     by_operands other = tt

@@ -23,7 +23,7 @@ use Rattle.atl_campaign.specs.Good.{AreOfOneFaction, IsSteady, guards}
 use Rattle.atl_records.specs.Holdings.{HoldingValue}
 use Rattle.atl_campaign.specs.Lending.{with_holding_at}
 use Rattle.atl_campaign.specs.Marking.{mark_unit_row}
-use Rattle.atl_campaign.specs.Campaign.{MarkedCampaign, CampaignValue, numbers_in, with_guard}
+use Rattle.atl_campaign.specs.Campaign.{MarkedCampaign, CampaignValue, numbers_in_region, with_guard}
 use Rattle.atl_records.specs.Amounts.{unit_amount}
 use Rattle.atl_campaign.specs.Totals.{total}
 use Rattle.atl_records.proofs.EveryLaws.{every-insert}
@@ -35,20 +35,20 @@ use Rattle.atl_phase.specs.Unbooked.{moves_nothing}
 use Rattle.atl_phase.proofs.MeaningLaws.{same_month_by}
 use Rattle.atl_campaign.proofs.HavingLaws.{MayHave, may_have, steady-having}
 use Rattle.atl_phase.proofs.OutcomeLaws.{none_fits, not_apart}
-use Rattle.atl_phase.proofs.ChangeLaws.{changed_held, others_held}
+use Rattle.atl_phase.proofs.ChangeLaws.{changed_held, change_keeps_others}
 use Rattle.atl_phase.proofs.MarkLaws.{marks_by}
 use Rattle.atl_phase.proofs.UnbookedLaws.{stays_well}
-use Rattle.atl_instant.specs.Guard.{guard, guard_concerns, guard_effect, guard_fault, guard_step, guards_against, is_guarded_against}
+use Rattle.atl_instant.specs.Guard.{guard, guard_affects, guard_effect, guard_fault, guard_step, guards_against, is_guarded_against}
 use Rattle.atl_instant.proofs.EffectLaws.{Keeps, StepKeeps, keeps_others, keeps_unless, orderly_by}
 
 -- ---- other guards of the region
 
--- if the test whether any number of a list passes a test (`list_any`) is false, each number of the list fails the test
-none_of : (p : ℕ → Bool) (ns : List ℕ) → list_any p ns ≡ false → (k : ℕ) → IsListed k ns → p k ≡ false
-none_of p [] is k listed = absurd listed
-none_of p (n ∷ ns) is k listed = by_test (p n) refl is (λ e h. none_of p ns e k h) listed
+-- each number of a list fails a test, if the test whether any of them passes it (`list_any`) is false
+each_fails_test : (p : ℕ → Bool) (ns : List ℕ) → list_any p ns ≡ false → (k : ℕ) → IsListed k ns → p k ≡ false
+each_fails_test p [] is k listed = absurd listed
+each_fails_test p (n ∷ ns) is k listed = by_test (p n) refl is (λ e h. each_fails_test p ns e k h) listed
   where
-    -- for `none_of`: if no number of n ∷ ns passes the test p, its number k fails p; n passes p where b is true
+    -- for `each_fails_test`: if no number of n ∷ ns passes the test p, its number k fails p; n passes p where b is true
     by_test : (b : Bool) → p n ≡ b → (b || list_any p ns) ≡ false → (list_any p ns ≡ false → IsListed k ns → p k ≡ false) → IsListed k (n ∷ ns) → p k ≡ false
     by_test true t e rest h = cc
     by_test false t e rest (inl same) = ap p same ∙ t
@@ -59,7 +59,7 @@ pub own_guards : (c : CampaignValue) (region faction : ℕ) → is_guarded_again
 own_guards c region faction none m v there guarding here =
     let inside : (v.region == region) ≡ true = grind (arith, nat_tests) in
     let listed = passing_listed (λ (x : Unit). x.region == region) c.units m v there inside in
-    let no : guards_against faction (get c.units m) ≡ false = none_of (λ n. guards_against faction (get c.units n)) (numbers_in region c.units) none m listed in
+    let no : guards_against faction (get c.units m) ≡ false = each_fails_test (λ n. guards_against faction (get c.units n)) (numbers_in_region region c.units) none m listed in
     not_apart v.faction faction (second (guards v) (not (v.faction == faction)) guarding (sym (ap (guards_against faction) there) ∙ no))
   where
     -- for `own_guards`: if a unit guards (a), and the test "guards and is of another faction" fails, "of another
@@ -154,7 +154,7 @@ guard_kept : {fit : Type 0} (w : WorldValue) (c : CampaignValue) (n : ℕ) (u : 
 unfolding guard
 guard_kept w c n u is =
     keeps_unless w c n u.faction (guard_fault c u) (with_guard c n true) (Done 0) (λ none.
-    keeps_others w c n u.faction (with_guard c n true) (λ steady fits. flag_steps_well c n u is w (can_guard c u none).0 steady) (others_held (λ (x : Unit). record x { holding = record x.holding { guard = true } }) c n))
+    keeps_others w c n u.faction (with_guard c n true) (λ steady fits. flag_steps_well c n u is w (can_guard c u none).0 steady) (change_keeps_others (λ (x : Unit). record x { holding = record x.holding { guard = true } }) c n))
 
 -- ---- the phase
 
@@ -163,13 +163,13 @@ pub guard_keeps : StepKeeps IsSteady guard_step
 guard_keeps w a c t x own = by_operands t.order_value.operands
   where
     -- an order with the operands o keeps the campaign steady, and all units but its own no worse off (`Keeps`)
-    by_operands : (o : OperandsValue) → IfSome (guard_effect t.unit o) (λ deed. Keeps IsSteady (AreOperandsOf w o) w c t.unit x.faction (deed c x).0)
+    by_operands : (o : OperandsValue) → IfSome (guard_effect t.unit o) (λ effect. Keeps IsSteady (AreOperandsOf w o) w c t.unit x.faction (effect c x).0)
     by_operands (operands.Flag true) = guard_kept w c t.unit x own.there
     by_operands other = tt
 
 -- GUARD 1 keeps a steady campaign steady and books nothing, and a unit is no worse off unless its own faction wrote
 -- GUARD 1 for it
-pub guard_orderly : IsOrderly guard_step IsSteady nothing_remaining moves_nothing guard_concerns IsNoWorse
+pub guard_orderly : IsOrderly guard_step IsSteady nothing_remaining moves_nothing guard_affects IsNoWorse
 guard_orderly = orderly_by guard_keeps (λ w a t n f own other. passed t.unit t.order_value.operands (λ sets. other (own, sets)))
   where
     -- for `guard_orderly`: the phase passes over an order whose operands aren't those of GUARD 1

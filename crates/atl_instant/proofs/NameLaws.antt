@@ -23,13 +23,13 @@ use Rattle.atl_campaign.proofs.HavingLaws.{early-having}
 use Rattle.atl_phase.specs.NoWorse.{IsNoWorse}
 use Rattle.atl_phase.specs.Bounds.{IsOrderly, StepsWell, nothing_remaining}
 use Rattle.atl_phase.specs.Unbooked.{moves_nothing}
-use Rattle.atl_phase.proofs.ChangeLaws.{changed_held, others_held}
+use Rattle.atl_phase.proofs.ChangeLaws.{changed_held, change_keeps_others}
 use Rattle.atl_phase.proofs.MeaningLaws.{same_month_among, same_month_by}
 use Rattle.atl_phase.proofs.OutcomeLaws.{false_true}
 use Rattle.atl_phase.proofs.RefitLaws.{IsRelabelled, early-relabelled}
 use Rattle.atl_phase.proofs.StructureLaws.{at_number, get-changed, len-changed}
 use Rattle.atl_phase.proofs.UnbookedLaws.{same_total_of, unbooked_well}
-use Rattle.atl_instant.specs.Name.{name_concerns, name_effect, name_result, name_step, structure_fault, structure_name_result}
+use Rattle.atl_instant.specs.Name.{name_affects, name_effect, name_result, name_step, structure_fault, structure_name_result}
 use Rattle.atl_instant.proofs.EffectLaws.{Keeps, StepKeeps, keeps_others, keeps_unless, orderly_by}
 use Rattle.atl_instant.proofs.GuardingLaws.{labelled, may_label, total-labelled}
 use Rattle.atl_instant.proofs.FactionLaws.{count-faction_name, known-faction_name, steady-faction_name}
@@ -42,8 +42,8 @@ name_other w n text other a b = refl
 
 -- what an order of NAME or GUARD 0 for unit n keeps (`Keeps`), if the order fits the world (`fit`)
 module _ (fit : Type 0) (w : WorldValue) (c : CampaignValue) (n : ℕ) (u : Unit) (is : get c.units n ≡ Some u) where
-  -- campaign d, which an order for unit n makes of c, is early and in balance if c is and the order fits the world
-  -- (`fit`), and no unit but n is worse off in d (`Keeps`)
+  -- Campaign d, which an order for unit n makes of c, is early and in balance, if c is and the order fits the world
+  -- (`fit`). No unit but n is worse off in d (`Keeps`).
   abbrev KeepsOthersByName : CampaignValue → Type 0
   KeepsOthersByName d = Keeps IsEarly fit w c n u.faction d
 
@@ -62,14 +62,14 @@ module _ (fit : Type 0) (w : WorldValue) (c : CampaignValue) (n : ℕ) (u : Unit
   unit_named name ok =
       keeps_others w c n u.faction (with_unit_name c n name)
       (λ early fits. label_well name u.holding.guard (ok fits) (λ g. g) early (with_unit_name c n name) (changed_held (λ h. record h { name = name }) c (with_unit_name c n name) n refl u is))
-      (others_held (λ (x : Unit). record x { holding = record x.holding { name = name } }) c n)
+      (change_keeps_others (λ (x : Unit). record x { holding = record x.holding { name = name } }) c n)
 
   -- clearing the unit's guard flag keeps the campaign early, and other units no worse off (`Keeps`)
   flag_cleared : KeepsOthersByName (with_guard c n false)
   flag_cleared =
       keeps_others w c n u.faction (with_guard c n false)
       (λ early fits. label_well u.holding.name false (early.steady.names.units n u is) (λ g. false_true g) early (with_guard c n false) (changed_held (λ h. record h { guard = false }) c (with_guard c n false) n refl u is))
-      (others_held (λ (x : Unit). record x { holding = record x.holding { guard = false } }) c n)
+      (change_keeps_others (λ (x : Unit). record x { holding = record x.holding { guard = false } }) c n)
 
   -- ---- the names of its faction and of a structure
 
@@ -128,14 +128,14 @@ pub name_keeps : StepKeeps IsEarly name_step
 name_keeps w a c t x own = by_operands t.order_value.operands
   where
     -- an order with the operands o keeps the campaign early, and all units but its own no worse off (`Keeps`)
-    by_operands : (o : OperandsValue) → IfSome (name_effect w t.unit o) (λ deed. Keeps IsEarly (AreOperandsOf w o) w c t.unit x.faction (deed c x).0)
+    by_operands : (o : OperandsValue) → IfSome (name_effect w t.unit o) (λ effect. Keeps IsEarly (AreOperandsOf w o) w c t.unit x.faction (effect c x).0)
     by_operands (operands.Name what name) = named (AreOperandsOf w (operands.Name what name)) w c t.unit x own.there what name (λ fit. fit)
     by_operands (operands.Flag false) = flag_cleared (AreOperandsOf w (operands.Flag false)) w c t.unit x own.there
     by_operands other = tt
 
 -- NAME and GUARD 0 keep an early campaign early and book nothing, and a unit is no worse off unless its own faction
 -- wrote one of these orders for it (`IsOrderly`)
-pub name_orderly : IsOrderly name_step IsEarly nothing_remaining moves_nothing name_concerns IsNoWorse
+pub name_orderly : IsOrderly name_step IsEarly nothing_remaining moves_nothing name_affects IsNoWorse
 name_orderly = orderly_by name_keeps (λ w a t n f own other. passes_over_guard w t.unit t.order_value.operands (λ names. other (own, names)))
   where
     -- for `name_orderly`: the phase passes over GUARD 1, given as an order for which other operands than those of GUARD

@@ -24,7 +24,7 @@ use Rattle.atl_campaign.specs.Owners.{is_owned_by, with_place}
 use Rattle.atl_campaign.specs.Campaign.{CampaignValue, with_owner}
 use Rattle.atl_campaign.proofs.LeavingLaws.{owned_by}
 use Rattle.atl_phase.specs.Month.{Aliases}
-use Rattle.atl_phase.specs.Inside.{inside}
+use Rattle.atl_phase.specs.Inside.{structure_of_unit}
 use Rattle.atl_phase.specs.PhaseOrders.{unit_of}
 use Rattle.atl_phase.specs.NoWorse.{IsNoWorse}
 use Rattle.atl_phase.specs.OrderEffects.{IsOwnOrder}
@@ -36,7 +36,7 @@ use Rattle.atl_phase.proofs.RefitLaws.{IsRelabelled, early-relabelled}
 use Rattle.atl_phase.proofs.StructureLaws.{at_number, get-changed, len-changed}
 use Rattle.atl_phase.proofs.OutcomeLaws.{none_fits, not_apart}
 use Rattle.atl_phase.proofs.UnbookedLaws.{same_total_of, unbooked_well}
-use Rattle.atl_instant.specs.Place.{enter, with_unit_inside, is_in, leave, leave_fault, enter_fault, place_effect, place_step, promote_fault, promote}
+use Rattle.atl_instant.specs.Place.{enter, with_unit_inside, is_structure_in, leave, leave_fault, enter_fault, place_effect, place_step, promote_fault, promote}
 use Rattle.atl_instant.proofs.EffectLaws.{Keeps, StepKeeps, keeps_all, keeps_others, keeps_unless, orderly_by}
 
 -- an order whose operands are neither none (LEAVE) nor a number (ENTER) nor a unit (PROMOTE) is passed over
@@ -49,8 +49,8 @@ place_other w a f n text other l b d = refl
 
 -- what an order of LEAVE, ENTER or PROMOTE for unit n keeps (`Keeps`)
 module _ (fit : Type 0) (w : WorldValue) (c : CampaignValue) (n : ℕ) (u : Unit) (is : get c.units n ≡ Some u) where
-  -- campaign d, which an order for unit n makes of c, is early and in balance if c is and the order fits the world
-  -- (`fit`), and no unit but n is worse off in d (`Keeps`)
+  -- Campaign d, which an order for unit n makes of c, is early and in balance, if c is and the order fits the world
+  -- (`fit`). No unit but n is worse off in d (`Keeps`).
   abbrev KeepsOthersByPlace : CampaignValue → Type 0
   KeepsOthersByPlace d = Keeps IsEarly fit w c n u.faction d
 
@@ -71,7 +71,7 @@ module _ (fit : Type 0) (w : WorldValue) (c : CampaignValue) (n : ℕ) (u : Unit
 
   -- ENTER without a fault keeps the campaign early, and other units no worse off (`Keeps`), whether unit n is already
   -- inside structure s or not
-  entered_by : (s : ℕ) (o : Option Structure) → get c.structures s ≡ o → (b : Bool) → (u.structure == s) ≡ b → not (is_in u.region o) ≡ false → KeepsOthersByPlace (if b then c else with_place c n u.region s)
+  entered_by : (s : ℕ) (o : Option Structure) → get c.structures s ≡ o → (b : Bool) → (u.structure == s) ≡ b → not (is_structure_in u.region o) ≡ false → KeepsOthersByPlace (if b then c else with_place c n u.region s)
   entered_by s None there b same near = absurd (true≢false near)
   entered_by s (Some x) there true same near = keeps_all w c n u.faction
   entered_by s (Some x) there false same near =
@@ -85,7 +85,7 @@ module _ (fit : Type 0) (w : WorldValue) (c : CampaignValue) (n : ℕ) (u : Unit
   unfolding enter
   entered s =
       keeps_unless w c n u.faction (enter_fault c s u) (with_unit_inside c n u.region u.structure s) (Done 0) (λ none.
-      entered_by s (get c.structures s) refl (u.structure == s) refl (none_fits (not (is_in u.region (get c.structures s))) NotHere [] none).0)
+      entered_by s (get c.structures s) refl (u.structure == s) refl (none_fits (not (is_structure_in u.region (get c.structures s))) NotHere [] none).0)
 
   -- ---- PROMOTE
 
@@ -97,7 +97,7 @@ module _ (fit : Type 0) (w : WorldValue) (c : CampaignValue) (n : ℕ) (u : Unit
 
   -- making unit `to` the owner of the structure that it shares with unit n keeps the campaign early and in balance
   -- (`StepsWell`)
-  owner_well : (to : ℕ) → u.structure ≢ 0 → inside c to ≡ u.structure → IsEarly w c → StepsWell IsEarly nothing_remaining w c (with_owner c u.structure to)
+  owner_well : (to : ℕ) → u.structure ≢ 0 → structure_of_unit c to ≡ u.structure → IsEarly w c → StepsWell IsEarly nothing_remaining w c (with_owner c u.structure to)
   owner_well to some near early =
       unbooked_well w c (with_owner c u.structure to)
       (early-relabelled w c n u is _ (at_number (owned_by to) c.structures u.structure) (get-changed (owned_by to) c.structures u.structure) (len-changed (owned_by to) c.structures u.structure)
@@ -126,11 +126,11 @@ module _ (fit : Type 0) (w : WorldValue) (c : CampaignValue) (n : ℕ) (u : Unit
   unfolding promote
   promoted to =
       let owns = is_owned_by (get c.structures u.structure) n in
-      let with_it = inside c to == u.structure in
+      let with_it = structure_of_unit c to == u.structure in
       keeps_unless w c n u.faction (promote_fault c n to u) (with_owner c u.structure to) (Done 0) (λ none.
       let one = none_fits (u.structure == 0) NotInside ((not owns, NotOwner) ∷ (not with_it, NotHere) ∷ []) none in
       let two = none_fits (not owns) NotOwner ((not with_it, NotHere) ∷ []) one.1 in
-      let near = not_apart (inside c to) u.structure (none_fits (not with_it) NotHere [] two.1).0 in
+      let near = not_apart (structure_of_unit c to) u.structure (none_fits (not with_it) NotHere [] two.1).0 in
       keeps_others w c n u.faction (with_owner c u.structure to) (λ early fits. owner_well to (is_unequal u.structure 0 one.0) near early) (λ k apart. refl))
 
 -- ---- the phase
@@ -140,7 +140,7 @@ pub place_keeps : StepKeeps IsEarly place_step
 place_keeps w a c t x own = by_operands t.order_value.operands
   where
     -- an order with the operands o keeps the campaign early, and all units but its own no worse off (`Keeps`)
-    by_operands : (o : OperandsValue) → IfSome (place_effect w a t.faction t.unit o) (λ deed. Keeps IsEarly (AreOperandsOf w o) w c t.unit x.faction (deed c x).0)
+    by_operands : (o : OperandsValue) → IfSome (place_effect w a t.faction t.unit o) (λ effect. Keeps IsEarly (AreOperandsOf w o) w c t.unit x.faction (effect c x).0)
     by_operands operands.Nothing = left (AreOperandsOf w operands.Nothing) w c t.unit x own.there
     by_operands (operands.Number s) = entered (AreOperandsOf w (operands.Number s)) w c t.unit x own.there s
     by_operands (operands.Unit to) = promoted (AreOperandsOf w (operands.Unit to)) w c t.unit x own.there (unit_of a t.faction to)

@@ -28,12 +28,12 @@ use Rattle.atl_records.specs.declared.event.Outcome.TheVariants.{Done}
 use Rattle.atl_records.specs.declared.records.Faction.{Faction}
 use Rattle.atl_records.specs.declared.records.Unit.{Unit}
 use Rattle.atl_records.specs.Every.{EachEntry, Every, HasValue}
-use Rattle.atl_campaign.specs.Founding.{things_of}
+use Rattle.atl_campaign.specs.Founding.{thing_count}
 use Rattle.atl_campaign.specs.Good.{IsSteady}
 use Rattle.atl_records.specs.Holdings.{HoldingValue}
 use Rattle.atl_records.specs.Limits.{entry_count}
 use Rattle.atl_campaign.specs.Owners.{heir, without_unit, without_unit_at}
-use Rattle.atl_campaign.specs.Campaign.{MarkedCampaign, CampaignValue, numbers_of}
+use Rattle.atl_campaign.specs.Campaign.{MarkedCampaign, CampaignValue, numbers_of_faction}
 use Rattle.atl_records.specs.Amounts.{unit_amount}
 use Rattle.atl_campaign.specs.Totals.{Balances, total}
 use Rattle.atl_records.proofs.BookLaws.{booked-after_booking}
@@ -45,30 +45,32 @@ use Rattle.atl_campaign.proofs.RegionLaws.{steady-amount}
 use Rattle.atl_records.proofs.RemovedLaws.{get-remove_other, sum_over-remove, every-remove}
 use Rattle.atl_campaign.proofs.NumberListLaws.{IsListed, listed_passing}
 use Rattle.atl_phase.specs.Meaning.{BookBound, IsNear, both_move, most_moved, moves_only, Condition}
-use Rattle.atl_phase.specs.Bounds.{HasRoom, HaveRoom, IsOrderly, IsUnitOf, StepsWell, UsesBound, moving_items}
+use Rattle.atl_phase.specs.Bounds.{HasRoom, HaveRoom, IsOrderly, IsUnitOf, StepsWell, UsesBound, items_bound}
 use Rattle.atl_phase.specs.Outcomes.{unless}
 use Rattle.atl_phase.specs.PhaseOrders.{Task, orders_of}
 use Rattle.atl_phase.specs.NoWorse.{IsNoWorse}
 use Rattle.atl_phase.specs.OrderEffects.{IsUnaffected, is_of_faction, is_own, meaning_by_orders}
 use Rattle.atl_phase.proofs.HeldLaws.{all_held_within, sum_within}
 use Rattle.atl_phase.proofs.BookingLaws.{booked-near, booked-room, within-neg}
-use Rattle.atl_phase.proofs.MeaningLaws.{less_room, near_more, near_same, near_twice, room_less}
+use Rattle.atl_phase.proofs.MeaningLaws.{amount_room_for_less, near_more, near_same, near_twice, room_less}
 use Rattle.atl_phase.proofs.OutcomeLaws.{none_fits, not_apart}
 use Rattle.atl_phase.proofs.NoWorseLaws.{no_worse}
-use Rattle.atl_phase.proofs.OrderEffectLaws.{bound_used_near, no_worse_spares, well_same, well_twice, orders_fit, orders_spare}
+use Rattle.atl_phase.proofs.OrderEffectLaws.{bound_used_near, no_worse_is_relation, well_same, well_twice, orders_fit, orders_leave_others}
 use Rattle.atl_phase.proofs.StructureLaws.{handed_is, equal_passes}
-use Rattle.atl_instant.specs.Quit.{after_leaving, loss_entry, loss_under, quit, quit_concerns, quit_effect, quit_fault, quit_moves, quit_reserve, quit_step, with_all_losses, with_item_loss, with_loss, without_leaver, QuitsByOwnUnit, is_quitting, quit_keeps, quit_meaning}
+use Rattle.atl_instant.specs.Quit.{after_leaving, loss_entry, loss_under, quit, quit_affects, quit_effect, quit_fault, quit_moves, quit_remaining, quit_step, with_all_losses, with_item_loss, with_loss, without_leaver, QuitsByOwnUnit, is_quitting, quit_keeps, quit_meaning}
 use Rattle.atl_phase.specs.Month.{MonthValue}
 use Rattle.atl_phase.specs.Fit.{AreFit}
 use Rattle.atl_phase.specs.declared.phase_order.Arrangement.TheVariants.{ByUnit}
 
 -- ---- things and entries
 
--- how much of the first thing an amount of the second is: the amount if both are the same thing, and 0 otherwise
-abbrev pub part_of : Thing → Thing → ℕ → ℕ
-part_of s t amount = cond (thing_index s == thing_index t) amount 0
+-- an amount of the second thing, counted as an amount of the first: the amount itself if both are the same thing, and 0
+-- otherwise
+abbrev pub amount_as_thing : Thing → Thing → ℕ → ℕ
+amount_as_thing s t amount = cond (thing_index s == thing_index t) amount 0
 
--- the given amount if the entry is the one under which the loss of the thing is booked, and 0 otherwise
+-- the bound on the books for the loss of an amount of a thing: the amount under the entry of its loss (`loss_entry`),
+-- and 0 under any other entry
 abbrev loss_bound : BooksEntry → Thing → ℕ → ℕ
 loss_bound e t n = if entry_index e == entry_index (loss_entry t) then n else 0
 
@@ -84,10 +86,10 @@ same_thing (Item i) Money e = absurd (omega (arith, e))
 same_thing (Item i) People e = absurd (omega (arith, e))
 same_thing (Item i) (Item j) e = let same : i ≡ j = omega (arith, e) in ap Item same
 
--- to book an amount of thing t as gone moves thing s under entry e by at most that amount, if s is t and e the entry of
--- its loss, and by 0 otherwise (`loss_bound`)
-one_moves : (amount : ℕ) (t : Thing) (e : BooksEntry) (s : Thing) → moves_only amount (loss_entry t) t e s ≤ loss_bound e s (part_of s t amount)
-one_moves amount t e s = by_number (amount_number e s == amount_number (loss_entry t) t) refl
+-- booking an amount of thing t as gone moves thing s only within `loss_bound`: by at most this amount if s is t, under
+-- the entry of its loss alone
+loss_within_bound : (amount : ℕ) (t : Thing) (e : BooksEntry) (s : Thing) → moves_only amount (loss_entry t) t e s ≤ loss_bound e s (amount_as_thing s t amount)
+loss_within_bound amount t e s = by_number (amount_number e s == amount_number (loss_entry t) t) refl
   where
     -- for `by_number`: where both tests are true, of the entry (b) and of the thing (d), `amount` is within
     -- `loss_bound`
@@ -96,9 +98,9 @@ one_moves amount t e s = by_number (amount_number e s == amount_number (loss_ent
     at_place true false f g = cc
     at_place false d f g = cc
 
-    -- for `one_moves`: the booking moves thing s under entry e by no more than `loss_bound` says, whether that is the
-    -- amount that is booked (`b`) or not
-    by_number : (b : Bool) → (amount_number e s == amount_number (loss_entry t) t) ≡ b → (if b then amount else 0) ≤ loss_bound e s (part_of s t amount)
+    -- for `loss_within_bound`: the booking moves thing s under entry e by no more than `loss_bound` says, whether that
+    -- is the amount that is booked (`b`) or not
+    by_number : (b : Bool) → (amount_number e s == amount_number (loss_entry t) t) ≡ b → (if b then amount else 0) ≤ loss_bound e s (amount_as_thing s t amount)
     by_number true is =
         let same : entry_count * thing_index s + entry_index e ≡ entry_count * thing_index t + entry_index (loss_entry t) = grind (arith, nat_tests) in
         let small = entry_small e in
@@ -109,8 +111,8 @@ one_moves amount t e s = by_number (amount_number e s == amount_number (loss_ent
         at_place (entry_index e == entry_index (loss_entry s)) (thing_index s == thing_index t) (let f : (entry_index e == entry_index (loss_entry s)) ≡ true = grind (arith, nat_tests) in f) (let g : (thing_index s == thing_index t) ≡ true = grind (arith, nat_tests) in g)
     by_number false is = omega arith
 
--- if x and y are within their bounds under entry e (`loss_bound`: m and n under the entry of the thing's loss, 0
--- under any other), their sum is within the sum of the bounds
+-- the sum of the amounts x and y is within the sum of their bounds m and n (`loss_bound`), if each amount is within its
+-- own bound
 under_sum : (e : BooksEntry) (s : Thing) (x y m n : ℕ) → x ≤ loss_bound e s m → y ≤ loss_bound e s n → x + y ≤ loss_bound e s (m + n)
 under_sum e s x y m n = by_test (entry_index e == entry_index (loss_entry s))
   where
@@ -124,44 +126,45 @@ under_sum e s x y m n = by_test (entry_index e == entry_index (loss_entry s))
 -- how much of a thing a list of items with their amounts has: for an item the sum of its amounts, else 0
 abbrev pub held_in_items : List (ℕ × ℕ) → Thing → ℕ
 held_in_items [] s = 0
-held_in_items (e ∷ es) s = part_of s (Item e.0) e.1 + held_in_items es s
+held_in_items (e ∷ es) s = amount_as_thing s (Item e.0) e.1 + held_in_items es s
 
--- to book a list of items as lost moves a thing under the entry of its loss by at most what the list has of it, and
--- under any other entry by 0 (`loss_bound`)
-items_within : (es : List (ℕ × ℕ)) (e : BooksEntry) (s : Thing) → moving_items es e s ≤ loss_bound e s (held_in_items es s)
+-- booking a list of items as lost moves a thing only within `loss_bound`: by at most what the list has of it, under the
+-- entry of its loss alone
+items_within : (es : List (ℕ × ℕ)) (e : BooksEntry) (s : Thing) → items_bound es e s ≤ loss_bound e s (held_in_items es s)
 items_within [] e s = omega arith
-items_within (x ∷ xs) e s = under_sum e s (moves_only x.1 Lost (Item x.0) e s) (moving_items xs e s) (part_of s (Item x.0) x.1) (held_in_items xs s) (one_moves x.1 (Item x.0) e s) (items_within xs e s)
+items_within (x ∷ xs) e s = under_sum e s (moves_only x.1 Lost (Item x.0) e s) (items_bound xs e s) (amount_as_thing s (Item x.0) x.1) (held_in_items xs s) (loss_within_bound x.1 (Item x.0) e s) (items_within xs e s)
 
--- in a sum over a list of items, the amount x of an item that isn't the one asked for (b is false) adds nothing to y
-nothing_more : (b : Bool) (x y : ℕ) → b ≡ false → cond b x 0 + y ≡ y
-nothing_more true x y e = cc
-nothing_more false x y e = omega arith
+-- an item that isn't the thing asked for (test b is false) adds nothing to a sum y over items, whatever its amount x is
+other_item_adds_nothing : (b : Bool) (x y : ℕ) → b ≡ false → cond b x 0 + y ≡ y
+other_item_adds_nothing true x y e = cc
+other_item_adds_nothing false x y e = omega arith
 
 -- a list of items has no money
 pub no_money : (es : List (ℕ × ℕ)) → held_in_items es Money ≡ 0
 no_money [] = refl
-no_money (e ∷ es) = nothing_more (0 == 2 + e.0) e.1 (held_in_items es Money) (let apart : (0 == 2 + e.0) ≡ false = grind (arith, nat_tests) in apart) ∙ no_money es
+no_money (e ∷ es) = other_item_adds_nothing (0 == 2 + e.0) e.1 (held_in_items es Money) (let apart : (0 == 2 + e.0) ≡ false = grind (arith, nat_tests) in apart) ∙ no_money es
 
 -- a list of items has no men
 pub no_people : (es : List (ℕ × ℕ)) → held_in_items es People ≡ 0
 no_people [] = refl
-no_people (e ∷ es) = nothing_more (1 == 2 + e.0) e.1 (held_in_items es People) (let apart : (1 == 2 + e.0) ≡ false = grind (arith, nat_tests) in apart) ∙ no_people es
+no_people (e ∷ es) = other_item_adds_nothing (1 == 2 + e.0) e.1 (held_in_items es People) (let apart : (1 == 2 + e.0) ≡ false = grind (arith, nat_tests) in apart) ∙ no_people es
 
--- a sorted list of items has of an item the amount that a search in the list finds, and 0 where the search finds none
-pub of_item : (j : ℕ) (es : List (ℕ × ℕ)) → is_sorted nat_cmp es ≡ true → held_in_items es (Item j) ≡ unwrap_or (find nat_cmp j es) 0
-of_item j [] s = refl
-of_item j (e ∷ es) s =
-    let rest = of_item j es (and_parts _ _ s).1 in
+-- how much a sorted list of items has of an item is what a search in the list finds, and 0 where it finds none
+pub list_amount_is_found : (j : ℕ) (es : List (ℕ × ℕ)) → is_sorted nat_cmp es ≡ true → held_in_items es (Item j) ≡ unwrap_or (find nat_cmp j es) 0
+list_amount_is_found j [] s = refl
+list_amount_is_found j (e ∷ es) s =
+    let rest = list_amount_is_found j es (and_parts _ _ s).1 in
     elim (nat_cmp j e.0) as (λ o. nat_cmp j e.0 ≡ o → cond (2 + j == 2 + e.0) e.1 0 + held_in_items es (Item j) ≡ unwrap_or (cond (is_eq o) (Some e.1) (find nat_cmp j es)) 0) [
-      | Less ↦ λ o. let l = ranked j e.0 Less (sym o) in nothing_more (2 + j == 2 + e.0) e.1 (held_in_items es (Item j)) (let t : (2 + j == 2 + e.0) ≡ false = grind (arith, nat_tests) in t) ∙ rest
+      | Less ↦ λ o. let l = ranked j e.0 Less (sym o) in other_item_adds_nothing (2 + j == 2 + e.0) e.1 (held_in_items es (Item j)) (let t : (2 + j == 2 + e.0) ≡ false = grind (arith, nat_tests) in t) ∙ rest
       | Equal ↦ λ o.
           let same : j ≡ e.0 = nat_cmp-IsAntisymmetric j e.0 o in
           here (2 + j == 2 + e.0) e.1 (held_in_items es (Item j)) (let t : (2 + j == 2 + e.0) ≡ true = grind (arith, nat_tests) in t)
           (rest ∙ ap (λ k. unwrap_or (find nat_cmp k es) 0) same ∙ ap (λ (p : Option ℕ). unwrap_or p 0) (not_below e.0 es (and_parts _ _ s).0))
-      | Greater ↦ λ o. let l = ranked j e.0 Greater (sym o) in nothing_more (2 + j == 2 + e.0) e.1 (held_in_items es (Item j)) (let t : (2 + j == 2 + e.0) ≡ false = grind (arith, nat_tests) in t) ∙ rest
+      | Greater ↦ λ o. let l = ranked j e.0 Greater (sym o) in other_item_adds_nothing (2 + j == 2 + e.0) e.1 (held_in_items es (Item j)) (let t : (2 + j == 2 + e.0) ≡ false = grind (arith, nat_tests) in t) ∙ rest
     ] refl
   where
-    -- for `of_item`: the item asked for (b is true) has its amount x, if the items after it have 0 of it (y)
+    -- for `list_amount_is_found`: the item asked for (b is true) has its amount x, if the items after it have 0 of it
+    -- (y)
     here : (b : Bool) (x y : ℕ) → b ≡ true → y ≡ 0 → cond b x 0 + y ≡ x
     here true x y t none = omega (arith, none)
     here false x y t none = cc
@@ -170,11 +173,11 @@ of_item j (e ∷ es) s =
 
 -- how much of a thing a holding has: men, money, or an item
 abbrev held_of_thing : HoldingValue → Thing → ℕ
-held_of_thing h s = part_of s People h.men + (part_of s Money h.money + held_in_items (entries h.items) s)
+held_of_thing h s = amount_as_thing s People h.men + (amount_as_thing s Money h.money + held_in_items (entries h.items) s)
 
 -- the bound on the books for booking as gone all that a unit has
 abbrev pub held_moves : HoldingValue → BookBound
-held_moves h = both_move (moves_only h.men Left People) (both_move (moves_only h.money Lost Money) (moving_items (entries h.items)))
+held_moves h = both_move (moves_only h.men Left People) (both_move (moves_only h.money Lost Money) (items_bound (entries h.items)))
 
 -- how much of a thing a holding has by `held_of_thing` is how much it has by `unit_amount`
 held_is_unit_amount : (h : HoldingValue) (s : Thing) → held_of_thing h s ≡ unit_amount s h
@@ -192,34 +195,34 @@ held_is_unit_amount h People = sum h.men (held_in_items (entries h.items) People
     sum m n e = omega (arith, e)
 held_is_unit_amount h (Item j) =
     sum (2 + j == 1) (2 + j == 0) h.men h.money (held_in_items (entries h.items) (Item j)) (let t : (2 + j == 1) ≡ false = grind (arith, nat_tests) in t) (let t : (2 + j == 0) ≡ false = grind (arith, nat_tests) in t)
-    ∙ of_item j (entries h.items) (sorted h.items) ∙ ap (λ (o : Option ℕ). unwrap_or o 0) (sym (get-entries h.items j))
+    ∙ list_amount_is_found j (entries h.items) (sorted h.items) ∙ ap (λ (o : Option ℕ). unwrap_or o 0) (sym (get-entries h.items j))
   where
-    -- for `held_is_unit_amount`: what a holding has of an item is k, the amount of its items: men m and money n add
-    -- nothing, since the tests b and d, whether the thing is people or money, are false
+    -- For `held_is_unit_amount`: what a holding has of an item is k, the amount of its items. Men m and money n add
+    -- nothing, since the tests b and d, whether the thing is people or money, are false.
     sum : (b d : Bool) (m n k : ℕ) → b ≡ false → d ≡ false → cond b m 0 + (cond d n 0 + k) ≡ k
     sum false false m n k e f = omega arith
     sum true d m n k e f = cc
     sum false true m n k e f = cc
 
--- to book all that a unit holds as gone moves each thing by at most what the unit holds of it under the entry of its
--- loss, and by 0 under any other (`loss_under`)
+-- booking all that a unit holds as gone moves a thing only within `loss_under`: by at most what the unit holds of it,
+-- under the entry of its loss alone
 pub moves_what_leaves : (h : HoldingValue) (e : BooksEntry) (s : Thing) → held_moves h e s ≤ loss_under e s h
 moves_what_leaves h e s =
     subst (λ n. held_moves h e s ≤ loss_bound e s n) (held_is_unit_amount h s)
-    (under_sum e s (moves_only h.men Left People e s) (moves_only h.money Lost Money e s + moving_items (entries h.items) e s) (part_of s People h.men) (part_of s Money h.money + held_in_items (entries h.items) s) (one_moves h.men People e s)
-    (under_sum e s (moves_only h.money Lost Money e s) (moving_items (entries h.items) e s) (part_of s Money h.money) (held_in_items (entries h.items) s) (one_moves h.money Money e s) (items_within (entries h.items) e s)))
+    (under_sum e s (moves_only h.men Left People e s) (moves_only h.money Lost Money e s + items_bound (entries h.items) e s) (amount_as_thing s People h.men) (amount_as_thing s Money h.money + held_in_items (entries h.items) s) (loss_within_bound h.men People e s)
+    (under_sum e s (moves_only h.money Lost Money e s) (items_bound (entries h.items) e s) (amount_as_thing s Money h.money) (held_in_items (entries h.items) s) (loss_within_bound h.money Money e s) (items_within (entries h.items) e s)))
 
 -- ---- a campaign in which amounts of things are booked as gone
 
 -- The campaign d is c with `gone` of each thing booked as gone, and only the books differ. Campaign d is steady, what
--- the books have of a thing falls by `gone`, and no amount of the books moves further than `moving`.
-pub record BooksAsGone (w : WorldValue) (gone : Thing → ℕ) (moving : BookBound) (c d : CampaignValue) : Type 0 where
+-- the books have of a thing falls by `gone`, and no amount of the books moves further than `book_bound`.
+pub record BooksAsGone (w : WorldValue) (gone : Thing → ℕ) (book_bound : BookBound) (c d : CampaignValue) : Type 0 where
   -- campaign d, in which amounts are booked as gone, is steady
   pub steady : IsSteady w d
   -- the sum of each thing over all entries of the books is less by `gone` in d than in c
   pub sum_falls : (s : Thing) → booked c.books s ≡ booked d.books s +ℤ pos (gone s)
-  -- no amount of the books moves further from c to d than `moving` says
-  pub near : (e : BooksEntry) (s : Thing) → IsNear (moving e s) (amount_in c.books e s) (amount_in d.books e s)
+  -- no amount of the books moves further from c to d than `book_bound` says
+  pub near : (e : BooksEntry) (s : Thing) → IsNear (book_bound e s) (amount_in c.books e s) (amount_in d.books e s)
   -- campaign d is c but for the books
   pub same : d ≡ record c { books = d.books }
 
@@ -237,14 +240,14 @@ books_twice {o} {p} {i} {j} w a b c one two = record {
     grouped : (x y z : ℤ) (m n : ℕ) → x ≡ y +ℤ pos m → y ≡ z +ℤ pos n → x ≡ z +ℤ pos (m + n)
     grouped x y z m n e f = omega (arith, ints, e, f)
 
--- to book an amount of a thing of the world as gone lowers what the books have of it by that amount and changes nothing
--- else, and a steady campaign stays steady (`BooksAsGone`)
-pub books_one : (w : WorldValue) (c : CampaignValue) (t : Thing) (amount : ℕ) → thing_index t < things_of w → IsSteady w c → BooksAsGone w (λ s. part_of s t amount) (moves_only amount (loss_entry t) t) c (with_loss c t amount)
+-- Booking an amount of a thing as gone lowers what the books have of it by that amount, and changes nothing else
+-- (`BooksAsGone`). For this the thing is of the world, and the campaign is steady. It stays steady.
+pub books_one : (w : WorldValue) (c : CampaignValue) (t : Thing) (amount : ℕ) → thing_index t < thing_count w → IsSteady w c → BooksAsGone w (λ s. amount_as_thing s t amount) (moves_only amount (loss_entry t) t) c (with_loss c t amount)
 books_one w c t amount inside steady = record {
   steady = steady-amount w c (loss_entry t) t (neg_ℤ (pos amount)) inside steady;
   sum_falls = λ s.
       less (booked c.books s) (thing_index s == thing_index t) amount
-      ∙ ap (λ z. z +ℤ pos (part_of s t amount)) (sym (booked-after_booking c.books (loss_entry t) t (neg_ℤ (pos amount)) s));
+      ∙ ap (λ z. z +ℤ pos (amount_as_thing s t amount)) (sym (booked-after_booking c.books (loss_entry t) t (neg_ℤ (pos amount)) s));
   near = booked-near c.books (loss_entry t) t (neg_ℤ (pos amount)) amount (within-neg amount amount (omega arith));
   same = refl;
 }
@@ -255,9 +258,9 @@ books_one w c t amount inside steady = record {
     less z true a = omega (arith, ints)
     less z false a = omega (arith, ints)
 
--- to book items of the world as lost, one after another, lowers what the books have of each by its amount and changes
--- nothing else, and a steady campaign stays steady (`BooksAsGone`)
-books_items : (w : WorldValue) (c : CampaignValue) (es : List (ℕ × ℕ)) → EachEntry (λ i a. i < length w.items) es → IsSteady w c → BooksAsGone w (held_in_items es) (moving_items es) c (fold with_item_loss c es)
+-- Booking items as lost, one after another, lowers what the books have of each by its amount, and changes nothing else
+-- (`BooksAsGone`). For this the items are of the world, and the campaign is steady. It stays steady.
+books_items : (w : WorldValue) (c : CampaignValue) (es : List (ℕ × ℕ)) → EachEntry (λ i a. i < length w.items) es → IsSteady w c → BooksAsGone w (held_in_items es) (items_bound es) c (fold with_item_loss c es)
 books_items w c [] known steady = record {
   steady = steady;
   sum_falls = λ s. plain (booked c.books s);
@@ -272,8 +275,8 @@ books_items w c ((i, a) ∷ es) known steady =
     let one = books_one w c (Item i) a (omega (arith, known.0)) steady in
     books_twice w c (with_item_loss c (i, a)) (fold with_item_loss (with_item_loss c (i, a)) es) one (books_items w (with_item_loss c (i, a)) es known.1 one.steady)
 
--- to book all that a unit has as gone, where its items are of the world, lowers what the books have of each thing by
--- what it has and changes nothing else, and a steady campaign stays steady (`BooksAsGone`)
+-- Booking all that a unit has as gone lowers what the books have of each thing by what the unit has of it, and changes
+-- nothing else (`BooksAsGone`). For this its items are of the world, and the campaign is steady. It stays steady.
 pub books_all : (w : WorldValue) (c : CampaignValue) (h : HoldingValue) → Every (λ i a. i < length w.items) h.items → IsSteady w c → BooksAsGone w (held_of_thing h) (held_moves h) c (with_all_losses c h)
 books_all w c h known steady =
     let men = with_loss c People h.men in
@@ -292,29 +295,29 @@ gone_marks c d t amount what marks =
     rw (what, marks) (record { stay = all.stay; covers = all.covers })
 
 -- books with room for a loss and for the bound `next` have room for the loss
-pub first_room : (t : Thing) (amount : ℕ) (next : BookBound) (c : CampaignValue) → HaveRoom (both_move (moves_only amount (loss_entry t) t) next) c → HasRoom amount (amount_in c.books (loss_entry t) t)
-first_room t amount next c room =
-    less_room amount (moves_only amount (loss_entry t) t (loss_entry t) t + next (loss_entry t) t) (amount_in c.books (loss_entry t) t)
+pub room_for_loss : (t : Thing) (amount : ℕ) (next : BookBound) (c : CampaignValue) → HaveRoom (both_move (moves_only amount (loss_entry t) t) next) c → HasRoom amount (amount_in c.books (loss_entry t) t)
+room_for_loss t amount next c room =
+    amount_room_for_less amount (moves_only amount (loss_entry t) t (loss_entry t) t + next (loss_entry t) t) (amount_in c.books (loss_entry t) t)
     (at_least (amount_number (loss_entry t) t == amount_number (loss_entry t) t) (next (loss_entry t) t) (same_number (amount_number (loss_entry t) t))) (room (loss_entry t) t)
   where
-    -- for `first_room`: `amount`, chosen since the test is true, is at most itself plus m, the bound that follows
+    -- for `room_for_loss`: `amount`, chosen since the test is true, is at most itself plus m, the bound that follows
     at_least : (b : Bool) (m : ℕ) → b ≡ true → amount ≤ (if b then amount else 0) + m
     at_least true m t = omega arith
     at_least false m t = cc
 
 -- after a loss is booked, the books have room for the bound `next`, if they had room for both before
-pub rest_room : (t : Thing) (amount : ℕ) (next : BookBound) (c : CampaignValue) → HaveRoom (both_move (moves_only amount (loss_entry t) t) next) c → HaveRoom next (with_loss c t amount)
-rest_room t amount next c room = booked-room c.books (loss_entry t) t (neg_ℤ (pos amount)) amount (within-neg amount amount (omega arith)) next room
+pub room_after_loss : (t : Thing) (amount : ℕ) (next : BookBound) (c : CampaignValue) → HaveRoom (both_move (moves_only amount (loss_entry t) t) next) c → HaveRoom next (with_loss c t amount)
+room_after_loss t amount next c room = booked-room c.books (loss_entry t) t (neg_ℤ (pos amount)) amount (within-neg amount amount (omega arith)) next room
 
 -- books with room to book the items from i on as lost have room to book the item at i and then those after it
-pub room_ahead : (xs : List (ℕ × ℕ)) (i : ℕ) (c : CampaignValue) → i < length xs → HaveRoom (moving_items (drop i xs)) c
-    → HaveRoom (moving_items (get_or xs i (0, 0) ∷ drop (i + 1) xs)) c
-room_ahead xs i c inside room = subst (λ l. HaveRoom (moving_items l) c) (drop_more xs i (0, 0) inside) room
+pub room_for_item_and_later : (xs : List (ℕ × ℕ)) (i : ℕ) (c : CampaignValue) → i < length xs → HaveRoom (items_bound (drop i xs)) c
+    → HaveRoom (items_bound (get_or xs i (0, 0) ∷ drop (i + 1) xs)) c
+room_for_item_and_later xs i c inside room = subst (λ l. HaveRoom (items_bound l) c) (drop_more xs i (0, 0) inside) room
 
 -- books with room to book the items from i on as lost have room to book the item at i
-pub next_room : (xs : List (ℕ × ℕ)) (i : ℕ) (c : CampaignValue) → i < length xs → HaveRoom (moving_items (drop i xs)) c
+pub room_for_item : (xs : List (ℕ × ℕ)) (i : ℕ) (c : CampaignValue) → i < length xs → HaveRoom (items_bound (drop i xs)) c
     → HasRoom (get_or xs i (0, 0)).1 (amount_in c.books Lost (Item (get_or xs i (0, 0)).0))
-next_room xs i c inside room = let x : ℕ × ℕ = get_or xs i (0, 0) in first_room (Item x.0) x.1 (moving_items (drop (i + 1) xs)) c (room_ahead xs i c inside room)
+room_for_item xs i c inside room = let x : ℕ × ℕ = get_or xs i (0, 0) in room_for_loss (Item x.0) x.1 (items_bound (drop (i + 1) xs)) c (room_for_item_and_later xs i c inside room)
 
 -- if the items from i on are of the world, so are the item at i and those after it
 pub known_ahead : (w : WorldValue) (xs : List (ℕ × ℕ)) (i : ℕ) → i < length xs → EachEntry (λ j a. j < length w.items) (drop i xs)
@@ -325,9 +328,9 @@ known_ahead w xs i inside known = subst (EachEntry (λ j a. j < length w.items))
 pub known_held : (w : WorldValue) (c : CampaignValue) (n : ℕ) (u : Unit) → get c.units n ≡ Some u → IsSteady w c → EachEntry (λ j a. j < length w.items) (entries u.holding.items)
 known_held w c n u is steady = each-from_every (λ j a. j < length w.items) u.holding.items (steady.known.units n u is).items
 
--- books with room for what all units may lose (`quit_reserve`) have room for all that one unit has
-pub held_room : (c : CampaignValue) (n : ℕ) (u : Unit) → get c.units n ≡ Some u → HaveRoom (quit_reserve c) c → HaveRoom (held_moves u.holding) c
-held_room c n u is room = room_less (held_moves u.holding) (quit_reserve c) c (λ e t. within (held_moves u.holding e t) (loss_under e t u.holding) (sum_over (λ (x : Unit). loss_under e t x.holding) (remove c.units n)) (quit_reserve c e t) (moves_what_leaves u.holding e t) (sum_over-remove c.units n (λ (x : Unit). loss_under e t x.holding) u is)) room
+-- books with room for what all units may lose (`quit_remaining`) have room for all that one unit has
+pub held_room : (c : CampaignValue) (n : ℕ) (u : Unit) → get c.units n ≡ Some u → HaveRoom (quit_remaining c) c → HaveRoom (held_moves u.holding) c
+held_room c n u is room = room_less (held_moves u.holding) (quit_remaining c) c (λ e t. within (held_moves u.holding e t) (loss_under e t u.holding) (sum_over (λ (x : Unit). loss_under e t x.holding) (remove c.units n)) (quit_remaining c e t) (moves_what_leaves u.holding e t) (sum_over-remove c.units n (λ (x : Unit). loss_under e t x.holding) u is)) room
   where
     -- for `held_room`: what one unit may lose (a, at most b) is at most what all may lose: r, the sum of s and b
     within : (a b s r : ℕ) → a ≤ b → s + b ≡ r → a ≤ r
@@ -335,10 +338,10 @@ held_room c n u is room = room_less (held_moves u.holding) (quit_reserve c) c (�
 
 -- ---- a unit that leaves
 
--- a campaign with other books in place of its own has the same total of each thing
-total_books : (c : CampaignValue) (books : BooksValue) (t : Thing) → total (record c { books = books }) t ≡ total c t
+-- other books in a campaign leave its total of each thing as it is, since the total counts no books
+books_leave_total : (c : CampaignValue) (books : BooksValue) (t : Thing) → total (record c { books = books }) t ≡ total c t
 unfolding total
-total_books c books t = refl
+books_leave_total c books t = refl
 
 module _ (w : WorldValue) (c : CampaignValue) (n : ℕ) (u : Unit) (is : get c.units n ≡ Some u) (steady : IsSteady w c) where
   -- the campaign in which all that the unit holds is booked as gone, before the unit is removed
@@ -365,27 +368,27 @@ module _ (w : WorldValue) (c : CampaignValue) (n : ℕ) (u : Unit) (is : get c.u
   balanced : Balances c → Balances after_leave
   balanced old t =
       let only = only_reduced w booked_off n u there in
-      let totals : total booked_off t ≡ total c t = ap (λ s. total s t) all_is_booked.same ∙ total_books c booked_off.books t in
+      let totals : total booked_off t ≡ total c t = ap (λ s. total s t) all_is_booked.same ∙ books_leave_total c booked_off.books t in
       total_stays_booked (total after_leave t) (unit_amount t u.holding) (total booked_off t) (total c t) (held_of_thing u.holding t) (booked c.books t) (booked booked_off.books t) (total-without w booked_off n u there t) totals (held_is_unit_amount u.holding t) (old t) (all_is_booked.sum_falls t)
       ∙ ap (λ (books : BooksValue). booked books t) (sym only.books)
     where
-      -- for `balanced`: the total a after the unit left is the books' sum y of the thing, since total (b, d) and books
-      -- (z) were equal before, and both fell by what the unit held (h, o)
+      -- For `balanced`: the total a after the unit left is the books' sum y of the thing. Before, the total (b, d) and
+      -- the books (z) were equal, and both fell by what the unit held (h, o).
       total_stays_booked : (a h b d o : ℕ) (z y : ℤ) → a + h ≡ b → b ≡ d → o ≡ h → pos d ≡ z → z ≡ y +ℤ pos o → pos a ≡ y
       total_stays_booked a h b d o z y e f g k l = omega (arith, ints, e, f, g, k, l)
 
   -- no amount of the books moves further than its remaining bound falls as the unit leaves
-  uses_bound : (e : BooksEntry) (t : Thing) → UsesBound (quit_reserve c e t) (quit_reserve after_leave e t) (amount_in c.books e t) (amount_in after_leave.books e t)
+  uses_bound : (e : BooksEntry) (t : Thing) → UsesBound (quit_remaining c e t) (quit_remaining after_leave e t) (amount_in c.books e t) (amount_in after_leave.books e t)
   uses_bound e t =
       let only = only_reduced w booked_off n u there in
-      let reserves : quit_reserve after_leave e t + loss_under e t u.holding ≡ quit_reserve c e t =
+      let reserves : quit_remaining after_leave e t + loss_under e t u.holding ≡ quit_remaining c e t =
       ap (λ (m : FinMap nat_cmp Unit). sum_over (λ (x : Unit). loss_under e t x.holding) m + loss_under e t u.holding) units_left ∙ sum_over-remove c.units n (λ (x : Unit). loss_under e t x.holding) u is in
-      subst (λ (books : BooksValue). UsesBound (quit_reserve c e t) (quit_reserve after_leave e t) (amount_in c.books e t) (amount_in books e t)) (sym only.books)
-      (bound_used_near (loss_under e t u.holding) (quit_reserve c e t) (quit_reserve after_leave e t) (amount_in c.books e t) (amount_in booked_off.books e t) reserves
+      subst (λ (books : BooksValue). UsesBound (quit_remaining c e t) (quit_remaining after_leave e t) (amount_in c.books e t) (amount_in books e t)) (sym only.books)
+      (bound_used_near (loss_under e t u.holding) (quit_remaining c e t) (quit_remaining after_leave e t) (amount_in c.books e t) (amount_in booked_off.books e t) reserves
       (near_more (held_moves u.holding e t) (loss_under e t u.holding) (amount_in c.books e t) (amount_in booked_off.books e t) (moves_what_leaves u.holding e t) (all_is_booked.near e t)))
 
   -- the unit's leaving keeps a steady campaign steady, in its month and with balanced books (`StepsWell`)
-  leaving_well : StepsWell IsSteady quit_reserve w c after_leave
+  leaving_well : StepsWell IsSteady quit_remaining w c after_leave
   leaving_well =
       let only = only_reduced w booked_off n u there in
       record {
@@ -402,79 +405,79 @@ module _ (w : WorldValue) (c : CampaignValue) (n : ℕ) (u : Unit) (is : get c.u
 
 -- after unit n left with all that it has, a steady campaign stays steady,
 -- in its month and with balanced books (`StepsWell`)
-pub left_well : (w : WorldValue) (c : CampaignValue) (n : ℕ) → IsSteady w c → StepsWell IsSteady quit_reserve w c (after_leaving c n)
+pub left_well : (w : WorldValue) (c : CampaignValue) (n : ℕ) → IsSteady w c → StepsWell IsSteady quit_remaining w c (after_leaving c n)
 unfolding after_leaving
 left_well w c n steady = by_unit (get c.units n) refl
   where
     -- for `left_well`: after unit n left, the campaign is still steady and in balance (`StepsWell`), whether unit n was
     -- there (`o`) or not
-    by_unit : (o : Option Unit) → get c.units n ≡ o → StepsWell IsSteady quit_reserve w c (without_leaver c n o)
+    by_unit : (o : Option Unit) → get c.units n ≡ o → StepsWell IsSteady quit_remaining w c (without_leaver c n o)
     by_unit None is = well_same w c steady
     by_unit (Some u) is = leaving_well w c n u is steady
 
 -- removing a unit leaves every other unit as it was
-without_others : (c : CampaignValue) (n k : ℕ) → k ≢ n → get (without_unit c n).units k ≡ get c.units k
+removal_keeps_others : (c : CampaignValue) (n k : ℕ) → k ≢ n → get (without_unit c n).units k ≡ get c.units k
 unfolding without_unit
-without_others c n k apart = elim (get c.units n) as (λ o. get (without_unit_at c n o).units k ≡ get c.units k) [
+removal_keeps_others c n k apart = elim (get c.units n) as (λ o. get (without_unit_at c n o).units k ≡ get c.units k) [
   | None ↦ refl
   | Some u ↦
       ap (λ (d : CampaignValue). get d.units k) (handed_is (record c { units = remove c.units n }) u.structure n (heir c u.structure n)) ∙ get-remove_other c.units n k apart
 ]
 
 -- booking items as lost changes no unit
-booked_units : (c : CampaignValue) (es : List (ℕ × ℕ)) → (fold with_item_loss c es).units ≡ c.units
-booked_units c [] = refl
-booked_units c (e ∷ es) = booked_units (with_item_loss c e) es
+item_losses_keep_units : (c : CampaignValue) (es : List (ℕ × ℕ)) → (fold with_item_loss c es).units ≡ c.units
+item_losses_keep_units c [] = refl
+item_losses_keep_units c (e ∷ es) = item_losses_keep_units (with_item_loss c e) es
 
 -- a unit that leaves with all that it has leaves every other unit as it was
-left_others : (c : CampaignValue) (n k : ℕ) → k ≢ n → get (after_leaving c n).units k ≡ get c.units k
+leaving_keeps_others : (c : CampaignValue) (n k : ℕ) → k ≢ n → get (after_leaving c n).units k ≡ get c.units k
 unfolding after_leaving
-left_others c n k apart = by_unit (get c.units n)
+leaving_keeps_others c n k apart = by_unit (get c.units n)
   where
-    -- for `left_others`: as unit n leaves, the other unit k is unchanged, whether unit n is there (`o`) or not
+    -- for `leaving_keeps_others`: as unit n leaves, the other unit k is unchanged, whether unit n is there (`o`) or not
     by_unit : (o : Option Unit) → get (without_leaver c n o).units k ≡ get c.units k
     by_unit None = refl
-    by_unit (Some u) = without_others (with_all_losses c u.holding) n k apart ∙ ap (λ (m : FinMap nat_cmp Unit). get m k) (booked_units _ (entries u.holding.items))
+    by_unit (Some u) = removal_keeps_others (with_all_losses c u.holding) n k apart ∙ ap (λ (m : FinMap nat_cmp Unit). get m k) (item_losses_keep_units _ (entries u.holding.items))
 
 -- ---- all units of a faction
 
 -- after units left one after another, a steady campaign stays steady,
 -- in its month and with balanced books (`StepsWell`)
-pub all_left_well : (w : WorldValue) (c : CampaignValue) (ns : List ℕ) → IsSteady w c → StepsWell IsSteady quit_reserve w c (fold after_leaving c ns)
+pub all_left_well : (w : WorldValue) (c : CampaignValue) (ns : List ℕ) → IsSteady w c → StepsWell IsSteady quit_remaining w c (fold after_leaving c ns)
 all_left_well w c [] steady = well_same w c steady
 all_left_well w c (n ∷ ns) steady =
     let one = left_well w c n steady in
     well_twice w c (after_leaving c n) (fold after_leaving (after_leaving c n) ns) one (all_left_well w (after_leaving c n) ns one.holds_still)
 
 -- units that leave one after another leave every other unit as it was
-pub all_left_others : (c : CampaignValue) (ns : List ℕ) (k : ℕ) → ((n : ℕ) → IsListed n ns → k ≢ n) → get (fold after_leaving c ns).units k ≡ get c.units k
-all_left_others c [] k apart = refl
-all_left_others c (n ∷ ns) k apart = all_left_others (after_leaving c n) ns k (λ m listed. apart m (inr listed)) ∙ left_others c n k (apart n (inl refl))
+pub all_leaving_keep_others : (c : CampaignValue) (ns : List ℕ) (k : ℕ) → ((n : ℕ) → IsListed n ns → k ≢ n) → get (fold after_leaving c ns).units k ≡ get c.units k
+all_leaving_keep_others c [] k apart = refl
+all_leaving_keep_others c (n ∷ ns) k apart = all_leaving_keep_others (after_leaving c n) ns k (λ m listed. apart m (inr listed)) ∙ leaving_keeps_others c n k (apart n (inl refl))
 
 -- ---- one order
 
--- P holds of the campaign after an order of QUIT, if P holds of the campaign before and, where the order has the number
--- of the unit's faction, of the one in which the faction's units left
-pub quit_cases : (P : CampaignValue → Type 0) (c : CampaignValue) (number : ℕ) (u : Unit) → P c → (number ≡ u.faction → P (fold after_leaving c (numbers_of u.faction c.units))) → P (quit number c u).0
+-- P holds of the campaign after an order of QUIT, if P holds of the campaign before. Where the order has the number of
+-- the unit's faction, P must also hold of the campaign after this faction's units left.
+pub quit_cases : (P : CampaignValue → Type 0) (c : CampaignValue) (number : ℕ) (u : Unit) → P c → (number ≡ u.faction → P (fold after_leaving c (numbers_of_faction u.faction c.units))) → P (quit number c u).0
 unfolding quit
 quit_cases P c number u same leave = by_fault (quit_fault number u) refl
   where
     -- for `quit_cases`: P holds of the campaign after the order, whether it has a fault (`f`) or not
-    by_fault : (f : Option EventFault) → quit_fault number u ≡ f → P (unless c f (fold after_leaving c (numbers_of u.faction c.units), Done 0)).0
+    by_fault : (f : Option EventFault) → quit_fault number u ≡ f → P (unless c f (fold after_leaving c (numbers_of_faction u.faction c.units), Done 0)).0
     by_fault (Some fault) e = same
     by_fault None e = leave (not_apart number u.faction (none_fits (not (number == u.faction)) WrongNumber [] e).0)
 
 -- an order of QUIT keeps a steady campaign steady, in its month and with balanced books (`StepsWell`)
-pub quit_well : (w : WorldValue) (c : CampaignValue) (number : ℕ) (u : Unit) → IsSteady w c → StepsWell IsSteady quit_reserve w c (quit number c u).0
-quit_well w c number u steady = quit_cases (λ d. StepsWell IsSteady quit_reserve w c d) c number u (well_same w c steady) (λ own. all_left_well w c (numbers_of u.faction c.units) steady)
+pub quit_well : (w : WorldValue) (c : CampaignValue) (number : ℕ) (u : Unit) → IsSteady w c → StepsWell IsSteady quit_remaining w c (quit number c u).0
+quit_well w c number u steady = quit_cases (λ d. StepsWell IsSteady quit_remaining w c d) c number u (well_same w c steady) (λ own. all_left_well w c (numbers_of_faction u.faction c.units) steady)
 
 -- QUIT leaves a unit unchanged, if the unit isn't of the faction that quits
 pub quit_stays : (c : CampaignValue) (number : ℕ) (u : Unit) (k : ℕ) (x : Unit) → get c.units k ≡ Some x → (number ≡ u.faction → u.faction ≢ x.faction) → get (quit number c u).0.units k ≡ Some x
 quit_stays c number u k x here other =
-    quit_cases (λ d. get d.units k ≡ Some x) c number u here (λ own. all_left_others c (numbers_of u.faction c.units) k (λ m listed. stays (other own) m listed) ∙ here)
+    quit_cases (λ d. get d.units k ≡ Some x) c number u here (λ own. all_leaving_keep_others c (numbers_of_faction u.faction c.units) k (λ m listed. stays (other own) m listed) ∙ here)
   where
     -- unit k, which is of another faction, is none of the units of the faction that quits
-    stays : u.faction ≢ x.faction → (m : ℕ) → IsListed m (numbers_of u.faction c.units) → k ≢ m
+    stays : u.faction ≢ x.faction → (m : ℕ) → IsListed m (numbers_of_faction u.faction c.units) → k ≢ m
     stays apart m listed same =
         let (v, at, t) = listed_passing (λ (y : Unit). y.faction == u.faction) c.units m listed in
         let one : Some v ≡ Some x = sym at ∙ ap (get c.units) (sym same) ∙ here in
@@ -484,75 +487,76 @@ quit_stays c number u k x here other =
 
 -- ---- the phase
 
--- in a steady campaign all that QUIT may still book (`quit_reserve`) is within the bound of the phase (`quit_moves`)
-reserve_within : (w : WorldValue) (c : CampaignValue) → IsSteady w c → (e : BooksEntry) (t : Thing) → quit_reserve c e t ≤ quit_moves e t
-reserve_within w c steady e t = by_test (entry_index e == entry_index (loss_entry t))
+-- in a steady campaign all that QUIT may still book (`quit_remaining`) is within the bound of the phase (`quit_moves`)
+remaining_within : (w : WorldValue) (c : CampaignValue) → IsSteady w c → (e : BooksEntry) (t : Thing) → quit_remaining c e t ≤ quit_moves e t
+remaining_within w c steady e t = by_test (entry_index e == entry_index (loss_entry t))
   where
-    -- for `reserve_within`: under other entries than that of the loss n units may lose 0 each, so s, their sum, is 0
+    -- for `remaining_within`: under other entries than that of the loss n units may lose 0 each, so s, their sum, is 0
     none : (s n : ℕ) → s ≤ n * 0 → s ≤ 0
     none s n l = omega (arith, l)
 
-    -- for `reserve_within`: what QUIT may still book of thing t is within the bound of the phase, whether the entry is
-    -- that of the thing's loss (`b`) or not
+    -- for `remaining_within`: what QUIT may still book of thing t is within the bound of the phase, whether the entry
+    -- is that of the thing's loss (`b`) or not
     by_test : (b : Bool) → sum_over (λ (u : Unit). if b then unit_amount t u.holding else 0) c.units ≤ (if b then most_moved else 0)
     by_test true = all_held_within w c steady t
     by_test false = none (sum_over (λ (u : Unit). 0) c.units) (length (entries c.units)) (sum_within (λ (u : Unit). 0) 0 (entries c.units) (each-from_every (λ n u. 0 ≤ 0) c.units (λ n u is. omega arith)))
 
 -- QUIT keeps a steady campaign steady and in balance, books no more than the leaving units had, and leaves a unit whose
 -- faction doesn't quit no worse off (`IsOrderly`)
-pub quit_orderly : IsOrderly quit_step IsSteady quit_reserve quit_moves quit_concerns IsNoWorse
+pub quit_orderly : IsOrderly quit_step IsSteady quit_remaining quit_moves quit_affects IsNoWorse
 quit_orderly = record {
   well = λ w a c t x steady fit own. well w c x steady t.order_value.operands;
-  spares_is_relation = no_worse_spares;
-  spared = λ w a c t x steady own n u here other. spared w c t x steady own n u here t.order_value.operands (λ says. other says);
-  bounded = reserve_within;
+  unaffected_is_relation = no_worse_is_relation;
+  is_unaffected = λ w a c t x steady own n u here other. is_unaffected w c t x steady own n u here t.order_value.operands (λ says. other says);
+  bounded = remaining_within;
 }
   where
     -- an order of QUIT with the operands s keeps the campaign steady and in balance (`StepsWell`)
-    well : (w : WorldValue) (c : CampaignValue) (x : Unit) → IsSteady w c → (s : OperandsValue) → IfSome (quit_effect s) (λ deed. StepsWell IsSteady quit_reserve w c (deed c x).0)
+    well : (w : WorldValue) (c : CampaignValue) (x : Unit) → IsSteady w c → (s : OperandsValue) → IfSome (quit_effect s) (λ effect. StepsWell IsSteady quit_remaining w c (effect c x).0)
     well w c x steady (operands.Number number) = quit_well w c number x steady
     well w c x steady other = tt
 
     -- an order of QUIT with the operands s leaves unit n no worse off, unless the unit's own faction quits by it
-    spared : (w : WorldValue) (c : CampaignValue) (t : Task) (x : Unit) → IsSteady w c → IsUnitOf c t x → (n : ℕ) (u : Unit) → get c.units n ≡ Some u → (s : OperandsValue) → ((t.faction ≡ u.faction) × (s ≡ operands.Number u.faction) → ⊥)
-        → IfSome (quit_effect s) (λ deed. IsUnaffected IsNoWorse (deed c x).0 n u)
-    spared w c t x steady own n u here (operands.Number number) other =
-        record { unit = u; there = quit_stays c number x n u here (λ says same. other (sym own.faction ∙ same, ap operands.Number (says ∙ same))); spared = no_worse u }
-    spared w c t x steady own n u here said other = tt
+    is_unaffected : (w : WorldValue) (c : CampaignValue) (t : Task) (x : Unit) → IsSteady w c → IsUnitOf c t x → (n : ℕ) (u : Unit) → get c.units n ≡ Some u → (s : OperandsValue) → ((t.faction ≡ u.faction) × (s ≡ operands.Number u.faction) → ⊥)
+        → IfSome (quit_effect s) (λ effect. IsUnaffected IsNoWorse (effect c x).0 n u)
+    is_unaffected w c t x steady own n u here (operands.Number number) other =
+        record { unit = u; there = quit_stays c number x n u here (λ says same. other (sym own.faction ∙ same, ap operands.Number (says ∙ same))); is_unaffected = no_worse u }
+    is_unaffected w c t x steady own n u here said other = tt
 
 -- ---- no unit comes, and none changes
 
--- the second campaign has only units that the first has too, unchanged
-abbrev HasSomeOf : CampaignValue → CampaignValue → Type 0
-HasSomeOf c d = Every (λ k u. get c.units k ≡ Some u) d.units
+-- the first campaign has all units of the second, unchanged
+abbrev HasAllUnitsOf : CampaignValue → CampaignValue → Type 0
+HasAllUnitsOf c d = Every (λ k u. get c.units k ≡ Some u) d.units
 
--- after a unit left, each unit that is still there is unchanged (`HasSomeOf`), if the campaign was steady
-left_some : (w : WorldValue) (c : CampaignValue) (n : ℕ) → IsSteady w c → HasSomeOf c (after_leaving c n)
+-- after a unit left, each unit that is still there is unchanged (`HasAllUnitsOf`), if the campaign was steady
+leaving_adds_no_unit : (w : WorldValue) (c : CampaignValue) (n : ℕ) → IsSteady w c → HasAllUnitsOf c (after_leaving c n)
 unfolding after_leaving
-left_some w c n steady = by_unit (get c.units n) refl
+leaving_adds_no_unit w c n steady = by_unit (get c.units n) refl
   where
-    -- for `left_some`: as unit n leaves, if it is there (`o`), each unit that is left is unchanged (`HasSomeOf`)
-    by_unit : (o : Option Unit) → get c.units n ≡ o → HasSomeOf c (without_leaver c n o)
+    -- for `leaving_adds_no_unit`: as unit n leaves, if it is there (`o`), each unit that is left is unchanged
+    -- (`HasAllUnitsOf`)
+    by_unit : (o : Option Unit) → get c.units n ≡ o → HasAllUnitsOf c (without_leaver c n o)
     by_unit None is = λ k u there. there
     by_unit (Some x) is =
         subst (λ (m : FinMap nat_cmp Unit). Every (λ k u. get c.units k ≡ Some u) m) (sym (units_left w c n x is steady)) (every-remove c.units n (λ k u. get c.units k ≡ Some u) (λ k u there. there))
 
--- after units left, each unit that is still there is unchanged (`HasSomeOf`), if the campaign was steady
-all_left_some : (w : WorldValue) (c : CampaignValue) (ns : List ℕ) → IsSteady w c → HasSomeOf c (fold after_leaving c ns)
-all_left_some w c [] steady k u there = there
-all_left_some w c (n ∷ ns) steady k u there = left_some w c n steady k u (all_left_some w (after_leaving c n) ns (left_well w c n steady).holds_still k u there)
+-- after units left, each unit that is still there is unchanged (`HasAllUnitsOf`), if the campaign was steady
+all_leaving_add_no_unit : (w : WorldValue) (c : CampaignValue) (ns : List ℕ) → IsSteady w c → HasAllUnitsOf c (fold after_leaving c ns)
+all_leaving_add_no_unit w c [] steady k u there = there
+all_leaving_add_no_unit w c (n ∷ ns) steady k u there = leaving_adds_no_unit w c n steady k u (all_leaving_add_no_unit w (after_leaving c n) ns (left_well w c n steady).holds_still k u there)
 
--- after an order of QUIT, each unit that is still there is unchanged (`HasSomeOf`), if the campaign was steady
-quit_some : (w : WorldValue) (c : CampaignValue) (number : ℕ) (x : Unit) → IsSteady w c → HasSomeOf c (quit number c x).0
-quit_some w c number x steady = quit_cases (HasSomeOf c) c number x (λ k u there. there) (λ own. all_left_some w c (numbers_of x.faction c.units) steady)
+-- after an order of QUIT, each unit that is still there is unchanged (`HasAllUnitsOf`), if the campaign was steady
+quit_adds_no_unit : (w : WorldValue) (c : CampaignValue) (number : ℕ) (x : Unit) → IsSteady w c → HasAllUnitsOf c (quit number c x).0
+quit_adds_no_unit w c number x steady = quit_cases (HasAllUnitsOf c) c number x (λ k u there. there) (λ own. all_leaving_add_no_unit w c (numbers_of_faction x.faction c.units) steady)
 
 -- an order is for a unit of its own faction (`is_own`), if the unit is there and of the faction that wrote the order
 is_own_unit : (c : CampaignValue) (t : Task) (x : Unit) → IsUnitOf c t x → is_own c t ≡ true
 is_own_unit c t x own = ap (is_of_faction t.faction) own.there ∙ equal_passes x.faction t.faction own.faction
 
--- if each unit of d is an unchanged unit of c, an order that is for a unit of its own faction in d (`is_own`) is so in
--- c, too
-own_before : (c d : CampaignValue) (t : Task) → HasSomeOf c d → is_own d t ≡ true → is_own c t ≡ true
+-- an order is for a unit of its own faction (`is_own`) in campaign c, if it is so in d, and c has all units of d,
+-- unchanged (`HasAllUnitsOf`)
+own_before : (c d : CampaignValue) (t : Task) → HasAllUnitsOf c d → is_own d t ≡ true → is_own c t ≡ true
 own_before c d t some own = by_unit (get d.units t.unit) refl own
   where
     -- the order is for a unit of its own faction in c, too, whether d has the unit or not
@@ -570,11 +574,11 @@ OwnSince begun w c = IsSteady w c × ((t : Task) → is_own c t ≡ true → is_
 module _ (begun : CampaignValue) where
   -- an order of QUIT keeps the campaign steady, the month and the balance of the books (`StepsWell`), and lets no order
   -- come to be for a unit of its own faction (`OwnSince`)
-  since_well : (w : WorldValue) (c : CampaignValue) (x : Unit) → OwnSince begun w c → (s : OperandsValue) → IfSome (quit_effect s) (λ deed. StepsWell (OwnSince begun) quit_reserve w c (deed c x).0)
+  since_well : (w : WorldValue) (c : CampaignValue) (x : Unit) → OwnSince begun w c → (s : OperandsValue) → IfSome (quit_effect s) (λ effect. StepsWell (OwnSince begun) quit_remaining w c (effect c x).0)
   since_well w c x since (operands.Number number) =
       let well = quit_well w c number x since.0 in
       record {
-        holds_still = (well.holds_still, λ s mine. since.1 s (own_before c (quit number c x).0 s (quit_some w c number x since.0) mine));
+        holds_still = (well.holds_still, λ s mine. since.1 s (own_before c (quit number c x).0 s (quit_adds_no_unit w c number x since.0) mine));
         same_month = well.same_month;
         balances = well.balances;
         uses_bound = well.uses_bound;
@@ -583,17 +587,17 @@ module _ (begun : CampaignValue) where
 
   -- QUIT keeps what `OwnSince` says, and a unit is no worse off, unless its faction quits by an order for a unit that
   -- was its own as the phase began (`IsOrderly`, `QuitsByOwnUnit`)
-  since_orderly : IsOrderly quit_step (OwnSince begun) quit_reserve quit_moves (QuitsByOwnUnit begun) IsNoWorse
+  since_orderly : IsOrderly quit_step (OwnSince begun) quit_remaining quit_moves (QuitsByOwnUnit begun) IsNoWorse
   since_orderly = record {
     well = λ w a c t x since fit own. since_well w c x since t.order_value.operands;
-    spares_is_relation = no_worse_spares;
-    spared = λ w a c t x since own n u there other.
-        quit_orderly.spared w a c t x since.0 own n u there (λ quits. other (record { own = since.1 t (is_own_unit c t x own); faction = quits.0; names_own_number = quits.1 }));
+    unaffected_is_relation = no_worse_is_relation;
+    is_unaffected = λ w a c t x since own n u there other.
+        quit_orderly.is_unaffected w a c t x since.0 own n u there (λ quits. other (record { own = since.1 t (is_own_unit c t x own); faction = quits.0; names_own_number = quits.1 }));
     bounded = λ w c since. quit_orderly.bounded w c since.0;
   }
 
 -- a unit is no worse off after the phase, unless its faction quits (`quit_keeps`), if the campaign is steady
-pub quit_spares_others : (w : WorldValue) (c : CampaignValue) (m : MonthValue) → IsSteady w c → AreFit w m.readings → quit_keeps w m c (quit_meaning w c m).0
+pub quit_leaves_others : (w : WorldValue) (c : CampaignValue) (m : MonthValue) → IsSteady w c → AreFit w m.readings → quit_keeps w m c (quit_meaning w c m).0
 unfolding meaning_by_orders
-quit_spares_others w c m steady fit =
-    orders_spare quit_step (since_orderly c) w c m (values (orders_of is_quitting ByUnit m.aliases m.readings)) (steady, λ t own. own) (orders_fit w m.aliases m.readings fit is_quitting)
+quit_leaves_others w c m steady fit =
+    orders_leave_others quit_step (since_orderly c) w c m (values (orders_of is_quitting ByUnit m.aliases m.readings)) (steady, λ t own. own) (orders_fit w m.aliases m.readings fit is_quitting)

@@ -12,7 +12,7 @@ use Rattle.atl_records.specs.declared.event.EventFault.TheVariants.{Guarded, NoM
 use Rattle.atl_records.specs.declared.records.Unit.{Unit}
 use Rattle.atl_records.specs.Every.{EachEntry, Every}
 use Rattle.atl_campaign.specs.Good.{AreOfOneFaction, guards}
-use Rattle.atl_campaign.specs.Campaign.{CampaignValue, numbers_in, with_guard}
+use Rattle.atl_campaign.specs.Campaign.{CampaignValue, numbers_in_region, with_guard}
 use Rattle.atl_records.proofs.EveryLaws.{each-from_every, every-from_each, every-insert, get-insert_other, none_some}
 use Rattle.atl_campaign.proofs.RegionLaws.{get-insert_same}
 use Rattle.atl_campaign.proofs.NumberListLaws.{IsListed, listed_passing, passing_listed}
@@ -68,7 +68,7 @@ module _ (c : CampaignValue) where
             elim (cases_eq u.region region) [
               | inl same ↦
                   let own = same_Some _ _ (sym (get-insert_same m u.region u.faction) ∙ ap (get (insert m u.region u.faction)) same ∙ at) in
-                  (n, u, is, record { on_guard = on; stands = same; belongs = own })
+                  (n, u, is, record { on_guard = on; in_region = same; belongs = own })
               | inr apart ↦ old (sym (get-insert_other m u.region region u.faction (λ same. apart (sym same))) ∙ at)
             ]
         by_test false on at = old at
@@ -119,10 +119,10 @@ any_listed p (n ∷ ns) k (inr rest) t = passes_later (p n) (any_listed p ns k r
     passes_later true t = refl
     passes_later false t = t
 
--- if no element of a list passes a test, the test of the whole list fails
-any_none : (p : ℕ → Bool) (ns : List ℕ) → ((k : ℕ) → IsListed k ns → p k ≡ false) → list_any p ns ≡ false
-any_none p [] none = refl
-any_none p (n ∷ ns) none = ap (λ b. b || list_any p ns) (none n (inl refl)) ∙ any_none p ns (λ k listed. none k (inr listed))
+-- `list_any` of a test is false for a list, if each element fails the test
+list_any_false : (p : ℕ → Bool) (ns : List ℕ) → ((k : ℕ) → IsListed k ns → p k ≡ false) → list_any p ns ≡ false
+list_any_false p [] none = refl
+list_any_false p (n ∷ ns) none = ap (λ b. b || list_any p ns) (none n (inl refl)) ∙ list_any_false p ns (λ k listed. none k (inr listed))
 
 module _ (c : CampaignValue) (m : GuardMap) (are : AreRegionGuards c m) (region faction : ℕ) where
   -- whether unit n guards, and is of another faction than the given one
@@ -130,13 +130,13 @@ module _ (c : CampaignValue) (m : GuardMap) (are : AreRegionGuards c m) (region 
   against n = guards_against faction (get c.units n)
 
   -- whether a unit is in the region
-  abbrev stands_here : Unit → Bool
-  stands_here u = u.region == region
+  abbrev is_here : Unit → Bool
+  is_here u = u.region == region
 
   -- no other faction guards the region, if each unit there whose faction the map has for the region is of the given
   -- faction
   all_own : ((u : Unit) → u.region ≡ region → get m u.region ≡ Some u.faction → u.faction ≡ faction) → is_guarded_against c region faction ≡ false
-  all_own own = any_none against (numbers_in region c.units) (λ k listed. let (u, is, here) = listed_passing stands_here c.units k listed in ap (guards_against faction) is ∙ by_test u (guards u) (are.noted k u is) (is_equal u.region region here))
+  all_own own = list_any_false against (numbers_in_region region c.units) (λ k listed. let (u, is, here) = listed_passing is_here c.units k listed in ap (guards_against faction) is ∙ by_test u (guards u) (are.noted k u is) (is_equal u.region region here))
     where
       -- for `all_own`: unit u, in the region, is no guard of another faction than the given one, be it on guard (`b`)
       -- or not
@@ -156,7 +156,7 @@ module _ (c : CampaignValue) (m : GuardMap) (are : AreRegionGuards c m) (region 
           let (n, u, is, guard) = are.held region holder at in
           let against_it : against n ≡ true =
           ap (guards_against faction) is ∙ ap (λ b. b && not (u.faction == faction)) guard.on_guard ∙ ap (λ f. not (f == faction)) guard.belongs ∙ ap not apart in
-          sym (any_listed against (numbers_in region c.units) n (passing_listed stands_here c.units n u is (ap (λ r. r == region) guard.stands ∙ equal_itself region)) against_it)
+          sym (any_listed against (numbers_in_region region c.units) n (passing_listed is_here c.units n u is (ap (λ r. r == region) guard.in_region ∙ equal_itself region)) against_it)
 
       -- another faction guards the region exactly if the map has a faction for it that isn't the given one
       by_holder : (o : Option ℕ) → get m region ≡ o → has_other_guard faction o ≡ is_guarded_against c region faction
@@ -197,10 +197,10 @@ module _ (c : CampaignValue) (m : GuardMap) (n : ℕ) (u : Unit) (is : get c.uni
       elim (cases_eq r u.region) [
         | inl same ↦
             let own = same_Some _ _ (sym (get-insert_same m u.region u.faction) ∙ ap (get set_now) (sym same) ∙ at) in
-            (n, guarding c n u is, get-insert_same c.units n (guarding c n u is), record { on_guard = men; stands = sym same; belongs = own })
+            (n, guarding c n u is, get-insert_same c.units n (guarding c n u is), record { on_guard = men; in_region = sym same; belongs = own })
         | inr apart ↦
             let (k, v, there, guard) = are.held r f (sym (get-insert_other m u.region r u.faction apart) ∙ at) in
-            (k, v, get-insert_other c.units n k (guarding c n u is) (λ same. apart (sym guard.stands ∙ ap (λ (x : Unit). x.region) (same_Some _ _ (sym there ∙ ap (get c.units) same ∙ is)))) ∙ there, guard)
+            (k, v, get-insert_other c.units n k (guarding c n u is) (λ same. apart (sym guard.in_region ∙ ap (λ (x : Unit). x.region) (same_Some _ _ (sym there ∙ ap (get c.units) same ∙ is)))) ∙ there, guard)
       ]
 
   -- After a unit with men began to guard a region that no other faction guards, the map with its faction set for the

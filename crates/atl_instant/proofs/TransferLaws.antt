@@ -138,7 +138,7 @@ known_skill w h s may some = by_option (get h.days s) refl some
 days_may : (w : WorldValue) (h : HoldingValue) (s : ℕ) → MayHave w h → amount_of h.days s ≤ most_days * h.men
 days_may w h s may = days_within h.days (most_days * h.men) s may.days
 
--- if a unit may have what it holds (`MayHave`), it may also have what it holds after n of its men went
+-- a unit may have (`MayHave`) what it holds after n of its men went, if it may have what it holds before
 pub may_have_fewer : (w : WorldValue) (n : ℕ) (h : HoldingValue) → n ≤ h.men → MayHave w h → MayHave w (after_sending n h)
 may_have_fewer w n h fewer may = record {
   limits = record { men = omega (arith, may.limits.men); money = may.limits.money; items = may.limits.items };
@@ -154,8 +154,8 @@ may_have_fewer w n h fewer may = record {
     had : (a g d : ℕ) → d ≡ a - g → 1 ≤ d → 1 ≤ a
     had a g d is some = omega (arith, is, some)
 
--- if two units may have what they hold (`MayHave`), one may also have what it holds after n men of the other came, if
--- there is room for the men
+-- a unit may have (`MayHave`) what it holds after n men of another unit came, if both may have what they hold before,
+-- and there is room for the men
 pub may_have_more : (w : WorldValue) (n : ℕ) (other h : HoldingValue) → h.men + n ≤ men_limit → MayHave w other → MayHave w h → MayHave w (after_receiving n other h)
 may_have_more w n other h room from may = record {
   limits = record { men = room; money = may.limits.money; items = may.limits.items };
@@ -194,16 +194,16 @@ may_have_more w n other h room from may = record {
         spread k s n = grind arith
 
 -- sender and receiver together hold as much of each thing after n men went as before, if the sender had n men
-pub both_hold : (n : ℕ) (h k : HoldingValue) → n ≤ h.men → (t : Thing) → unit_amount t (after_sending n h) + unit_amount t (after_receiving n h k) ≡ unit_amount t h + unit_amount t k
-both_hold n h k l things.Money = refl
-both_hold n h k l things.People = omega (arith, l)
-both_hold n h k l (things.Item i) = refl
+pub transfer_keeps_sum : (n : ℕ) (h k : HoldingValue) → n ≤ h.men → (t : Thing) → unit_amount t (after_sending n h) + unit_amount t (after_receiving n h k) ≡ unit_amount t h + unit_amount t k
+transfer_keeps_sum n h k l things.Money = refl
+transfer_keeps_sum n h k l things.People = omega (arith, l)
+transfer_keeps_sum n h k l (things.Item i) = refl
 
 -- ---- no worse off
 
 -- a unit to which men come is no worse off
-pub better_off : (n : ℕ) (other : HoldingValue) (v : Unit) → IsNoWorse v (record v { holding = after_receiving n other v.holding })
-better_off n other v = record {
+pub men_receiver_no_worse : (n : ℕ) (other : HoldingValue) (v : Unit) → IsNoWorse v (record v { holding = after_receiving n other v.holding })
+men_receiver_no_worse n other v = record {
   faction = refl;
   region = refl;
   structure = refl;
@@ -225,10 +225,10 @@ module _ {fit : Type 0} (w : WorldValue) (c : CampaignValue) (from to n : ℕ) (
     well = λ early fits.
         let from_may = may_have w c from u sender early.steady in
         steps-moved c from to u v (after_sending n u.holding) (after_receiving n u.holding v.holding) sender receiver apart w (may_have_fewer w n u.holding can.enough from_may) (λ g. g)
-        (may_have_more w n u.holding v.holding can.room from_may (may_have w c to v receiver early.steady)) (λ g. g) (both_hold n u.holding v.holding can.enough) early;
+        (may_have_more w n u.holding v.holding can.room from_may (may_have w c to v receiver early.steady)) (λ g. g) (transfer_keeps_sum n u.holding v.holding can.enough) early;
     others =
         others-moved c from to u v (after_sending n u.holding) (after_receiving n u.holding v.holding) sender receiver apart u.faction
-        (record { better = better_off n u.holding v; men = λ other. absurd (other (sym can.own)) });
+        (record { better = men_receiver_no_worse n u.holding v; men = λ other. absurd (other (sym can.own)) });
   }
 
   -- an order of TRANSFER keeps the campaign early, and all units but the sender no worse off (`Keeps`)
@@ -251,7 +251,7 @@ pub transfer_keeps : StepKeeps IsEarly transfer_step
 transfer_keeps w a c t x own = by_operands t.order_value.operands
   where
     -- an order with the operands o keeps the campaign early, and all units but the sender no worse off (`Keeps`)
-    by_operands : (o : OperandsValue) → IfSome (transfer_effect a t.faction t.unit o) (λ deed. Keeps IsEarly (AreOperandsOf w o) w c t.unit x.faction (deed c x).0)
+    by_operands : (o : OperandsValue) → IfSome (transfer_effect a t.faction t.unit o) (λ effect. Keeps IsEarly (AreOperandsOf w o) w c t.unit x.faction (effect c x).0)
     by_operands (operands.UnitAndNumber to n) = transfer_kept w c t.unit (unit_of a t.faction to) n x own.there
     by_operands other = tt
 

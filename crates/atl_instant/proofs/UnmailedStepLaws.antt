@@ -11,15 +11,15 @@ use Rattle.atl_phase.specs.PhaseOrders.{Task, orders_of}
 use Rattle.atl_phase.specs.Unmailed.{starved_in}
 use Rattle.atl_phase.specs.declared.phase_order.Arrangement.TheVariants.{ByFaction}
 use Rattle.atl_phase.proofs.PhaseSpecLaws.{PhaseLeavesUnmailed}
-use Rattle.atl_phase.proofs.UnmailedLaws.{LeavesUnmailed, OthersHaveMen, SparesMen, carried_leaves, items_of_no_worse, own_faction, order_event_starves_none, unmailed_spared, whole_leaves}
+use Rattle.atl_phase.proofs.UnmailedLaws.{LeavesUnmailed, OthersHaveMen, LeavesOthersMen, carried_leaves, items_of_no_worse, own_faction, order_event_starves_none, unmailed_keep_items, whole_leaves}
 use Rattle.atl_instant.specs.Form.{form_by, form_keeps, form_meaning, form_order, is_forming}
 use Rattle.atl_instant.specs.Give.{give_spec, give_step, is_giving}
-use Rattle.atl_instant.specs.Guard.{guard_concerns, guard_spec, guard_step, is_guarding}
-use Rattle.atl_instant.specs.Name.{is_naming, name_concerns, name_spec, name_step}
+use Rattle.atl_instant.specs.Guard.{guard_affects, guard_spec, guard_step, is_guarding}
+use Rattle.atl_instant.specs.Name.{is_naming, name_affects, name_spec, name_step}
 use Rattle.atl_instant.specs.Place.{is_placing, place_spec, place_step}
 use Rattle.atl_instant.specs.Quit.{QuitsByOwnUnit, is_quitting, quit_effect, quit_keeps, quit_meaning, quit_step}
 use Rattle.atl_instant.specs.Transfer.{is_transferring, transfer_spec, transfer_step}
-use Rattle.atl_instant.proofs.EffectLaws.{spares_men}
+use Rattle.atl_instant.proofs.EffectLaws.{leaves_men}
 use Rattle.atl_instant.proofs.GiveLaws.{give_keeps}
 use Rattle.atl_instant.proofs.GuardingLaws.{guard_keeps}
 use Rattle.atl_instant.proofs.NameLaws.{name_keeps}
@@ -46,47 +46,47 @@ form_leaves =
     whole_leaves {meaning = form_meaning} {keeps = form_keeps}
     (λ w c m. form_readings (c, m) (values (orders_of is_forming ByFaction m.aliases m.readings)))
     (λ w c m n. form_starves_none (c, m) (values (orders_of is_forming ByFaction m.aliases m.readings)) n)
-    (λ w c m keeps n u there none. record { unit = u; there = keeps n u there; spared = record { faction = refl; men = refl } })
-    (λ w c m keeps n u there none. record { unit = u; there = keeps n u there; spared = record { name = refl; items = λ i. omega arith } })
+    (λ w c m keeps n u there none. record { unit = u; there = keeps n u there; is_unaffected = record { faction = refl; men = refl } })
+    (λ w c m keeps n u there none. record { unit = u; there = keeps n u there; is_unaffected = record { name = refl; items = λ i. omega arith } })
 
 -- ---- the phases that book nothing
 
 -- the phase of NAME and GUARD 0 leaves units of factions without a mailing their men and items (`LeavesUnmailed`)
 pub name_leaves : PhaseLeavesUnmailed name_spec
-name_leaves = carried_leaves name_step is_naming (spares_men IsEarly name_step name_keeps) (unmailed_spared {concerns = name_concerns} is_naming (λ t n f h. own_faction t n f h.0) items_of_no_worse)
+name_leaves = carried_leaves name_step is_naming (leaves_men IsEarly name_step name_keeps) (unmailed_keep_items {affects = name_affects} is_naming (λ t n f h. own_faction t n f h.0) items_of_no_worse)
 
 -- the phase of LEAVE, ENTER and PROMOTE leaves units of factions without a mailing their men and items
 -- (`LeavesUnmailed`)
 pub place_leaves : PhaseLeavesUnmailed place_spec
-place_leaves = carried_leaves place_step is_placing (spares_men IsEarly place_step place_keeps) (unmailed_spared is_placing own_faction items_of_no_worse)
+place_leaves = carried_leaves place_step is_placing (leaves_men IsEarly place_step place_keeps) (unmailed_keep_items is_placing own_faction items_of_no_worse)
 
 -- the phase of GIVE and PAY leaves units of factions without a mailing their men and items (`LeavesUnmailed`)
 pub give_leaves : PhaseLeavesUnmailed give_spec
-give_leaves = carried_leaves give_step is_giving (spares_men IsEarly give_step give_keeps) (unmailed_spared is_giving own_faction items_of_no_worse)
+give_leaves = carried_leaves give_step is_giving (leaves_men IsEarly give_step give_keeps) (unmailed_keep_items is_giving own_faction items_of_no_worse)
 
 -- the phase of TRANSFER leaves units of factions without a mailing their men and items (`LeavesUnmailed`)
 pub transfer_leaves : PhaseLeavesUnmailed transfer_spec
-transfer_leaves = carried_leaves transfer_step is_transferring (spares_men IsEarly transfer_step transfer_keeps) (unmailed_spared is_transferring own_faction items_of_no_worse)
+transfer_leaves = carried_leaves transfer_step is_transferring (leaves_men IsEarly transfer_step transfer_keeps) (unmailed_keep_items is_transferring own_faction items_of_no_worse)
 
 -- the phase of GUARD 1 leaves units of factions without a mailing their men and items (`LeavesUnmailed`)
 pub guard_leaves : PhaseLeavesUnmailed guard_spec
-guard_leaves = carried_leaves guard_step is_guarding (spares_men IsSteady guard_step guard_keeps) (unmailed_spared {concerns = guard_concerns} is_guarding (λ t n f h. own_faction t n f h.0) items_of_no_worse)
+guard_leaves = carried_leaves guard_step is_guarding (leaves_men IsSteady guard_step guard_keeps) (unmailed_keep_items {affects = guard_affects} is_guarding (λ t n f h. own_faction t n f h.0) items_of_no_worse)
 
 -- ---- QUIT
 
 -- each order of QUIT leaves units of other factions than the one that wrote it their men
-quit_spares : SparesMen quit_step
-quit_spares w a c t x own = by_operands t.order_value.operands
+quit_leaves_men : LeavesOthersMen quit_step
+quit_leaves_men w a c t x own = by_operands t.order_value.operands
   where
-    -- for `quit_spares`: QUIT with the operands o leaves units of other factions than its writer's their men
-    by_operands : (o : OperandsValue) → IfSome (quit_effect o) (λ deed. OthersHaveMen t.faction c (deed c x).0)
+    -- for `quit_leaves_men`: QUIT with the operands o leaves units of other factions than its writer's their men
+    by_operands : (o : OperandsValue) → IfSome (quit_effect o) (λ effect. OthersHaveMen t.faction c (effect c x).0)
     by_operands (operands.Number number) = λ k y there other. record {
       unit = y;
       there = quit_stays c number x k y there (λ says same. other (sym own.faction ∙ same));
-      spared = record { faction = refl; men = refl };
+      is_unaffected = record { faction = refl; men = refl };
     }
     by_operands o = tt
 
 -- the phase of QUIT leaves units of factions without a mailing their men and items (`LeavesUnmailed`)
 pub quit_leaves : LeavesUnmailed quit_meaning quit_keeps
-quit_leaves = carried_leaves quit_step is_quitting quit_spares (λ w c d m. unmailed_spared {concerns = QuitsByOwnUnit c} is_quitting (λ t n f h. h.faction) items_of_no_worse w c d m)
+quit_leaves = carried_leaves quit_step is_quitting quit_leaves_men (λ w c d m. unmailed_keep_items {affects = QuitsByOwnUnit c} is_quitting (λ t n f h. h.faction) items_of_no_worse w c d m)

@@ -15,7 +15,7 @@ use Rattle.atl_records.specs.Every.{Every}
 use Rattle.atl_records.specs.Limits.{last_unit, most_units}
 use Rattle.atl_campaign.specs.Campaign.{CampaignValue, with_unit_begun}
 use Rattle.atl_phase.specs.Month.{Aliases, MonthValue, with_alias}
-use Rattle.atl_phase.specs.Inside.{inside, region_of}
+use Rattle.atl_phase.specs.Inside.{structure_of_unit, region_of}
 use Rattle.atl_phase.specs.Meaning.{Frame, Meaning}
 use Rattle.atl_phase.specs.Outcomes.{first_fault, unless}
 use Rattle.atl_phase.specs.PhaseOrders.{Task, orders_of}
@@ -49,7 +49,7 @@ new_unit number faction region structure = record {
 
 -- the campaign with a new unit of faction f, in the region of unit n and inside the same structure
 abbrev pub with_formed_unit : CampaignValue → (f n : ℕ) → CampaignValue
-with_formed_unit c f n = with_unit_begun c (new_unit c.next_unit f (region_of c n) (inside c n))
+with_formed_unit c f n = with_unit_begun c (new_unit c.next_unit f (region_of c n) (structure_of_unit c n))
 
 -- the campaign and the outcome after an order of FORM from faction f for unit n
 abbrev pub form_by : CampaignValue → (f n : ℕ) → CampaignValue × Outcome
@@ -70,7 +70,13 @@ aliases_after aliases f alias outcome = aliases
 -- the campaign after an order of FORM, and the month with the event of the order, and with its alias if a unit was
 -- formed
 abbrev pub with_form_result : MonthValue → Task → CampaignValue × Outcome → CampaignValue × MonthValue
-with_form_result m t (c, outcome) = (c, record m { aliases = aliases_after m.aliases t.faction (alias_of t.order_value.operands) outcome; events = m.events ++ event_for t outcome ∷ [] })
+with_form_result m t (c, outcome) = (
+  c,
+  record m {
+    aliases = aliases_after m.aliases t.faction (alias_of t.order_value.operands) outcome;
+    events = m.events ++ event_for t outcome ∷ [];
+  },
+)
 
 -- the campaign and the month after one order of FORM
 abbrev pub form_order : CampaignValue × MonthValue → Task → CampaignValue × MonthValue

@@ -11,7 +11,13 @@ use Rattle.atl_instant.specs.Form.{alias_of, aliases_after, form_by}
 
 -- the copy of an order of FORM: its unit, line, faction, verb and alias
 abbrev pub forming_of : Task → Forming
-forming_of t = record { unit = t.unit; line = t.line; faction = t.faction; verb = t.order_value.verb; alias = alias_of t.order_value.operands }
+forming_of t = record {
+  unit = t.unit;
+  line = t.line;
+  faction = t.faction;
+  verb = t.order_value.verb;
+  alias = alias_of t.order_value.operands;
+}
 
 -- the event that reports the outcome of an order of FORM, made of the copy of the order
 abbrev pub forming_event : Forming → Outcome → Event
@@ -20,7 +26,13 @@ forming_event o outcome = record { faction = o.faction; unit = o.unit; line = o.
 -- the campaign after a copied order of FORM, and the month with the event of the order, and with its alias if a unit
 -- was formed
 abbrev pub with_forming_result : MonthValue → Forming → CampaignValue × Outcome → CampaignValue × MonthValue
-with_forming_result m o (c, outcome) = (c, record m { aliases = aliases_after m.aliases o.faction o.alias outcome; events = m.events ++ forming_event o outcome ∷ [] })
+with_forming_result m o (c, outcome) = (
+  c,
+  record m {
+    aliases = aliases_after m.aliases o.faction o.alias outcome;
+    events = m.events ++ forming_event o outcome ∷ [];
+  },
+)
 
 -- the campaign and the month after one order of FORM, carried out by its copy
 abbrev pub form_by_copy : CampaignValue × MonthValue → Forming → CampaignValue × MonthValue

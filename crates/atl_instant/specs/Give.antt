@@ -65,10 +65,11 @@ after_gift c from to gift n (Some u) (Some v) =
     if to == from then c else with_holding_at (with_holding_at c from less (Some u)) to more (Some v)
 after_gift c from to gift n giver receiver = c
 
--- the campaign and the outcome as unit u, under the number `from`, gives n of the gift to the receiver under `to`, if
--- that is there
+-- The campaign and the outcome as unit u gives n of the gift to the receiver, if a receiver is there. The unit has the
+-- number `from`, the receiver `to`.
 abbrev pub give_to : CampaignValue → (from to : ℕ) → Gift → (n : ℕ) → Unit → Option Unit → CampaignValue × Outcome
-give_to c from to gift n u receiver = unless c (give_fault gift n (to == from) u receiver) (after_gift c from to gift n (Some u) receiver, Done n)
+give_to c from to gift n u receiver =
+    unless c (give_fault gift n (to == from) u receiver) (after_gift c from to gift n (Some u) receiver, Done n)
 
 -- the effect of an order by which unit `from` gives n of the gift, money or an item, to unit `to`
 unfoldable pub give : (from to : ℕ) → Gift → (n : ℕ) → OrderEffect

@@ -13,7 +13,7 @@ use Rattle.atl_records.specs.declared.event.EventFault.TheVariants.{Guarded, NoM
 use Rattle.atl_records.specs.declared.event.Outcome.TheVariants.{Done}
 use Rattle.atl_records.specs.declared.records.Unit.{Unit}
 use Rattle.atl_campaign.specs.Good.{guards}
-use Rattle.atl_campaign.specs.Campaign.{CampaignValue, numbers_in, with_guard}
+use Rattle.atl_campaign.specs.Campaign.{CampaignValue, numbers_in_region, with_guard}
 use Rattle.atl_phase.specs.Outcomes.{first_fault, unless}
 use Rattle.atl_phase.specs.NoWorse.{IsNoWorse}
 use Rattle.atl_phase.specs.OrderEffects.{Affects, IsOwnOrder, OrderEffect, OrderMeaning}
@@ -33,7 +33,7 @@ guards_against faction (Some v) = guards v && not (v.faction == faction)
 
 -- whether a unit of another faction than the given one guards a region
 abbrev pub is_guarded_against : CampaignValue → (region faction : ℕ) → Bool
-is_guarded_against c region faction = list_any (λ n. guards_against faction (get c.units n)) (numbers_in region c.units)
+is_guarded_against c region faction = list_any (λ n. guards_against faction (get c.units n)) (numbers_in_region region c.units)
 
 -- ---- one order
 
@@ -54,13 +54,13 @@ guard_effect n other = None
 abbrev pub guard_step : OrderMeaning
 guard_step w aliases t = guard_effect t.unit t.order_value.operands
 
--- an order concerns a unit if it is GUARD 1, and the unit's own faction wrote it for the unit
-abbrev pub guard_concerns : Affects
-guard_concerns t number faction = IsOwnOrder t number faction × (t.order_value.operands ≡ operands.Flag true)
+-- an order affects a unit if it is GUARD 1, and the unit's own faction wrote it for the unit
+abbrev pub guard_affects : Affects
+guard_affects t number faction = IsOwnOrder t number faction × (t.order_value.operands ≡ operands.Flag true)
 
 -- ---- the phase
 
 -- the specification of the phase of GUARD 1: its orders are carried out one by one, and a unit for which its own
 -- faction wrote no GUARD 1 is no worse off
 abbrev pub guard_spec : PhaseSpec
-guard_spec = goes_by_orders guard_step is_guarding guard_concerns IsNoWorse
+guard_spec = goes_by_orders guard_step is_guarding guard_affects IsNoWorse

@@ -32,23 +32,24 @@ is_naming verb = false
 
 -- ---- names
 
--- whether a structure is a ship, where `ship` is true, and a building otherwise
-abbrev pub is_of_kind : WorldValue → (ship : Bool) → Structure → Bool
-is_of_kind w ship s = if ship then is_ship w s else not (is_ship w s)
+-- whether a structure is of the sort asked for: a ship where `ship` is true, and a building otherwise
+abbrev pub is_structure_of_kind : WorldValue → (ship : Bool) → Structure → Bool
+is_structure_of_kind w ship s = if ship then is_ship w s else not (is_ship w s)
 
 -- why unit n can't name a ship (where `ship` is true) or a building: NotInside where it is inside no such structure, or
 -- NotOwner; None where it can
 abbrev pub structure_fault : WorldValue → ℕ → (ship : Bool) → Option Structure → Option EventFault
 structure_fault w n ship None = Some NotInside
-structure_fault w n ship (Some s) = first_fault ((not (is_of_kind w ship s), NotInside) ∷ (not (s.owner == n), NotOwner) ∷ [])
+structure_fault w n ship (Some s) = first_fault ((not (is_structure_of_kind w ship s), NotInside) ∷ (not (s.owner == n), NotOwner) ∷ [])
 
 -- the campaign and the outcome as unit n gives a name to the ship (where `ship` is true) or the building that it is
 -- inside
 abbrev pub structure_name_result : WorldValue → CampaignValue → (n inside : ℕ) → (ship : Bool) → List ℕ → CampaignValue × Outcome
-structure_name_result w c n inside ship name = unless c (structure_fault w n ship (get c.structures inside)) (with_structure_name c inside name, Done 0)
+structure_name_result w c n inside ship name =
+    unless c (structure_fault w n ship (get c.structures inside)) (with_structure_name c inside name, Done 0)
 
--- the campaign and the outcome after an order of NAME by unit n: the unit, its faction, or the structure `inside` (0:
--- none) that it is inside gets the name, by the kind of name
+-- The campaign and the outcome after an order of NAME by unit n. By the kind of name, the unit, its faction or the
+-- structure `inside`, which the unit is inside (0: none), gets the name.
 abbrev pub name_result : WorldValue → CampaignValue → (n faction inside : ℕ) → NameKind → List ℕ → CampaignValue × Outcome
 name_result w c n f s kinds.Unit name = (with_unit_name c n name, Done 0)
 name_result w c n f s kinds.Faction name = (with_faction_name c f name, Done 0)
@@ -73,13 +74,13 @@ name_effect w n other = None
 abbrev pub name_step : OrderMeaning
 name_step w a t = name_effect w t.unit t.order_value.operands
 
--- an order concerns a unit if the unit's own faction wrote it for the unit, and it isn't GUARD 1
-abbrev pub name_concerns : Affects
-name_concerns t number faction = IsOwnOrder t number faction × (t.order_value.operands ≢ operands.Flag true)
+-- an order affects a unit if the unit's own faction wrote it for the unit, and it isn't GUARD 1
+abbrev pub name_affects : Affects
+name_affects t number faction = IsOwnOrder t number faction × (t.order_value.operands ≢ operands.Flag true)
 
 -- ---- the phase
 
--- the specification of the phase of NAME and GUARD 0: its orders are carried out one by one, and a unit for which its
--- own faction wrote no NAME or GUARD 0 is no worse off
+-- The specification of the phase of NAME and GUARD 0: its orders are carried out one by one. A unit for which its own
+-- faction wrote no NAME or GUARD 0 is no worse off.
 abbrev pub name_spec : PhaseSpec
-name_spec = goes_by_orders name_step is_naming name_concerns IsNoWorse
+name_spec = goes_by_orders name_step is_naming name_affects IsNoWorse

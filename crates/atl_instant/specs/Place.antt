@@ -18,7 +18,7 @@ use Rattle.atl_records.specs.declared.records.Unit.{Unit}
 use Rattle.atl_campaign.specs.Owners.{is_owned_by, with_place}
 use Rattle.atl_campaign.specs.Campaign.{CampaignValue, with_owner}
 use Rattle.atl_phase.specs.Month.{Aliases}
-use Rattle.atl_phase.specs.Inside.{inside}
+use Rattle.atl_phase.specs.Inside.{structure_of_unit}
 use Rattle.atl_phase.specs.Outcomes.{first_fault, unless}
 use Rattle.atl_phase.specs.PhaseOrders.{unit_of}
 use Rattle.atl_phase.specs.NoWorse.{IsNoWorse}
@@ -47,13 +47,13 @@ leave w n c u = unless c (leave_fault w u) (with_place c n u.region 0, Done 0)
 -- ---- ENTER
 
 -- whether a structure exists, and is in a given region
-abbrev pub is_in : ℕ → Option Structure → Bool
-is_in region None = false
-is_in region (Some s) = s.region == region
+abbrev pub is_structure_in : ℕ → Option Structure → Bool
+is_structure_in region None = false
+is_structure_in region (Some s) = s.region == region
 
 -- why a unit can't enter structure s: NotHere; None where it can
 abbrev pub enter_fault : CampaignValue → (s : ℕ) → Unit → Option EventFault
-enter_fault c s u = first_fault ((not (is_in u.region (get c.structures s)), NotHere) ∷ [])
+enter_fault c s u = first_fault ((not (is_structure_in u.region (get c.structures s)), NotHere) ∷ [])
 
 -- the campaign with unit n, which was inside `from`, inside structure s; nothing changes if `from` is s
 abbrev pub with_unit_inside : CampaignValue → (n region from s : ℕ) → CampaignValue
@@ -71,7 +71,7 @@ abbrev pub promote_fault : CampaignValue → (n to : ℕ) → Unit → Option Ev
 promote_fault c n to u = first_fault (
     (u.structure == 0, NotInside)
     ∷ (not (is_owned_by (get c.structures u.structure) n), NotOwner)
-    ∷ (not (inside c to == u.structure), NotHere)
+    ∷ (not (structure_of_unit c to == u.structure), NotHere)
     ∷ [])
 
 -- the effect of PROMOTE: unit `to` owns the structure that unit n is inside, unless the order has a fault
@@ -93,7 +93,7 @@ place_step w a t = place_effect w a t.faction t.unit t.order_value.operands
 
 -- ---- the phase
 
--- the specification of the phase of LEAVE, ENTER and PROMOTE: its orders are carried out one by one, and a unit for
--- which its own faction wrote no LEAVE, ENTER or PROMOTE is no worse off
+-- The specification of the phase of LEAVE, ENTER and PROMOTE: its orders are carried out one by one. A unit for which
+-- its own faction wrote no LEAVE, ENTER or PROMOTE is no worse off.
 abbrev pub place_spec : PhaseSpec
 place_spec = goes_by_orders place_step is_placing IsOwnOrder IsNoWorse

@@ -20,13 +20,13 @@ use Rattle.atl_records.specs.declared.records.Unit.{Unit}
 use Rattle.atl_records.specs.Amounts.{unit_amount}
 use Rattle.atl_records.specs.Holdings.{HoldingValue}
 use Rattle.atl_campaign.specs.Owners.{without_unit}
-use Rattle.atl_campaign.specs.Campaign.{CampaignValue, numbers_of, with_booking}
+use Rattle.atl_campaign.specs.Campaign.{CampaignValue, numbers_of_faction, with_booking}
 use Rattle.atl_phase.specs.Meaning.{BookBound, Frame, Meaning, most_moved}
 use Rattle.atl_phase.specs.Bounds.{RemainingBound}
 use Rattle.atl_phase.specs.Outcomes.{first_fault, unless}
 use Rattle.atl_phase.specs.PhaseOrders.{Task}
 use Rattle.atl_phase.specs.NoWorse.{IsNoWorse}
-use Rattle.atl_phase.specs.OrderEffects.{Affects, OrderEffect, OrderMeaning, is_own, meaning_by_orders, spares_others}
+use Rattle.atl_phase.specs.OrderEffects.{Affects, OrderEffect, OrderMeaning, is_own, meaning_by_orders, others_unaffected}
 use Rattle.atl_phase.specs.PhaseSpecs.{PhaseSpec}
 
 -- whether a verb is QUIT
@@ -71,7 +71,7 @@ quit_fault number u = first_fault ((not (number == u.faction), WrongNumber) ∷ 
 -- The effect of QUIT: all units of the unit's faction leave, in the order of their numbers,
 -- unless the order has a fault.
 unfoldable pub quit : (number : ℕ) → OrderEffect
-quit number c u = unless c (quit_fault number u) (fold after_leaving c (numbers_of u.faction c.units), Done 0)
+quit number c u = unless c (quit_fault number u) (fold after_leaving c (numbers_of_faction u.faction c.units), Done 0)
 
 -- the effect of an order of QUIT, by its operands; None for operands of any other form
 abbrev pub quit_effect : OperandsValue → Option OrderEffect
@@ -88,9 +88,9 @@ quit_step w aliases t = quit_effect t.order_value.operands
 abbrev pub quit_meaning : Meaning
 quit_meaning = meaning_by_orders quit_step is_quitting
 
--- an order concerns a unit if the unit's own faction wrote it, for any unit, with the faction's own number
-abbrev pub quit_concerns : Affects
-quit_concerns t number faction = (t.faction ≡ faction) × (t.order_value.operands ≡ operands.Number faction)
+-- an order affects a unit if the unit's own faction wrote it, for any unit, with the faction's own number
+abbrev pub quit_affects : Affects
+quit_affects t number faction = (t.faction ≡ faction) × (t.order_value.operands ≡ operands.Number faction)
 
 -- task t is an order of QUIT with the number of faction f, which wrote it for a unit that was its own as the phase
 -- began
@@ -105,7 +105,7 @@ pub record QuitsByOwnUnit (begun : CampaignValue) (t : Task) (n f : ℕ) : Type 
 -- what the phase keeps: a unit is no worse off, unless its faction quits by an
 -- order for a unit that was its own as the phase began
 abbrev pub quit_keeps : Frame
-quit_keeps w m before after = spares_others (QuitsByOwnUnit before) IsNoWorse is_quitting w m before after
+quit_keeps w m before after = others_unaffected (QuitsByOwnUnit before) IsNoWorse is_quitting w m before after
 
 -- ---- by how much the phase moves the books
 
@@ -120,15 +120,15 @@ loss_under e t h = if entry_index e == entry_index (loss_entry t) then unit_amou
 
 -- by how much QUIT may still move the books: what all units together hold of a thing under the entry for its loss, and
 -- 0 under any other entry
-abbrev pub quit_reserve : RemainingBound
-quit_reserve c e t = sum_over (λ u. loss_under e t u.holding) c.units
+abbrev pub quit_remaining : RemainingBound
+quit_remaining c e t = sum_over (λ u. loss_under e t u.holding) c.units
 
--- the specification of the phase of QUIT: its orders are carried out one by one, all that the leaving units had is
--- booked as left and lost, and units of factions that don't quit are no worse off
+-- The specification of the phase of QUIT: its orders are carried out one by one, and all that the leaving units had is
+-- booked as left and lost. Units of factions that don't quit are no worse off.
 abbrev pub quit_spec : PhaseSpec
 quit_spec = record {
   meaning = quit_meaning;
-  moving = quit_moves;
+  book_bound = quit_moves;
   moved = record { money = Lost ∷ []; people = Left ∷ []; items = Lost ∷ [] };
   keeps = quit_keeps;
 }

@@ -53,12 +53,13 @@ after_sending n h = record h { men = h.men - n; days = amounts_for (staying_of n
 
 -- what a unit with holding h holds after n men of another unit came, with their part of the days
 abbrev pub after_receiving : (n : ℕ) → (other h : HoldingValue) → HoldingValue
-after_receiving n other h = record h { men = h.men + n; days = amounts_for (raised_of n other h) (keys h.days ++ keys other.days) }
+after_receiving n other h =
+    record h { men = h.men + n; days = amounts_for (raised_of n other h) (keys h.days ++ keys other.days) }
 
 -- ---- a law: the days that both units have of each skill after n men went
 
--- after n men went from a sender with holding `other` to a receiver with holding h, the sender has the days of the
--- skill that stay, and the receiver those that it had and those that came
+-- After n men went, the sender has the days of the skill that stay, and the receiver those that it had and those that
+-- came. Before, the sender held `other`, and the receiver held h.
 pub record HaveDaysOf (n : ℕ) (other h : HoldingValue) (skill : ℕ) : Type 0 where
   -- the sender has the days of the skill that stay
   pub stay : amount_of (after_sending n other).days skill ≡ staying_of n other skill
@@ -88,13 +89,16 @@ transfer_fault n itself u (Some v) =
 -- Nothing changes if both are one unit, or one of them isn't there.
 abbrev pub after_transfer : CampaignValue → (from to n : ℕ) → Option Unit → Option Unit → CampaignValue
 after_transfer c from to n (Some u) (Some v) =
-    if to == from then c else with_holding_at (with_holding_at c from (after_sending n u.holding) (Some u)) to (after_receiving n u.holding v.holding) (Some v)
+    if to == from then c
+    else with_holding_at (with_holding_at c from (after_sending n u.holding) (Some u)) to
+    (after_receiving n u.holding v.holding) (Some v)
 after_transfer c from to n sender receiver = c
 
 -- The campaign and the outcome as unit u sends n men to the receiver, if a receiver is there.
 -- The unit has the number `from`, the receiver `to`.
 abbrev pub transfer_to : CampaignValue → (from to n : ℕ) → Unit → Option Unit → CampaignValue × Outcome
-transfer_to c from to n u receiver = unless c (transfer_fault n (to == from) u receiver) (after_transfer c from to n (Some u) receiver, Done n)
+transfer_to c from to n u receiver =
+    unless c (transfer_fault n (to == from) u receiver) (after_transfer c from to n (Some u) receiver, Done n)
 
 -- the effect of an order by which unit `from` sends n men to unit `to`
 unfoldable pub transfer : (from to n : ℕ) → OrderEffect

@@ -67,7 +67,7 @@ fn new_unit(
 
 /// Adds a new unit of a faction to the campaign, in the region and the structure of its parent, the
 /// unit that forms it. Returns the new unit's number, which must be free and at most `LAST_UNIT`.
-fn begin(
+fn add_formed_unit(
     alloc: Global,
     campaign: &mut Campaign,
     faction: u32,
@@ -155,7 +155,7 @@ fn form(
     match form_fault(campaign, order.faction, order.unit) {
         Some(fault) => Ok(fault_outcome(fault)),
         None => {
-            let number = begin(alloc, campaign, order.faction, order.unit)?;
+            let number = add_formed_unit(alloc, campaign, order.faction, order.unit)?;
             month.set_alias(alloc, order.faction, order.alias, number)?;
             Ok(Outcome::Done(u64::from(number)))
         }

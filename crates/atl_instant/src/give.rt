@@ -188,6 +188,7 @@ impl OrderPhase for GivePhase {
 impl PlainPhase for GivePhase {
     ghost makes = { give_step };
 
-    /// The law that each order of the phase has the effect that `give_step` says. Does nothing.
+    /// The law that the phase does nothing but carry out each order as `give_step` says. Does
+    /// nothing itself.
     fn is_plain(&self) {}
 }

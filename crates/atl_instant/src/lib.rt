@@ -13,7 +13,7 @@ mod transfer;
 pub use atl_phase::{
     Arrangement, Month, MonthLongVerbs, OrderPhase, Phase, PhaseOrder, PhaseResult, PhaseVerbs,
     PlainPhase, add_events, book_taken, carry_out_orders, fault_outcome, is_of_faction, items_of,
-    mailings_have_no_order, one_order_stands, orders_are_in_mailings, own_unit, region_of,
+    mailings_have_no_order, one_order_counts, orders_are_in_mailings, own_unit, region_of,
     set_people,
 };
 pub use form::FormPhase;

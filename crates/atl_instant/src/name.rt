@@ -8,7 +8,7 @@ ghost use Rattle.atl_orders.specs.Orders.{name_in};
 ghost use Rattle.atl_campaign.specs.Covers.{MarksChanges};
 ghost use Rattle.atl_campaign.specs.Good.{IsEarly};
 ghost use Rattle.atl_phase.specs.OrderEffects.{faction_effect};
-ghost use Rattle.atl_instant.specs.Name.{is_naming, is_of_kind, leave_guard, name_concerns, name_result, name_step, naming, structure_fault, structure_name_result};
+ghost use Rattle.atl_instant.specs.Name.{is_naming, is_structure_of_kind, leave_guard, name_affects, name_result, name_step, naming, structure_fault, structure_name_result};
 
 use atl_campaign::{Campaign, EventFault, Outcome, Structure};
 use atl_orders::{Mailing, NameKind, Operands, Span, Verb};
@@ -32,17 +32,18 @@ fn name_of(alloc: Global, mailing: &Mailing, span: Span) -> Result<Text, AllocEr
     Ok(Text::from_string(letters))
 }
 
-/// Whether a structure is a ship, where `ship` is true, and a building otherwise.
+/// Whether a structure is of the sort asked for: a ship where `ship` is true, and a building
+/// otherwise.
 fn is_of_kind(world: &World, ship: bool, structure: &Structure) -> bool
-    ensures { result ≡ is_of_kind world.now ship structure.now }
+    ensures { result ≡ is_structure_of_kind world.now ship structure.now }
 {
     let kind = world.kinds().get(usize::from(structure.kind));
     kind.is_some_and(|kind| kind.ship) == ship
 }
 
-/// Why a unit can't name the ship (where `ship` is true) or the building that it is inside:
-/// NotInside where the structure `inside` isn't there or is of the other sort, or NotOwner; None
-/// where it can.
+/// Why a unit can't name the ship (where `ship` is true) or the building that it is inside; None
+/// where it can. It is NotInside where the structure `inside` isn't there or is of the other sort,
+/// and NotOwner where the unit doesn't own it.
 fn structure_fault(
     world: &World,
     campaign: &Campaign,
@@ -166,7 +167,7 @@ impl OrderPhase for NamePhase {
 
     ghost holds = { IsEarly };
 
-    ghost concerns = { name_concerns };
+    ghost affects = { name_affects };
 
     /// Returns the outcome of an order of NAME or GUARD 0, or None where it has other operands.
     #[tactic(auto, using(crate::proofs::NameLaws::name_other))]
@@ -198,6 +199,7 @@ impl OrderPhase for NamePhase {
 impl PlainPhase for NamePhase {
     ghost makes = { name_step };
 
-    /// The law that each order of the phase has the effect that `name_step` says. Does nothing.
+    /// The law that the phase does nothing but carry out each order as `name_step` says. Does
+    /// nothing itself.
     fn is_plain(&self) {}
 }

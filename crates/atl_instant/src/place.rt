@@ -8,7 +8,7 @@ ghost use Rattle.atl_campaign.specs.Covers.{MarksChanges};
 ghost use Rattle.atl_campaign.specs.Good.{IsEarly};
 ghost use Rattle.atl_campaign.specs.Owners.{is_owned_by};
 ghost use Rattle.atl_phase.specs.OrderEffects.{faction_effect};
-ghost use Rattle.atl_instant.specs.Place.{enter, is_in, is_placing, leave, leave_fault, place_step, promote, promote_fault};
+ghost use Rattle.atl_instant.specs.Place.{enter, is_structure_in, is_placing, leave, leave_fault, place_step, promote, promote_fault};
 
 use atl_campaign::{Campaign, EventFault, Outcome, Unit};
 use atl_orders::{Operands, Verb};
@@ -25,7 +25,7 @@ pub struct PlacePhase;
 
 /// Whether a structure exists, and is in a given region.
 fn is_in(campaign: &Campaign, structure: u32, region: u32) -> bool
-    ensures { result ≡ is_in region (map.get campaign.now.value.structures structure) }
+    ensures { result ≡ is_structure_in region (map.get campaign.now.value.structures structure) }
 {
     let found = campaign.structure(structure);
     found.is_some_and(|found| found.region == region)
@@ -182,6 +182,7 @@ impl OrderPhase for PlacePhase {
 impl PlainPhase for PlacePhase {
     ghost makes = { place_step };
 
-    /// The law that each order of the phase has the effect that `place_step` says. Does nothing.
+    /// The law that the phase does nothing but carry out each order as `place_step` says. Does
+    /// nothing itself.
     fn is_plain(&self) {}
 }

@@ -5,15 +5,15 @@ ghost use Rattle.std.specs.Prelude.{◌≡◌, ◌<◌, IfOk, OnOk, fold, length
 ghost use Rattle.atl_records.specs.Books.{amount_in, thing_index};
 ghost use Rattle.atl_campaign.specs.Covers.{MarksChanges};
 ghost use Rattle.atl_records.specs.Every.{EachEntry};
-ghost use Rattle.atl_campaign.specs.Founding.{things_of};
+ghost use Rattle.atl_campaign.specs.Founding.{thing_count};
 ghost use Rattle.atl_campaign.specs.Good.{IsSteady};
 ghost use Rattle.atl_campaign.specs.Marking.{mark_amount};
 ghost use Rattle.atl_records.specs.declared.books.BooksEntry.TheVariants.{Left, Lost};
 ghost use Rattle.atl_records.specs.declared.books.Thing.TheVariants.{Money, People};
 ghost use Rattle.atl_phase.specs.Meaning.{both_move, moves_only};
-ghost use Rattle.atl_phase.specs.Bounds.{HasRoom, HaveRoom, moving_items};
+ghost use Rattle.atl_phase.specs.Bounds.{HasRoom, HaveRoom, items_bound};
 ghost use Rattle.atl_phase.specs.OrderEffects.{faction_effect};
-ghost use Rattle.atl_instant.specs.Quit.{after_leaving, is_quitting, loss_entry, quit, quit_concerns, quit_keeps, quit_meaning, quit_moves, quit_reserve, quit_step, with_item_loss, with_loss};
+ghost use Rattle.atl_instant.specs.Quit.{after_leaving, is_quitting, loss_entry, quit, quit_affects, quit_keeps, quit_meaning, quit_moves, quit_remaining, quit_step, with_item_loss, with_loss};
 
 use atl_campaign::{BooksEntry, Campaign, EventFault, Outcome, Thing};
 use atl_orders::{Operands, Verb};
@@ -53,9 +53,9 @@ fn book_loss(campaign: &mut Campaign, thing: Thing, amount: u32)
 /// Books each item of a list, with its amount, as lost. The world must have the items, and the
 /// books must have room for their amounts.
 fn book_items(world: &World, campaign: &mut Campaign, items: &[(u16, u32)])
-    requires things { campaign.old.value.books.things ≡ things_of world.now }
+    requires things { campaign.old.value.books.things ≡ thing_count world.now }
     requires known { EachEntry (λ i amount. i < length world.now.items) items.now }
-    requires room { HaveRoom (moving_items items.now) campaign.old.value }
+    requires room { HaveRoom (items_bound items.now) campaign.old.value }
     ensures what { campaign.new.value ≡ fold with_item_loss campaign.old.value items.now }
     ensures marks { MarksChanges campaign.old campaign.new }
 {
@@ -67,11 +67,11 @@ fn book_items(world: &World, campaign: &mut Campaign, items: &[(u16, u32)])
 /// Books all that a unit has as gone: its men as left, its money and its items as lost. The world
 /// must have the items, and the books must have room for all of this.
 fn book_off(world: &World, campaign: &mut Campaign, men: u32, money: u32, items: &[(u16, u32)])
-    requires things { campaign.old.value.books.things ≡ things_of world.now }
+    requires things { campaign.old.value.books.things ≡ thing_count world.now }
     requires known { EachEntry (λ i amount. i < length world.now.items) items.now }
     requires room { HaveRoom
         (both_move (moves_only men Left People)
-        (both_move (moves_only money Lost Money) (moving_items items.now))) campaign.old.value }
+        (both_move (moves_only money Lost Money) (items_bound items.now))) campaign.old.value }
     ensures what { campaign.new.value
         ≡ fold with_item_loss (with_loss (with_loss campaign.old.value People men) Money money)
         items.now }
@@ -92,7 +92,7 @@ fn leave(
     number: u32,
 ) -> Result<(), AllocError>
     requires steady { IsSteady world.now campaign.old.value }
-    requires room { HaveRoom (quit_reserve campaign.old.value) campaign.old.value }
+    requires room { HaveRoom (quit_remaining campaign.old.value) campaign.old.value }
     ensures what { OnOk result (campaign.new.value ≡ after_leaving campaign.old.value number) }
     ensures marks { OnOk result (MarksChanges campaign.old campaign.new) }
 {
@@ -116,7 +116,7 @@ fn leave_all(
     numbers: &[u32],
 ) -> Result<(), AllocError>
     requires steady { IsSteady world.now campaign.old.value }
-    requires room { HaveRoom (quit_reserve campaign.old.value) campaign.old.value }
+    requires room { HaveRoom (quit_remaining campaign.old.value) campaign.old.value }
     ensures what { OnOk result
         (campaign.new.value ≡ fold after_leaving campaign.old.value numbers.now) }
     ensures marks { OnOk result (MarksChanges campaign.old campaign.new) }
@@ -139,7 +139,7 @@ fn quit(
     number: u32,
 ) -> Result<Outcome, AllocError>
     requires steady { IsSteady world.now campaign.old.value }
-    requires room { HaveRoom (quit_reserve campaign.old.value) campaign.old.value }
+    requires room { HaveRoom (quit_remaining campaign.old.value) campaign.old.value }
     ensures what { IfOk result
         (λ outcome. (campaign.new.value, outcome)
         ≡ faction_effect (quit number) campaign.old.value order.entry.faction order.entry.unit) }
@@ -172,11 +172,11 @@ impl OrderPhase for QuitPhase {
 
     ghost holds = { IsSteady };
 
-    ghost reserve = { quit_reserve };
+    ghost remaining = { quit_remaining };
 
-    ghost moving = { quit_moves };
+    ghost book_bound = { quit_moves };
 
-    ghost concerns = { quit_concerns };
+    ghost affects = { quit_affects };
 
     /// Returns the outcome of an order of QUIT, or None where it has other operands.
     fn carry_out(
@@ -205,7 +205,7 @@ impl OrderPhase for QuitPhase {
 impl Phase for QuitPhase {
     ghost meaning = { quit_meaning };
 
-    ghost moving = { quit_moves };
+    ghost book_bound = { quit_moves };
 
     ghost keeps = { quit_keeps };
 

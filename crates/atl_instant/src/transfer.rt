@@ -26,8 +26,8 @@ use std::alloc::{AllocError, Global};
 #[derive(Drop, Clone, Copy)]
 pub struct TransferPhase;
 
-/// The days of a skill that go with `going` of a unit's men, of whom there must be as many, and at
-/// least one: their part, rounded down.
+/// The part of the `days` of a unit's `men` men in a skill that goes with `going` of them, rounded
+/// down. There must be at least one man, and at least `going` men.
 fn days_going(going: u32, men: u32, days: u32) -> u32
     requires some { 1 ≤ men }
     requires fewer { going ≤ men }
@@ -207,7 +207,8 @@ impl OrderPhase for TransferPhase {
 impl PlainPhase for TransferPhase {
     ghost makes = { transfer_step };
 
-    /// The law that each order of the phase has the effect that `transfer_step` says. Does nothing.
+    /// The law that the phase does nothing but carry out each order as `transfer_step` says. Does
+    /// nothing itself.
     fn is_plain(&self) {}
 }
 

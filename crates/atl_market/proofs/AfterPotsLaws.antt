@@ -13,7 +13,7 @@ use Rattle.atl_records.proofs.EveryLaws.{get-insert_other}
 use Rattle.atl_campaign.proofs.RegionLaws.{changed-known, get-insert_same}
 use Rattle.atl_market.specs.AtOnce.{unchanged_region}
 use Rattle.atl_market.specs.Goods.{with_made, with_used}
-use Rattle.atl_market.specs.AfterPots.{ProducesAtOnce, RecruitsAtOnce, TaxesAtOnce, WorksAtOnce, maker_by, maker_of, with_less, with_less_money, with_less_peasants, with_more, with_more_money, with_recruits}
+use Rattle.atl_market.specs.AfterPots.{ProducesAtOnce, RecruitsAtOnce, TaxesAtOnce, WorksAtOnce, unit_after_production, maker_of, with_raw_taken, with_less_money, with_less_peasants, with_pieces_added, with_more_money, with_recruits}
 use Rattle.atl_market.specs.PotPhase.{items_by, wants_by}
 use Rattle.atl_market.specs.Produce.{after_production, produce_pots, with_item_made, with_raw_used}
 use Rattle.atl_market.specs.Recruit.{after_recruiting, recruit_pots, recruits_at, with_paid_recruits}
@@ -25,7 +25,7 @@ use Rattle.atl_market.proofs.PotLaws.{only_takers_get, pots_give}
 use Rattle.atl_market.proofs.ProduceLaws.{given_can, produced_others}
 use Rattle.atl_market.proofs.MoreMoneyLaws.{others_stay, paid_unit}
 use Rattle.atl_market.proofs.RecruitLaws.{with_fewer_peasants, recruited_is, recruited_others}
-use Rattle.atl_market.proofs.TaxLaws.{drain, taxed_is}
+use Rattle.atl_market.proofs.TaxLaws.{with_share_taken, taxed_is}
 use Rattle.atl_market.proofs.WantLaws.{given_is_wanted}
 use Rattle.atl_market.proofs.ThereLaws.{by_option, by_unit}
 use Rattle.atl_market.proofs.WorkLaws.{wages_leave_others, worked_is}
@@ -47,16 +47,17 @@ module _ (w : WorldValue) where
     mine = λ d e u is (q, around). ap (λ (s : CampaignValue). get s.units e.0) (taxed_is w d e u q is around) ∙ get-insert_same d.units e.0 (paid_unit d e.0 u e.1);
     others = λ d e u is (q, around) k apart. ap (λ (s : CampaignValue). get s.units k) (taxed_is w d e u q is around) ∙ others_stay d e.0 u e.1 is k apart;
     region = λ d e u q is around.
-        ap (λ (s : CampaignValue). get s.regions u.region) (taxed_is w d e u q is around) ∙ ap (λ m. get m u.region) (changed-known (drain q e.1) d.regions u.region q around)
-        ∙ get-insert_same d.regions u.region (drain q e.1 q);
+        ap (λ (s : CampaignValue). get s.regions u.region) (taxed_is w d e u q is around) ∙ ap (λ m. get m u.region) (changed-known (with_share_taken q e.1) d.regions u.region q around)
+        ∙ get-insert_same d.regions u.region (with_share_taken q e.1 q);
     regions = λ d e u is (q, around) k apart.
-        ap (λ (s : CampaignValue). get s.regions k) (taxed_is w d e u q is around) ∙ ap (λ m. get m k) (changed-known (drain q e.1) d.regions u.region q around)
-        ∙ get-insert_other d.regions u.region k (drain q e.1 q) apart;
+        ap (λ (s : CampaignValue). get s.regions k) (taxed_is w d e u q is around) ∙ ap (λ m. get m k) (changed-known (with_share_taken q e.1) d.regions u.region q around)
+        ∙ get-insert_other d.regions u.region k (with_share_taken q e.1 q) apart;
     nothing = λ q. ap (λ m. record q { money = m }) (less_none q.money);
     twice = λ q s t. ap (λ m. record q { money = m }) (less_both q.money s t);
   }
 
--- TAX changes all units and regions at once: each unit has its share more, each region what its units took less
+-- TAX changes all units and regions at once: each unit gains its share of money, and each region loses what its units
+-- took
 pub taxes_at_once : TaxesAtOnce
 taxes_at_once w c os =
     all_at_once tax_pots w (λ n. with_more_money) with_less_money c os (tax_pays w)
@@ -81,8 +82,8 @@ module _ (w : WorldValue) where
     twice = λ q s t. ap (λ p. record q { peasants = p }) (less_both q.peasants s t);
   }
 
--- RECRUIT changes all units and regions at once: each unit has its recruits more and their price less, each region as
--- many peasants less.
+-- RECRUIT changes all units and regions at once: each unit gains its recruits and pays their price, and each region
+-- loses as many peasants
 pub recruits_at_once : RecruitsAtOnce
 recruits_at_once w c os =
     all_at_once recruit_pots w (λ n. with_recruits w) with_less_peasants c os (recruit_pays w)
@@ -102,7 +103,7 @@ module _ (w : WorldValue) where
     twice = λ q s t. refl;
   }
 
--- WORK pays all units at once: each has the wages of its work places more, and no region changes
+-- WORK pays all units at once: each gains the wages of its work places, and no region changes
 pub works_at_once : WorksAtOnce
 works_at_once w c os =
     all_at_once work_pots w (λ n u places. with_more_money u (wages_for w u.region places)) unchanged_region c os (work_pays w)
@@ -127,23 +128,23 @@ module _ (asked : FinMap nat_cmp ℕ) (w : WorldValue) where
   produced_regions : (d : CampaignValue) (e : ℕ × ℕ) → (after_production asked w d e).regions ≡ d.regions
   unfolding after_production
   produced_regions d e =
-      by_option (HasItsRegions d) _ (get asked e.0) d refl (λ i told.
+      by_option (HasItsRegions d) _ (get asked e.0) d refl (λ i says.
       by_option (HasItsRegions d) _ (slice_get w.items i) d refl (λ x is.
       let amount = e.1 * x.raw_count in
       made_regions (with_raw_used d e.0 amount x.raw) e.0 i e.1
       ∙ by_option (HasItsRegions d) (λ r. with_used d e.0 r amount) x.raw d refl (λ r raw. used_regions d e.0 r amount)))
 
   -- a unit that is there has, after its production, more of the item that it made and less of the raw items
-  -- (`maker_by`)
-  produced_unit : (d : CampaignValue) (e : ℕ × ℕ) (u : Unit) → get d.units e.0 ≡ Some u → get (after_production asked w d e).units e.0 ≡ Some (maker_by w u e.1 (get asked e.0))
+  -- (`unit_after_production`)
+  produced_unit : (d : CampaignValue) (e : ℕ × ℕ) (u : Unit) → get d.units e.0 ≡ Some u → get (after_production asked w d e).units e.0 ≡ Some (unit_after_production w u e.1 (get asked e.0))
   unfolding after_production
   produced_unit d e u is = by_item (get asked e.0)
     where
       -- after its production the unit has the pieces that it made more, and `amount` less of the raw item `o`, if there
       -- is one
-      by_raw : (i amount : ℕ) (o : Option ℕ) → get (with_made (with_raw_used d e.0 amount o) e.0 i e.1).units e.0 ≡ Some (record u { holding = with_more (with_less u.holding o amount) i e.1 })
+      by_raw : (i amount : ℕ) (o : Option ℕ) → get (with_made (with_raw_used d e.0 amount o) e.0 i e.1).units e.0 ≡ Some (record u { holding = with_pieces_added (with_raw_taken u.holding o amount) i e.1 })
       by_raw i amount None = made_unit w d e.0 i e.1 u is
-      by_raw i amount (Some r) = made_unit w (with_used d e.0 r amount) e.0 i e.1 (record u { holding = with_less u.holding (Some r) amount }) (used_unit w d e.0 r amount u is)
+      by_raw i amount (Some r) = made_unit w (with_used d e.0 r amount) e.0 i e.1 (record u { holding = with_raw_taken u.holding (Some r) amount }) (used_unit w d e.0 r amount u is)
 
       -- after its production the unit has more of the world's item `o` and less of the raw items (`maker_of`); without
       -- an item `o` the unit is as it was
@@ -152,13 +153,13 @@ module _ (asked : FinMap nat_cmp ℕ) (w : WorldValue) where
       by_world i (Some x) = by_raw i (e.1 * x.raw_count) x.raw
 
       -- after its production the unit has more of the item `o` that its order names, and less of the raw items
-      -- (`maker_by`); without such an item the unit is as it was
-      by_item : (o : Option ℕ) → get (option_map_or (λ i. option_map_or (with_item_made d e.0 e.1 i) (slice_get w.items i) d) o d).units e.0 ≡ Some (maker_by w u e.1 o)
+      -- (`unit_after_production`); without such an item the unit is as it was
+      by_item : (o : Option ℕ) → get (option_map_or (λ i. option_map_or (with_item_made d e.0 e.1 i) (slice_get w.items i) d) o d).units e.0 ≡ Some (unit_after_production w u e.1 o)
       by_item None = is
       by_item (Some i) = by_world i (slice_get w.items i)
 
   -- the production of a unit changes this unit alone, by the pieces that it made and the raw items that it used
-  produce_pays : Pays false (after_production asked w) (λ n u made. maker_by w u made (get asked n)) unchanged_region
+  produce_pays : Pays false (after_production asked w) (λ n u made. unit_after_production w u made (get asked n)) unchanged_region
   produce_pays = record {
     mine = λ d e u is here. produced_unit d e u is;
     others = λ d e u is here k apart. produced_others asked w d e k apart;
@@ -168,9 +169,10 @@ module _ (asked : FinMap nat_cmp ℕ) (w : WorldValue) where
     twice = λ q s t. refl;
   }
 
--- PRODUCE changes all units at once: each has the pieces that it made more and the raw items less; no region changes
+-- PRODUCE changes all units at once: each gains the pieces that it made and loses the raw items that they take; no
+-- region changes
 pub produces_at_once : ProducesAtOnce
 produces_at_once w c os =
     let items = items_by produce_pots w c os in
-    all_at_once produce_pots w (λ n u made. maker_by w u made (get items n)) unchanged_region c os (produce_pays items w)
+    all_at_once produce_pots w (λ n u made. unit_after_production w u made (get items n)) unchanged_region c os (produce_pays items w)
     (λ n made is. let (u, there, low) = given_can w c os n made is in (u, there, tt))

@@ -5,7 +5,7 @@ use Rattle.std.specs.List.{AllByRecursion}
 use Rattle.std.specs.Ordering.{nat_cmp}
 use Rattle.std.specs.FinMap.{FinMap, entries, find, get, get-entries, insert}
 use Rattle.std.proofs.lemmas.Bool.{cases_eq}
-use Rattle.atl_world.specs.Sums.{changed}
+use Rattle.atl_world.specs.Sums.{with_changed_value}
 use Rattle.atl_world.specs.Worlds.{IsWorld, WorldValue}
 use Rattle.atl_world.specs.declared.world.Market.{Market}
 use Rattle.atl_records.specs.declared.books.BooksEntry.{BooksEntry}
@@ -24,14 +24,14 @@ use Rattle.atl_campaign.proofs.StockLaws.{restocked}
 use Rattle.atl_phase.specs.PhaseOrders.{Task}
 use Rattle.atl_phase.proofs.StructureLaws.{changed_else}
 use Rattle.atl_market.specs.AtOnce.{HasNewStocks, UnitChange, paid_unit, is_in_region}
-use Rattle.atl_market.specs.ItemPots.{is_for}
+use Rattle.atl_market.specs.ItemPots.{asks_for_item}
 use Rattle.atl_market.specs.AfterPots.{TradesAtOnce, stock_after, trader_of, with_trade}
 use Rattle.atl_market.specs.PotPhase.{after_sharing, count_in, given_by, item_in, items_by}
-use Rattle.atl_market.specs.Trade.{after_trade, market_for, trade_entry, trade_pots, trade_result_of, trade_want, with_result, with_trade_result}
+use Rattle.atl_market.specs.Trade.{after_trade, market_for, trade_entry, trade_pots, trade_result_of, trade_want, with_trade_booked, with_trade_result}
 use Rattle.atl_market.specs.declared.trade.TradeResult.{TradeResult}
 use Rattle.atl_market.specs.declared.trade.Trade.{Trade}
 use Rattle.atl_market.specs.declared.trade.Trade.TheVariants.{Sell, Buy}
-use Rattle.atl_market.proofs.AtOnceLaws.{drawn_is}
+use Rattle.atl_market.proofs.AtOnceLaws.{drawn_is_sum}
 use Rattle.atl_market.proofs.DrawLaws.{AreUntouched, all_pairs, drawn, still, untouched}
 use Rattle.atl_market.proofs.PotLaws.{found_other}
 use Rattle.atl_market.proofs.TradeLaws.{market_is, stock_is, draws_item, traded_is, traded_others, trades_give}
@@ -39,7 +39,8 @@ use Rattle.atl_market.proofs.WantLaws.{given_is_named}
 
 -- ---- what a trade leaves to unit and stock
 
--- a holding set to the result of a trade is the holding after that trade (`with_trade`), whatever the stock is
+-- a unit's holding with the result of a trade is the holding that the definition gives (`with_trade`), whatever the
+-- stock is
 trade_is : (trade : Trade) (h : HoldingValue) (stock share : ℕ) (m : Market) → with_trade_result h m.item (trade_result_of trade h stock share m) ≡ with_trade trade h share m
 trade_is Sell h stock share m = refl
 trade_is Buy h stock share m = refl
@@ -62,12 +63,12 @@ traded_twice Buy stock s t = omega arith
 
 module _ (d : CampaignValue) (n : ℕ) (u : Unit) (i : ℕ) (entry : BooksEntry) (deal : TradeResult) (is : get d.units n ≡ Some u) where
   -- the units after the result of a trade is set: unit `n` with its new holding, the others as they were
-  dealt_units : (with_result d n u i entry deal).units ≡ insert d.units n (record u { holding = with_trade_result u.holding i deal })
+  dealt_units : (with_trade_booked d n u i entry deal).units ≡ insert d.units n (record u { holding = with_trade_result u.holding i deal })
   dealt_units = ap (λ o. (with_holding_at d n (with_trade_result u.holding i deal) o).units) is
 
   -- the regions after the result of a trade is set: the unit's region with its new stock, the others as they were
-  dealt_regions : (with_result d n u i entry deal).regions ≡ changed (λ r. restocked r i deal.stock) d.regions u.region
-  dealt_regions = ap (λ o. changed (λ r. restocked r i deal.stock) (with_holding_at d n (with_trade_result u.holding i deal) o).regions u.region) is
+  dealt_regions : (with_trade_booked d n u i entry deal).regions ≡ with_changed_value (λ r. restocked r i deal.stock) d.regions u.region
+  dealt_regions = ap (λ o. with_changed_value (λ r. restocked r i deal.stock) (with_holding_at d n (with_trade_result u.holding i deal) o).regions u.region) is
 
 -- ---- one unit trades
 
@@ -116,7 +117,7 @@ module _ (trade : Trade) (items : FinMap nat_cmp ℕ) (w : WorldValue) (units : 
     amounts = λ i. sym (ap (stock_after trade (amount_of q.stocks i)) (none_drawn (draws_item units items (r, i) e.0) e.1 none) ∙ none_traded trade (amount_of q.stocks i));
   }
 
-  module _ (m : Market) (at : market_for w u (get items e.0) ≡ Some m) (told : get items e.0 ≡ Some m.item) where
+  module _ (m : Market) (at : market_for w u (get items e.0) ≡ Some m) (says : get items e.0 ≡ Some m.item) where
     -- the result of the unit's trade with market `m`
     abbrev deal : TradeResult
     deal = trade_result_of trade u.holding (stock_of d u.region m.item) e.1 m
@@ -126,14 +127,14 @@ module _ (trade : Trade) (items : FinMap nat_cmp ℕ) (w : WorldValue) (units : 
     restock q = restocked q m.item deal.stock
 
     -- the trade changes the region that the unit is in, by its new stock (`restock`), and no other region
-    regions_are : (r : ℕ) → get (after_trade trade items w d e).regions r ≡ get (changed restock d.regions u.region) r
+    regions_are : (r : ℕ) → get (after_trade trade items w d e).regions r ≡ get (with_changed_value restock d.regions u.region) r
     regions_are r =
         ap (λ (s : CampaignValue). get s.regions r) (traded_is trade items w d e u is (Some m) at)
         ∙ ap (λ k. get k r) (dealt_regions d e.0 u m.item (trade_entry trade) deal is)
 
     -- the unit draws from the pot of its own region and of the market's item, and from no other
     draws : (r i : ℕ) → draws_item units items (r, i) e.0 ≡ (u.region == r && m.item == i)
-    draws r i = ap (λ o. is_in_region r o && is_for i (get items e.0)) there ∙ ap (λ o. u.region == r && is_for i o) told
+    draws r i = ap (λ o. is_in_region r o && asks_for_item i (get items e.0)) there ∙ ap (λ o. u.region == r && asks_for_item i o) says
 
     -- where the unit doesn't draw from the pot of region `r` and item `i`, the trade leaves the stock there as it is
     undrawn : (r i stock : ℕ) → draws_item units items (r, i) e.0 ≡ false → stock ≡ stock_after trade stock (drawn_here r i)
@@ -145,7 +146,7 @@ module _ (trade : Trade) (items : FinMap nat_cmp ℕ) (w : WorldValue) (units : 
     here r q same around = record {
       stocks = with_amount_of q.stocks m.item deal.stock;
       region =
-          regions_are r ∙ ap (λ k. get (changed restock d.regions k) r) (sym same) ∙ ap (λ k. get k r) (changed-known restock d.regions r q around)
+          regions_are r ∙ ap (λ k. get (with_changed_value restock d.regions k) r) (sym same) ∙ ap (λ k. get k r) (changed-known restock d.regions r q around)
           ∙ get-insert_same d.regions r (restock q);
       amounts = amounts;
     }
@@ -191,8 +192,8 @@ module _ (trade : Trade) (items : FinMap nat_cmp ℕ) (w : WorldValue) (units : 
       by_market : (o : Option Market) → market_for w u (get items e.0) ≡ o → IsTraded r q
       by_market None at = without_market at (none at) r q around
       by_market (Some m) at =
-          let told : get items e.0 ≡ Some m.item = (market_is w world u (get items e.0) m at).named_item in
-          elim (cases_eq r u.region) [ inl same ↦ here m at told r q same around | inr apart ↦ elsewhere m at told r q apart around ]
+          let says : get items e.0 ≡ Some m.item = (market_is w world u (get items e.0) m at).named_item in
+          elim (cases_eq r u.region) [ inl same ↦ here m at says r q same around | inr apart ↦ elsewhere m at says r q apart around ]
 
 -- ---- one unit trades after the other
 
@@ -260,18 +261,18 @@ module _ (trade : Trade) (w : WorldValue) (c : CampaignValue) (os : List Task) w
   -- a share that is at most the unit's want is 0 where the unit's region has no market for its order's item
   without_share : (n share : ℕ) (u : Unit) (asked : ℕ) (s : Option ℕ) → share ≤ trade_want trade u.holding asked (market_for w u s)
       → ((i : ℕ) → s ≡ Some i → get named n ≡ Some i) → market_for w u (get named n) ≡ None → share ≡ 0
-  without_share n share u asked None low told at = none_left share low
-  without_share n share u asked (Some i) low told at =
-      none_left share (subst (λ k. share ≤ trade_want trade u.holding asked k) (ap (market_for w u) (sym (told i refl)) ∙ at) low)
+  without_share n share u asked None low says at = none_left share low
+  without_share n share u asked (Some i) low says at =
+      none_left share (subst (λ k. share ≤ trade_want trade u.holding asked k) (ap (market_for w u) (sym (says i refl)) ∙ at) low)
 
   -- each unit with a share is there, and its share is 0 if it has no market
   each_trades : Every (λ n share. Trades trade named w c (n, share)) given
   each_trades n share is =
-      let (u, t, there, own, low, fine, told) = given_is_named (trade_pots trade) w c (trades_give trade w c) os n share is in
-      (u, there, λ at. without_share n share u (count_in t.order_value.operands) (item_in t.order_value.operands) low told at)
+      let (u, t, there, own, low, fine, says) = given_is_named (trade_pots trade) w c (trades_give trade w c) os n share is in
+      (u, there, λ at. without_share n share u (count_in t.order_value.operands) (item_in t.order_value.operands) low says at)
 
--- In a world's campaign SELL and BUY change all units and stocks at once: each unit by its share, each stock by what
--- the units of its region trade of the item.
+-- SELL and BUY change all units and stocks at once, in a campaign of a world (`IsWorld`). Each unit changes by its
+-- share, and each stock by what the units of its region trade of the item.
 pub trades_at_once : TradesAtOnce
 unfolding after_sharing
 trades_at_once trade w c os world =
@@ -287,6 +288,6 @@ trades_at_once trade w c os world =
           record {
             stocks = after.stocks;
             region = after.region;
-            amounts = λ i. after.amounts i ∙ ap (stock_after trade (amount_of q.stocks i)) (drawn_is (draws_item c.units items (r, i)) shares);
+            amounts = λ i. after.amounts i ∙ ap (stock_after trade (amount_of q.stocks i)) (drawn_is_sum (draws_item c.units items (r, i)) shares);
           };
     }

@@ -19,17 +19,18 @@ use Rattle.atl_market.specs.PotPhase.{PotMeaning, after_sharing, given_by, items
 use Rattle.atl_market.proofs.DrawLaws.{AreUntouched, Drawers, all_pairs, drawn, still, untouched, draws_region}
 use Rattle.atl_market.proofs.PotLaws.{found_other}
 
--- for `regions_drained` and `drawn_is`: 0 plus a number is the number
-no_more : (a : ℕ) → 0 + a ≡ a
-no_more a = omega arith
+-- for `regions_drained` and `drawn_is_sum`: 0 plus a number is the number
+zero_plus : (a : ℕ) → 0 + a ≡ a
+zero_plus a = omega arith
 
--- a unit's region is there, if the payment needs it (`needs`)
+-- the condition that a unit's region is in the campaign, where payments need the region (the first argument); else it
+-- always holds
 abbrev pub HasRegion : Bool → CampaignValue → Unit → Type 0
 HasRegion true d u = HasValue d.regions u.region
 HasRegion false d u = ⊤
 
--- One payment changes its unit by `gets` and its unit's region by `gives`, and no other unit or region; giving 0 is
--- no change, and giving two amounts in turn is giving their sum.
+-- One payment changes its unit by `gets` and its unit's region by `gives`, and no other unit or region. Giving 0 is no
+-- change, and giving two amounts in turn is giving their sum.
 pub record Pays (needs : Bool) (step : CampaignValue → ℕ × ℕ → CampaignValue) (gets : ℕ → UnitChange) (gives : RegionChange) : Type 0 where
   -- a payment makes of its unit what `gets` makes of the unit and its share
   pub mine : (d : CampaignValue) (e : ℕ × ℕ) (u : Unit) → get d.units e.0 ≡ Some u → HasRegion needs d u → get (step d e).units e.0 ≡ Some (gets e.0 u e.1)
@@ -126,30 +127,30 @@ module _ {needs : Bool} {step : CampaignValue → ℕ × ℕ → CampaignValue} 
               ∙ sym (ap (λ b. Some (gives q (cond b e.1 0 + drawn (draws_region c.units r) es))) mine)
           | inr apart ↦
               let other : draws_region c.units r e.0 ≡ false = ap (is_in_region r) there ∙ other_number v.region r (λ same. apart (sym same)) in
-              regions_drained (step d e) es rest r q (pays.regions d e v now here r apart ∙ is) ∙ ap (λ k. Some (gives q k)) (sym (no_more (drawn (draws_region c.units r) es)))
+              regions_drained (step d e) es rest r q (pays.regions d e v now here r apart ∙ is) ∙ ap (λ k. Some (gives q k)) (sym (zero_plus (drawn (draws_region c.units r) es)))
               ∙ sym (ap (λ b. Some (gives q (cond b e.1 0 + drawn (draws_region c.units r) es))) other)
         ]
 
 -- what is drawn from a pot is the sum of what the units that draw from it got
-pub drawn_is : (draws : Drawers) (es : List (ℕ × ℕ)) → drawn draws es ≡ sum (map (λ e. e.1) (filter (λ e. draws e.0) es))
-drawn_is draws [] = refl
-drawn_is draws (e ∷ es) = by_test (draws e.0) (drawn_is draws es)
+pub drawn_is_sum : (draws : Drawers) (es : List (ℕ × ℕ)) → drawn draws es ≡ sum (map (λ e. e.1) (filter (λ e. draws e.0) es))
+drawn_is_sum draws [] = refl
+drawn_is_sum draws (e ∷ es) = by_test (draws e.0) (drawn_is_sum draws es)
   where
     -- what is drawn is the sum of the drawing units' shares, whether the first unit draws (`b`) or not
     by_test : (b : Bool) → drawn draws es ≡ sum (map (λ f. f.1) (filter (λ f. draws f.0) es))
         → cond b e.1 0 + drawn draws es ≡ sum (map (λ f. f.1) (cond b (e ∷ filter (λ f. draws f.0) es) (filter (λ f. draws f.0) es)))
     by_test true rest = ap (λ k. e.1 + k) rest ∙ sym (sum_by-cons (λ x. x) e.1 (map (λ f. f.1) (filter (λ f. draws f.0) es)))
-    by_test false rest = no_more (drawn draws es) ∙ rest
+    by_test false rest = zero_plus (drawn draws es) ∙ rest
 
 -- each unit that gets something in the phase is in the campaign, and so is its region where that is needed
 -- (`HasRegion`)
-abbrev pub GivesWhoIsThere : Bool → PotMeaning → WorldValue → CampaignValue → List Task → Type 0
-GivesWhoIsThere needs p w c os = (n share : ℕ) → get (given_by p w c os) n ≡ Some share → (u : Unit) × (get c.units n ≡ Some u) × HasRegion needs c u
+abbrev pub TakersAreThere : Bool → PotMeaning → WorldValue → CampaignValue → List Task → Type 0
+TakersAreThere needs p w c os = (n share : ℕ) → get (given_by p w c os) n ≡ Some share → (u : Unit) × (get c.units n ≡ Some u) × HasRegion needs c u
 
--- A phase pays all units at once if each payment changes its own unit and region alone (`Pays`), and all units that get
--- something are there (`GivesWhoIsThere`).
+-- A phase pays all units at once, if each payment changes its own unit and region alone (`Pays`), and all units that
+-- get something are in the campaign (`TakersAreThere`).
 pub all_at_once : {needs : Bool} (p : PotMeaning) (w : WorldValue) (gets : ℕ → UnitChange) (gives : RegionChange) (c : CampaignValue) (os : List Task)
-    → Pays needs (p.paid (items_by p w c os) w) gets gives → GivesWhoIsThere needs p w c os → PaysAtOnce p w gets gives c os
+    → Pays needs (p.paid (items_by p w c os) w) gets gives → TakersAreThere needs p w c os → PaysAtOnce p w gets gives c os
 unfolding after_sharing
 all_at_once {needs} p w gets gives c os pays gives_them =
     let given = given_by p w c os in
@@ -160,5 +161,5 @@ all_at_once {needs} p w gets gives c os pays gives_them =
     } in
     record {
       units = λ n u is. units_paid pays c c (entries given) ready n u is ∙ ap (λ o. Some (paid_unit (gets n) u o)) (sym (get-entries given n));
-      regions = λ r q is. regions_drained pays c c (entries given) ready r q is ∙ ap (λ k. Some (gives q k)) (drawn_is (draws_region c.units r) (entries given));
+      regions = λ r q is. regions_drained pays c c (entries given) ready r q is ∙ ap (λ k. Some (gives q k)) (drawn_is_sum (draws_region c.units r) (entries given));
     }

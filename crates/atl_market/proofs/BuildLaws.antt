@@ -44,10 +44,10 @@ use Rattle.atl_records.proofs.HoldingLaws.{amount_within}
 use Rattle.atl_phase.proofs.OutcomeLaws.{none_fits, not_less}
 use Rattle.atl_phase.proofs.PlacingLaws.{place_stays}
 use Rattle.atl_phase.proofs.HeldLaws.{sum_within}
-use Rattle.atl_phase.proofs.OrderEffectLaws.{no_worse_spares, well_same, well_twice}
-use Rattle.atl_phase.proofs.UnbookedLaws.{stays_spared}
+use Rattle.atl_phase.proofs.OrderEffectLaws.{no_worse_is_relation, well_same, well_twice}
+use Rattle.atl_phase.proofs.UnbookedLaws.{unchanged_is_no_worse}
 use Rattle.atl_market.specs.Build.{after_building_on, after_start, begin, begin_fault, build_effect, build_moves, build_step, go_on, go_on_at, inside_fault, is_structure_limit, new_structure, size_added, structure_and_kind_at, with_kind, with_new_structure}
-use Rattle.atl_market.specs.Bounds.{CanBuild, build_reserve}
+use Rattle.atl_market.specs.Bounds.{CanBuild, build_remaining}
 use Rattle.atl_market.specs.Making.{CanUse}
 use Rattle.atl_market.proofs.BuildBegunLaws.{built_well, first_name_ok, raised_well}
 use Rattle.atl_market.proofs.BuildPlaceLaws.{place_well}
@@ -55,8 +55,8 @@ use Rattle.atl_market.proofs.BuildUsedLaws.{others_stay, used, used_for_well, us
 use Rattle.atl_market.proofs.ItemUseLaws.{used_is}
 
 -- a number that isn't 0 is at least 1
-some : (n : ℕ) → (n == 0) ≡ false → 1 ≤ n
-some n is = grind (arith, nat_tests)
+nonzero_is_positive : (n : ℕ) → (n == 0) ≡ false → 1 ≤ n
+nonzero_is_positive n is = grind (arith, nat_tests)
 
 -- if `a` isn't at most `b`, `b` is less than `a`
 more_than : (a b : ℕ) → nat_le a b ≡ false → b < a
@@ -64,12 +64,13 @@ more_than a b is = grind (arith, nat_tests)
 
 -- ---- structures are numbered from 1 without a gap
 
--- where structures are numbered from 1 without a gap and are fewer than 10,000, the next one's number is at most 10,000
+-- the next structure's number is at most 10,000, if structures are numbered from 1 without a gap and are fewer than
+-- 10,000
 pub next_within : (c : CampaignValue) → IsNumbered c.structures c.next_structure → len c.structures < most_structures → c.next_structure ≤ most_structures
 next_within c numbered room = omega (arith, numbered.count, room)
 
--- Where structures are numbered from 1 without a gap, no further structure may be begun exactly if the next structure's
--- number is above 10,000.
+-- No further structure may be begun exactly if the next structure's number is above 10,000, where structures are
+-- numbered from 1 without a gap.
 pub limit_by_next : (c : CampaignValue) → IsNumbered c.structures c.next_structure → nat_lt most_structures c.next_structure ≡ is_structure_limit c
 limit_by_next c numbered = rw numbered.count (by_count most_structures (len c.structures))
   where
@@ -105,10 +106,10 @@ can_begin w c u k is =
     let four = none_fits (amount_of u.holding.items k.material == 0) NoMaterial limit three.1 in
     let five = none_fits (is_structure_limit c) StructureLimit [] four.1 in
     record {
-      men = some u.holding.men one.0;
+      men = nonzero_is_positive u.holding.men one.0;
       land = not-false (is_land_at w u.region) two.0;
       skill = not_less (level_in u.holding k.skill) k.level three.0;
-      material = some (amount_of u.holding.items k.material) four.0;
+      material = nonzero_is_positive (amount_of u.holding.items k.material) four.0;
       room = more_than most_structures (len c.structures) five.0;
     }
 
@@ -134,43 +135,43 @@ can_go_on u s k is =
     let three = none_fits (nat_lt (level_in u.holding k.skill) k.level) NoSkill material two.1 in
     let four = none_fits (amount_of u.holding.items k.material == 0) NoMaterial [] three.1 in
     record {
-      men = some u.holding.men one.0;
+      men = nonzero_is_positive u.holding.men one.0;
       missing = more_than k.size s.done two.0;
       skill = not_less (level_in u.holding k.skill) k.level three.0;
-      material = some (amount_of u.holding.items k.material) four.0;
+      material = nonzero_is_positive (amount_of u.holding.items k.material) four.0;
     }
 
 -- ---- the size that is added
 
 -- for `size_some`: the least of three numbers from 1 on is at least 1
-least_of : (x y z : ℕ) → 1 ≤ x → 1 ≤ y → 1 ≤ z → 1 ≤ min (min x y) z
-least_of x y z a b c = omega (arith, a, b, c)
+least_is_positive : (x y z : ℕ) → 1 ≤ x → 1 ≤ y → 1 ≤ z → 1 ≤ min (min x y) z
+least_is_positive x y z a b c = omega (arith, a, b, c)
 
 -- for `size_held`: the least of three numbers is at most the second
-within_of : (x y z : ℕ) → min (min x y) z ≤ y
-within_of x y z = omega arith
+least_within_second : (x y z : ℕ) → min (min x y) z ≤ y
+least_within_second x y z = omega arith
 
 -- for `size_missing`: the least of three numbers is at most the third
-missing_of : (x y z : ℕ) → min (min x y) z ≤ z
-missing_of x y z = omega arith
+least_within_third : (x y z : ℕ) → min (min x y) z ≤ z
+least_within_third x y z = omega arith
 
 -- for `size_some`: the product of two numbers from 1 on is at least 1
-product : (a b : ℕ) → 1 ≤ a → 1 ≤ b → 1 ≤ a * b
-product a b l m = let h : a * 1 ≤ a * b = mul-le-mul_left a m in omega (arith, l, h)
+product_is_positive : (a b : ℕ) → 1 ≤ a → 1 ≤ b → 1 ≤ a * b
+product_is_positive a b l m = let h : a * 1 ≤ a * b = mul-le-mul_left a m in omega (arith, l, h)
 
 module _ (k : Kind) (h : HoldingValue) (done : ℕ) where
   -- the size that a unit adds to a structure is at most the material that it holds
   pub size_held : size_added k h done ≤ amount_of h.items k.material
-  size_held = within_of (h.men * level_in h k.skill) (amount_of h.items k.material) (k.size - done)
+  size_held = least_within_second (h.men * level_in h k.skill) (amount_of h.items k.material) (k.size - done)
 
   -- the size that a unit adds to a structure is at most what is missing of the structure
   pub size_missing : size_added k h done ≤ k.size - done
-  size_missing = missing_of (h.men * level_in h k.skill) (amount_of h.items k.material) (k.size - done)
+  size_missing = least_within_third (h.men * level_in h k.skill) (amount_of h.items k.material) (k.size - done)
 
   -- a unit with men, level and material adds at least 1 to a structure that isn't complete
   size_some : 1 ≤ h.men → 1 ≤ level_in h k.skill → 1 ≤ amount_of h.items k.material → done < k.size → 1 ≤ size_added k h done
   size_some men level material missing =
-      least_of (h.men * level_in h k.skill) (amount_of h.items k.material) (k.size - done) (product h.men (level_in h k.skill) men level) material (omega (arith, missing))
+      least_is_positive (h.men * level_in h k.skill) (amount_of h.items k.material) (k.size - done) (product_is_positive h.men (level_in h k.skill) men level) material (omega (arith, missing))
 
 -- the size that is found by the number of a kind is that kind's `size`
 kind_size : (w : WorldValue) (i : ℕ) (k : Kind) → slice_get w.kinds i ≡ Some k → size_of w i ≡ k.size
@@ -211,7 +212,7 @@ module _ (w : WorldValue) (c : CampaignValue) (n kind : ℕ) (u : Unit) (k : Kin
     room = next_within c can.steady.next.structures fit.room
 
     -- using the material keeps what BUILD needs of the campaign (`CanBuild`)
-    one_well : StepsWell CanBuild build_reserve w c after_use
+    one_well : StepsWell CanBuild build_remaining w c after_use
     one_well = used_for_well w c n k.material size u is (size_held k u.holding 0) good.material can
 
     -- the structure that the unit begins, with its first name
@@ -235,7 +236,7 @@ module _ (w : WorldValue) (c : CampaignValue) (n kind : ℕ) (u : Unit) (k : Kin
     after_raising = raised w after_use new fresh room one_well.holds_still.steady
 
     -- beginning a structure keeps what BUILD needs of the campaign (`CanBuild`)
-    begun_well : StepsWell CanBuild build_reserve w c (after_start c n kind k u.region size)
+    begun_well : StepsWell CanBuild build_remaining w c (after_start c n kind k u.region size)
     unfolding after_raising
     begun_well =
         let between = one_well.holds_still in
@@ -244,7 +245,7 @@ module _ (w : WorldValue) (c : CampaignValue) (n kind : ℕ) (u : Unit) (k : Kin
         let apart = nobody_inside w after_use new fresh room between.steady n (user w c n k.material size u is) there in
         let three_well =
         place_well w after_raising n (user w c n k.material size u is) c.next_structure there two_well.holds_still apart (λ some. (new, raised_there w after_use new fresh room between.steady, refl)) (λ wet. absurd (true≢false (sym fit.land ∙ wet))) in
-        subst (StepsWell CanBuild build_reserve w c) (sym begun_is) (well_twice w c after_use (from_used after_use) one_well (well_twice w after_use after_raising (from_used after_use) two_well three_well))
+        subst (StepsWell CanBuild build_remaining w c) (sym begun_is) (well_twice w c after_use (from_used after_use) one_well (well_twice w after_use after_raising (from_used after_use) two_well three_well))
 
 -- ---- more of a structure is done
 
@@ -271,7 +272,7 @@ module _ (w : WorldValue) (c : CampaignValue) (n : ℕ) (u : Unit) (s : Structur
 
   module _ (there : get c.structures u.structure ≡ Some s) (kind_is : slice_get w.kinds s.kind ≡ Some k) (can : CanBuild w c) (fit : CanGoOn u s k) where
     -- using the material keeps what BUILD needs of the campaign (`CanBuild`)
-    paid_well : StepsWell CanBuild build_reserve w c paid
+    paid_well : StepsWell CanBuild build_remaining w c paid
     paid_well = used_for_well w c n k.material added u is (size_held k u.holding s.done) (can.kinds s.kind k kind_is).material can
 
     -- what is done of the structure after it was continued is at most its kind's size
@@ -283,15 +284,16 @@ module _ (w : WorldValue) (c : CampaignValue) (n : ℕ) (u : Unit) (s : Structur
         up a d m l h = omega (arith, l, h)
 
     -- continuing a structure keeps what BUILD needs of the campaign, if the unit has what it needs for it (`CanGoOn`)
-    on_well : StepsWell CanBuild build_reserve w c (after_building_on c n k.material added u.structure (s.done + added))
+    on_well : StepsWell CanBuild build_remaining w c (after_building_on c n k.material added u.structure (s.done + added))
     on_well =
         let done_is = built_is w paid u.structure s (s.done + added) there in
-        subst (StepsWell CanBuild build_reserve w c) (sym (on_is ∙ done_is))
+        subst (StepsWell CanBuild build_remaining w c) (sym (on_is ∙ done_is))
         (well_twice w c paid (built w paid u.structure s (s.done + added) there) paid_well (built_well w paid u.structure s (s.done + added) there (omega arith) most paid_well.holds_still))
 
 -- ---- an order
 
--- if `P` holds of a campaign, and also once a unit that can begin a structure began it, `P` holds after `BUILD kind`
+-- `P` holds of the campaign after `BUILD kind`, if it holds of the campaign before, and of the one in which the unit
+-- began the structure, where it can (`CanBegin`).
 begin_cases : (P : CampaignValue → Type 0) (w : WorldValue) (c : CampaignValue) (n kind : ℕ) (k : Kind) (u : Unit) → P c
     → (CanBegin w c u k → P (after_start c n kind k u.region (size_added k u.holding 0))) → P (begin w n kind k c u).0
 unfolding begin
@@ -302,7 +304,8 @@ begin_cases P w c n kind k u same go = by_fault (begin_fault w c u k) refl
     by_fault (Some fault) e = same
     by_fault None e = go (can_begin w c u k e)
 
--- if `P` holds of a campaign, and also once a unit that can continue its structure did so, `P` holds after `BUILD`
+-- `P` holds of the campaign after `BUILD`, if it holds of the campaign before, and of the one in which the unit
+-- continued its structure, where it can (`CanGoOn`).
 go_on_cases : (P : CampaignValue → Type 0) (w : WorldValue) (c : CampaignValue) (n : ℕ) (u : Unit) → P c
     → ((s : Structure) (k : Kind) → get c.structures u.structure ≡ Some s → slice_get w.kinds s.kind ≡ Some k → CanGoOn u s k
     → P (after_building_on c n k.material (size_added k u.holding s.done) u.structure (s.done + size_added k u.holding s.done))) → P (go_on w n c u).0
@@ -332,12 +335,12 @@ go_on_cases P w c n u same go = by_structure (get c.structures u.structure) refl
 
 module _ (w : WorldValue) (c : CampaignValue) (n : ℕ) (u : Unit) (is : get c.units n ≡ Some u) where
   -- `BUILD kind` keeps what BUILD needs of the campaign (`CanBuild`), with a fault or without
-  begin_well : (kind : ℕ) (k : Kind) → slice_get w.kinds kind ≡ Some k → CanBuild w c → StepsWell CanBuild build_reserve w c (begin w n kind k c u).0
-  begin_well kind k kind_is can = begin_cases (λ d. StepsWell CanBuild build_reserve w c d) w c n kind k u (well_same w c can) (λ fit. begun_well w c n kind u k is kind_is can fit)
+  begin_well : (kind : ℕ) (k : Kind) → slice_get w.kinds kind ≡ Some k → CanBuild w c → StepsWell CanBuild build_remaining w c (begin w n kind k c u).0
+  begin_well kind k kind_is can = begin_cases (λ d. StepsWell CanBuild build_remaining w c d) w c n kind k u (well_same w c can) (λ fit. begun_well w c n kind u k is kind_is can fit)
 
   -- `BUILD` keeps what BUILD needs of the campaign (`CanBuild`), with a fault or without
-  go_on_well : CanBuild w c → StepsWell CanBuild build_reserve w c (go_on w n c u).0
-  go_on_well can = go_on_cases (λ d. StepsWell CanBuild build_reserve w c d) w c n u (well_same w c can) (λ s k there kind_is fit. on_well w c n u s k is there kind_is can fit)
+  go_on_well : CanBuild w c → StepsWell CanBuild build_remaining w c (go_on w n c u).0
+  go_on_well can = go_on_cases (λ d. StepsWell CanBuild build_remaining w c d) w c n u (well_same w c can) (λ s k there kind_is fit. on_well w c n u s k is there kind_is can fit)
 
   -- `BUILD kind` leaves the other units as they are
   begin_stays : (kind : ℕ) (k : Kind) (j : ℕ) → j ≢ n → get (begin w n kind k c u).0.units j ≡ get c.units j
@@ -350,22 +353,22 @@ module _ (w : WorldValue) (c : CampaignValue) (n : ℕ) (u : Unit) (is : get c.u
 -- ---- what BUILD may still book
 
 -- what BUILD may still book is within the bound of the whole phase: less than 10^14 used of each item (`build_moves`)
-reserve_within : (w : WorldValue) (c : CampaignValue) → CanBuild w c → (e : BooksEntry) (t : Thing) → build_reserve c e t ≤ build_moves e t
-reserve_within w c can e t = by_thing t
+remaining_within : (w : WorldValue) (c : CampaignValue) → CanBuild w c → (e : BooksEntry) (t : Thing) → build_remaining c e t ≤ build_moves e t
+remaining_within w c can e t = by_thing t
   where
     -- what is at most `most` for each holding is, over all units, at most `most` times the count of units
     all_within : (f : HoldingValue → ℕ) (most : ℕ) → ((h : HoldingValue) → IsHolding h → f h ≤ most) → sum_over (λ (u : Unit). f u.holding) c.units ≤ length (entries c.units) * most
     all_within f most each = sum_within (λ (u : Unit). f u.holding) most (entries c.units) (each-from_every (λ n u. f u.holding ≤ most) c.units (λ n u is. each u.holding (can.steady.numbers.units n u is).1))
 
-    -- for `reserve_within`: a holding's limit for each of at most 100,000 units is together at most `most_moved`
+    -- for `remaining_within`: a holding's limit for each of at most 100,000 units is together at most `most_moved`
     few : (s n : ℕ) → s ≤ n * holding_limit → n ≤ most_units → s ≤ most_moved
     few s n l m = omega (arith, l, m)
 
-    -- for `reserve_within`: a sum that is at most 0 for each unit is at most 0
+    -- for `remaining_within`: a sum that is at most 0 for each unit is at most 0
     nothing : (s n : ℕ) → s ≤ n * 0 → s ≤ 0
     nothing s n l = omega (arith, l)
 
-    -- for `reserve_within`: the sum of 0 over all units is at most 0
+    -- for `remaining_within`: the sum of 0 over all units is at most 0
     none : sum_over (λ (u : Unit). 0) c.units ≤ 0
     none = nothing (sum_over (λ (u : Unit). 0) c.units) (length (entries c.units)) (all_within (λ h. 0) 0 (λ h is. omega arith))
 
@@ -375,40 +378,40 @@ reserve_within w c can e t = by_thing t
     by_entry i false = none
 
     -- what BUILD may still book of thing `s` is within the bound of the phase
-    by_thing : (s : Thing) → build_reserve c e s ≤ build_moves e s
+    by_thing : (s : Thing) → build_remaining c e s ≤ build_moves e s
     by_thing Money = none
     by_thing People = none
     by_thing (Item i) = by_entry i (entry_index e == entry_index Used)
 
 -- ---- the phase
 
--- Each order of BUILD keeps what BUILD needs of the campaign, within the bounds on the books; a unit without an order
+-- Each order of BUILD keeps what BUILD needs of the campaign, within the bounds on the books. A unit without an order
 -- of its own faction is no worse off (`IsOrderly`).
-pub build_orderly : IsOrderly build_step CanBuild build_reserve build_moves IsOwnOrder IsNoWorse
+pub build_orderly : IsOrderly build_step CanBuild build_remaining build_moves IsOwnOrder IsNoWorse
 build_orderly = record {
   well = λ w a c t x can fit own. well w c t.unit x own.there can t.order_value.operands;
-  spares_is_relation = no_worse_spares;
-  spared = λ w a c t x can own j v there apart. stays_spared (build_step w a t) c t x own j v there apart (λ i other. stays w c t.unit x own.there i other t.order_value.operands);
-  bounded = reserve_within;
+  unaffected_is_relation = no_worse_is_relation;
+  is_unaffected = λ w a c t x can own j v there apart. unchanged_is_no_worse (build_step w a t) c t x own j v there apart (λ i other. stays w c t.unit x own.there i other t.order_value.operands);
+  bounded = remaining_within;
 }
   where
     -- an order of BUILD keeps what BUILD needs of the campaign (`CanBuild`), whatever its operands are
-    well : (w : WorldValue) (c : CampaignValue) (n : ℕ) (x : Unit) → get c.units n ≡ Some x → CanBuild w c → (s : OperandsValue) → IfSome (build_effect w n s) (λ deed. StepsWell CanBuild build_reserve w c (deed c x).0)
+    well : (w : WorldValue) (c : CampaignValue) (n : ℕ) (x : Unit) → get c.units n ≡ Some x → CanBuild w c → (s : OperandsValue) → IfSome (build_effect w n s) (λ effect. StepsWell CanBuild build_remaining w c (effect c x).0)
     well w c n x is can (operands.Kind (Some kind)) = by_kind (slice_get w.kinds kind) refl
       where
         -- `BUILD kind` keeps what BUILD needs of the campaign, whether the world has the kind or not
-        by_kind : (o : Option Kind) → slice_get w.kinds kind ≡ o → IfSome (option_map (begin w n kind) o) (λ deed. StepsWell CanBuild build_reserve w c (deed c x).0)
+        by_kind : (o : Option Kind) → slice_get w.kinds kind ≡ o → IfSome (option_map (begin w n kind) o) (λ effect. StepsWell CanBuild build_remaining w c (effect c x).0)
         by_kind None kind_is = tt
         by_kind (Some k) kind_is = begin_well w c n x is kind k kind_is can
     well w c n x is can (operands.Kind None) = go_on_well w c n x is can
     well w c n x is can other = tt
 
     -- an order of BUILD leaves the units other than its own as they are, whatever its operands are
-    stays : (w : WorldValue) (c : CampaignValue) (n : ℕ) (x : Unit) → get c.units n ≡ Some x → (j : ℕ) → j ≢ n → (s : OperandsValue) → IfSome (build_effect w n s) (λ deed. get (deed c x).0.units j ≡ get c.units j)
+    stays : (w : WorldValue) (c : CampaignValue) (n : ℕ) (x : Unit) → get c.units n ≡ Some x → (j : ℕ) → j ≢ n → (s : OperandsValue) → IfSome (build_effect w n s) (λ effect. get (effect c x).0.units j ≡ get c.units j)
     stays w c n x is j apart (operands.Kind (Some kind)) = by_kind (slice_get w.kinds kind)
       where
         -- `BUILD kind` leaves the other units as they are, whether the world has the kind or not
-        by_kind : (o : Option Kind) → IfSome (option_map (begin w n kind) o) (λ deed. get (deed c x).0.units j ≡ get c.units j)
+        by_kind : (o : Option Kind) → IfSome (option_map (begin w n kind) o) (λ effect. get (effect c x).0.units j ≡ get c.units j)
         by_kind None = tt
         by_kind (Some k) = begin_stays w c n x is kind k j apart
     stays w c n x is j apart (operands.Kind None) = go_on_stays w c n x is j apart
@@ -418,8 +421,9 @@ build_orderly = record {
 pub leaves_steady : (w : WorldValue) (c d : CampaignValue) → LeavesWell CanBuild build_moves w c d → LeavesWell IsSteady build_moves w c d
 leaves_steady w c d h = record { leaves_it = h.leaves_it.steady; same_month = h.same_month; balances = h.balances; near = h.near }
 
--- a unit can use what it holds of an item (`CanUse`), if the books have room for what all units hold (`build_reserve`)
-pub can_use : (w : WorldValue) (c : CampaignValue) (n item amount : ℕ) (u : Unit) → get c.units n ≡ Some u → amount ≤ amount_of u.holding.items item → item < length w.items → CanBuild w c → HaveRoom (build_reserve c) c → CanUse w c n item amount
+-- a unit can use what it holds of an item (`CanUse`), if the books have room for what all units hold
+-- (`build_remaining`)
+pub can_use : (w : WorldValue) (c : CampaignValue) (n item amount : ℕ) (u : Unit) → get c.units n ≡ Some u → amount ≤ amount_of u.holding.items item → item < length w.items → CanBuild w c → HaveRoom (build_remaining c) c → CanUse w c n item amount
 can_use w c n item amount u is enough known can room = record {
   unit = u;
   there = is;
@@ -432,37 +436,38 @@ can_use w c n item amount u is enough known can room = record {
 -- ---- the code does what is defined
 
 -- a structure under a number, and its kind, are what `structure_and_kind_at` finds
-built_is_both : (w : WorldValue) (c : CampaignValue) (structure : ℕ) (s : Structure) (k : Kind) → get c.structures structure ≡ Some s → slice_get w.kinds s.kind ≡ Some k → structure_and_kind_at w c structure ≡ Some (s, k)
-built_is_both w c structure s k there kind_is = ap (option_and_then (with_kind w)) there ∙ ap (option_map {U = Structure × Kind} (λ x. (s, x))) kind_is
+structure_and_kind_found : (w : WorldValue) (c : CampaignValue) (structure : ℕ) (s : Structure) (k : Kind) → get c.structures structure ≡ Some s → slice_get w.kinds s.kind ≡ Some k → structure_and_kind_at w c structure ≡ Some (s, k)
+structure_and_kind_found w c structure s k there kind_is = ap (option_and_then (with_kind w)) there ∙ ap (option_map {U = Structure × Kind} (λ x. (s, x))) kind_is
 
 -- the campaign after unit `n` began a structure with `size` of it done, and the outcome Done with that size
 abbrev begun_outcome : CampaignValue → (n kind : ℕ) → Kind → (region size : ℕ) → CampaignValue × Outcome
 begun_outcome c n kind k region size = (after_start c n kind k region size, Done size)
 
--- the campaign after unit `n` used `size` for a structure with `done` done then, and the outcome Done with `size`
-abbrev on_outcome : CampaignValue → (n material size structure done : ℕ) → CampaignValue × Outcome
-on_outcome c n material size structure done = (after_building_on c n material size structure done, Done size)
+-- the campaign after unit `n` used `size` pieces of material for a structure, of which `done` is done then; and the
+-- outcome Done with `size`
+abbrev continued_outcome : CampaignValue → (n material size structure done : ℕ) → CampaignValue × Outcome
+continued_outcome c n material size structure done = (after_building_on c n material size structure done, Done size)
 
 -- where `BUILD kind` has no fault, the campaign and outcome that the code makes are those of its definition (`begin`)
-pub begin_done : (w : WorldValue) (c d : CampaignValue) (f n kind : ℕ) (u : Unit) (k : Kind) (size told : ℕ) → of_faction f (get c.units n) ≡ Some u → begin_fault w c u k ≡ None
-    → d ≡ after_start c n kind k u.region size → told ≡ size → size ≡ size_added k u.holding 0 → (d, Done told) ≡ faction_effect (begin w n kind k) c f n
+pub begin_done : (w : WorldValue) (c d : CampaignValue) (f n kind : ℕ) (u : Unit) (k : Kind) (size says : ℕ) → of_faction f (get c.units n) ≡ Some u → begin_fault w c u k ≡ None
+    → d ≡ after_start c n kind k u.region size → says ≡ size → size ≡ size_added k u.holding 0 → (d, Done says) ≡ faction_effect (begin w n kind k) c f n
 unfolding begin
-begin_done w c d f n kind u k size told is none first told_is size_is =
+begin_done w c d f n kind u k size says is none first asked_is size_is =
     let whole = begun_outcome c n kind k u.region (size_added k u.holding 0) in
     let chain : faction_effect (begin w n kind k) c f n ≡ whole = ap (effect_on (begin w n kind k) c) is ∙ ap (λ o. unless c o whole) none in
-    rw (first, told_is, size_is) (sym chain)
+    rw (first, asked_is, size_is) (sym chain)
 
 -- where `BUILD` has no fault, the campaign and outcome that the code makes are those of its definition (`go_on`)
-pub go_on_done : (w : WorldValue) (c d : CampaignValue) (f n : ℕ) (u : Unit) (s : Structure) (k : Kind) (size told : ℕ) → of_faction f (get c.units n) ≡ Some u → get c.structures u.structure ≡ Some s → slice_get w.kinds s.kind ≡ Some k
-    → inside_fault u s k ≡ None → d ≡ after_building_on c n k.material size u.structure (s.done + size) → told ≡ size → size ≡ size_added k u.holding s.done → (d, Done told) ≡ faction_effect (go_on w n) c f n
+pub go_on_done : (w : WorldValue) (c d : CampaignValue) (f n : ℕ) (u : Unit) (s : Structure) (k : Kind) (size says : ℕ) → of_faction f (get c.units n) ≡ Some u → get c.structures u.structure ≡ Some s → slice_get w.kinds s.kind ≡ Some k
+    → inside_fault u s k ≡ None → d ≡ after_building_on c n k.material size u.structure (s.done + size) → says ≡ size → size ≡ size_added k u.holding s.done → (d, Done says) ≡ faction_effect (go_on w n) c f n
 unfolding go_on
-go_on_done w c d f n u s k size told is there kind_is none first told_is size_is =
+go_on_done w c d f n u s k size says is there kind_is none first asked_is size_is =
     let added = size_added k u.holding s.done in
-    let whole = on_outcome c n k.material added u.structure (s.done + added) in
-    let chain : faction_effect (go_on w n) c f n ≡ whole = ap (effect_on (go_on w n) c) is ∙ ap (go_on_at c n u) (built_is_both w c u.structure s k there kind_is) ∙ ap (λ o. unless c o whole) none in
-    rw (first, told_is, size_is) (sym chain)
+    let whole = continued_outcome c n k.material added u.structure (s.done + added) in
+    let chain : faction_effect (go_on w n) c f n ≡ whole = ap (effect_on (go_on w n) c) is ∙ ap (go_on_at c n u) (structure_and_kind_found w c u.structure s k there kind_is) ∙ ap (λ o. unless c o whole) none in
+    rw (first, asked_is, size_is) (sym chain)
 
--- after an order of `BUILD` without a fault, what is done of the structure is at most the greatest size of a kind
+-- what is done of a structure after an order of `BUILD` without a fault is at most the greatest size of a kind
 pub done_small : (u : Unit) (s : Structure) (k : Kind) → inside_fault u s k ≡ None → k.size ≤ most_size → s.done + size_added k u.holding s.done ≤ most_size
 done_small u s k none small = up (size_added k u.holding s.done) s.done k.size (size_missing k u.holding s.done) (can_go_on u s k none).missing small
   where

@@ -14,30 +14,30 @@ use Rattle.atl_campaign.specs.Owners.{with_place}
 use Rattle.atl_campaign.specs.Campaign.{CampaignValue}
 use Rattle.atl_phase.specs.Bounds.{StepsWell}
 use Rattle.atl_phase.proofs.MeaningLaws.{same_month_by}
-use Rattle.atl_phase.proofs.PlacingLaws.{behind, place_is, placed_steady, placed_total}
-use Rattle.atl_market.specs.Bounds.{CanBuild, build_reserve, still_bookable}
-use Rattle.atl_market.proofs.BuildBegunLaws.{still_well}
+use Rattle.atl_phase.proofs.PlacingLaws.{placed_campaign, place_is, placed_steady, placed_total}
+use Rattle.atl_market.specs.Bounds.{CanBuild, build_remaining, still_bookable}
+use Rattle.atl_market.proofs.BuildBegunLaws.{unbooked_change_steps_well}
 
--- for `reserve_stays`: if `a + h` is `b + g`, and `g` is `h`, then `a` is `b`
-cancelled : (a b h g : ℕ) → a + h ≡ b + g → g ≡ h → a ≡ b
-cancelled a b h g e f = omega (arith, e, f)
+-- for `remaining_stays`: if `a + h` is `b + g`, and `g` is `h`, then `a` is `b`
+equal_addends_cancel : (a b h g : ℕ) → a + h ≡ b + g → g ≡ h → a ≡ b
+equal_addends_cancel a b h g e f = omega (arith, e, f)
 
 module _ (w : WorldValue) (c : CampaignValue) (n : ℕ) (u : Unit) (s : ℕ) (is : get c.units n ≡ Some u) (can : CanBuild w c) (apart : u.structure ≢ s) where
   -- the campaign after unit `n` went into structure `s`; 0 is no structure
   abbrev placed : CampaignValue
-  placed = behind w c n u s is can.steady apart
+  placed = placed_campaign w c n u s is can.steady apart
 
   -- moving unit `n` into structure `s` keeps what BUILD may still book
-  reserve_stays : (e : BooksEntry) (t : Thing) → build_reserve placed e t ≡ build_reserve c e t
-  reserve_stays e t =
+  remaining_stays : (e : BooksEntry) (t : Thing) → build_remaining placed e t ≡ build_remaining c e t
+  remaining_stays e t =
       let f = λ (x : Unit). still_bookable e t x.holding in
       let moved : Unit = record u { structure = s } in
-      cancelled (build_reserve placed e t) (build_reserve c e t) (f u) (f moved) (sum_over-insert_known f c.units n u moved is) refl
+      equal_addends_cancel (build_remaining placed e t) (build_remaining c e t) (f u) (f moved) (sum_over-insert_known f c.units n u moved is) refl
 
   -- moving a unit into another structure of its region (on water a ship), or on land out of its structure, keeps what
   -- BUILD needs (`CanBuild`)
-  pub place_well : (s ≢ 0 → (x : Structure) × (get c.structures s ≡ Some x) × (x.region ≡ u.region)) → (is_land_at w u.region ≡ false → (x : Structure) × (get c.structures s ≡ Some x) × (is_ship w x ≡ true)) → StepsWell CanBuild build_reserve w c (with_place c n u.region s)
+  pub place_well : (s ≢ 0 → (x : Structure) × (get c.structures s ≡ Some x) × (x.region ≡ u.region)) → (is_land_at w u.region ≡ false → (x : Structure) × (get c.structures s ≡ Some x) × (is_ship w x ≡ true)) → StepsWell CanBuild build_remaining w c (with_place c n u.region s)
   place_well inside afloat =
-      subst (StepsWell CanBuild build_reserve w c) (sym (place_is w c n u s is can.steady apart))
-      (still_well w c placed (record { steady = placed_steady w c n u s is can.steady apart inside afloat; kinds = can.kinds })
-      (same_month_by refl) refl (placed_total w c n u s is can.steady apart inside afloat) reserve_stays)
+      subst (StepsWell CanBuild build_remaining w c) (sym (place_is w c n u s is can.steady apart))
+      (unbooked_change_steps_well w c placed (record { steady = placed_steady w c n u s is can.steady apart inside afloat; kinds = can.kinds })
+      (same_month_by refl) refl (placed_total w c n u s is can.steady apart inside afloat) remaining_stays)

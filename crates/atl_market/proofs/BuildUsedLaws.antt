@@ -1,5 +1,5 @@
 -- Laws of BUILD: using material that a unit holds keeps what BUILD needs, within its bound on the books
--- (`build_reserve`).
+-- (`build_remaining`).
 use Rattle.std.proofs.Common.{◌≡◌, ◌≢◌, ◌==◌, ℕ, ◌+◌, ◌-◌, ◌*◌, ◌≤◌, ◌<◌, Bool, true, false, cond, length, Some, refl, sym, ap, subst, ◌∙◌, arith}
 use Rattle.std.specs.Prelude.{pos, neg_ℤ, if◌then◌else◌}
 use Rattle.std.proofs.lemmas.Bool.Decides.{nat_tests}
@@ -25,10 +25,10 @@ use Rattle.atl_campaign.proofs.RegionLaws.{get-insert_same}
 use Rattle.atl_records.proofs.RemovedLaws.{sum_over-remove}
 use Rattle.atl_phase.specs.Meaning.{LeavesWell, moves_only}
 use Rattle.atl_phase.specs.Bounds.{HasRoom, HaveRoom, StepsWell, UsesBound}
-use Rattle.atl_records.proofs.HoldingLaws.{alike, set_amount}
-use Rattle.atl_phase.proofs.MeaningLaws.{less_room, near_more}
+use Rattle.atl_records.proofs.HoldingLaws.{compared_equal_is_equal, amount_after_setting}
+use Rattle.atl_phase.proofs.MeaningLaws.{amount_room_for_less, near_more}
 use Rattle.atl_phase.proofs.OrderEffectLaws.{bound_used_near}
-use Rattle.atl_market.specs.Bounds.{CanBuild, build_reserve, still_bookable}
+use Rattle.atl_market.specs.Bounds.{CanBuild, build_remaining, still_bookable}
 use Rattle.atl_market.specs.Goods.{with_used}
 use Rattle.atl_market.proofs.ItemUseLaws.{item_held, used_is, used_up_to}
 use Rattle.atl_market.proofs.ThereLaws.{by_unit}
@@ -36,13 +36,13 @@ use Rattle.atl_market.proofs.ThereLaws.{by_unit}
 -- ---- what a unit holds less
 
 -- a holding with `amount` less of an item
-abbrev with_less : HoldingValue → (item amount : ℕ) → HoldingValue
-with_less h item amount = record h { items = with_amount_of h.items item (amount_of h.items item - amount) }
+abbrev with_material_used : HoldingValue → (item amount : ℕ) → HoldingValue
+with_material_used h item amount = record h { items = with_amount_of h.items item (amount_of h.items item - amount) }
 
 -- a holding with less of an item has that much less of the item, and as much as before of any other
-item_less : (h : HoldingValue) (item amount j : ℕ) → amount ≤ amount_of h.items item → amount_of h.items j ≡ amount_of (with_less h item amount).items j + cond (eq_by_cmp nat_cmp j item) amount 0
+item_less : (h : HoldingValue) (item amount j : ℕ) → amount ≤ amount_of h.items item → amount_of h.items j ≡ amount_of (with_material_used h item amount).items j + cond (eq_by_cmp nat_cmp j item) amount 0
 item_less h item amount j enough =
-    by_test (eq_by_cmp nat_cmp j item) refl ∙ ap (λ x. x + cond (eq_by_cmp nat_cmp j item) amount 0) (sym (set_amount h.items item (amount_of h.items item - amount) j))
+    by_test (eq_by_cmp nat_cmp j item) refl ∙ ap (λ x. x + cond (eq_by_cmp nat_cmp j item) amount 0) (sym (amount_after_setting h.items item (amount_of h.items item - amount) j))
   where
     -- for `item_less`: an amount is what is left of it when `n` is taken, plus `n`
     here : (x a n : ℕ) → n ≤ a → x ≡ a → x ≡ (a - n) + n
@@ -50,67 +50,70 @@ item_less h item amount j enough =
 
     -- what the unit had of item `j` is what it has left plus what it used, whether `j` is the item used or not
     by_test : (q : Bool) → eq_by_cmp nat_cmp j item ≡ q → amount_of h.items j ≡ cond q (amount_of h.items item - amount) (amount_of h.items j) + cond q amount 0
-    by_test true is = here (amount_of h.items j) (amount_of h.items item) amount enough (ap (amount_of h.items) (alike item j is))
+    by_test true is = here (amount_of h.items j) (amount_of h.items item) amount enough (ap (amount_of h.items) (compared_equal_is_equal item j is))
     by_test false is = omega arith
 
--- how much of an item's use is booked under an entry, of a thing: all of it under Used and the item, else 0
-abbrev used_of : (item amount : ℕ) → BooksEntry → Thing → ℕ
-used_of item amount e (Item j) = if entry_index e == entry_index Used then cond (eq_by_cmp nat_cmp j item) amount 0 else 0
-used_of item amount e t = 0
+-- by how much using `amount` of an item moves an amount of the books: by `amount` under Used of this item, by 0
+-- elsewhere
+abbrev use_bound : (item amount : ℕ) → BooksEntry → Thing → ℕ
+use_bound item amount e (Item j) = if entry_index e == entry_index Used then cond (eq_by_cmp nat_cmp j item) amount 0 else 0
+use_bound item amount e t = 0
 
 -- using `amount` of an item lowers what BUILD may still book for the holding (`still_bookable`): under Used of the item
 -- by `amount`, else not at all
-usable_less : (h : HoldingValue) (item amount : ℕ) → amount ≤ amount_of h.items item → (e : BooksEntry) (t : Thing) → still_bookable e t h ≡ still_bookable e t (with_less h item amount) + used_of item amount e t
+usable_less : (h : HoldingValue) (item amount : ℕ) → amount ≤ amount_of h.items item → (e : BooksEntry) (t : Thing) → still_bookable e t h ≡ still_bookable e t (with_material_used h item amount) + use_bound item amount e t
 usable_less h item amount enough e Money = refl
 usable_less h item amount enough e People = refl
 usable_less h item amount enough e (Item j) = by_entry (entry_index e == entry_index Used)
   where
     -- what BUILD may book of item `j` falls by what was used of it under Used, and is 0 under any other entry
-    by_entry : (b : Bool) → (if b then amount_of h.items j else 0) ≡ (if b then amount_of (with_less h item amount).items j else 0) + (if b then cond (eq_by_cmp nat_cmp j item) amount 0 else 0)
+    by_entry : (b : Bool) → (if b then amount_of h.items j else 0) ≡ (if b then amount_of (with_material_used h item amount).items j else 0) + (if b then cond (eq_by_cmp nat_cmp j item) amount 0 else 0)
     by_entry true = item_less h item amount j enough
     by_entry false = refl
 
--- the bound on using `amount` of an item is at most `used_of`: `amount` under Used for that item, else 0
-only_used : (item amount : ℕ) (e : BooksEntry) (t : Thing) → moves_only amount Used (Item item) e t ≤ used_of item amount e t
+-- the bound on what the use of `amount` of an item books is at most `use_bound`: `amount` under Used of this item, 0
+-- elsewhere
+only_used : (item amount : ℕ) (e : BooksEntry) (t : Thing) → moves_only amount Used (Item item) e t ≤ use_bound item amount e t
 only_used item amount e t = by_number (amount_number e t == amount_number Used (Item item)) refl
   where
-    -- for `only_used`: `used_of` gives at least `amount` where both of its tests hold, for the entry and for the item
+    -- for `only_used`: `use_bound` gives at least `amount` where both of its tests hold, for the entry and for the item
     at : (b d : Bool) → b ≡ true → d ≡ true → amount ≤ (if b then cond d amount 0 else 0)
     at true true f g = omega arith
     at true false f g = cc
     at false d f g = cc
 
     -- for `only_used`: two amounts of the books with the same number are of the same thing and under the same entry
-    places : (i j p q : ℕ) → entry_count * i + p ≡ entry_count * j + q → p < entry_count → q < entry_count → (i ≡ j) × (p ≡ q)
-    places i j p q e l m = (omega (arith, e, l, m), omega (arith, e, l, m))
+    numbers : (i j p q : ℕ) → entry_count * i + p ≡ entry_count * j + q → p < entry_count → q < entry_count → (i ≡ j) × (p ≡ q)
+    numbers i j p q e l m = (omega (arith, e, l, m), omega (arith, e, l, m))
 
-    -- if the amount of entry `e` and thing `s` is in the books under the number of Used of the item, `used_of` gives at
-    -- least `amount` for `e` and `s`
-    by_thing : (s : Thing) → entry_count * thing_index s + entry_index e ≡ entry_count * thing_index (Item item) + entry_index Used → amount ≤ used_of item amount e s
-    by_thing Money same = let p = places 0 (2 + item) (entry_index e) (entry_index Used) same (entry_small e) (entry_small Used) in absurd (omega (arith, p.0))
-    by_thing People same = let p = places 1 (2 + item) (entry_index e) (entry_index Used) same (entry_small e) (entry_small Used) in absurd (omega (arith, p.0))
+    -- if the amount of entry `e` and thing `s` is in the books under the number of Used of the item, `use_bound` gives
+    -- at least `amount` for `e` and `s`
+    by_thing : (s : Thing) → entry_count * thing_index s + entry_index e ≡ entry_count * thing_index (Item item) + entry_index Used → amount ≤ use_bound item amount e s
+    by_thing Money same = let p = numbers 0 (2 + item) (entry_index e) (entry_index Used) same (entry_small e) (entry_small Used) in absurd (omega (arith, p.0))
+    by_thing People same = let p = numbers 1 (2 + item) (entry_index e) (entry_index Used) same (entry_small e) (entry_small Used) in absurd (omega (arith, p.0))
     by_thing (Item j) same =
-        let p = places (2 + j) (2 + item) (entry_index e) (entry_index Used) same (entry_small e) (entry_small Used) in
+        let p = numbers (2 + j) (2 + item) (entry_index e) (entry_index Used) same (entry_small e) (entry_small Used) in
         let number : j ≡ item = omega (arith, p.0) in
         let entry : entry_index e ≡ entry_index Used = p.1 in
         at (entry_index e == entry_index Used) (eq_by_cmp nat_cmp j item) (let f : (entry_index e == entry_index Used) ≡ true = grind (arith, nat_tests) in f)
         (sym (unsigned_ties j item) ∙ (let g : (j == item) ≡ true = grind (arith, nat_tests) in g))
 
-    -- the bound on using the item is at most `used_of`, whether the amount's number is that of Used of the item or not
-    by_number : (b : Bool) → (amount_number e t == amount_number Used (Item item)) ≡ b → (if b then amount else 0) ≤ used_of item amount e t
+    -- the bound on using the item is at most `use_bound`, whether the amount's number is that of Used of the item or
+    -- not
+    by_number : (b : Bool) → (amount_number e t == amount_number Used (Item item)) ≡ b → (if b then amount else 0) ≤ use_bound item amount e t
     by_number true is = by_thing t (let same : entry_count * thing_index t + entry_index e ≡ entry_count * thing_index (Item item) + entry_index Used = grind (arith, nat_tests) in same)
     by_number false is = omega arith
 
 -- ---- the campaign
 
--- for `uses_bound`: a sum in which one term is less by `x` is less by `x`
-shrunk : (s t f g x : ℕ) → s + f ≡ t + g → f ≡ g + x → s + x ≡ t
-shrunk s t f g x e h = omega (arith, e, h)
+-- for `uses_bound`: a sum falls by `x`, if one of its terms falls by `x`
+sum_falls_with_term : (s t f g x : ℕ) → s + f ≡ t + g → f ≡ g + x → s + x ≡ t
+sum_falls_with_term s t f g x e h = omega (arith, e, h)
 
 module _ (w : WorldValue) (c : CampaignValue) (n item amount : ℕ) (u : Unit) (is : get c.units n ≡ Some u) where
   -- the unit after it used `amount` of the item
   abbrev pub user : Unit
-  user = record u { holding = with_less u.holding item amount }
+  user = record u { holding = with_material_used u.holding item amount }
 
   -- the campaign after the unit used `amount` of the item, which is booked
   abbrev pub used : CampaignValue
@@ -130,15 +133,15 @@ module _ (w : WorldValue) (c : CampaignValue) (n item amount : ℕ) (u : Unit) (
     well = subst (LeavesWell IsSteady (moves_only amount Used (Item item)) w c) (used_is w c n item amount u is) (used_up_to w c n item amount amount (omega arith) u is known enough can.steady)
 
     -- using the item lowers what BUILD may still book by at least as much as it moves the books (`UsesBound`)
-    uses_bound : (e : BooksEntry) (t : Thing) → UsesBound (build_reserve c e t) (build_reserve used e t) (amount_in c.books e t) (amount_in used.books e t)
+    uses_bound : (e : BooksEntry) (t : Thing) → UsesBound (build_remaining c e t) (build_remaining used e t) (amount_in c.books e t) (amount_in used.books e t)
     uses_bound e t =
         let f = λ (x : Unit). still_bookable e t x.holding in
-        bound_used_near (used_of item amount e t) (build_reserve c e t) (build_reserve used e t) (amount_in c.books e t) (amount_in used.books e t)
-        (shrunk (build_reserve used e t) (build_reserve c e t) (f u) (f user) (used_of item amount e t) (sum_over-insert_known f c.units n u user is) (usable_less u.holding item amount enough e t))
-        (near_more (moves_only amount Used (Item item) e t) (used_of item amount e t) (amount_in c.books e t) (amount_in used.books e t) (only_used item amount e t) (well.near e t))
+        bound_used_near (use_bound item amount e t) (build_remaining c e t) (build_remaining used e t) (amount_in c.books e t) (amount_in used.books e t)
+        (sum_falls_with_term (build_remaining used e t) (build_remaining c e t) (f u) (f user) (use_bound item amount e t) (sum_over-insert_known f c.units n u user is) (usable_less u.holding item amount enough e t))
+        (near_more (moves_only amount Used (Item item) e t) (use_bound item amount e t) (amount_in c.books e t) (amount_in used.books e t) (only_used item amount e t) (well.near e t))
 
     -- using the item keeps what BUILD needs (`CanBuild`), and the books within what BUILD may still book
-    pub used_for_well : StepsWell CanBuild build_reserve w c used
+    pub used_for_well : StepsWell CanBuild build_remaining w c used
     used_for_well = record {
       holds_still = record { steady = well.leaves_it; kinds = can.kinds };
       same_month = well.same_month;
@@ -159,11 +162,11 @@ same_next c n item amount = by_unit c n (λ (d : CampaignValue). d.next_structur
 -- ---- there is room for what a unit may use
 
 -- books with room for all that BUILD may use have room for what a unit uses of an item that it holds
-pub used_room : (c : CampaignValue) (n item amount : ℕ) (u : Unit) → get c.units n ≡ Some u → amount ≤ amount_of u.holding.items item → HaveRoom (build_reserve c) c → HasRoom amount (amount_in c.books Used (Item item))
+pub used_room : (c : CampaignValue) (n item amount : ℕ) (u : Unit) → get c.units n ≡ Some u → amount ≤ amount_of u.holding.items item → HaveRoom (build_remaining c) c → HasRoom amount (amount_in c.books Used (Item item))
 used_room c n item amount u is enough room =
     let f = λ (x : Unit). still_bookable Used (Item item) x.holding in
-    less_room amount (build_reserve c Used (Item item)) (amount_in c.books Used (Item item))
-    (within amount (amount_of u.holding.items item) (sum_over f (remove c.units n)) (build_reserve c Used (Item item)) enough (sum_over-remove c.units n f u is)) (room Used (Item item))
+    amount_room_for_less amount (build_remaining c Used (Item item)) (amount_in c.books Used (Item item))
+    (within amount (amount_of u.holding.items item) (sum_over f (remove c.units n)) (build_remaining c Used (Item item)) enough (sum_over-remove c.units n f u is)) (room Used (Item item))
   where
     -- for `used_room`: an amount that is at most one term of a sum is at most the sum
     within : (a b s r : ℕ) → a ≤ b → s + b ≡ r → a ≤ r

@@ -20,20 +20,19 @@ use Rattle.atl_market.specs.Pots.{amount_given, pot_shares, takers_in, wants_in}
 use Rattle.atl_market.proofs.PotLaws.{IsRisen, gives_each_pot, only_takers_get, taker_listed, takers_risen}
 use Rattle.atl_campaign.proofs.NumberListLaws.{IsListed}
 
--- for `with_first`: if each element of a list is above `n` (`AllByRecursion`), each number on the list (`IsListed`) is
--- above `n`
-risen_above : (n : ℕ) (ns : List ℕ) → AllByRecursion (λ k. n < k) ns → (k : ℕ) → IsListed k ns → n < k
-risen_above n [] h k is = absurd is
-risen_above n (m ∷ ns) h k (inl same) = subst (λ j. n < j) (sym same) h.0
-risen_above n (m ∷ ns) h k (inr rest) = risen_above n ns h.1 k rest
+-- for `with_first`: each number on a list (`IsListed`) is above `n`, if each element of the list is (`AllByRecursion`)
+listed_is_above : (n : ℕ) (ns : List ℕ) → AllByRecursion (λ k. n < k) ns → (k : ℕ) → IsListed k ns → n < k
+listed_is_above n [] h k is = absurd is
+listed_is_above n (m ∷ ns) h k (inl same) = subst (λ j. n < j) (sym same) h.0
+listed_is_above n (m ∷ ns) h k (inr rest) = listed_is_above n ns h.1 k rest
 
 -- for `listed_above`: a number of the list `n ∷ ns` that is above `n` is one of `ns`
-another : (k n : ℕ) (ns : List ℕ) → n < k → IsListed k (n ∷ ns) → IsListed k ns
-another k n ns above is = elim is [ inl same ↦ absurd (omega (arith, above, same)) | inr rest ↦ rest ]
+above_head_is_in_tail : (k n : ℕ) (ns : List ℕ) → n < k → IsListed k (n ∷ ns) → IsListed k ns
+above_head_is_in_tail k n ns above is = elim is [ inl same ↦ absurd (omega (arith, above, same)) | inr rest ↦ rest ]
 
 -- for `with_first`: a number of the list `n ∷ ns` that isn't `n` is one of `ns`
-not_this : (k n : ℕ) (ns : List ℕ) → k ≢ n → IsListed k (n ∷ ns) → IsListed k ns
-not_this k n ns apart is = elim is [ inl same ↦ absurd (apart same) | inr rest ↦ rest ]
+other_than_head_is_in_tail : (k n : ℕ) (ns : List ℕ) → k ≢ n → IsListed k (n ∷ ns) → IsListed k ns
+other_than_head_is_in_tail k n ns apart is = elim is [ inl same ↦ absurd (apart same) | inr rest ↦ rest ]
 
 -- if `P` holds of each number and its share (`EachEntry`), it holds of each of these pairs (`AllByRecursion`)
 pub all_pairs : (P : ℕ × ℕ → Type 0) (es : List (ℕ × ℕ)) → EachEntry (λ n share. P (n, share)) es → AllByRecursion P es
@@ -62,7 +61,7 @@ module _ (draws : Drawers) where
     -- `ns`
     listed_above : (n : ℕ) (ns : List ℕ) (es : List (ℕ × ℕ)) → AllByRecursion (λ f. n < f.0) es → AllByRecursion (DrawsItsAmount (n ∷ ns)) es → AllByRecursion (DrawsItsAmount ns) es
     listed_above n ns [] above all = tt
-    listed_above n ns (f ∷ es) above all = (λ draws. let (is, same) = all.0 draws in (another f.0 n ns above.0 is, same), listed_above n ns es above.1 all.1)
+    listed_above n ns (f ∷ es) above all = (λ draws. let (is, same) = all.0 draws in (above_head_is_in_tail f.0 n ns above.0 is, same), listed_above n ns es above.1 all.1)
 
     -- for `with_first`: if the units of all shares have numbers above `k`, their numbers are above each `n` that is at
     -- most `k`
@@ -113,8 +112,8 @@ module _ (draws : Drawers) where
                 let tail = listed_above n ns es (lower n e.0 es (omega (arith, same)) rise.0) all.1 in
                 both e.1 (drawn es) (sum (map amount ns)) (sum (map amount (n ∷ ns))) (rest es up.1 rise.1 tail) (split ∙ ap (λ a. a + sum (map amount ns)) (ap amount (sym same) ∙ (all.0 is).1))
             | inr apart ↦
-                let here = not_this e.0 n ns apart (all.0 is).0 in
-                let low : n < e.0 = risen_above n ns up.0 e.0 here in
+                let here = other_than_head_is_in_tail e.0 n ns apart (all.0 is).0 in
+                let low : n < e.0 = listed_is_above n ns up.0 e.0 here in
                 let tail = listed_above n ns es (lower n e.0 es (omega (arith, low)) rise.0) all.1 in
                 let less = rest (e ∷ es) up.1 rise (λ _. (here, (all.0 is).1), tail) in
                 skipped (e.1 + drawn es) (sum (map amount ns)) (amount n) (sum (map amount (n ∷ ns))) (subst (λ b. cond b e.1 0 + drawn es ≤ sum (map amount ns)) is less) split
@@ -244,9 +243,9 @@ module _ (pot_of : ℕ → ℕ) (wants : FinMap nat_cmp ℕ) (c : CampaignValue)
   -- each unit with a share that draws from the pot is one of the region's units with a want, and gets its amount
   listed : DrawShares → (n share : ℕ) → get given n ≡ Some share → DrawsItsAmount draws amount takers (n, share)
   listed shared n share found drawing =
-      let (is, stands) = shared n share found drawing in
+      let (is, is_at) = shared n share found drawing in
       let (want, u, wanted, low, at, region) = only_takers_get pot_of wants c n share is in
-      let here : u.region ≡ r = eqb-true u.region r (ap (is_in_region r) (sym at) ∙ stands) in
+      let here : u.region ≡ r = eqb-true u.region r (ap (is_in_region r) (sym at) ∙ is_at) in
       (subst (λ k. IsListed n (takers_in wants c.units k)) here (taker_listed wants c.units n want u wanted at), ap (λ o. unwrap_or o 0) is)
 
   -- for `shares_are_enough`: what is at most the lesser of a pot and a sum is at most the pot
@@ -263,7 +262,7 @@ module _ (pot_of : ℕ → ℕ) (wants : FinMap nat_cmp ℕ) (c : CampaignValue)
 
 -- the pot of a region of the campaign is enough for the shares of all units in the region
 pub pot_is_enough : (pot_of : ℕ → ℕ) (wants : FinMap nat_cmp ℕ) (c : CampaignValue) (r : ℕ) → HasValue c.regions r → drawn (draws_region c.units r) (entries (pot_shares pot_of wants c)) ≤ pot_of r
-pot_is_enough pot_of wants c r there = shares_are_enough pot_of wants c r (draws_region c.units r) (pot_shares pot_of wants c) (λ n share is stands. (is, stands)) there
+pot_is_enough pot_of wants c r there = shares_are_enough pot_of wants c r (draws_region c.units r) (pot_shares pot_of wants c) (λ n share is is_at. (is, is_at)) there
 
 -- ---- units that have not been paid yet are as they were
 
@@ -284,9 +283,9 @@ module _ (c : CampaignValue) where
 
 -- ---- shares of pots, one after the other
 
--- In campaign `d` the shares still to come can be paid: it is early, the units are as in `c`, which is the campaign as
--- the phase began, each share is one that its unit can have (`Fits`), and each pot has enough.
-pub record AreReady {K : Type 0} (pots : DrawnPots K) (Fits : ℕ × ℕ → Type 0) (w : WorldValue) (c d : CampaignValue) (es : List (ℕ × ℕ)) : Type 0 where
+-- The shares still to come can be paid in campaign `d`. The campaign is early, and the units of the shares are as they
+-- were when the phase began (in `c`). Each share is one that its unit can have (`Fits`), and each pot has enough.
+pub record SharesArePayable {K : Type 0} (pots : DrawnPots K) (Fits : ℕ × ℕ → Type 0) (w : WorldValue) (c d : CampaignValue) (es : List (ℕ × ℕ)) : Type 0 where
   -- the campaign `d` is early
   pub early : IsEarly w d
   -- the shares are in the order of unit numbers, one for each unit
@@ -298,10 +297,10 @@ pub record AreReady {K : Type 0} (pots : DrawnPots K) (Fits : ℕ × ℕ → Typ
   -- each pot has enough for the shares of all units that draw from it
   pub enough : HaveEnough pots d es
 
--- after the first unit was paid, and its share left the pots, the later shares can be paid (`AreReady`)
+-- after the first unit was paid, and its share left the pots, the later shares can be paid (`SharesArePayable`)
 pub ready_after : {K : Type 0} (pots : DrawnPots K) {Fits : ℕ × ℕ → Type 0} (w : WorldValue) (c d : CampaignValue) (e : ℕ × ℕ) (es : List (ℕ × ℕ)) (after : CampaignValue)
-    → AreReady pots Fits w c d (e ∷ es) → IsEarly w after → ((k : ℕ) → k ≢ e.0 → get after.units k ≡ get d.units k)
-    → Drains pots d e after → AreReady pots Fits w c after es
+    → SharesArePayable pots Fits w c d (e ∷ es) → IsEarly w after → ((k : ℕ) → k ≢ e.0 → get after.units k ≡ get d.units k)
+    → Drains pots d e after → SharesArePayable pots Fits w c after es
 ready_after pots w c d e es after ready early others drains = record {
   early = early;
   rise = ready.rise.1;

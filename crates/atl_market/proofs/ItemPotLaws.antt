@@ -11,34 +11,34 @@ use Rattle.std.specs.FinMap.{FinMap, contains_key-keys, empty, entries, entries-
 use Rattle.std.proofs.lemmas.Bool.{cases_eq, eqb-true, false≢true}
 use Rattle.atl_world.specs.Groups.{group_of}
 use Rattle.atl_records.specs.Every.{EachEntry, HasValue}
-use Rattle.atl_campaign.specs.Campaign.{CampaignValue, numbers_in}
+use Rattle.atl_campaign.specs.Campaign.{CampaignValue, numbers_in_region}
 use Rattle.atl_records.specs.declared.records.Region.{Region}
 use Rattle.atl_records.proofs.EveryLaws.{each-from_every, first, get-insert_other, none_some, other_number, same_number}
 use Rattle.atl_campaign.proofs.RegionLaws.{get-insert_same}
 use Rattle.atl_phase.proofs.MappedLaws.{no_entries}
-use Rattle.atl_market.specs.ItemGroups.{Groups, item_shares_in, region_shares, with_item_want, with_want}
-use Rattle.atl_market.specs.ItemPots.{is_for, item_share, item_shares, wants_for}
+use Rattle.atl_market.specs.ItemGroups.{WantGroups, item_shares_in, region_shares, with_item_want, with_want}
+use Rattle.atl_market.specs.ItemPots.{asks_for_item, item_share, item_shares, wants_for}
 use Rattle.atl_market.specs.Pots.{share_of, shares_in, takers_in, want_of}
-use Rattle.atl_market.specs.Puts.{with_each}
+use Rattle.atl_market.specs.Puts.{with_entries}
 use Rattle.atl_shares.specs.Share.{shares}
 use Rattle.atl_market.proofs.PotLaws.{AgreeWith, Entries, IsApart, IsRisen, agreeing_put, each_flat, each_found, each_region, found_among, found_is, found_other, found_put, given_apart, given_is, given_takes, pots_give, somewhere, takers_risen}
 
 -- for `found_listed` and `shares_at`: a choice between two equal options is that option
-either : (b : Bool) (o : Option ℕ) → cond b o o ≡ o
-either true o = refl
-either false o = refl
+choice_of_equals : (b : Bool) (o : Option ℕ) → cond b o o ≡ o
+choice_of_equals true o = refl
+choice_of_equals false o = refl
 
 -- ---- entries whose numbers rise, put into a map in turn
 
 -- a number below those of all entries isn't found among them
-none_above : (k : ℕ) (es : Entries) → AllByRecursion (λ n. k < n) (map (λ e. e.0) es) → find nat_cmp k es ≡ None
-none_above k [] h = refl
-none_above k (e ∷ es) h = found_other e es k (λ same. absurd (omega (arith, same, h.0))) ∙ none_above k es h.1
+lower_is_not_found : (k : ℕ) (es : Entries) → AllByRecursion (λ n. k < n) (map (λ e. e.0) es) → find nat_cmp k es ≡ None
+lower_is_not_found k [] h = refl
+lower_is_not_found k (e ∷ es) h = found_other e es k (λ same. absurd (omega (arith, same, h.0))) ∙ lower_is_not_found k es h.1
 
 -- no two of the entries have the same number, if their numbers are sorted
 risen_apart : (es : Entries) → IsRisen (map (λ e. e.0) es) → IsApart es
 risen_apart [] up = tt
-risen_apart (e ∷ es) up = (none_above e.0 es up.0, risen_apart es up.1)
+risen_apart (e ∷ es) up = (lower_is_not_found e.0 es up.0, risen_apart es up.1)
 
 -- a number below the number of each entry is so also by the test that maps make (`below_all`)
 all_below : (k : ℕ) (es : Entries) → AllByRecursion (λ n. k < n) (map (λ e. e.0) es) → below_all nat_cmp k es ≡ true
@@ -51,10 +51,10 @@ risen_sorted [] up = refl
 risen_sorted (e ∷ es) up = ap (λ b. b && is_sorted nat_cmp es) (all_below e.0 es up.0) ∙ risen_sorted es up.1
 
 -- sorted entries, put into the empty map in turn, are the entries of that map
-entries_put : (es : Entries) → IsRisen (map (λ e. e.0) es) → entries (with_each empty es) ≡ es
+entries_put : (es : Entries) → IsRisen (map (λ e. e.0) es) → entries (with_entries empty es) ≡ es
 entries_put es up =
     let sorted : T (is_sorted nat_cmp es) = subst T (sym (risen_sorted es up)) tt in
-    let same : with_each empty es ≡ from_sorted es = same_map nat_cmp_total nat_cmp-IsAntisymmetric _ _ (λ n. found_put es (risen_apart es up) n ∙ sym (get-from_sorted nat_cmp es n sorted)) in
+    let same : with_entries empty es ≡ from_sorted es = same_map nat_cmp_total nat_cmp-IsAntisymmetric _ _ (λ n. found_put es (risen_apart es up) n ∙ sym (get-from_sorted nat_cmp es n sorted)) in
     ap (λ (m : FinMap nat_cmp ℕ). entries m) same ∙ entries-from_sorted nat_cmp es sorted
 
 -- ---- the wants of some units by item
@@ -74,15 +74,15 @@ module _ (item_of : ℕ → Option ℕ) (wants : FinMap nat_cmp ℕ) where
   item_wants i = wants_for item_of wants i
 
   -- among the wants for item `i` (`item_wants`) a unit that asks for item `i` has its want, and any other unit has none
-  item_want_at : (i n : ℕ) → get (item_wants i) n ≡ cond (is_for i (item_of n)) (get wants n) None
-  item_want_at i n = get-retain_keys wants (λ k. is_for i (item_of k)) n (λ k tie. ap (λ j. is_for i (item_of j)) (sym (nat_cmp-IsAntisymmetric n k tie)))
+  item_want_at : (i n : ℕ) → get (item_wants i) n ≡ cond (asks_for_item i (item_of n)) (get wants n) None
+  item_want_at i n = get-retain_keys wants (λ k. asks_for_item i (item_of k)) n (λ k tie. ap (λ j. asks_for_item i (item_of j)) (sym (nat_cmp-IsAntisymmetric n k tie)))
 
   -- a unit that has a want for an item asks for it
   asks : (i n want : ℕ) → get (item_wants i) n ≡ Some want → item_of n ≡ Some i
   asks i n want is = by_item (item_of n) refl (sym (item_want_at i n) ∙ is)
     where
       -- a unit that has a want for item `i` asks for `i`, whichever item `o` it asks for
-      by_item : (o : Option ℕ) → item_of n ≡ o → cond (is_for i o) (get wants n) None ≡ Some want → item_of n ≡ Some i
+      by_item : (o : Option ℕ) → item_of n ≡ o → cond (asks_for_item i o) (get wants n) None ≡ Some want → item_of n ≡ Some i
       by_item None at h = none_some want h
       by_item (Some j) at h = by_test (j == i) refl h
         where
@@ -93,7 +93,7 @@ module _ (item_of : ℕ → Option ℕ) (wants : FinMap nat_cmp ℕ) where
 
   -- what a unit wants among the wants for item `i` is what it wants among all wants
   is_wanted : (i n want : ℕ) → get (item_wants i) n ≡ Some want → get wants n ≡ Some want
-  is_wanted i n want is = by_test (is_for i (item_of n)) (sym (item_want_at i n) ∙ is)
+  is_wanted i n want is = by_test (asks_for_item i (item_of n)) (sym (item_want_at i n) ∙ is)
     where
       -- a want for item `i` is the unit's want, since the test of its item only keeps or drops the want
       by_test : (b : Bool) → cond b (get wants n) None ≡ Some want → get wants n ≡ Some want
@@ -102,10 +102,10 @@ module _ (item_of : ℕ → Option ℕ) (wants : FinMap nat_cmp ℕ) where
 
   -- a unit with a want for item `i` has the same want among all wants as among the wants for that item
   wants_the_same : (i n : ℕ) → is_some (get (item_wants i) n) ≡ true → want_of wants n ≡ want_of (item_wants i) n
-  wants_the_same i n some = by_test (is_for i (item_of n)) refl
+  wants_the_same i n some = by_test (asks_for_item i (item_of n)) refl
     where
       -- for `wants_the_same`: the unit has the same want in both maps, since it asks for item `i` (the test `b`)
-      by_test : (b : Bool) → is_for i (item_of n) ≡ b → want_of wants n ≡ want_of (item_wants i) n
+      by_test : (b : Bool) → asks_for_item i (item_of n) ≡ b → want_of wants n ≡ want_of (item_wants i) n
       by_test true is = sym (ap (λ o. unwrap_or o 0) (item_want_at i n ∙ ap (λ b. cond b (get wants n) None) is))
       by_test false is = absurd (false≢true (sym (ap is_some (item_want_at i n ∙ ap (λ b. cond b (get wants n) None) is)) ∙ some))
 
@@ -114,27 +114,27 @@ module _ (item_of : ℕ → Option ℕ) (wants : FinMap nat_cmp ℕ) where
   pairs i ns = flat_map (λ n. want_entry n (get (item_wants i) n)) ns
 
   -- putting in one unit's want, ahead of other entries, changes the group of its item alone, by that want
-  one_put : (groups : Groups) (n : ℕ) (rest : Entries) (i : ℕ) → with_each (group_of (with_want item_of wants groups n) i) rest ≡ with_each (group_of groups i) (want_entry n (get (item_wants i) n) ++ rest)
-  one_put groups n rest i = by_item (item_of n) (get wants n) ∙ sym (ap (λ o. with_each (group_of groups i) (want_entry n o ++ rest)) (item_want_at i n))
+  one_put : (groups : WantGroups) (n : ℕ) (rest : Entries) (i : ℕ) → with_entries (group_of (with_want item_of wants groups n) i) rest ≡ with_entries (group_of groups i) (want_entry n (get (item_wants i) n) ++ rest)
+  one_put groups n rest i = by_item (item_of n) (get wants n) ∙ sym (ap (λ o. with_entries (group_of groups i) (want_entry n o ++ rest)) (item_want_at i n))
     where
       -- the group of item `i` gets the want `v` of unit `n` exactly if `i` is the item `o` that the unit asks for
-      by_item : (o v : Option ℕ) → with_each (group_of (with_item_want groups n o v) i) rest ≡ with_each (group_of groups i) (want_entry n (cond (is_for i o) v None) ++ rest)
+      by_item : (o v : Option ℕ) → with_entries (group_of (with_item_want groups n o v) i) rest ≡ with_entries (group_of groups i) (want_entry n (cond (asks_for_item i o) v None) ++ rest)
       by_item None v = refl
-      by_item (Some j) None = elim (j == i) as (λ b. with_each (group_of groups i) rest ≡ with_each (group_of groups i) (want_entry n (cond b None None) ++ rest)) [ true ↦ refl | false ↦ refl ]
+      by_item (Some j) None = elim (j == i) as (λ b. with_entries (group_of groups i) rest ≡ with_entries (group_of groups i) (want_entry n (cond b None None) ++ rest)) [ true ↦ refl | false ↦ refl ]
       by_item (Some j) (Some v) =
           let group = insert (group_of groups j) n v in
           elim (cases_eq j i) [
             | inl same ↦
                 let here : group_of (insert groups j group) i ≡ insert (group_of groups i) n v =
                 ap (group_of (insert groups j group)) (sym same) ∙ ap (λ o. unwrap_or o empty) (get-insert_same groups j group) ∙ ap (λ k. insert (group_of groups k) n v) same in
-                ap (λ m. with_each m rest) here ∙ sym (ap (λ b. with_each (group_of groups i) (want_entry n (cond b (Some v) None) ++ rest)) (ap (λ k. j == k) (sym same) ∙ same_number j))
+                ap (λ m. with_entries m rest) here ∙ sym (ap (λ b. with_entries (group_of groups i) (want_entry n (cond b (Some v) None) ++ rest)) (ap (λ k. j == k) (sym same) ∙ same_number j))
             | inr apart ↦
-                ap (λ m. with_each m rest) (ap (λ o. unwrap_or o empty) (get-insert_other groups j i group (λ is. apart (sym is))))
-                ∙ sym (ap (λ b. with_each (group_of groups i) (want_entry n (cond b (Some v) None) ++ rest)) (other_number j i apart))
+                ap (λ m. with_entries m rest) (ap (λ o. unwrap_or o empty) (get-insert_other groups j i group (λ is. apart (sym is))))
+                ∙ sym (ap (λ b. with_entries (group_of groups i) (want_entry n (cond b (Some v) None) ++ rest)) (other_number j i apart))
           ]
 
   -- after some units' wants are put into the groups, the group of an item has the wants for it that these units have
-  group_is : (groups : Groups) (ns : List ℕ) (i : ℕ) → group_of (fold (with_want item_of wants) groups ns) i ≡ with_each (group_of groups i) (pairs i ns)
+  group_is : (groups : WantGroups) (ns : List ℕ) (i : ℕ) → group_of (fold (with_want item_of wants) groups ns) i ≡ with_entries (group_of groups i) (pairs i ns)
   group_is groups [] i = refl
   group_is groups (n ∷ ns) i = group_is (with_want item_of wants groups n) ns i ∙ one_put groups n (pairs i ns) i
 
@@ -146,7 +146,8 @@ module _ (item_of : ℕ → Option ℕ) (wants : FinMap nat_cmp ℕ) where
     | Some want ↦ ap (λ ks. n ∷ ks) (pair_keys i ns)
   ]
 
--- if `f n` is `g n` for each number `n` that passes test `p`, both map the listed numbers that pass to the same list
+-- `f` and `g` map those listed numbers that pass test `p` to the same list, if `f n` is `g n` for each number `n` that
+-- passes
 filtered_map : (p : ℕ → Bool) (f g : ℕ → ℕ) → ((n : ℕ) → p n ≡ true → f n ≡ g n) → (ns : List ℕ) → map f (filter p ns) ≡ map g (filter p ns)
 filtered_map p f g same [] = refl
 filtered_map p f g same (n ∷ ns) = by_test (p n) refl (filtered_map p f g same ns)
@@ -158,9 +159,9 @@ filtered_map p f g same (n ∷ ns) = by_test (p n) refl (filtered_map p f g same
     by_test false is rest = rest
 
 -- what holds of all values holds of each element of a list
-so_each : {A : Type 0} (P : A → Type 0) → ((x : A) → P x) → (xs : List A) → AllByRecursion P xs
-so_each P h [] = tt
-so_each P h (x ∷ xs) = (h x, so_each P h xs)
+each_if_all : {A : Type 0} (P : A → Type 0) → ((x : A) → P x) → (xs : List A) → AllByRecursion P xs
+each_if_all P h [] = tt
+each_if_all P h (x ∷ xs) = (h x, each_if_all P h xs)
 
 -- ---- the shares of one region, and of all
 
@@ -175,8 +176,8 @@ module _ (item_of : ℕ → Option ℕ) (pot_of : (item region : ℕ) → ℕ) (
 
   module _ (r : ℕ) where
     -- the wants of the units of region `r`, grouped by item
-    abbrev groups : Groups
-    groups = fold (with_want item_of wants) empty (numbers_in r c.units)
+    abbrev groups : WantGroups
+    groups = fold (with_want item_of wants) empty (numbers_in_region r c.units)
 
     -- the units of region `r` that want item `i`, each with its share of the region's pot of the item
     abbrev of_item : ℕ → Entries
@@ -185,9 +186,9 @@ module _ (item_of : ℕ → Option ℕ) (pot_of : (item region : ℕ) → ℕ) (
     -- the units of an item's group are the region's units that have a want for it
     takers_are : (i : ℕ) → keys (group_of groups i) ≡ takers_in (item_wants item_of wants i) c.units r
     takers_are i =
-        let ns = numbers_in r c.units in
+        let ns = numbers_in_region r c.units in
         let of_pairs = pair_keys item_of wants i ns in
-        ap keys (group_is item_of wants empty ns i ∙ ap (λ m. with_each m (pairs item_of wants i ns)) (no_group i))
+        ap keys (group_is item_of wants empty ns i ∙ ap (λ m. with_entries m (pairs item_of wants i ns)) (no_group i))
         ∙ ap (map (λ e. e.0)) (entries_put (pairs item_of wants i ns) (subst IsRisen (sym of_pairs) (takers_risen (item_wants item_of wants i) c.units r))) ∙ of_pairs
 
     -- the shares that the code finds for item `i` in the region are `of_item i`
@@ -195,7 +196,7 @@ module _ (item_of : ℕ → Option ℕ) (pot_of : (item region : ℕ) → ℕ) (
     item_is i =
         let takers = takers_in (item_wants item_of wants i) c.units r in
         ap (λ ks. zip ks (shares (pot_of i r) (map (want_of wants) ks))) (takers_are i)
-        ∙ ap (λ ws. zip takers (shares (pot_of i r) ws)) (filtered_map (λ n. is_some (get (item_wants item_of wants i) n)) (want_of wants) (want_of (item_wants item_of wants i)) (wants_the_same item_of wants i) (numbers_in r c.units))
+        ∙ ap (λ ws. zip takers (shares (pot_of i r) ws)) (filtered_map (λ n. is_some (get (item_wants item_of wants i) n)) (want_of wants) (want_of (item_wants item_of wants i)) (wants_the_same item_of wants i) (numbers_in_region r c.units))
 
     -- the shares that the code finds for the region's groups are those of their items, one after the other
     items_are : (es : List (ℕ × FinMap nat_cmp ℕ)) → EachEntry (λ i group. get groups i ≡ Some group) es → flat_map (item_shares_in pot_of wants r) es ≡ flat_map of_item (map (λ e. e.0) es)
@@ -211,7 +212,7 @@ module _ (item_of : ℕ → Option ℕ) (pot_of : (item region : ℕ) → ℕ) (
 
     -- each of the region's shares is its unit's share by the definition, if the region is there
     region_agrees : HasValue c.regions r → AgreeWith gets (region_shares item_of pot_of wants c r)
-    region_agrees there = subst (AgreeWith gets) (sym region_is) (each_flat (λ e. gets e.0 ≡ Some e.1) of_item (keys groups) (so_each _ one (keys groups)))
+    region_agrees there = subst (AgreeWith gets) (sym region_is) (each_flat (λ e. gets e.0 ≡ Some e.1) of_item (keys groups) (each_if_all _ one (keys groups)))
       where
         -- each share of item `i` in the region is its unit's share by the definition
         one : (i : ℕ) → AgreeWith gets (of_item i)
@@ -263,7 +264,7 @@ module _ (item_of : ℕ → Option ℕ) (pot_of : (item region : ℕ) → ℕ) (
     where
       -- for `found_listed`: the unit of the first entry is found with its share `o`, if it has one
       here : n ≡ e.0 → (o : Option ℕ) → gets e.0 ≡ o → find nat_cmp n (of_wants es) ≡ cond (is_some (find nat_cmp n es)) (gets n) None → find nat_cmp n (cons_option (share_at e.0 o) (of_wants es)) ≡ o
-      here same None is rest = rest ∙ ap (λ o. cond (is_some (find nat_cmp n es)) o None) (ap gets same ∙ is) ∙ either (is_some (find nat_cmp n es)) None
+      here same None is rest = rest ∙ ap (λ o. cond (is_some (find nat_cmp n es)) o None) (ap gets same ∙ is) ∙ choice_of_equals (is_some (find nat_cmp n es)) None
       here same (Some s) is rest = ap (λ k. find nat_cmp k ((e.0, s) ∷ of_wants es)) same ∙ first (e.0, s) (of_wants es)
 
       -- what is found for another unit than that of the first entry is what the later entries give
@@ -278,7 +279,7 @@ module _ (item_of : ℕ → Option ℕ) (pot_of : (item region : ℕ) → ℕ) (
     where
       -- a unit's share `o` is in the map, since a unit with a share has a want
       by_share : (o : Option ℕ) → gets n ≡ o → cond (is_some (find nat_cmp n (entries wants))) o None ≡ o
-      by_share None is = either (is_some (find nat_cmp n (entries wants))) None
+      by_share None is = choice_of_equals (is_some (find nat_cmp n (entries wants))) None
       by_share (Some s) is =
           let (want, wanted, low) = items_give n s is in
           ap (λ o. cond (is_some o) (Some s) None) (sym (get-entries wants n) ∙ wanted)
@@ -312,27 +313,27 @@ module _ (item_of : ℕ → Option ℕ) (pot_of : (item region : ℕ) → ℕ) (
 
   -- once no region is left to come, the map into which all shares were put has under each unit its share
   pub all_items_put : (given : FinMap nat_cmp ℕ) (coming : List (ℕ × Region)) → coming ≡ []
-      → with_each given (flat_map (region_shares item_of pot_of wants c) (map (λ e. e.0) coming)) ≡ with_each empty all_shares
+      → with_entries given (flat_map (region_shares item_of pot_of wants c) (map (λ e. e.0) coming)) ≡ with_entries empty all_shares
       → (n : ℕ) → get given n ≡ item_share item_of pot_of wants c n
   all_items_put given [] none so_far n = ap (λ (m : FinMap nat_cmp ℕ). get m n) so_far ∙ agreeing_put gets all_shares all_shares_agree none_missing n
   all_items_put given (e ∷ coming) none so_far n = cc
 
   -- in a region without a unit that has a want the code puts in no share
   pub nothing_put : (r : ℕ) → takers_in wants c.units r ≡ [] → region_shares item_of pot_of wants c r ≡ []
-  nothing_put r nobody = ap (λ (gs : Groups). flat_map (item_shares_in pot_of wants r) (entries gs)) (unwanted empty (numbers_in r c.units) nobody) ∙ ap (flat_map (item_shares_in pot_of wants r)) (no_entries nat_cmp)
+  nothing_put r nobody = ap (λ (gs : WantGroups). flat_map (item_shares_in pot_of wants r) (entries gs)) (unwanted empty (numbers_in_region r c.units) nobody) ∙ ap (flat_map (item_shares_in pot_of wants r)) (no_entries nat_cmp)
     where
       -- for `nothing_put`: a unit without a want changes no group
-      skipped : (groups : Groups) (n : ℕ) (i v : Option ℕ) → is_some v ≡ false → with_item_want groups n i v ≡ groups
+      skipped : (groups : WantGroups) (n : ℕ) (i v : Option ℕ) → is_some v ≡ false → with_item_want groups n i v ≡ groups
       skipped groups n None v h = refl
       skipped groups n (Some i) None h = refl
       skipped groups n (Some i) (Some v) h = absurd (false≢true (sym h))
 
       -- units of which none has a want change no group
-      unwanted : (groups : Groups) (ns : List ℕ) → filter (λ n. is_some (get wants n)) ns ≡ [] → fold (with_want item_of wants) groups ns ≡ groups
+      unwanted : (groups : WantGroups) (ns : List ℕ) → filter (λ n. is_some (get wants n)) ns ≡ [] → fold (with_want item_of wants) groups ns ≡ groups
       unwanted groups [] h = refl
       unwanted groups (n ∷ ns) h = by_test (unwanted groups ns) (is_some (get wants n)) refl h
         where
           -- a list of units without a want still changes no group with unit `n`, which has no want either, in front
           by_test : (filter (λ k. is_some (get wants k)) ns ≡ [] → fold (with_want item_of wants) groups ns ≡ groups) → (b : Bool) → is_some (get wants n) ≡ b → cond b (n ∷ filter (λ k. is_some (get wants k)) ns) (filter (λ k. is_some (get wants k)) ns) ≡ [] → fold (with_want item_of wants) groups (n ∷ ns) ≡ groups
           by_test rest true is h = cc
-          by_test rest false is h = ap (λ (gs : Groups). fold (with_want item_of wants) gs ns) (skipped groups n (item_of n) (get wants n) is) ∙ rest h
+          by_test rest false is h = ap (λ (gs : WantGroups). fold (with_want item_of wants) gs ns) (skipped groups n (item_of n) (get wants n) is) ∙ rest h

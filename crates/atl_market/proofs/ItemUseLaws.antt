@@ -24,23 +24,24 @@ use Rattle.atl_campaign.specs.Totals.{total}
 use Rattle.atl_records.proofs.BookLaws.{booked-after_booking, booked_for}
 use Rattle.atl_campaign.proofs.HavingLaws.{MayHave, may_have}
 use Rattle.atl_campaign.proofs.HoldingLaws.{steady-unit_amount, total-unit_amount}
-use Rattle.atl_campaign.proofs.RegionLaws.{get-insert_same, steady-amount, total-amount}
+use Rattle.atl_campaign.proofs.RegionLaws.{get-insert_same, steady-amount, total-booking}
 use Rattle.atl_phase.specs.Meaning.{LeavesWell, moves_only}
-use Rattle.atl_records.proofs.HoldingLaws.{alike, amount_within, every_amount, set_amount}
+use Rattle.atl_records.proofs.HoldingLaws.{compared_equal_is_equal, amount_within, every_amount, amount_after_setting}
 use Rattle.atl_phase.proofs.MeaningLaws.{same_month_by}
 use Rattle.atl_phase.proofs.BookingLaws.{booked-near, within-neg, within-pos}
-use Rattle.atl_phase.proofs.ChangeLaws.{changed_held, others_held}
+use Rattle.atl_phase.proofs.ChangeLaws.{changed_held, change_keeps_others}
 use Rattle.atl_market.specs.Goods.{with_made, with_used}
 use Rattle.atl_market.specs.Making.{CanMake, CanUse}
 use Rattle.atl_market.proofs.ThereLaws.{by_unit, unit_there}
 
--- for `total_of`: if `a`, which is `l` plus `z`, takes the place of `l` in total `t`, the new total `x` is `t` plus `z`
-moved : (x y t k a l : ℕ) (z : ℤ) → x ≡ y → y + k ≡ t + a → k ≡ l → pos a ≡ pos l +ℤ z → pos x ≡ pos t +ℤ z
-moved x y t k a l z e f g h = omega (arith, ints, e, f, g, h)
+-- for `total_of`: the new total `x` is the old total `t` plus `z`, if amount `a` takes the place of `l`, and `a` is `l`
+-- plus `z`
+total_moves_with_amount : (x y t k a l : ℕ) (z : ℤ) → x ≡ y → y + k ≡ t + a → k ≡ l → pos a ≡ pos l +ℤ z → pos x ≡ pos t +ℤ z
+total_moves_with_amount x y t k a l z e f g h = omega (arith, ints, e, f, g, h)
 
--- for `total_of`: if an amount takes the place of an equal one in a total `t`, the new total `x` is `t`
-unmoved : (x y t k : ℕ) → x ≡ y → y + k ≡ t + k → pos x ≡ pos t +ℤ pos 0
-unmoved x y t k e f = omega (arith, ints, e, f)
+-- for `total_of`: the new total `x` is the old total `t`, if an amount takes the place of an equal one
+total_stays_with_amount : (x y t k : ℕ) → x ≡ y → y + k ≡ t + k → pos x ≡ pos t +ℤ pos 0
+total_stays_with_amount x y t k e f = omega (arith, ints, e, f)
 
 -- a campaign in which unit `n`, which is `u`, holds `amount` of item `i`
 abbrev pub item_held : CampaignValue → ℕ → Unit → (item amount : ℕ) → CampaignValue
@@ -80,26 +81,26 @@ module _ (w : WorldValue) (c : CampaignValue) (n : ℕ) (u : Unit) (i amount : �
       -- the new total `x` of item `j` is the old one, `t`, plus `z` if `j` is `i`, the item set for the unit
       by_test : (j : ℕ) (q : Bool) → eq_by_cmp nat_cmp j i ≡ q → (x y t : ℕ) → x ≡ y → y + amount_of u.holding.items j ≡ t + cond q amount (amount_of u.holding.items j) → pos x ≡ pos t +ℤ cond (2 + j == 2 + i) z (pos 0)
       by_test j true q x y t a b =
-          let j_is : j ≡ i = alike i j q in
+          let j_is : j ≡ i = compared_equal_is_equal i j q in
           let mine : (2 + j == 2 + i) ≡ true = grind (arith, nat_tests) in
-          moved x y t (amount_of u.holding.items j) amount (amount_of u.holding.items i) z a b (ap (amount_of u.holding.items) j_is) change
+          total_moves_with_amount x y t (amount_of u.holding.items j) amount (amount_of u.holding.items i) z a b (ap (amount_of u.holding.items) j_is) change
           ∙ sym (ap (λ p. pos t +ℤ cond p z (pos 0)) mine)
       by_test j false q x y t a b =
           let apart : (j == i) ≡ false = unsigned_ties j i ∙ q in
           let other : (2 + j == 2 + i) ≡ false = grind (arith, nat_tests) in
-          unmoved x y t (amount_of u.holding.items j) a b ∙ sym (ap (λ p. pos t +ℤ cond p z (pos 0)) other)
+          total_stays_with_amount x y t (amount_of u.holding.items j) a b ∙ sym (ap (λ p. pos t +ℤ cond p z (pos 0)) other)
 
       -- a thing's total changes by what is booked of it, given what setting the item and the booking change of it
       total_of : (t : Thing) → total after t ≡ total with_set t → total with_set t + unit_amount t u.holding ≡ total c t + unit_amount t more → pos (total after t) ≡ pos (total c t) +ℤ booked_for t (Item i) z
       total_of Money a b =
           let other : (0 == 2 + i) ≡ false = grind (arith, nat_tests) in
-          unmoved (total after Money) (total with_set Money) (total c Money) u.holding.money a b ∙ sym (ap (λ p. pos (total c Money) +ℤ cond p z (pos 0)) other)
+          total_stays_with_amount (total after Money) (total with_set Money) (total c Money) u.holding.money a b ∙ sym (ap (λ p. pos (total c Money) +ℤ cond p z (pos 0)) other)
       total_of People a b =
           let other : (1 == 2 + i) ≡ false = grind (arith, nat_tests) in
-          unmoved (total after People) (total with_set People) (total c People) u.holding.men a b ∙ sym (ap (λ p. pos (total c People) +ℤ cond p z (pos 0)) other)
+          total_stays_with_amount (total after People) (total with_set People) (total c People) u.holding.men a b ∙ sym (ap (λ p. pos (total c People) +ℤ cond p z (pos 0)) other)
       total_of (Item j) a b =
           by_test j (eq_by_cmp nat_cmp j i) refl (total after (Item j)) (total with_set (Item j)) (total c (Item j)) a
-          (b ∙ ap (λ k. total c (Item j) + k) (set_amount u.holding.items i amount j))
+          (b ∙ ap (λ k. total c (Item j) + k) (amount_after_setting u.holding.items i amount j))
 
       -- setting a unit's amount of an item, and booking the difference, keeps a campaign steady and its books balanced
       pub set_well : (limit : ℕ) → i < length w.items → amount ≤ holding_limit → IsWithin limit z → IsSteady w c → LeavesWell IsSteady (moves_only limit e (Item i)) w c after
@@ -111,7 +112,7 @@ module _ (w : WorldValue) (c : CampaignValue) (n : ℕ) (u : Unit) (i amount : �
                 (steady-unit_amount w c n u more is (record { limits = has.limits; name = has.name; items = has.items; skills = has.skills; days = has.days; guard = λ g. g }) steady);
             same_month = same_month_by refl;
             balances = λ old t.
-                total_of t (total-amount with_set e (Item i) t z) (total-unit_amount w c n u more is t)
+                total_of t (total-booking with_set e (Item i) t z) (total-unit_amount w c n u more is t)
                 ∙ ap (λ y. y +ℤ booked_for t (Item i) z) (old t) ∙ sym (booked-after_booking c.books e (Item i) z t);
             near = booked-near c.books e (Item i) z limit small;
           }
@@ -171,7 +172,7 @@ module _ (w : WorldValue) (c : CampaignValue) (n i k : ℕ) where
 
   -- setting a unit's amount of an item leaves the other units as they are
   item_others : (amount m : ℕ) → m ≢ n → get (with_item c n i amount).units m ≡ get c.units m
-  item_others amount m apart = others_held (λ u. record u { holding = record u.holding { items = with_amount_of u.holding.items i amount } }) c n m apart
+  item_others amount m apart = change_keeps_others (λ u. record u { holding = record u.holding { items = with_amount_of u.holding.items i amount } }) c n m apart
 
   -- using an item leaves the other units as they are
   pub used_others : (m : ℕ) → m ≢ n → get (with_used c n i k).units m ≡ get c.units m
@@ -183,7 +184,7 @@ module _ (w : WorldValue) (c : CampaignValue) (n i k : ℕ) where
 
 -- taking `k` of item `r` from a holding leaves it no more of item `i` than it had
 pub no_more : (h : HoldingValue) (r i k : ℕ) → amount_of (with_amount_of h.items r (amount_of h.items r - k)) i ≤ amount_of h.items i
-no_more h r i k = subst (λ a. a ≤ amount_of h.items i) (sym (set_amount h.items r (amount_of h.items r - k) i)) (by_test (eq_by_cmp nat_cmp i r) refl)
+no_more h r i k = subst (λ a. a ≤ amount_of h.items i) (sym (amount_after_setting h.items r (amount_of h.items r - k) i)) (by_test (eq_by_cmp nat_cmp i r) refl)
   where
     -- for `no_more`: `a` less `k` is at most `b`, which is `a`
     less : (a b k : ℕ) → b ≡ a → a - k ≤ b
@@ -192,5 +193,5 @@ no_more h r i k = subst (λ a. a ≤ amount_of h.items i) (sym (set_amount h.ite
     -- for `no_more`: taking `k` of item `r` leaves no more of item `i` than there was, whether `i` is `r` or another
     -- item
     by_test : (q : Bool) → eq_by_cmp nat_cmp i r ≡ q → cond q (amount_of h.items r - k) (amount_of h.items i) ≤ amount_of h.items i
-    by_test true is = less (amount_of h.items r) (amount_of h.items i) k (ap (amount_of h.items) (alike r i is))
+    by_test true is = less (amount_of h.items r) (amount_of h.items i) k (ap (amount_of h.items) (compared_equal_is_equal r i is))
     by_test false is = omega arith

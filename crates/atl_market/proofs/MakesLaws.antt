@@ -10,8 +10,8 @@ use Rattle.atl_world.specs.Worlds.{WorldValue}
 use Rattle.atl_campaign.specs.Campaign.{CampaignValue}
 use Rattle.atl_campaign.proofs.ReadBackLaws.{Rise, entries_rise}
 use Rattle.atl_records.proofs.EveryLaws.{first, none_some}
-use Rattle.atl_market.specs.Puts.{with_each}
-use Rattle.atl_market.specs.Produce.{made_amounts, made_by, output_at, output_item, output_share, produce_pots}
+use Rattle.atl_market.specs.Puts.{with_entries}
+use Rattle.atl_market.specs.Produce.{made_amounts, amount_made, output_at, output_item, output_share, produce_pots}
 use Rattle.atl_market.proofs.ItemPotLaws.{items_give}
 use Rattle.atl_market.proofs.PotLaws.{found_other, risen_put}
 use Rattle.atl_market.proofs.WantLaws.{GivesToWants}
@@ -50,11 +50,11 @@ module _ (f : ℕ × ℕ → ℕ) where
 
 module _ (asked : FinMap nat_cmp ℕ) (w : WorldValue) (c : CampaignValue) (wants : FinMap nat_cmp ℕ) where
   -- putting the amounts made into the empty map, unit by unit, gives the map of the definition (`made_amounts`)
-  pub makes_are : with_each empty (map (λ e. (e.0, made_by w asked c wants e)) (entries wants)) ≡ made_amounts asked w c wants
-  makes_are = risen_put (instead (made_by w asked c wants) (entries wants)) (rise_instead (made_by w asked c wants) (entries wants) (entries_rise wants))
+  pub makes_are : with_entries empty (map (λ e. (e.0, amount_made w asked c wants e)) (entries wants)) ≡ made_amounts asked w c wants
+  makes_are = risen_put (instead (amount_made w asked c wants) (entries wants)) (rise_instead (amount_made w asked c wants) (entries wants) (entries_rise wants))
 
   -- no unit makes more than it wants
-  least : (n want : ℕ) → get wants n ≡ Some want → made_by w asked c wants (n, want) ≤ want
+  least : (n want : ℕ) → get wants n ≡ Some want → amount_made w asked c wants (n, want) ≤ want
   least n want wanted = by_item (is_some (output_item w asked n))
     where
       -- a unit's share `o` of what its region gives of its item, or 0 without one, is at most its want
@@ -71,9 +71,9 @@ module _ (asked : FinMap nat_cmp ℕ) (w : WorldValue) (c : CampaignValue) (want
       by_item false = omega arith
 
 -- PRODUCE gives only to units with a want, and to none more than it wants
-pub makes_give : (w : WorldValue) (c : CampaignValue) → GivesToWants produce_pots w c
-makes_give w c asked wants n share is =
+pub produce_gives_to_wants : (w : WorldValue) (c : CampaignValue) → GivesToWants produce_pots w c
+produce_gives_to_wants w c asked wants n share is =
     let all = entries wants in
-    let (want, wanted, made) = found_instead (made_by w asked c wants) all n share (sym (get-from_entries nat_cmp_total (instead (made_by w asked c wants) all) n) ∙ is) in
+    let (want, wanted, made) = found_instead (amount_made w asked c wants) all n share (sym (get-from_entries nat_cmp_total (instead (amount_made w asked c wants) all) n) ∙ is) in
     let there : get wants n ≡ Some want = get-entries wants n ∙ wanted in
     (want, there, subst (λ k. k ≤ want) (sym made) (least asked w c wants n want there))

@@ -10,7 +10,7 @@ use Rattle.std.proofs.lemmas.Bool.{cases_eq, eqb-true, false≢true, or_left, or
 use Rattle.std.proofs.lemmas.List.{reverse-append, length-map}
 use Rattle.std.proofs.lemmas.List.Sums.{fold-append}
 use Rattle.atl_records.specs.Every.{HasValue, EachEntry}
-use Rattle.atl_campaign.specs.Campaign.{CampaignValue, numbers_in}
+use Rattle.atl_campaign.specs.Campaign.{CampaignValue, numbers_in_region}
 use Rattle.atl_records.specs.declared.records.Region.{Region}
 use Rattle.atl_records.specs.declared.records.Unit.{Unit}
 use Rattle.atl_campaign.proofs.GroupLaws.{filter_each}
@@ -21,7 +21,7 @@ use Rattle.atl_campaign.proofs.RegionLaws.{get-insert_same}
 use Rattle.atl_market.specs.RegionsWithWants.{region_at, regions_with_wants}
 use Rattle.atl_shares.specs.Share.{shares}
 use Rattle.atl_market.specs.Pots.{want_of, takers_in, wants_in, shares_in, pot_shares, share_of, OnlyTakersGet, EachTakerGets, SharesEachPot, GivesEachPot, OtherRegionsDoNotCount}
-use Rattle.atl_market.specs.Puts.{with_each}
+use Rattle.atl_market.specs.Puts.{with_entries}
 use Rattle.atl_shares.proofs.ShareLaws.{all_is_given, share_at_most, length-shares}
 
 -- pairs of a unit's number and an amount, such as its share
@@ -29,14 +29,14 @@ abbrev pub Entries : Type 0
 Entries = List (ℕ × ℕ)
 
 -- for `zip_apart`: an option that can't be Some is None
-refuted : {X : Type 0} (o : Option X) → ((x : X) → o ≡ Some x → ⊥) → o ≡ None
-refuted None h = refl
-refuted (Some x) h = absurd (h x refl)
+none_if_not_some : {X : Type 0} (o : Option X) → ((x : X) → o ≡ Some x → ⊥) → o ≡ None
+none_if_not_some None h = refl
+none_if_not_some (Some x) h = absurd (h x refl)
 
 -- an option that isn't None holds a value
-is_there : {X : Type 0} (o : Option X) → is_some o ≡ true → (x : X) × (o ≡ Some x)
-is_there None h = absurd (false≢true h)
-is_there (Some x) h = (x, refl)
+has_value_if_some : {X : Type 0} (o : Option X) → is_some o ≡ true → (x : X) × (o ≡ Some x)
+has_value_if_some None h = absurd (false≢true h)
+has_value_if_some (Some x) h = (x, refl)
 
 -- ---- what is found under a number
 
@@ -82,12 +82,12 @@ each_found P (e ∷ es) apart h = (h e.0 e.1 (first e es), each_found P es apart
 -- ---- entries put into a map in turn
 
 -- a number that none of the entries has keeps its value in a map into which they are put
-pub left : (m : FinMap nat_cmp ℕ) (es : Entries) (n : ℕ) → find nat_cmp n es ≡ None → get (with_each m es) n ≡ get m n
-left m [] n h = refl
-left m (e ∷ es) n h =
-    elim (eq_by_cmp nat_cmp n e.0) as (λ b. get (insert m e.0 e.1) n ≡ cond b (Some e.1) (get m n) → cond b (Some e.1) (find nat_cmp n es) ≡ None → get (with_each (insert m e.0 e.1) es) n ≡ get m n) [
+pub others_keep_value : (m : FinMap nat_cmp ℕ) (es : Entries) (n : ℕ) → find nat_cmp n es ≡ None → get (with_entries m es) n ≡ get m n
+others_keep_value m [] n h = refl
+others_keep_value m (e ∷ es) n h =
+    elim (eq_by_cmp nat_cmp n e.0) as (λ b. get (insert m e.0 e.1) n ≡ cond b (Some e.1) (get m n) → cond b (Some e.1) (find nat_cmp n es) ≡ None → get (with_entries (insert m e.0 e.1) es) n ≡ get m n) [
       | true ↦ λ g none. none_some e.1 (sym none)
-      | false ↦ λ g none. left (insert m e.0 e.1) es n none ∙ g
+      | false ↦ λ g none. others_keep_value (insert m e.0 e.1) es n none ∙ g
     ] (get-insert nat_cmp_total m e.0 e.1 n) h
 
 -- if `P` holds of the number and the value of each entry (`AllByRecursion`), it holds of each also as `EachEntry`
@@ -105,28 +105,28 @@ module _ (g : ℕ → Option ℕ) where
 
   -- an entry that has the value that `g` has for its number, put into a map, gives its number that value
   put_here : (m : FinMap nat_cmp ℕ) (e : ℕ × ℕ) (n s : ℕ) → n ≡ e.0 → g e.0 ≡ Some e.1 → g n ≡ Some s → get (insert m e.0 e.1) n ≡ Some s
-  put_here m e n s same tells is = ap (get (insert m e.0 e.1)) same ∙ get-insert_same m e.0 e.1 ∙ sym tells ∙ ap g (sym same) ∙ is
+  put_here m e n s same says is = ap (get (insert m e.0 e.1)) same ∙ get-insert_same m e.0 e.1 ∙ sym says ∙ ap g (sym same) ∙ is
 
   -- a value that `g` has, once in a map, is still in it after entries that agree with `g` (`AgreeWith`) are put in
-  agreeing_stays : (m : FinMap nat_cmp ℕ) (es : Entries) (n s : ℕ) → AgreeWith es → g n ≡ Some s → get m n ≡ Some s → get (with_each m es) n ≡ Some s
-  agreeing_stays m [] n s tells is at = at
-  agreeing_stays m (e ∷ es) n s tells is at =
-      agreeing_stays (insert m e.0 e.1) es n s tells.1 is (elim (cases_eq n e.0) [
-        | inl same ↦ put_here m e n s same tells.0 is
+  agreeing_stays : (m : FinMap nat_cmp ℕ) (es : Entries) (n s : ℕ) → AgreeWith es → g n ≡ Some s → get m n ≡ Some s → get (with_entries m es) n ≡ Some s
+  agreeing_stays m [] n s says is at = at
+  agreeing_stays m (e ∷ es) n s says is at =
+      agreeing_stays (insert m e.0 e.1) es n s says.1 is (elim (cases_eq n e.0) [
+        | inl same ↦ put_here m e n s same says.0 is
         | inr apart ↦ get-insert_other m e.0 n e.1 apart ∙ at
       ])
 
   -- entries that agree with `g` (`AgreeWith`), put into a map, give each of their numbers the value that `g` has for it
-  agreeing_comes : (m : FinMap nat_cmp ℕ) (es : Entries) (n s : ℕ) → AgreeWith es → g n ≡ Some s → is_some (find nat_cmp n es) ≡ true → get (with_each m es) n ≡ Some s
-  agreeing_comes m [] n s tells is some = absurd (false≢true some)
-  agreeing_comes m (e ∷ es) n s tells is some = elim (cases_eq n e.0) [
-    | inl same ↦ agreeing_stays (insert m e.0 e.1) es n s tells.1 is (put_here m e n s same tells.0 is)
-    | inr apart ↦ agreeing_comes (insert m e.0 e.1) es n s tells.1 is (ap is_some (sym (found_other e es n apart)) ∙ some)
+  agreeing_comes : (m : FinMap nat_cmp ℕ) (es : Entries) (n s : ℕ) → AgreeWith es → g n ≡ Some s → is_some (find nat_cmp n es) ≡ true → get (with_entries m es) n ≡ Some s
+  agreeing_comes m [] n s says is some = absurd (false≢true some)
+  agreeing_comes m (e ∷ es) n s says is some = elim (cases_eq n e.0) [
+    | inl same ↦ agreeing_stays (insert m e.0 e.1) es n s says.1 is (put_here m e n s same says.0 is)
+    | inr apart ↦ agreeing_comes (insert m e.0 e.1) es n s says.1 is (ap is_some (sym (found_other e es n apart)) ∙ some)
   ]
 
   -- entries that agree with `g` and have all its numbers, put into the empty map, give each number what `g` has for it
-  pub agreeing_put : (es : Entries) → AgreeWith es → ((n s : ℕ) → g n ≡ Some s → is_some (find nat_cmp n es) ≡ true) → (n : ℕ) → get (with_each empty es) n ≡ g n
-  agreeing_put es tells whole n = by_find (find nat_cmp n es) refl
+  pub agreeing_put : (es : Entries) → AgreeWith es → ((n s : ℕ) → g n ≡ Some s → is_some (find nat_cmp n es) ≡ true) → (n : ℕ) → get (with_entries empty es) n ≡ g n
+  agreeing_put es says whole n = by_find (find nat_cmp n es) refl
     where
       -- for `agreeing_put`: `g` has no value for a number that isn't among the entries, which have all numbers of `g`
       nothing : find nat_cmp n es ≡ None → (o : Option ℕ) → g n ≡ o → o ≡ None
@@ -134,30 +134,30 @@ module _ (g : ℕ → Option ℕ) where
       nothing none (Some s) is = absurd (false≢true (ap is_some (sym none) ∙ whole n s is))
 
       -- the map of the entries has for `n` what `g` has, whether `n` is among the entries or not
-      by_find : (o : Option ℕ) → find nat_cmp n es ≡ o → get (with_each empty es) n ≡ g n
-      by_find None is = left empty es n is ∙ get-empty nat_cmp n ∙ sym (nothing is (g n) refl)
+      by_find : (o : Option ℕ) → find nat_cmp n es ≡ o → get (with_entries empty es) n ≡ g n
+      by_find None is = others_keep_value empty es n is ∙ get-empty nat_cmp n ∙ sym (nothing is (g n) refl)
       by_find (Some s) is =
-          let at : g n ≡ Some s = found_of (λ k t. g k ≡ Some t) es n s (as_pairs (λ k t. g k ≡ Some t) es tells) is in
-          agreeing_comes empty es n s tells at (ap is_some is) ∙ sym at
+          let at : g n ≡ Some s = found_of (λ k t. g k ≡ Some t) es n s (as_pairs (λ k t. g k ≡ Some t) es says) is in
+          agreeing_comes empty es n s says at (ap is_some is) ∙ sym at
 
 -- ---- entries with different numbers
 
 -- a map into which entries with different numbers were put has under each number what is found among the entries
-pub found_put : (es : Entries) → IsApart es → (n : ℕ) → get (with_each empty es) n ≡ find nat_cmp n es
+pub found_put : (es : Entries) → IsApart es → (n : ℕ) → get (with_entries empty es) n ≡ find nat_cmp n es
 found_put es apart = agreeing_put (λ n. find nat_cmp n es) es (each_found (λ e. find nat_cmp e.0 es ≡ Some e.1) es apart (λ n s is. is)) (λ n s is. ap is_some is)
 
 -- a number below those of all entries isn't found among them
-none_under : (k : ℕ) (es : Entries) → AllByRecursion (λ e. k < e.0) es → find nat_cmp k es ≡ None
-none_under k [] above = refl
-none_under k (e ∷ es) above = found_other e es k (λ same. absurd (omega (arith, same, above.0))) ∙ none_under k es above.1
+lower_number_not_found : (k : ℕ) (es : Entries) → AllByRecursion (λ e. k < e.0) es → find nat_cmp k es ≡ None
+lower_number_not_found k [] above = refl
+lower_number_not_found k (e ∷ es) above = found_other e es k (λ same. absurd (omega (arith, same, above.0))) ∙ lower_number_not_found k es above.1
 
 -- no two of the entries have the same number, if their numbers rise
 rise_apart : (es : Entries) → Rise es → IsApart es
 rise_apart [] rise = tt
-rise_apart (e ∷ es) rise = (none_under e.0 es rise.0, rise_apart es rise.1)
+rise_apart (e ∷ es) rise = (lower_number_not_found e.0 es rise.0, rise_apart es rise.1)
 
 -- putting entries whose numbers rise into the empty map, in turn, gives the map of these entries
-pub risen_put : (es : Entries) → Rise es → with_each empty es ≡ from_entries es
+pub risen_put : (es : Entries) → Rise es → with_entries empty es ≡ from_entries es
 risen_put es rise = same_map nat_cmp_total nat_cmp-IsAntisymmetric _ _ (λ n. found_put es (rise_apart es rise) n ∙ sym (get-from_entries nat_cmp_total es n))
 
 -- the first value if there is one, else the second
@@ -166,7 +166,7 @@ or_else None old = old
 or_else (Some s) old = Some s
 
 -- after entries were put into a map, a number has the value of its last entry, or else what the map had
-last_put : {V : Type 0} (m : FinMap nat_cmp V) (es : List (ℕ × V)) (n : ℕ) → get (with_each m es) n ≡ or_else (find nat_cmp n (reverse es)) (get m n)
+last_put : {V : Type 0} (m : FinMap nat_cmp V) (es : List (ℕ × V)) (n : ℕ) → get (with_entries m es) n ≡ or_else (find nat_cmp n (reverse es)) (get m n)
 last_put m [] n = refl
 last_put {V} m (e ∷ es) n = last_put (insert m e.0 e.1) es n ∙ by_find (find nat_cmp n (reverse es)) refl ∙ sym (ap (λ fs. or_else (find nat_cmp n fs) (get m n)) (reverse-append (e ∷ []) es))
   where
@@ -183,7 +183,7 @@ last_put {V} m (e ∷ es) n = last_put (insert m e.0 e.1) es n ∙ by_find (find
         by_test false = refl
 
 -- putting entries into the empty map in turn gives the map of them in reverse: of two with one number the later counts
-pub put_in_turn : {V : Type 0} (es : List (ℕ × V)) → with_each empty es ≡ from_entries (reverse es)
+pub put_in_turn : {V : Type 0} (es : List (ℕ × V)) → with_entries empty es ≡ from_entries (reverse es)
 put_in_turn {V} es = same_map nat_cmp_total nat_cmp-IsAntisymmetric _ _ (λ n.
     last_put empty es n ∙ ap (or_else (find nat_cmp n (reverse es))) (get-empty nat_cmp n) ∙ or_none (find nat_cmp n (reverse es)) ∙ sym (get-from_entries nat_cmp_total (reverse es) n))
   where
@@ -206,7 +206,8 @@ found_among f n (y ∷ xs) x among some = by_first (λ h. found_among f n xs x h
     by_first rest None is true at h = absurd (false≢true (sym (ap is_some is) ∙ ap (λ z. is_some (find nat_cmp n (f z))) (sym (eqb-true x y (unsigned_ties x y ∙ at))) ∙ some))
     by_first rest None is false at h = ap is_some (found_later n (f y) (flat_map f xs) is) ∙ rest h
 
--- what holds of all entries of each element of a list holds of all entries together
+-- what holds of all entries that `f` gives for each element of a list holds of all these entries, one list after the
+-- other
 pub each_flat : {A : Type 0} (P : ℕ × ℕ → Type 0) (f : A → Entries) (xs : List A) → AllByRecursion (λ x. AllByRecursion P (f x)) xs → AllByRecursion P (flat_map f xs)
 each_flat P f [] h = tt
 each_flat P f (x ∷ xs) h = append_each P (f x) (flat_map f xs) h.0 (each_flat P f xs h.1)
@@ -229,7 +230,7 @@ module _ (f : ℕ → Entries) where
   -- have different values for it
   there : (n r s : ℕ) → ((q t : ℕ) → find nat_cmp n (f q) ≡ Some t → t ≡ s) → find nat_cmp n (f r) ≡ Some s → (rs : List ℕ) → list_any (eq_by_cmp nat_cmp r) rs ≡ true → find nat_cmp n (from_all rs) ≡ Some s
   there n r s one here rs among =
-      let (t, found) = is_there (find nat_cmp n (from_all rs)) (found_among f n rs r among (ap is_some here)) in
+      let (t, found) = has_value_if_some (find nat_cmp n (from_all rs)) (found_among f n rs r among (ap is_some here)) in
       let (q, _, is) = somewhere n t rs found in
       found ∙ ap Some (one q t is)
 
@@ -250,14 +251,14 @@ zip_found P (k ∷ ns) (t ∷ ss) n s h is =
 abbrev pub IsRisen : List ℕ → Type 0
 IsRisen ns = InOrder (λ (n k : ℕ). n < k) ns
 
--- sorted numbers with amounts are entries of which no two have the same number
+-- no two of the entries have the same number, if they pair sorted numbers with amounts
 zip_apart : (ns ss : List ℕ) → IsRisen ns → IsApart (zip ns ss)
 zip_apart [] ss h = tt
 zip_apart (n ∷ ns) [] h = tt
-zip_apart (n ∷ ns) (s ∷ ss) h = (refuted _ (λ t is. let low = zip_found (λ k. n < k) ns ss n t h.0 is in absurd (omega (arith, low))), zip_apart ns ss h.1)
+zip_apart (n ∷ ns) (s ∷ ss) h = (none_if_not_some _ (λ t is. let low = zip_found (λ k. n < k) ns ss n t h.0 is in absurd (omega (arith, low))), zip_apart ns ss h.1)
 
--- for distinct numbers `ns` and as many amounts `ss`: if `g` has under each number the amount paired with it, `g` maps
--- the numbers to the amounts
+-- `g` maps the numbers `ns` to the amounts `ss`, if it has under each number the amount that is paired with it. The
+-- numbers are distinct, and as many as the amounts.
 zip_all : (g : ℕ → Option ℕ) (ns ss : List ℕ) → length ss ≡ length ns → IsApart (zip ns ss) → ((n s : ℕ) → find nat_cmp n (zip ns ss) ≡ Some s → g n ≡ Some s) → map g ns ≡ map Some ss
 zip_all g [] [] l apart h = refl
 zip_all g [] (s ∷ ss) l apart h = absurd (omega arith)
@@ -331,21 +332,21 @@ module _ (wants : FinMap nat_cmp ℕ) (units : FinMap nat_cmp Unit) where
   -- each unit listed for region `r` as one with a want is in the region and has a want (`IsTaker`)
   takers_each : (r : ℕ) → AllByRecursion (IsTaker r) (takers_in wants units r)
   takers_each r = all_listed (IsTaker r) (takers_in wants units r) (λ n is.
-      let (among, want) = kept_was (λ k. is_some (get wants k)) n (numbers_in r units) is in
+      let (among, want) = kept_was (λ k. is_some (get wants k)) n (numbers_in_region r units) is in
       let (u, at, here) = listed_passing (λ (v : Unit). v.region == r) units n among in
-      ((u, at, eqb-true u.region r here), is_there (get wants n) want))
+      ((u, at, eqb-true u.region r here), has_value_if_some (get wants n) want))
 
   -- the numbers of a region's units that have a want are sorted
   pub takers_risen : (r : ℕ) → IsRisen (takers_in wants units r)
   takers_risen r =
       let here = λ (e : ℕ × Unit). e.1.region == r in
-      kept_in_order (λ n. is_some (get wants n)) (λ (n k : ℕ). n < k) (numbers_in r units)
+      kept_in_order (λ n. is_some (get wants n)) (λ (n k : ℕ). n < k) (numbers_in_region r units)
       (keys_risen (filter here (entries units)) (kept_in_order here (λ (e f : ℕ × Unit). e.0 < f.0) (entries units) (entries_rise units)))
 
   -- each unit that has a want in a region is listed among those that have one
   pub taker_listed : (n want : ℕ) (u : Unit) → get wants n ≡ Some want → get units n ≡ Some u → IsListed n (takers_in wants units u.region)
   taker_listed n want u wanted is =
-      kept_listed (λ k. is_some (get wants k)) n (numbers_in u.region units) (ap is_some wanted) (passing_listed (λ (v : Unit). v.region == u.region) units n u is (same_number u.region))
+      kept_listed (λ k. is_some (get wants k)) n (numbers_in_region u.region units) (ap is_some wanted) (passing_listed (λ (v : Unit). v.region == u.region) units n u is (same_number u.region))
 
 -- ---- shares of all regions
 
@@ -398,7 +399,7 @@ module _ (pot_of : ℕ → ℕ) (wants : FinMap nat_cmp ℕ) (c : CampaignValue)
 
   -- once no region is left to come, the map into which all shares were put is `pot_shares` of the definition
   pub all_put : (given : FinMap nat_cmp ℕ) (coming : List (ℕ × Region)) → coming ≡ []
-      → with_each given (flat_map (shares_in pot_of wants c.units) (map (λ e. e.0) coming)) ≡ with_each empty (flat_map (shares_in pot_of wants c.units) (keys c.regions))
+      → with_entries given (flat_map (shares_in pot_of wants c.units) (map (λ e. e.0) coming)) ≡ with_entries empty (flat_map (shares_in pot_of wants c.units) (keys c.regions))
       → given ≡ pot_shares pot_of wants c
   all_put given [] none so_far = so_far ∙ same_map nat_cmp_total nat_cmp-IsAntisymmetric _ _ (agreeing_put (share_of pot_of wants c) (flat_map (shares_in pot_of wants c.units) (keys c.regions))
       (each_flat (λ e. share_of pot_of wants c e.0 ≡ Some e.1) (shares_in pot_of wants c.units) (keys c.regions) (each_region (λ r. AllByRecursion (λ e. share_of pot_of wants c e.0 ≡ Some e.1) (shares_in pot_of wants c.units r)) c region_agrees))
@@ -408,17 +409,17 @@ module _ (pot_of : ℕ → ℕ) (wants : FinMap nat_cmp ℕ) (c : CampaignValue)
 -- ---- the regions where a unit has a want
 
 -- a number that is in a map is still in it after another entry is put in
-some_more : (m : FinMap nat_cmp ℕ) (k v n : ℕ) → is_some (get m n) ≡ true → is_some (get (insert m k v) n) ≡ true
-some_more m k v n h = ap is_some (get-insert nat_cmp_total m k v n) ∙ elim (is_eq (nat_cmp n k)) as (λ b. is_some (cond b (Some v) (get m n)) ≡ true) [ true ↦ refl | false ↦ h ]
+still_in_after_insert : (m : FinMap nat_cmp ℕ) (k v n : ℕ) → is_some (get m n) ≡ true → is_some (get (insert m k v) n) ≡ true
+still_in_after_insert m k v n h = ap is_some (get-insert nat_cmp_total m k v n) ∙ elim (is_eq (nat_cmp n k)) as (λ b. is_some (cond b (Some v) (get m n)) ≡ true) [ true ↦ refl | false ↦ h ]
 
 -- a number under which a value was put into a map is in the map
-pub some_new : (m : FinMap nat_cmp ℕ) (n v : ℕ) → is_some (get (insert m n v) n) ≡ true
-some_new m n v = ap is_some (get-insert_same m n v)
+pub inserted_is_in : (m : FinMap nat_cmp ℕ) (n v : ℕ) → is_some (get (insert m n v) n) ≡ true
+inserted_is_in m n v = ap is_some (get-insert_same m n v)
 
 -- a number that is in a map is still in it after entries are put in
-pub still_some : (m : FinMap nat_cmp ℕ) (es : List (ℕ × ℕ)) (n : ℕ) → is_some (get m n) ≡ true → is_some (get (with_each m es) n) ≡ true
-still_some m [] n h = h
-still_some m (e ∷ es) n h = still_some (insert m e.0 e.1) es n (some_more m e.0 e.1 n h)
+pub still_in_after_entries : (m : FinMap nat_cmp ℕ) (es : List (ℕ × ℕ)) (n : ℕ) → is_some (get m n) ≡ true → is_some (get (with_entries m es) n) ≡ true
+still_in_after_entries m [] n h = h
+still_in_after_entries m (e ∷ es) n h = still_in_after_entries (insert m e.0 e.1) es n (still_in_after_insert m e.0 e.1 n h)
 
 module _ (wants : FinMap nat_cmp ℕ) (c : CampaignValue) where
   -- the region of an entry's unit, with the unit's number; nothing where the unit isn't there
@@ -426,13 +427,13 @@ module _ (wants : FinMap nat_cmp ℕ) (c : CampaignValue) where
   asked_at e = region_at e.0 (get c.units e.0)
 
   -- the region of each unit with an entry is in the map into which the regions of these units were put
-  asked_each : (m : FinMap nat_cmp ℕ) (es : Entries) → AllByRecursion (λ e. (u : Unit) → get c.units e.0 ≡ Some u → is_some (get (with_each m (flat_map asked_at es)) u.region) ≡ true) es
+  asked_each : (m : FinMap nat_cmp ℕ) (es : Entries) → AllByRecursion (λ e. (u : Unit) → get c.units e.0 ≡ Some u → is_some (get (with_entries m (flat_map asked_at es)) u.region) ≡ true) es
   asked_each m [] = tt
   asked_each m (e ∷ es) =
       let rest = flat_map asked_at es in
-      let both : with_each m (asked_at e ++ rest) ≡ with_each (with_each m (asked_at e)) rest = fold-append (λ so_far entry. insert so_far entry.0 entry.1) m (asked_at e) rest in (
-        (λ u is. ap (λ k. is_some (get k u.region)) both ∙ still_some (with_each m (asked_at e)) rest u.region (ap (λ o. is_some (get (with_each m (region_at e.0 o)) u.region)) is ∙ some_new m u.region e.0)),
-        subst (λ k. AllByRecursion (λ f. (u : Unit) → get c.units f.0 ≡ Some u → is_some (get k u.region) ≡ true) es) (sym both) (asked_each (with_each m (asked_at e)) es),
+      let both : with_entries m (asked_at e ++ rest) ≡ with_entries (with_entries m (asked_at e)) rest = fold-append (λ so_far entry. insert so_far entry.0 entry.1) m (asked_at e) rest in (
+        (λ u is. ap (λ k. is_some (get k u.region)) both ∙ still_in_after_entries (with_entries m (asked_at e)) rest u.region (ap (λ o. is_some (get (with_entries m (region_at e.0 o)) u.region)) is ∙ inserted_is_in m u.region e.0)),
+        subst (λ k. AllByRecursion (λ f. (u : Unit) → get c.units f.0 ≡ Some u → is_some (get k u.region) ≡ true) es) (sym both) (asked_each (with_entries m (asked_at e)) es),
       )
 
   -- the region of a unit that has a want is among the regions with wants
@@ -461,19 +462,20 @@ shares_each_pot pot_of wants c r region =
     let long : length given ≡ length takers = length-shares (pot_of r) (wants_in wants c.units r) ∙ length-map takers (want_of wants) in
     zip_all (share_of pot_of wants c) takers given long (given_apart pot_of wants c.units r) (λ n s is. given_is pot_of wants c r n s region is)
 
--- if `g` maps the numbers `ns` to the shares `ss`, each at most the number's want, it has such a share for each number
-shared_by : (g : ℕ → Option ℕ) (want : ℕ → ℕ) (ns ss : List ℕ) → map g ns ≡ map Some ss → ((i : ℕ) → get_or ss i 0 ≤ get_or (map want ns) i 0) → (n : ℕ) → IsListed n ns → (share : ℕ) × (g n ≡ Some share) × (share ≤ want n)
-shared_by g want [] ss same low n is = absurd is
-shared_by g want (k ∷ ns) [] same low n is = cc
-shared_by g want (k ∷ ns) (s ∷ ss) same low n (inl at) = (s, ap g at ∙ (cc), subst (λ j. s ≤ want j) (sym at) (low 0))
-shared_by g want (k ∷ ns) (s ∷ ss) same low n (inr rest) = shared_by g want ns ss (cc) (λ i. low (suc i)) n rest
+-- `g` has for each of the numbers `ns` a share of at most its want, if it maps `ns` to the shares `ss`, and these are
+-- at most the wants
+each_has_share_within_want : (g : ℕ → Option ℕ) (want : ℕ → ℕ) (ns ss : List ℕ) → map g ns ≡ map Some ss → ((i : ℕ) → get_or ss i 0 ≤ get_or (map want ns) i 0) → (n : ℕ) → IsListed n ns → (share : ℕ) × (g n ≡ Some share) × (share ≤ want n)
+each_has_share_within_want g want [] ss same low n is = absurd is
+each_has_share_within_want g want (k ∷ ns) [] same low n is = cc
+each_has_share_within_want g want (k ∷ ns) (s ∷ ss) same low n (inl at) = (s, ap g at ∙ (cc), subst (λ j. s ≤ want j) (sym at) (low 0))
+each_has_share_within_want g want (k ∷ ns) (s ∷ ss) same low n (inr rest) = each_has_share_within_want g want ns ss (cc) (λ i. low (suc i)) n rest
 
 -- each unit that has a want and is in a region of the campaign has a share, at most its want
 pub each_taker_gets : EachTakerGets
 each_taker_gets pot_of wants c n want u wanted is region =
     let takers = takers_in wants c.units u.region in
     let given = shares (pot_of u.region) (wants_in wants c.units u.region) in
-    let (share, has, low) = shared_by (share_of pot_of wants c) (want_of wants) takers given (shares_each_pot pot_of wants c u.region region) (share_at_most (pot_of u.region) (wants_in wants c.units u.region)) n (taker_listed wants c.units n want u wanted is) in
+    let (share, has, low) = each_has_share_within_want (share_of pot_of wants c) (want_of wants) takers given (shares_each_pot pot_of wants c u.region region) (share_at_most (pot_of u.region) (wants_in wants c.units u.region)) n (taker_listed wants c.units n want u wanted is) in
     (share, has, subst (λ o. share ≤ unwrap_or o 0) wanted low)
 
 -- each unit that has a share wants at least that much, and is in a region of the campaign
@@ -481,25 +483,26 @@ pub only_takers_get : OnlyTakersGet
 only_takers_get pot_of wants c n s is =
     let (r, region, given) = somewhere (shares_in pot_of wants c.units) n s (keys c.regions) (sym (found_is pot_of wants c n) ∙ is) in
     let ((u, at, here), (want, wanted)) = given_takes pot_of wants c.units r n s given in
-    let stands : HasValue c.regions u.region = subst (HasValue c.regions) (sym here) (is_there (get c.regions r) (contains_key-keys c.regions r ∙ region)) in
-    let (t, also, low) = each_taker_gets pot_of wants c n want u wanted at stands in
+    let is_at : HasValue c.regions u.region = subst (HasValue c.regions) (sym here) (has_value_if_some (get c.regions r) (contains_key-keys c.regions r ∙ region)) in
+    let (t, also, low) = each_taker_gets pot_of wants c n want u wanted at is_at in
     let same : t ≡ s = cc in
-    (want, u, wanted, subst (λ k. k ≤ want) same low, at, stands)
+    (want, u, wanted, subst (λ k. k ≤ want) same low, at, is_at)
 
 -- each unit that has a share of a pot wants at least that much
 pub pots_give : (pot_of : ℕ → ℕ) (c : CampaignValue) (wants : FinMap nat_cmp ℕ) (n share : ℕ) → get (pot_shares pot_of wants c) n ≡ Some share → (want : ℕ) × (get wants n ≡ Some want) × (share ≤ want)
 pots_give pot_of c wants n share is = let (want, u, wanted, low, at, region) = only_takers_get pot_of wants c n share is in (want, wanted, low)
 
 -- if `g` maps the numbers `ns` to Some of the amounts `ss`, then with 0 in the place of None it maps them to `ss`
-amounts : (g : ℕ → Option ℕ) (ns ss : List ℕ) → map g ns ≡ map Some ss → map (λ n. unwrap_or (g n) 0) ns ≡ ss
-amounts g ns ss h = mapped ns ∙ ap (map (λ o. unwrap_or o 0)) h ∙ back ss
+mapped_with_default : (g : ℕ → Option ℕ) (ns ss : List ℕ) → map g ns ≡ map Some ss → map (λ n. unwrap_or (g n) 0) ns ≡ ss
+mapped_with_default g ns ss h = mapped ns ∙ ap (map (λ o. unwrap_or o 0)) h ∙ back ss
   where
-    -- for `amounts`: mapping numbers to amounts is mapping them to options, and then each option to its amount
+    -- for `mapped_with_default`: mapping numbers to amounts is mapping them to options, and then each option to its
+    -- amount
     mapped : (ns : List ℕ) → map (λ n. unwrap_or (g n) 0) ns ≡ map (λ o. unwrap_or o 0) (map g ns)
     mapped [] = refl
     mapped (n ∷ ns) = ap (λ l. unwrap_or (g n) 0 ∷ l) (mapped ns)
 
-    -- for `amounts`: the amounts of options that are Some of some amounts are these amounts
+    -- for `mapped_with_default`: the amounts of options that are Some of some amounts are these amounts
     back : (ss : List ℕ) → map (λ o. unwrap_or o 0) (map Some ss) ≡ ss
     back [] = refl
     back (s ∷ ss) = ap (λ l. s ∷ l) (back ss)
@@ -507,7 +510,7 @@ amounts g ns ss h = mapped ns ∙ ap (map (λ o. unwrap_or o 0)) h ∙ back ss
 -- the units of a region that have a want get its whole pot together, or all that they want if that is less
 pub gives_each_pot : GivesEachPot
 gives_each_pot pot_of wants c r region =
-    ap sum (amounts (share_of pot_of wants c) (takers_in wants c.units r) (shares (pot_of r) (wants_in wants c.units r)) (shares_each_pot pot_of wants c r region))
+    ap sum (mapped_with_default (share_of pot_of wants c) (takers_in wants c.units r) (shares (pot_of r) (wants_in wants c.units r)) (shares_each_pot pot_of wants c r region))
     ∙ all_is_given (pot_of r) (wants_in wants c.units r)
 
 -- the shares in a region follow from its pot, its units with a want and their wants alone

@@ -31,15 +31,15 @@ use Rattle.atl_phase.specs.Meaning.{BookBound, LeavesWell, both_move, most_moved
 use Rattle.atl_phase.specs.Bounds.{HasRoom, HaveRoom, moved_times}
 use Rattle.atl_phase.specs.PhaseOrders.{Task}
 use Rattle.atl_records.proofs.HoldingLaws.{amount_within}
-use Rattle.atl_phase.proofs.MeaningLaws.{IsBoundWithin, both_leave_well, less_room, room_behind, room_less, well_unchanged, well_within}
+use Rattle.atl_phase.proofs.MeaningLaws.{IsBoundWithin, both_leave_well, amount_room_for_less, room_for_second, room_less, well_unchanged, well_within}
 use Rattle.atl_market.specs.Making.{CanMake, CanMakeOf, CanProduce, CanUse, HasRoomAndRaw}
 use Rattle.atl_market.specs.PotPhase.{after_sharing, given_by, item_in, items_by}
 use Rattle.atl_market.specs.Bounds.{CanInTurn}
-use Rattle.atl_market.specs.Produce.{after_production, item_of, make_fault, most_makeable, most_makeable_of, produce_moves, produce_pots, up_to_raw, with_raw_used}
+use Rattle.atl_market.specs.Produce.{after_production, item_of, produce_fault, most_makeable, most_makeable_of, produce_moves, produce_pots, up_to_raw, with_raw_used}
 use Rattle.atl_market.specs.Goods.{with_made, with_used}
 use Rattle.atl_market.specs.Unordered.{OthersAreNoWorse}
 use Rattle.atl_market.proofs.DrawLaws.{all_pairs}
-use Rattle.atl_market.proofs.MakesLaws.{makes_give}
+use Rattle.atl_market.proofs.MakesLaws.{produce_gives_to_wants}
 use Rattle.atl_market.proofs.UnorderedLaws.{others_no_worse}
 use Rattle.atl_market.proofs.ItemUseLaws.{made_others, made_well, no_more, used_others, used_unit, used_well}
 use Rattle.atl_market.proofs.ThereLaws.{by_option}
@@ -49,39 +49,40 @@ use Rattle.atl_market.proofs.WantLaws.{few_given, given_is_named}
 -- ---- what is moved
 
 -- for `used_less` and `made_less`: a bound that is a holding's limit or 0 is at most a holding's limit
-on : (b : Bool) → (if b then holding_limit else 0) ≤ holding_limit
-on true = omega arith
-on false = omega arith
+limit_or_zero_within_limit : (b : Bool) → (if b then holding_limit else 0) ≤ holding_limit
+limit_or_zero_within_limit true = omega arith
+limit_or_zero_within_limit false = omega arith
 
 -- for `used_less` and `made_less`: the bound that moves only the amount numbered `b` is 0 for another one, numbered `a`
-off : (a b : ℕ) → a ≢ b → (if a == b then holding_limit else 0) ≤ 0
-off a b apart = let other : (a == b) ≡ false = grind (arith, nat_tests) in rw other (omega arith)
+other_amount_not_moved : (a b : ℕ) → a ≢ b → (if a == b then holding_limit else 0) ≤ 0
+other_amount_not_moved a b apart = let other : (a == b) ≡ false = grind (arith, nat_tests) in rw other (omega arith)
 
 -- the bound on using one item is, for each amount of the books, at most that of PRODUCE
 used_less : (r : ℕ) → IsBoundWithin (moves_only holding_limit booked.Used (things.Item r)) (produce_moves holding_limit)
-used_less r booked.Made (things.Item j) = on (amount_number booked.Made (things.Item j) == amount_number booked.Used (things.Item r))
-used_less r booked.Used (things.Item j) = on (amount_number booked.Used (things.Item j) == amount_number booked.Used (things.Item r))
-used_less r e t = off (amount_number e t) (amount_number booked.Used (things.Item r)) (omega arith)
+used_less r booked.Made (things.Item j) = limit_or_zero_within_limit (amount_number booked.Made (things.Item j) == amount_number booked.Used (things.Item r))
+used_less r booked.Used (things.Item j) = limit_or_zero_within_limit (amount_number booked.Used (things.Item j) == amount_number booked.Used (things.Item r))
+used_less r e t = other_amount_not_moved (amount_number e t) (amount_number booked.Used (things.Item r)) (omega arith)
 
 -- the bound on making one item is, for each amount of the books, at most that of PRODUCE
 made_less : (i : ℕ) → IsBoundWithin (moves_only holding_limit booked.Made (things.Item i)) (produce_moves holding_limit)
-made_less i booked.Made (things.Item j) = on (amount_number booked.Made (things.Item j) == amount_number booked.Made (things.Item i))
-made_less i booked.Used (things.Item j) = on (amount_number booked.Used (things.Item j) == amount_number booked.Made (things.Item i))
-made_less i e t = off (amount_number e t) (amount_number booked.Made (things.Item i)) (omega arith)
+made_less i booked.Made (things.Item j) = limit_or_zero_within_limit (amount_number booked.Made (things.Item j) == amount_number booked.Made (things.Item i))
+made_less i booked.Used (things.Item j) = limit_or_zero_within_limit (amount_number booked.Used (things.Item j) == amount_number booked.Made (things.Item i))
+made_less i e t = other_amount_not_moved (amount_number e t) (amount_number booked.Made (things.Item i)) (omega arith)
 
--- `steps` steps within PRODUCE's bound for `one` are within its bound for `all`, if `steps * one` is at most `all`
-scaled : (steps one all : ℕ) → steps * one ≤ all → (e : BooksEntry) (t : Thing) → steps * produce_moves one e t ≤ produce_moves all e t
-scaled steps one all few booked.Made (things.Item i) = few
-scaled steps one all few booked.Used (things.Item i) = few
-scaled steps one all few e t = omega arith
+-- `steps` times PRODUCE's bound for the limit `one` is within its bound for the limit `all`, if `steps * one` is at
+-- most `all`
+steps_within_produce : (steps one all : ℕ) → steps * one ≤ all → (e : BooksEntry) (t : Thing) → steps * produce_moves one e t ≤ produce_moves all e t
+steps_within_produce steps one all few booked.Made (things.Item i) = few
+steps_within_produce steps one all few booked.Used (things.Item i) = few
+steps_within_produce steps one all few e t = omega arith
 
 -- the bound on using an item is 0 under Made
 used_none : (r j : ℕ) → (if amount_number booked.Made (things.Item j) == amount_number booked.Used (things.Item r) then holding_limit else 0) ≤ 0
-used_none r j = off (amount_number booked.Made (things.Item j)) (amount_number booked.Used (things.Item r)) (omega arith)
+used_none r j = other_amount_not_moved (amount_number booked.Made (things.Item j)) (amount_number booked.Used (things.Item r)) (omega arith)
 
 -- the bound on making an item is 0 under Used
 made_none : (i j : ℕ) → (if amount_number booked.Used (things.Item j) == amount_number booked.Made (things.Item i) then holding_limit else 0) ≤ 0
-made_none i j = off (amount_number booked.Used (things.Item j)) (amount_number booked.Made (things.Item i)) (omega arith)
+made_none i j = other_amount_not_moved (amount_number booked.Used (things.Item j)) (amount_number booked.Made (things.Item i)) (omega arith)
 
 -- the bounds on using one item and making another are together within that of PRODUCE
 both_less : (r i : ℕ) → IsBoundWithin (both_move (moves_only holding_limit booked.Used (things.Item r)) (moves_only holding_limit booked.Made (things.Item i))) (produce_moves holding_limit)
@@ -96,7 +97,7 @@ only_room e t z room = subst (λ b. HasRoom (if b then holding_limit else 0) z) 
 -- ---- one step
 
 module _ (asked : FinMap nat_cmp ℕ) (w : WorldValue) (c : CampaignValue) (e : ℕ × ℕ) where
-  module _ (can : CanProduce asked w c e) (i : ℕ) (x : Item) (told : get asked e.0 ≡ Some i) (there : slice_get w.items i ≡ Some x) where
+  module _ (can : CanProduce asked w c e) (i : ℕ) (x : Item) (says : get asked e.0 ≡ Some i) (there : slice_get w.items i ≡ Some x) where
     -- the unit of a share that can be produced holds at most a holding's limit of each item
     held : (r : ℕ) → amount_of can.unit.holding.items r ≤ holding_limit
     held r = amount_within can.unit.holding r (can.steady.numbers.units e.0 can.unit can.there).1
@@ -104,33 +105,33 @@ module _ (asked : FinMap nat_cmp ℕ) (w : WorldValue) (c : CampaignValue) (e : 
     -- the unit can use the raw items for its share
     can_use : (r : ℕ) → x.raw ≡ Some r → CanUse w c e.0 r (e.1 * x.raw_count)
     can_use r raw =
-        let fits = can.fits i x told there in
+        let fits = can.fits i x says there in
         record {
           unit = can.unit;
           there = can.there;
           known = fits.raw_known r raw;
           enough = fits.raw r raw;
           steady = can.steady;
-          room = less_room (e.1 * x.raw_count) holding_limit (amount_in c.books booked.Used (things.Item r)) (omega (arith, fits.raw r raw, held r)) (can.room booked.Used (things.Item r));
+          room = amount_room_for_less (e.1 * x.raw_count) holding_limit (amount_in c.books booked.Used (things.Item r)) (omega (arith, fits.raw r raw, held r)) (can.room booked.Used (things.Item r));
         }
 
     -- the unit can make the item at once, before raw items are used
     can_at_once : CanMake w c e.0 i e.1
     can_at_once =
-        let fits = can.fits i x told there in
+        let fits = can.fits i x says there in
         record {
           unit = can.unit;
           there = can.there;
           known = fits.known;
           fits = fits.fits;
           steady = can.steady;
-          room = less_room e.1 holding_limit (amount_in c.books booked.Made (things.Item i)) (omega (arith, fits.fits)) (can.room booked.Made (things.Item i));
+          room = amount_room_for_less e.1 holding_limit (amount_in c.books booked.Made (things.Item i)) (omega (arith, fits.fits)) (can.room booked.Made (things.Item i));
         }
 
     -- the unit can still make the item after it used the raw items
     can_after : (r : ℕ) → x.raw ≡ Some r → CanMake w (with_used c e.0 r (e.1 * x.raw_count)) e.0 i e.1
     can_after r raw =
-        let fits = can.fits i x told there in
+        let fits = can.fits i x says there in
         let well = used_well w c e.0 r (e.1 * x.raw_count) (can_use r raw) in
         let left = no_more can.unit.holding r i (e.1 * x.raw_count) in
         let h : HoldingValue = record can.unit.holding { items = with_amount_of can.unit.holding.items r (amount_of can.unit.holding.items r - e.1 * x.raw_count) } in
@@ -140,9 +141,9 @@ module _ (asked : FinMap nat_cmp ℕ) (w : WorldValue) (c : CampaignValue) (e : 
           known = fits.known;
           fits = below (amount_of h.items i) (amount_of can.unit.holding.items i) left fits.fits;
           steady = well.leaves_it;
-          room = less_room e.1 holding_limit (amount_in (with_used c e.0 r (e.1 * x.raw_count)).books booked.Made (things.Item i)) (omega (arith, fits.fits))
+          room = amount_room_for_less e.1 holding_limit (amount_in (with_used c e.0 r (e.1 * x.raw_count)).books booked.Made (things.Item i)) (omega (arith, fits.fits))
               (only_room booked.Made (things.Item i) (amount_in (with_used c e.0 r (e.1 * x.raw_count)).books booked.Made (things.Item i))
-              (room_behind (moves_only holding_limit booked.Used (things.Item r)) (moves_only holding_limit booked.Made (things.Item i)) w c (with_used c e.0 r (e.1 * x.raw_count)) well
+              (room_for_second (moves_only holding_limit booked.Used (things.Item r)) (moves_only holding_limit booked.Made (things.Item i)) w c (with_used c e.0 r (e.1 * x.raw_count)) well
               (room_less (both_move (moves_only holding_limit booked.Used (things.Item r)) (moves_only holding_limit booked.Made (things.Item i))) (produce_moves holding_limit) c (both_less r i) can.room) booked.Made (things.Item i)));
         }
       where
@@ -163,7 +164,7 @@ module _ (asked : FinMap nat_cmp ℕ) (w : WorldValue) (c : CampaignValue) (e : 
     pub can_make_item : CanMakeOf w c e.0 e.1 i x
     can_make_item = record {
       use_raw = can_use;
-      few_raw = λ r raw. omega (arith, (can.fits i x told there).raw r raw, held r);
+      few_raw = λ r raw. omega (arith, (can.fits i x says there).raw r raw, held r);
       make = can_make_then;
     }
 
@@ -186,8 +187,8 @@ module _ (asked : FinMap nat_cmp ℕ) (w : WorldValue) (c : CampaignValue) (e : 
   unfolding after_production
   produced_well can =
       let unchanged = well_unchanged (produce_moves holding_limit) w c can.steady in
-      by_option (λ d. LeavesWell IsSteady (produce_moves holding_limit) w c d) _ (get asked e.0) c unchanged (λ i told.
-      by_option (λ d. LeavesWell IsSteady (produce_moves holding_limit) w c d) _ (slice_get w.items i) c unchanged (λ x is. item_well can i x told is))
+      by_option (λ d. LeavesWell IsSteady (produce_moves holding_limit) w c d) _ (get asked e.0) c unchanged (λ i says.
+      by_option (λ d. LeavesWell IsSteady (produce_moves holding_limit) w c d) _ (slice_get w.items i) c unchanged (λ x is. item_well can i x says is))
 
   -- unit `k` is in campaign `d` as it was in `c`
   abbrev IsStill : ℕ → CampaignValue → Type 0
@@ -197,7 +198,7 @@ module _ (asked : FinMap nat_cmp ℕ) (w : WorldValue) (c : CampaignValue) (e : 
   pub produced_others : (k : ℕ) → k ≢ e.0 → get (after_production asked w c e).units k ≡ get c.units k
   unfolding after_production
   produced_others k apart =
-      by_option (IsStill k) _ (get asked e.0) c refl (λ i told.
+      by_option (IsStill k) _ (get asked e.0) c refl (λ i says.
       by_option (IsStill k) _ (slice_get w.items i) c refl (λ x is.
       let amount = e.1 * x.raw_count in
       made_others w (with_raw_used c e.0 amount x.raw) e.0 i e.1 k apart
@@ -205,12 +206,12 @@ module _ (asked : FinMap nat_cmp ℕ) (w : WorldValue) (c : CampaignValue) (e : 
 
 -- PRODUCE leaves each unit for which its own faction wrote no order of PRODUCE no worse off
 pub produce_keeps_others : (w : WorldValue) (c : CampaignValue) (os : List Task) → OthersAreNoWorse os c (after_sharing produce_pots w c os)
-produce_keeps_others w c os = others_no_worse produce_pots w (λ items. produced_others items w) c (makes_give w c) os
+produce_keeps_others w c os = others_no_worse produce_pots w (λ items. produced_others items w) c (produce_gives_to_wants w c) os
 
 -- ---- what a unit makes it can make
 
 -- an order that names no item has a fault
-needs_item : (w : WorldValue) (h : HoldingValue) → make_fault h (item_of w None) ≡ None → ⊥
+needs_item : (w : WorldValue) (h : HoldingValue) → produce_fault h (item_of w None) ≡ None → ⊥
 needs_item w h fine = by_men (h.men == 0) fine
   where
     -- for `needs_item`: an order without an item has a fault: NoMen for a unit without men (`b`), else NoSkill
@@ -230,11 +231,11 @@ module _ (w : WorldValue) (c : CampaignValue) (os : List Task) where
   -- each unit that makes something is there, and makes at most what it can make of its order's item
   pub given_can : Every (λ n made. Makes (n, made)) (given_by produce_pots w c os)
   given_can n made is =
-      let (u, t, there, own, low, fine, named) = given_is_named produce_pots w c (makes_give w c) os n made is in
+      let (u, t, there, own, low, fine, named) = given_is_named produce_pots w c (produce_gives_to_wants w c) os n made is in
       (u, there, by_item u (item_in t.order_value.operands) low fine named)
     where
       -- a unit makes at most what it can make of the item `s` that its order names, which is its item in `items`
-      by_item : (u : Unit) (s : Option ℕ) → made ≤ most_makeable w u.holding s → make_fault u.holding (item_of w s) ≡ None → ((i : ℕ) → s ≡ Some i → get items n ≡ Some i) → made ≤ most_makeable w u.holding (get items n)
+      by_item : (u : Unit) (s : Option ℕ) → made ≤ most_makeable w u.holding s → produce_fault u.holding (item_of w s) ≡ None → ((i : ℕ) → s ≡ Some i → get items n ≡ Some i) → made ≤ most_makeable w u.holding (get items n)
       by_item u None low fine named = absurd (needs_item w u.holding fine)
       by_item u (Some i) low fine named = subst (λ o. made ≤ most_makeable w u.holding o) (sym (named i refl)) low
 
@@ -247,11 +248,12 @@ up_to_most h count (Some r) most = omega arith
 up_to_held : (h : HoldingValue) (count : ℕ) (raw : Option ℕ) (most r : ℕ) → raw ≡ Some r → up_to_raw h count raw most ≤ amount_of h.items r / count
 up_to_held h count raw most r is = subst (λ o. up_to_raw h count o most ≤ amount_of h.items r / count) (sym is) (omega arith)
 
--- for `fits_by`: if `made` is at most what `limit` leaves beside `held`, then `held` and `made` together are within it
+-- for `fits_by`: `held` and `made` together are at most `limit`, if `made` is at most the room that `held` leaves under
+-- the limit
 has_room : (made skilled limit held most : ℕ) → held ≤ limit → made ≤ most → most ≤ min skilled (limit - held) → held + made ≤ limit
 has_room made skilled limit held most fits low least = omega (arith, fits, low, least)
 
--- for `fits_by`: for at most `held / count` pieces, at `count` each, what is held is enough
+-- for `fits_by`: `held` is enough for at most `held / count` pieces, at `count` each
 has_raw : (made count held : ℕ) → made ≤ held / count → made * count ≤ held
 has_raw made count held low = omega (arith, mul-le-mul_right count low, mul-div-le held count, mul_comm (held / count) count)
 
@@ -263,8 +265,8 @@ raw_in items r (Some k) is known = let same : k ≡ r = cc in subst (λ m. m < i
 module _ (asked : FinMap nat_cmp ℕ) (w : WorldValue) (c : CampaignValue) (world : IsWorld w) (steady : IsSteady w c) where
   -- a unit has room and raw items for at most as much as it can make, in a steady campaign of a world
   fits_by : (n made : ℕ) (u : Unit) → get c.units n ≡ Some u → made ≤ most_makeable w u.holding (get asked n) → (i : ℕ) (x : Item) → get asked n ≡ Some i → slice_get w.items i ≡ Some x → HasRoomAndRaw w u made i x
-  fits_by n made u there low i x told is =
-      let all : made ≤ most_makeable_of u.holding i x = subst (λ o. made ≤ option_map_or (most_makeable_of u.holding i) o 0) is (subst (λ o. made ≤ most_makeable w u.holding o) told low) in
+  fits_by n made u there low i x says is =
+      let all : made ≤ most_makeable_of u.holding i x = subst (λ o. made ≤ option_map_or (most_makeable_of u.holding i) o 0) is (subst (λ o. made ≤ most_makeable w u.holding o) says low) in
       let skilled = u.holding.men * level_in_any u.holding x.skill in
       let most = min skilled (holding_limit - amount_of u.holding.items i) in
       record {
@@ -318,11 +320,11 @@ module _ (w : WorldValue) (c : CampaignValue) (world : IsWorld w) (steady : IsSt
 
   -- at most 100,000 units make something, as many as there may be
   few : length shares ≤ most_units
-  few = omega (arith, few_given produce_pots w c (makes_give w c) os, steady.numbers.few_units)
+  few = omega (arith, few_given produce_pots w c (produce_gives_to_wants w c) os, steady.numbers.few_units)
 
   -- the production of all units that make something moves each amount of the books by less than 10^14 altogether
   little : IsBoundWithin (moved_times (length shares) (produce_moves holding_limit)) (produce_moves most_moved)
-  little e t = scaled (length shares) holding_limit most_moved (omega (arith, few)) e t
+  little e t = steps_within_produce (length shares) holding_limit most_moved (omega (arith, few)) e t
 
   -- all shares of PRODUCE can be made in turn, in a steady campaign whose books have room for the phase
   pub can_share_out : HaveRoom (produce_moves most_moved) c → CanInTurn (CanProduce named w) (after_production named w) c shares

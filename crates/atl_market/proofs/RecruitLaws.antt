@@ -32,7 +32,7 @@ use Rattle.atl_market.specs.PotPhase.{after_sharing, given_by}
 use Rattle.atl_market.specs.Bounds.{CanInTurn}
 use Rattle.atl_market.specs.Recruit.{after_recruiting, recruit_moves, recruit_pots, recruits_at, with_paid_recruits}
 use Rattle.atl_market.specs.Unordered.{OthersAreNoWorse}
-use Rattle.atl_market.proofs.DrawLaws.{AreReady, Drains, DrawnPots, HaveEnough, all_pairs, drawn, one_drains, one_draws, pot_is_enough, ready_after, region_pots, untouched, draws_region}
+use Rattle.atl_market.proofs.DrawLaws.{SharesArePayable, Drains, DrawnPots, HaveEnough, all_pairs, drawn, one_drains, one_draws, pot_is_enough, ready_after, region_pots, untouched, draws_region}
 use Rattle.atl_campaign.proofs.HavingLaws.{MayHave, may_have}
 use Rattle.atl_market.proofs.ExchangeLaws.{KeepsTogether, exchange_well}
 use Rattle.atl_market.proofs.UnorderedLaws.{others_no_worse}
@@ -53,17 +53,17 @@ abbrev pub with_fewer_peasants : Region → ℕ → Region → Region
 with_fewer_peasants q recruits r = record r { peasants = q.peasants - recruits }
 
 -- a campaign in which recruits joined unit `u`, which paid for them
-abbrev pub joined : CampaignValue → ℕ → Unit → (recruits cost : ℕ) → CampaignValue
-joined c n u recruits cost = record c { units = insert c.units n (record u { holding = with_paid_recruits u.holding recruits cost }) }
+abbrev pub with_recruits_joined : CampaignValue → ℕ → Unit → (recruits cost : ℕ) → CampaignValue
+with_recruits_joined c n u recruits cost = record c { units = insert c.units n (record u { holding = with_paid_recruits u.holding recruits cost }) }
 
 -- a campaign in which recruits left region `q` and joined unit `u`, and their cost is booked
-abbrev pub recruited_to : CampaignValue → ℕ → Unit → Region → (recruits cost : ℕ) → CampaignValue
-recruited_to c n u q recruits cost = with_booking (region_changed (with_fewer_peasants q recruits) (joined c n u recruits cost) u.region) Recruiting Money (neg_ℤ (pos cost))
+abbrev pub with_recruits_booked : CampaignValue → ℕ → Unit → Region → (recruits cost : ℕ) → CampaignValue
+with_recruits_booked c n u q recruits cost = with_booking (region_changed (with_fewer_peasants q recruits) (with_recruits_joined c n u recruits cost) u.region) Recruiting Money (neg_ℤ (pos cost))
 
 module _ (w : WorldValue) (c : CampaignValue) (n : ℕ) (u : Unit) (q : Region) (recruits cost : ℕ) (is : get c.units n ≡ Some u) (around : get c.regions u.region ≡ Some q) where
   -- the campaign after `recruits` peasants of the unit's region joined unit `n` for `cost`
   abbrev after : CampaignValue
-  after = recruited_to c n u q recruits cost
+  after = with_recruits_booked c n u q recruits cost
 
   -- what unit `n` holds after the recruits joined it and their cost was paid
   abbrev more : HoldingValue
@@ -71,7 +71,7 @@ module _ (w : WorldValue) (c : CampaignValue) (n : ℕ) (u : Unit) (q : Region) 
 
   -- the campaign in which the unit has the recruits; the peasants are still there and nothing is booked yet
   abbrev peopled : CampaignValue
-  peopled = joined c n u recruits cost
+  peopled = with_recruits_joined c n u recruits cost
 
   -- the campaign in which the recruits have joined the unit and left the region; nothing is booked yet
   abbrev left : CampaignValue
@@ -115,14 +115,14 @@ module _ (w : WorldValue) (c : CampaignValue) (e : ℕ × ℕ) where
   price = e.1 * w.rules.recruit_price
 
   -- recruiting by a unit that is there, in a region that is there, moves the unit's share of peasants into the unit,
-  -- and takes and books their price (`recruited_to`)
-  pub recruited_is : (u : Unit) (q : Region) → get c.units e.0 ≡ Some u → get c.regions u.region ≡ Some q → after_recruiting w c e ≡ recruited_to c e.0 u q e.1 price
+  -- and takes and books their price (`with_recruits_booked`)
+  pub recruited_is : (u : Unit) (q : Region) → get c.units e.0 ≡ Some u → get c.regions u.region ≡ Some q → after_recruiting w c e ≡ with_recruits_booked c e.0 u q e.1 price
   unfolding after_recruiting
   recruited_is u q is around = unit_there c e.0 _ u is ∙ region_there c u.region _ q around ∙ recruits_are w c e.0 u q e.1 price is around
 
   -- recruiting by a unit that can recruit moves the unit's share of peasants into the unit, and takes and books their
-  -- price (`recruited_to`)
-  made_is : (can : CanRecruit w c e) → after_recruiting w c e ≡ recruited_to c e.0 can.at.unit can.at.region e.1 price
+  -- price (`with_recruits_booked`)
+  made_is : (can : CanRecruit w c e) → after_recruiting w c e ≡ with_recruits_booked c e.0 can.at.unit can.at.region e.1 price
   made_is can = recruited_is can.at.unit can.at.region can.at.there can.at.around
 
   -- recruiting by a unit that can recruit keeps the campaign early and its books balanced, and books only what it pays
@@ -168,9 +168,10 @@ module _ (w : WorldValue) (c : CampaignValue) where
   abbrev CanHave : ℕ × ℕ → Type 0
   CanHave e = (u : Unit) × (get c.units e.0 ≡ Some u) × (u.holding.men + e.1 ≤ men_limit) × (e.1 * w.rules.recruit_price ≤ u.holding.money)
 
-  -- in a campaign the listed units can have their shares of RECRUIT, and the regions have peasants enough (`AreReady`)
+  -- in a campaign the listed units can have their shares of RECRUIT, and the regions have peasants enough
+  -- (`SharesArePayable`)
   abbrev AreToJoin : CampaignValue → List (ℕ × ℕ) → Type 0
-  AreToJoin = AreReady pots CanHave w c
+  AreToJoin = SharesArePayable pots CanHave w c
 
   -- the books of a campaign have room for the price of all listed shares (unit, share) of RECRUIT
   abbrev CanBook : CampaignValue → List (ℕ × ℕ) → Type 0

@@ -32,7 +32,7 @@ use Rattle.atl_phase.proofs.NoWorseLaws.{are_no_worse, are_no_worse_twice}
 use Rattle.atl_market.specs.PotPhase.{after_sharing, given_by}
 use Rattle.atl_market.specs.Bounds.{CanInTurn}
 use Rattle.atl_market.specs.Tax.{after_tax, money_at, tax_pots}
-use Rattle.atl_market.proofs.DrawLaws.{AreReady, Drains, DrawnPots, HaveEnough, all_pairs, drawn, one_drains, one_draws, pot_is_enough, ready_after, region_pots, untouched, draws_region}
+use Rattle.atl_market.proofs.DrawLaws.{SharesArePayable, Drains, DrawnPots, HaveEnough, all_pairs, drawn, one_drains, one_draws, pot_is_enough, ready_after, region_pots, untouched, draws_region}
 use Rattle.atl_market.proofs.MoreMoneyLaws.{others_stay, paid, richer, richer_is, richer_no_worse}
 use Rattle.atl_market.proofs.ThereLaws.{by_region, by_unit, region_there, unit_there}
 use Rattle.atl_market.proofs.TurnLaws.{turns_leave_well}
@@ -47,17 +47,17 @@ money_of q = q.money
 -- ---- one unit takes its share
 
 -- region `r` with the money that region `q` has, less a share
-abbrev pub drain : Region → ℕ → Region → Region
-drain q share r = record r { money = q.money - share }
+abbrev pub with_share_taken : Region → ℕ → Region → Region
+with_share_taken q share r = record r { money = q.money - share }
 
 -- a campaign in which a unit took its share of the money of its region `q`
-abbrev pub drained : CampaignValue → ℕ → Unit → Region → ℕ → CampaignValue
-drained c n u q share = region_changed (drain q share) (richer c n u share) u.region
+abbrev pub after_share_taken : CampaignValue → ℕ → Unit → Region → ℕ → CampaignValue
+after_share_taken c n u q share = region_changed (with_share_taken q share) (richer c n u share) u.region
 
 module _ (w : WorldValue) (c : CampaignValue) (n : ℕ) (u : Unit) (q : Region) (share : ℕ) (is : get c.units n ≡ Some u) (around : get c.regions u.region ≡ Some q) where
   -- the campaign after the unit took its share
   abbrev after : CampaignValue
-  after = drained c n u q share
+  after = after_share_taken c n u q share
 
   -- setting the money of the unit and of its region makes the campaign after the unit took its share (`after`)
   pub tax_is : with_region_money (with_money c n (u.holding.money + share)) u.region (q.money - share) ≡ after
@@ -65,7 +65,7 @@ module _ (w : WorldValue) (c : CampaignValue) (n : ℕ) (u : Unit) (q : Region) 
 
   module _ (enough : share ≤ q.money) where
     -- the total of each thing is the same after the unit took its share as before, given what each of the steps changes
-    same_total : (t : Thing) → total after t + region_amount t q ≡ total (richer c n u share) t + region_amount t (drain q share q)
+    same_total : (t : Thing) → total after t + region_amount t q ≡ total (richer c n u share) t + region_amount t (with_share_taken q share q)
         → total (richer c n u share) t + unit_amount t u.holding ≡ total c t + unit_amount t (paid c n u share) → total after t ≡ total c t
     same_total Money a b = omega (arith, a, b, enough)
     same_total People a b = omega (arith, a, b)
@@ -83,12 +83,12 @@ module _ (w : WorldValue) (c : CampaignValue) (n : ℕ) (u : Unit) (q : Region) 
         let within = steady.numbers.regions u.region q around in
         record {
           leaves_it = record {
-            steady = steady-region (drain q share) (richer c n u share) u.region q around w (IsRegion-money q (q.money - share) (omega (arith, within.money)) within) (steady.known.markets u.region q around)
+            steady = steady-region (with_share_taken q share) (richer c n u share) u.region q around w (IsRegion-money q (q.money - share) (omega (arith, within.money)) within) (steady.known.markets u.region q around)
                 (steady-unit_amount w c n u (paid c n u share) is (may_hold_money w c n (u.holding.money + share) u is fits steady) steady);
             flags = of_one_faction_kept w c n u (paid c n u share) is (λ v. v.holding.guard) (λ g. g) early.flags;
           };
           same_month = same_month_by refl;
-          balances = λ old t. ap pos (same_total t (total-region (drain q share) (richer c n u share) u.region q around t) (total-unit_amount w c n u (paid c n u share) is t)) ∙ old t;
+          balances = λ old t. ap pos (same_total t (total-region (with_share_taken q share) (richer c n u share) u.region q around t) (total-unit_amount w c n u (paid c n u share) is t)) ∙ old t;
           near = λ e t. near_same 0 (amount_in c.books e t);
         }
 
@@ -96,7 +96,7 @@ module _ (w : WorldValue) (c : CampaignValue) (n : ℕ) (u : Unit) (q : Region) 
 
 module _ (w : WorldValue) (c : CampaignValue) (e : ℕ × ℕ) where
   -- the tax of a unit that is there, in a region that is there, moves the share of money from the region to the unit
-  pub taxed_is : (u : Unit) (q : Region) → get c.units e.0 ≡ Some u → get c.regions u.region ≡ Some q → after_tax c e ≡ drained c e.0 u q e.1
+  pub taxed_is : (u : Unit) (q : Region) → get c.units e.0 ≡ Some u → get c.regions u.region ≡ Some q → after_tax c e ≡ after_share_taken c e.0 u q e.1
   unfolding after_tax
   taxed_is u q is around = unit_there c e.0 _ u is ∙ region_there c u.region _ q around ∙ tax_is w c e.0 u q e.1 is around
 
@@ -113,7 +113,7 @@ module _ (w : WorldValue) (c : CampaignValue) (e : ℕ × ℕ) where
   -- the tax of a unit that can take it takes its share out of its region's money, and out of no other region's
   taxed_drains : (can : CanTax w c e) (units : FinMap nat_cmp Unit) → get units e.0 ≡ Some can.at.unit → Drains (region_pots units money_of) c e (after_tax c e)
   taxed_drains can units there =
-      one_drains units money_of c e can.at.unit can.at.region there can.at.around (after_tax c e) (drain can.at.region e.1)
+      one_drains units money_of c e can.at.unit can.at.region there can.at.around (after_tax c e) (with_share_taken can.at.region e.1)
       (ap (λ (d : CampaignValue). d.regions) (taxed_is can.at.unit can.at.region can.at.there can.at.around)) (less can.at.region.money can.enough)
     where
       -- for `taxed_drains`: the money that is left and the share are together the money from before
@@ -150,9 +150,10 @@ module _ (w : WorldValue) (c : CampaignValue) where
   abbrev HasRoomFor : ℕ × ℕ → Type 0
   HasRoomFor e = (u : Unit) × (get c.units e.0 ≡ Some u) × (u.holding.money + e.1 ≤ holding_limit)
 
-  -- in a campaign the listed units have room for their shares of TAX, and the regions have money enough (`AreReady`)
+  -- in a campaign the listed units have room for their shares of TAX, and the regions have money enough
+  -- (`SharesArePayable`)
   abbrev AreTaken : CampaignValue → List (ℕ × ℕ) → Type 0
-  AreTaken = AreReady pots HasRoomFor w c
+  AreTaken = SharesArePayable pots HasRoomFor w c
 
   -- if units and regions allow the shares still to come (`AreTaken`), the unit of the first share can take it
   -- (`CanTax`)

@@ -7,8 +7,8 @@ use Rattle.atl_records.specs.declared.records.Unit.{Unit}
 use Rattle.atl_campaign.specs.Campaign.{CampaignValue}
 use Rattle.atl_phase.specs.There.{at_region, at_unit}
 
--- what holds of `otherwise`, and of `f x` if `o` holds an `x`, holds of `option_map_or f o otherwise`, which is one of
--- the two
+-- `P` holds of `option_map_or f o otherwise`, if it holds of `otherwise`, and of `f x` for the value `x` of `o`, if `o`
+-- has one
 pub by_option : {A B : Type 0} (P : B → Type 0) (f : A → B) (o : Option A) (otherwise : B) → P otherwise → ((x : A) → o ≡ Some x → P (f x)) → P (option_map_or f o otherwise)
 by_option {A} P f o otherwise without with = by_case o refl
   where
@@ -22,8 +22,8 @@ module _ (c : CampaignValue) (n : ℕ) where
   pub unit_there : (change : Unit → CampaignValue) (u : Unit) → get c.units n ≡ Some u → at_unit c n change ≡ change u
   unit_there change u is = ap (λ o. option_map_or change o c) is
 
-  -- what holds of the campaign, and of the changed campaign if unit `n` is there, holds of what `at_unit` gives, which
-  -- is one of the two
+  -- `P` holds of what `at_unit` gives, if it holds of the campaign, and of what `change` makes of unit `n`, if the unit
+  -- is there
   pub by_unit : (P : CampaignValue → Type 0) (change : Unit → CampaignValue) → P c → ((u : Unit) → get c.units n ≡ Some u → P (change u)) → P (at_unit c n change)
   by_unit P change without with = by_option P change (get c.units n) c without with
 
@@ -31,7 +31,7 @@ module _ (c : CampaignValue) (n : ℕ) where
   pub region_there : (change : Region → CampaignValue) (q : Region) → get c.regions n ≡ Some q → at_region c n change ≡ change q
   region_there change q is = ap (λ o. option_map_or change o c) is
 
-  -- what holds of the campaign, and of the changed campaign if region `n` is there, holds of what `at_region` gives,
-  -- which is one of the two
+  -- `P` holds of what `at_region` gives, if it holds of the campaign, and of what `change` makes of region `n`, if the
+  -- region is there
   pub by_region : (P : CampaignValue → Type 0) (change : Region → CampaignValue) → P c → ((q : Region) → get c.regions n ≡ Some q → P (change q)) → P (at_region c n change)
   by_region P change without with = by_option P change (get c.regions n) c without with

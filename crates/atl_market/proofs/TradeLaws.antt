@@ -36,7 +36,7 @@ use Rattle.atl_campaign.proofs.ReadBackLaws.{entries_rise}
 use Rattle.atl_campaign.proofs.CoverLaws.{marks-stock, marks-trans}
 use Rattle.atl_records.proofs.EveryLaws.{each-from_every, get-insert_other, none_some, other_number, same_number}
 use Rattle.atl_campaign.proofs.HavingLaws.{MayHave, may_have}
-use Rattle.atl_records.proofs.HoldingLaws.{alike, amount_within, every_amount, set_amount}
+use Rattle.atl_records.proofs.HoldingLaws.{compared_equal_is_equal, amount_within, every_amount, amount_after_setting}
 use Rattle.atl_campaign.proofs.StockLaws.{restocked, steady-stock}
 use Rattle.atl_phase.specs.Meaning.{LeavesWell, BookBound, moves_only, most_moved}
 use Rattle.atl_phase.specs.Bounds.{HasRoom, HaveRoom, moved_times}
@@ -47,16 +47,16 @@ use Rattle.atl_phase.proofs.ChangeLaws.{changed_held}
 use Rattle.atl_phase.proofs.MarkLaws.{marks_by}
 use Rattle.atl_phase.proofs.MeaningLaws.{room_less, well_unchanged, well_within}
 use Rattle.atl_market.specs.AtOnce.{is_in_region}
-use Rattle.atl_market.specs.ItemPots.{is_for, wants_for}
+use Rattle.atl_market.specs.ItemPots.{asks_for_item, wants_for}
 use Rattle.atl_market.specs.PotPhase.{after_sharing, count_in, given_by, item_in, items_by, wants_by}
 use Rattle.atl_market.specs.Bounds.{CanInTurn}
-use Rattle.atl_market.specs.Trade.{after_trade, limit_of, market_for, pot_by, trade_entry, trade_fault, trade_moves, trade_pot, trade_pots, trade_result_of, trade_want, with_result, with_trade_result}
-use Rattle.atl_market.specs.Trading.{CanAfford, CanBookTrade, CanTrade, HasPot}
+use Rattle.atl_market.specs.Trade.{after_trade, limit_of, market_for, market_pot, trade_entry, trade_fault, trade_moves, trade_pot, trade_pots, trade_result_of, trade_want, with_trade_booked, with_trade_result}
+use Rattle.atl_market.specs.Trading.{CanAfford, CanBookTrade, CanTrade, PotAllowsShare}
 use Rattle.atl_market.specs.Unordered.{OthersAreNoWorse}
 use Rattle.atl_market.specs.declared.trade.TradeResult.{TradeResult}
 use Rattle.atl_market.specs.declared.trade.Trade.{Trade}
 use Rattle.atl_market.specs.declared.trade.Trade.TheVariants.{Sell, Buy}
-use Rattle.atl_market.proofs.DrawLaws.{AreReady, Drains, DrawnPots, HaveEnough, all_pairs, drawn, first_draws, nothing_drains, ready_after, region_drains, shares_are_enough, untouched}
+use Rattle.atl_market.proofs.DrawLaws.{SharesArePayable, Drains, DrawnPots, HaveEnough, all_pairs, drawn, first_draws, nothing_drains, ready_after, region_drains, shares_are_enough, untouched}
 use Rattle.atl_market.proofs.ExchangeLaws.{KeepsTogether, exchange_well}
 use Rattle.atl_market.proofs.ItemPotLaws.{items_give, share_for, shares_at}
 use Rattle.atl_market.proofs.UnorderedLaws.{others_no_worse}
@@ -83,17 +83,17 @@ pub record ResultFits (w : WorldValue) (u : Unit) (i before : ℕ) (d : TradeRes
   pub small : IsWithin holding_limit d.booked
 
 -- a campaign in which unit `n` has the money and the amount of an item that a trade leaves
-abbrev pub supplied : CampaignValue → ℕ → Unit → ℕ → TradeResult → CampaignValue
-supplied c n u i d = record c { units = insert c.units n (record u { holding = with_trade_result u.holding i d }) }
+abbrev pub with_trader_set : CampaignValue → ℕ → Unit → ℕ → TradeResult → CampaignValue
+with_trader_set c n u i d = record c { units = insert c.units n (record u { holding = with_trade_result u.holding i d }) }
 
 -- a campaign after a trade: the unit, the stock of its region and the books are as the result `d` says
-abbrev pub dealt_to : CampaignValue → ℕ → Unit → ℕ → BooksEntry → TradeResult → CampaignValue
-dealt_to c n u i entry d = with_booking (region_changed (λ r. restocked r i d.stock) (supplied c n u i d) u.region) entry Money d.booked
+abbrev pub after_deal : CampaignValue → ℕ → Unit → ℕ → BooksEntry → TradeResult → CampaignValue
+after_deal c n u i entry d = with_booking (region_changed (λ r. restocked r i d.stock) (with_trader_set c n u i d) u.region) entry Money d.booked
 
 module _ (w : WorldValue) (c : CampaignValue) (n : ℕ) (u : Unit) (q : Region) (i : ℕ) (entry : BooksEntry) (d : TradeResult) (is : get c.units n ≡ Some u) (around : get c.regions u.region ≡ Some q) where
   -- the campaign after unit `n` traded with the result `d`
   abbrev after : CampaignValue
-  after = dealt_to c n u i entry d
+  after = after_deal c n u i entry d
 
   -- what unit `n` holds after the trade
   abbrev more : HoldingValue
@@ -101,7 +101,7 @@ module _ (w : WorldValue) (c : CampaignValue) (n : ℕ) (u : Unit) (q : Region) 
 
   -- the campaign in which the unit has what the trade leaves it; the stock isn't changed and nothing is booked yet
   abbrev paid : CampaignValue
-  paid = supplied c n u i d
+  paid = with_trader_set c n u i d
 
   -- the campaign in which the unit and its region's stock are as the trade leaves them; nothing is booked yet
   abbrev left : CampaignValue
@@ -109,7 +109,7 @@ module _ (w : WorldValue) (c : CampaignValue) (n : ℕ) (u : Unit) (q : Region) 
 
   -- setting unit `n`, which is there, its region's stock and the books to the result of the trade gives the campaign
   -- `after`
-  pub deal_is : with_result c n u i entry d ≡ after
+  pub deal_is : with_trade_booked c n u i entry d ≡ after
   deal_is = ap (λ o. with_booking (with_stock (with_holding_at c n more o) u.region i d.stock) entry Money d.booked) is
 
   module _ (fits : ResultFits w u i (amount_of q.stocks i) d) (known : i < length w.items) (market : IsSome (market_of w u.region i)) (early : IsEarly w c) where
@@ -132,14 +132,14 @@ module _ (w : WorldValue) (c : CampaignValue) (n : ℕ) (u : Unit) (q : Region) 
         -- unit and region together have what they had of item `j`, whether `j` is the item that is traded or not
         by_test : (j : ℕ) (b : Bool) → eq_by_cmp nat_cmp j i ≡ b
             → cond b d.amount (amount_of u.holding.items j) + cond b d.stock (amount_of q.stocks j) ≡ amount_of u.holding.items j + amount_of q.stocks j
-        by_test j true is_i = fits.goods ∙ ap (λ k. amount_of u.holding.items k + amount_of q.stocks k) (sym (alike i j is_i))
+        by_test j true is_i = fits.goods ∙ ap (λ k. amount_of u.holding.items k + amount_of q.stocks k) (sym (compared_equal_is_equal i j is_i))
         by_test j false is_other = refl
 
         -- unit and region together have as much of each item after the trade as before it
         items : (j : ℕ) → amount_of more.items j + amount_of (restocked q i d.stock).stocks j ≡ amount_of u.holding.items j + amount_of q.stocks j
         items j =
-            ap (λ k. k + amount_of (restocked q i d.stock).stocks j) (set_amount u.holding.items i d.amount j)
-            ∙ ap (λ k. cond (eq_by_cmp nat_cmp j i) d.amount (amount_of u.holding.items j) + k) (set_amount q.stocks i d.stock j) ∙ by_test j (eq_by_cmp nat_cmp j i) refl
+            ap (λ k. k + amount_of (restocked q i d.stock).stocks j) (amount_after_setting u.holding.items i d.amount j)
+            ∙ ap (λ k. cond (eq_by_cmp nat_cmp j i) d.amount (amount_of u.holding.items j) + k) (amount_after_setting q.stocks i d.stock j) ∙ by_test j (eq_by_cmp nat_cmp j i) refl
 
     -- a trade whose result is within all limits keeps the campaign early and its books balanced, and books only money
     pub deal_well : LeavesWell IsEarly (moves_only holding_limit entry Money) w c after
@@ -208,7 +208,7 @@ module _ (w : WorldValue) (u : Unit) (m : Market) (stock share : ℕ) (there : m
   up_to a k limit few most = omega (arith, few, most)
 
   -- if the unit can afford the trade and the market's pot is large enough, the result of the trade is within all limits
-  pub deal_fits : (trade : Trade) → CanAfford trade u.holding share (Some m) → HasPot trade stock share (Some m) → ResultFits w u m.item stock (trade_result_of trade u.holding stock share m)
+  pub deal_fits : (trade : Trade) → CanAfford trade u.holding share (Some m) → PotAllowsShare trade stock share (Some m) → ResultFits w u m.item stock (trade_result_of trade u.holding stock share m)
   deal_fits Sell (enough, room) pot = record {
     money = room;
     amount = less (amount_of u.holding.items m.item) share holding_limit (amount_within u.holding m.item holds);
@@ -243,21 +243,21 @@ stock_low w c r q i early around = by_amount (get q.stocks i) refl
 
 -- which units draw from the pot of a region and an item: those that are in the region and whose order names the item
 abbrev pub draws_item : FinMap nat_cmp Unit → FinMap nat_cmp ℕ → ℕ × ℕ → ℕ → Bool
-draws_item units items k n = is_in_region k.0 (get units n) && is_for k.1 (get items n)
+draws_item units items k n = is_in_region k.0 (get units n) && asks_for_item k.1 (get items n)
 
 -- the pots of SELL or BUY, by region and item
 abbrev pub item_pots : Trade → WorldValue → FinMap nat_cmp Unit → FinMap nat_cmp ℕ → DrawnPots (ℕ × ℕ)
-item_pots trade w units items = record { pot_region = λ k. k.0; draws = draws_item units items; left = λ k q. pot_by trade (limit_of w k.1 k.0) (amount_of q.stocks k.1) }
+item_pots trade w units items = record { pot_region = λ k. k.0; draws = draws_item units items; left = λ k q. market_pot trade (limit_of w k.1 k.0) (amount_of q.stocks k.1) }
 
 -- after a trade of `share` pieces that the market's pot allows, the pot has `share` less
-pot_less : (trade : Trade) (h : HoldingValue) (limit stock share : ℕ) (m : Market) → limit ≡ m.limit → HasPot trade stock share (Some m)
-    → pot_by trade limit (trade_result_of trade h stock share m).stock + share ≡ pot_by trade limit stock
+pot_less : (trade : Trade) (h : HoldingValue) (limit stock share : ℕ) (m : Market) → limit ≡ m.limit → PotAllowsShare trade stock share (Some m)
+    → market_pot trade limit (trade_result_of trade h stock share m).stock + share ≡ market_pot trade limit stock
 pot_less Sell h limit stock share m same pot = omega (arith, same, pot)
 pot_less Buy h limit stock share m same pot = omega (arith, pot)
 
 -- a campaign after a unit traded with a market; unchanged where there is none
 abbrev pub traded_at : Trade → CampaignValue → ℕ × ℕ → Unit → Option Market → CampaignValue
-traded_at trade c e u o = option_map_or (λ m. with_result c e.0 u m.item (trade_entry trade) (trade_result_of trade u.holding (stock_of c u.region m.item) e.1 m)) o c
+traded_at trade c e u o = option_map_or (λ m. with_trade_booked c e.0 u m.item (trade_entry trade) (trade_result_of trade u.holding (stock_of c u.region m.item) e.1 m)) o c
 
 module _ (trade : Trade) (items : FinMap nat_cmp ℕ) (w : WorldValue) (c : CampaignValue) (e : ℕ × ℕ) where
   -- the trade of a unit that is there is with the market of its region for its order's item, if there is one
@@ -275,10 +275,10 @@ module _ (trade : Trade) (items : FinMap nat_cmp ℕ) (w : WorldValue) (c : Camp
     market = market_is w can.world can.at.unit (get items e.0) m at
 
     -- a unit that can trade and has this market trades with it: unit, stock and books are set to the result
-    made_is : after_trade trade items w c e ≡ dealt_to c e.0 can.at.unit m.item (trade_entry trade) deal
+    made_is : after_trade trade items w c e ≡ after_deal c e.0 can.at.unit m.item (trade_entry trade) deal
     made_is =
         traded_is can.at.unit can.at.there (Some m) at
-        ∙ ap (λ stock. with_result c e.0 can.at.unit m.item (trade_entry trade) (trade_result_of trade can.at.unit.holding stock e.1 m)) (stock_is c can.at.unit.region can.at.region m.item can.at.around)
+        ∙ ap (λ stock. with_trade_booked c e.0 can.at.unit m.item (trade_entry trade) (trade_result_of trade can.at.unit.holding stock e.1 m)) (stock_is c can.at.unit.region can.at.region m.item can.at.around)
         ∙ deal_is w c e.0 can.at.unit can.at.region m.item (trade_entry trade) deal can.at.there can.at.around
 
     -- the result of the unit's trade is within all limits
@@ -300,7 +300,7 @@ module _ (trade : Trade) (items : FinMap nat_cmp ℕ) (w : WorldValue) (c : Camp
     made_drains units there =
         region_drains (item_pots trade w units items) c e (after_trade trade items w c e) can.at.unit.region can.at.region can.at.around (λ r. restocked r m.item deal.stock) (ap (λ (d : CampaignValue). d.regions) made_is)
         (λ k same. here k same (eq_by_cmp nat_cmp k.1 m.item) refl)
-        (λ k apart. ap (λ b. b && is_for k.1 (get items e.0)) (ap (is_in_region k.0) there ∙ other_number can.at.unit.region k.0 (λ is. apart (sym is))))
+        (λ k apart. ap (λ b. b && asks_for_item k.1 (get items e.0)) (ap (is_in_region k.0) there ∙ other_number can.at.unit.region k.0 (λ is. apart (sym is))))
       where
         -- for `made_drains`: a number plus 0 is the number
         no_less : (a : ℕ) → a + 0 ≡ a
@@ -309,25 +309,25 @@ module _ (trade : Trade) (items : FinMap nat_cmp ℕ) (w : WorldValue) (c : Camp
         -- the unit draws from a pot of its own region exactly if the pot is of the market's item
         draws_market_item : (k : ℕ × ℕ) → k.0 ≡ can.at.unit.region → draws_item units items k e.0 ≡ (m.item == k.1)
         draws_market_item k same =
-            ap (λ b. b && is_for k.1 (get items e.0)) (ap (is_in_region k.0) there ∙ ap (λ r. can.at.unit.region == r) same ∙ same_number can.at.unit.region)
-            ∙ ap (is_for k.1) market.named_item
+            ap (λ b. b && asks_for_item k.1 (get items e.0)) (ap (is_in_region k.0) there ∙ ap (λ r. can.at.unit.region == r) same ∙ same_number can.at.unit.region)
+            ∙ ap (asks_for_item k.1) market.named_item
 
         -- a pot of the unit's region has the share less if it is of the market's item, and else stays as it was
         here : (k : ℕ × ℕ) → k.0 ≡ can.at.unit.region → (b : Bool) → eq_by_cmp nat_cmp k.1 m.item ≡ b
-            → pot_by trade (limit_of w k.1 k.0) (amount_of (with_amount_of can.at.region.stocks m.item deal.stock) k.1) + cond (draws_item units items k e.0) e.1 0 ≡ pot_by trade (limit_of w k.1 k.0) (amount_of can.at.region.stocks k.1)
+            → market_pot trade (limit_of w k.1 k.0) (amount_of (with_amount_of can.at.region.stocks m.item deal.stock) k.1) + cond (draws_item units items k e.0) e.1 0 ≡ market_pot trade (limit_of w k.1 k.0) (amount_of can.at.region.stocks k.1)
         here k same true is =
-            let item : k.1 ≡ m.item = alike m.item k.1 is in
+            let item : k.1 ≡ m.item = compared_equal_is_equal m.item k.1 is in
             let limit : limit_of w k.1 k.0 ≡ m.limit = ap (λ j. limit_of w j k.0) item ∙ ap (λ r. limit_of w m.item r) same ∙ ap (λ o. option_map_or (λ (x : Market). x.limit) o 0) market.there in
             let drawing : draws_item units items k e.0 ≡ true = draws_market_item k same ∙ ap (λ j. m.item == j) item ∙ same_number m.item in
-            ap (λ b. pot_by trade (limit_of w k.1 k.0) (amount_of (with_amount_of can.at.region.stocks m.item deal.stock) k.1) + cond b e.1 0) drawing
-            ∙ ap (λ a. pot_by trade (limit_of w k.1 k.0) a + e.1) (set_amount can.at.region.stocks m.item deal.stock k.1 ∙ ap (λ b. cond b deal.stock (amount_of can.at.region.stocks k.1)) is)
+            ap (λ b. market_pot trade (limit_of w k.1 k.0) (amount_of (with_amount_of can.at.region.stocks m.item deal.stock) k.1) + cond b e.1 0) drawing
+            ∙ ap (λ a. market_pot trade (limit_of w k.1 k.0) a + e.1) (amount_after_setting can.at.region.stocks m.item deal.stock k.1 ∙ ap (λ b. cond b deal.stock (amount_of can.at.region.stocks k.1)) is)
             ∙ pot_less trade can.at.unit.holding (limit_of w k.1 k.0) (amount_of can.at.region.stocks m.item) e.1 m limit (can.pot m at)
-            ∙ ap (λ j. pot_by trade (limit_of w k.1 k.0) (amount_of can.at.region.stocks j)) (sym item)
+            ∙ ap (λ j. market_pot trade (limit_of w k.1 k.0) (amount_of can.at.region.stocks j)) (sym item)
         here k same false is =
             let apart : m.item ≢ k.1 = λ one. is_unequal k.1 m.item (unsigned_ties k.1 m.item ∙ is) (sym one) in
-            ap (λ b. pot_by trade (limit_of w k.1 k.0) (amount_of (with_amount_of can.at.region.stocks m.item deal.stock) k.1) + cond b e.1 0) (draws_market_item k same ∙ other_number m.item k.1 apart)
-            ∙ no_less (pot_by trade (limit_of w k.1 k.0) (amount_of (with_amount_of can.at.region.stocks m.item deal.stock) k.1))
-            ∙ ap (pot_by trade (limit_of w k.1 k.0)) (set_amount can.at.region.stocks m.item deal.stock k.1 ∙ ap (λ b. cond b deal.stock (amount_of can.at.region.stocks k.1)) is)
+            ap (λ b. market_pot trade (limit_of w k.1 k.0) (amount_of (with_amount_of can.at.region.stocks m.item deal.stock) k.1) + cond b e.1 0) (draws_market_item k same ∙ other_number m.item k.1 apart)
+            ∙ no_less (market_pot trade (limit_of w k.1 k.0) (amount_of (with_amount_of can.at.region.stocks m.item deal.stock) k.1))
+            ∙ ap (market_pot trade (limit_of w k.1 k.0)) (amount_after_setting can.at.region.stocks m.item deal.stock k.1 ∙ ap (λ b. cond b deal.stock (amount_of can.at.region.stocks k.1)) is)
 
   -- the trade of a unit that can trade keeps the campaign early and its books balanced, within the bound of one trade
   pub traded_well : CanTrade trade items w c e → LeavesWell IsEarly (trade_moves trade holding_limit) w c (after_trade trade items w c e)
@@ -370,10 +370,10 @@ pub trade_keeps_others : (trade : Trade) (w : WorldValue) (c : CampaignValue) (o
 trade_keeps_others trade w c os = others_no_worse (trade_pots trade) w (λ items. traded_others trade items w) c (trades_give trade w c) os
 
 -- what a unit wants to trade it can afford, if its holding is within the limits
-module _ (h : HoldingValue) (m : Market) (told share : ℕ) (holds : IsHolding h) where
+module _ (h : HoldingValue) (m : Market) (says share : ℕ) (holds : IsHolding h) where
   -- for `wanted_fits`: a share of at most the least of three numbers is at most the second and the third
-  few_of : (told a b : ℕ) → share ≤ min told (min a b) → (share ≤ a) × (share ≤ b)
-  few_of told a b low = (omega (arith, low), omega (arith, low))
+  few_of : (says a b : ℕ) → share ≤ min says (min a b) → (share ≤ a) × (share ≤ b)
+  few_of says a b low = (omega (arith, low), omega (arith, low))
 
   -- for `wanted_fits`: a share of at most the quotient of money and price costs at most that money
   times : (money price : ℕ) → share ≤ money / price → share * price ≤ money
@@ -384,12 +384,12 @@ module _ (h : HoldingValue) (m : Market) (told share : ℕ) (holds : IsHolding h
   room_for a k limit fits few = omega (arith, fits, few)
 
   -- a unit whose holding is within the limits can afford a share of at most its want
-  pub wanted_fits : (trade : Trade) → share ≤ trade_want trade h told (Some m) → CanAfford trade h share (Some m)
+  pub wanted_fits : (trade : Trade) → share ≤ trade_want trade h says (Some m) → CanAfford trade h share (Some m)
   wanted_fits Sell low =
-      let (few, payable) = few_of told (amount_of h.items m.item) ((holding_limit - h.money) / m.pays) low in
+      let (few, payable) = few_of says (amount_of h.items m.item) ((holding_limit - h.money) / m.pays) low in
       (few, room_for h.money (share * m.pays) holding_limit holds.money (times (holding_limit - h.money) m.pays payable))
   wanted_fits Buy low =
-      let (payable, few) = few_of told (h.money / m.price) (holding_limit - amount_of h.items m.item) low in
+      let (payable, few) = few_of says (h.money / m.price) (holding_limit - amount_of h.items m.item) low in
       (times h.money m.price payable, room_for (amount_of h.items m.item) share holding_limit (amount_within h m.item holds) few)
 
 -- ---- all shares can be traded in turn
@@ -408,20 +408,20 @@ module _ (trade : Trade) (items : FinMap nat_cmp ℕ) (w : WorldValue) (world : 
   CanHave e = (u : Unit) × (get c.units e.0 ≡ Some u) × CanAfford trade u.holding e.1 (market_for w u (get items e.0))
 
   -- in a campaign the listed units can afford their shares of SELL or BUY, and the pots have enough for all
-  -- (`AreReady`)
+  -- (`SharesArePayable`)
   abbrev AreToTrade : CampaignValue → List (ℕ × ℕ) → Type 0
-  AreToTrade = AreReady pots CanHave w c
+  AreToTrade = SharesArePayable pots CanHave w c
 
   -- the books of a campaign have room for the money of all listed shares (unit, share) of SELL or BUY
   abbrev CanBook : CampaignValue → List (ℕ × ℕ) → Type 0
   CanBook d es = HaveRoom (moved_times (length es) step_moves) d
 
   -- a share that is at most the market's pot can be traded: the market has room for it (SELL) or has it in stock (BUY)
-  has_pot : (limit stock share : ℕ) (m : Market) → limit ≡ m.limit → stock ≤ m.limit → share ≤ pot_by trade limit stock → HasPot trade stock share (Some m)
+  has_pot : (limit stock share : ℕ) (m : Market) → limit ≡ m.limit → stock ≤ m.limit → share ≤ market_pot trade limit stock → PotAllowsShare trade stock share (Some m)
   has_pot limit stock share m same low few = by_trade trade few
     where
       -- for `has_pot`: if the share is at most the pot, the market has room for it (SELL) or has it in stock (BUY)
-      by_trade : (t : Trade) → share ≤ pot_by t limit stock → HasPot t stock share (Some m)
+      by_trade : (t : Trade) → share ≤ market_pot t limit stock → PotAllowsShare t stock share (Some m)
       by_trade Sell few = omega (arith, same, low, few)
       by_trade Buy few = few
 
@@ -439,7 +439,7 @@ module _ (trade : Trade) (items : FinMap nat_cmp ℕ) (w : WorldValue) (world : 
             let market = market_is w world u (get items e.0) m at in
             let k : ℕ × ℕ = (u.region, m.item) in
             let drawing : draws_item c.units items k e.0 ≡ true =
-            ap (λ b. b && is_for m.item (get items e.0)) (ap (is_in_region u.region) there ∙ same_number u.region) ∙ ap (is_for m.item) market.named_item ∙ same_number m.item in
+            ap (λ b. b && asks_for_item m.item (get items e.0)) (ap (is_in_region u.region) there ∙ same_number u.region) ∙ ap (asks_for_item m.item) market.named_item ∙ same_number m.item in
             let few = first_draws pots d e es ready.enough k q around drawing in
             let limit : stock_limit w u.region m.item ≡ m.limit = ap (λ o. option_map_or (λ (x : Market). x.limit) o most_amount) market.there in
             has_pot (limit_of w m.item u.region) (amount_of q.stocks m.item) e.1 m (ap (λ o. option_map_or (λ (x : Market). x.limit) o 0) market.there)
@@ -490,8 +490,8 @@ module _ (trade : Trade) (w : WorldValue) (world : IsWorld w) (c : CampaignValue
   -- each unit that gets to trade is there and can afford its share (`MayTrade`)
   each_fits : Every (λ n share. MayTrade (n, share)) given
   each_fits n share is =
-      let (u, t, there, own, low, fine, told) = given_is_named (trade_pots trade) w c (trades_give trade w c) os n share is in
-      (u, there, by_item u there (count_in t.order_value.operands) (item_in t.order_value.operands) low fine told)
+      let (u, t, there, own, low, fine, says) = given_is_named (trade_pots trade) w c (trades_give trade w c) os n share is in
+      (u, there, by_item u there (count_in t.order_value.operands) (item_in t.order_value.operands) low fine says)
     where
       -- a unit can afford a share of at most its want, whether there is a market `m` or not
       by_market : (asked : ℕ) (u : Unit) → get c.units n ≡ Some u → (m : Option Market) → share ≤ trade_want trade u.holding asked m → CanAfford trade u.holding share m
@@ -500,21 +500,21 @@ module _ (trade : Trade) (w : WorldValue) (world : IsWorld w) (c : CampaignValue
 
       -- the unit can afford its share of the item `s` that its order names, which is its item in `named`
       by_item : (u : Unit) → get c.units n ≡ Some u → (asked : ℕ) (s : Option ℕ) → share ≤ trade_want trade u.holding asked (market_for w u s) → trade_fault trade u.holding (market_for w u s) ≡ None → ((i : ℕ) → s ≡ Some i → get named n ≡ Some i) → CanAfford trade u.holding share (market_for w u (get named n))
-      by_item u there asked None low fine told = none_some NoMarket (sym fine)
-      by_item u there asked (Some i) low fine told = subst (λ o. CanAfford trade u.holding share (market_for w u o)) (sym (told i refl)) (by_market asked u there (market_for w u (Some i)) low)
+      by_item u there asked None low fine says = none_some NoMarket (sym fine)
+      by_item u there asked (Some i) low fine says = subst (λ o. CanAfford trade u.holding share (market_for w u o)) (sym (says i refl)) (by_market asked u there (market_for w u (Some i)) low)
 
   -- the pot of each region and item is at least as much as all shares that are taken out of it
   all_enough : HaveEnough drawn_pots c shares
   all_enough k q around =
       let wants = wants_by (trade_pots trade) w c os in
-      subst (λ stock. drawn (draws_item c.units named k) shares ≤ pot_by trade (limit_of w k.1 k.0) stock) (stock_is c k.0 q k.1 around)
+      subst (λ stock. drawn (draws_item c.units named k) shares ≤ market_pot trade (limit_of w k.1 k.0) stock) (stock_is c k.0 q k.1 around)
       (shares_are_enough (trade_pot trade w c k.1) (wants_for (get named) wants k.1) c k.0 (draws_item c.units named k) given (λ n share is drawing.
       let parts = and_parts _ _ drawing in
-      let told = for_item k.1 (get named n) parts.1 in
-      (sym (ap (share_for (get named) (trade_pot trade w c) wants c n) told) ∙ sym (shares_at (get named) (trade_pot trade w c) wants c n) ∙ is, parts.0)) (q, around))
+      let says = for_item k.1 (get named n) parts.1 in
+      (sym (ap (share_for (get named) (trade_pot trade w c) wants c n) says) ∙ sym (shares_at (get named) (trade_pot trade w c) wants c n) ∙ is, parts.0)) (q, around))
     where
       -- for `all_enough`: if a unit that asks for `o` passes the test for item `i`, it asks for item `i`
-      for_item : (i : ℕ) (o : Option ℕ) → is_for i o ≡ true → o ≡ Some i
+      for_item : (i : ℕ) (o : Option ℕ) → asks_for_item i o ≡ true → o ≡ Some i
       for_item i None never = cc
       for_item i (Some j) same = ap Some (eqb-true j i same)
 
@@ -593,13 +593,13 @@ stock_most w c r i world early = by_region (get c.regions r) refl
 -- a campaign `c`, then `d` with other goods of a unit, and then `e` with another stock of a region
 module _ (c d e : MarkedCampaign) (n region item stock : ℕ) (f : HoldingValue → HoldingValue) (set : ChangesHolding c d n f) (put : e.value ≡ with_stock d.value region item stock) where
   -- setting a unit's goods and then a stock keeps the books as they were
-  pub settled_books : e.value.books ≡ c.value.books
-  settled_books = ap (λ (s : CampaignValue). s.books) put ∙ ap (λ (s : CampaignValue). s.books) set.value
+  pub traded_books : e.value.books ≡ c.value.books
+  traded_books = ap (λ (s : CampaignValue). s.books) put ∙ ap (λ (s : CampaignValue). s.books) set.value
 
   -- setting a unit's goods and then a stock marks all that changes
-  pub settled_marks : MarksStock d region item stock e.marks → MarksChanges c e
-  settled_marks how = marks-trans c d e set.marks (marks_by d e _ put refl (marks-stock d region item stock e.marks how))
+  pub traded_marks : MarksStock d region item stock e.marks → MarksChanges c e
+  traded_marks how = marks-trans c d e set.marks (marks_by d e _ put refl (marks-stock d region item stock e.marks how))
 
   -- after a unit's goods and then a region's stock were set, the campaign is `c` with both set
-  pub settled_what : (u : Unit) → get c.value.units n ≡ Some u → e.value ≡ with_stock (with_holding c.value n (f u.holding)) region item stock
-  settled_what u is = put ∙ ap (λ s. with_stock s region item stock) (changed_held f c.value d.value n set.value u is ∙ sym (ap (with_holding_at c.value n (f u.holding)) is))
+  pub traded_what : (u : Unit) → get c.value.units n ≡ Some u → e.value ≡ with_stock (with_holding c.value n (f u.holding)) region item stock
+  traded_what u is = put ∙ ap (λ s. with_stock s region item stock) (changed_held f c.value d.value n set.value u is ∙ sym (ap (with_holding_at c.value n (f u.holding)) is))

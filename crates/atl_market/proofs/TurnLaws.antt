@@ -1,5 +1,5 @@
--- Laws of steps that are carried out in turn: together they keep the campaign's rules and its books balanced, if each
--- step does; and the room in the books that they need.
+-- Laws of steps that are carried out in turn, and of the room in the books that they need. Together the steps keep the
+-- campaign's rules and its books balanced, if each step does.
 use Rattle.std.proofs.Common.{◌≡◌, ◌==◌, ◌≤◌, ◌+◌, ◌*◌, ℕ, Bool, true, false, List, [], ◌∷◌, length, arith}
 use Rattle.std.specs.Prelude.{fold, if◌then◌else◌}
 use Rattle.std.proofs.Math.Nat.{suc-mul}
@@ -11,11 +11,11 @@ use Rattle.atl_records.specs.Books.{amount_number}
 use Rattle.atl_campaign.specs.Campaign.{CampaignValue}
 use Rattle.atl_phase.specs.Meaning.{BookBound, Condition, LeavesWell, both_move, most_moved, moves_only}
 use Rattle.atl_phase.specs.Bounds.{HaveRoom, moved_times}
-use Rattle.atl_phase.proofs.MeaningLaws.{IsBoundWithin, both_leave_well, room_behind, room_less, well_unchanged, well_within}
+use Rattle.atl_phase.proofs.MeaningLaws.{IsBoundWithin, both_leave_well, room_for_second, room_less, well_unchanged, well_within}
 use Rattle.atl_market.specs.Bounds.{CanInTurn}
 
--- As many steps as there may be units, each of which moves one amount by at most 999,999,999, move it by less than
--- 10^14 together.
+-- Steps that each move one amount by at most 999,999,999 move it by less than 10^14 together, if they are at most
+-- 100,000 (as many as there may be units).
 pub few_holdings : (k : ℕ) → k ≤ most_units → (a : BooksEntry) (b : Thing) (e : BooksEntry) (t : Thing) → moved_times k (moves_only holding_limit a b) e t ≤ moves_only most_moved a b e t
 few_holdings k few a b e t = by_test (amount_number e t == amount_number a b)
   where
@@ -25,26 +25,26 @@ few_holdings k few a b e t = by_test (amount_number e t == amount_number a b)
     by_test false = omega (arith, few)
 
 -- the bounds on one step and on the steps after it are together at most the bound on all steps
-pub one_more : {B : Type 0} (moving : BookBound) (x : B) (xs : List B) → IsBoundWithin (both_move moving (moved_times (length xs) moving)) (moved_times (length (x ∷ xs)) moving)
-one_more moving x xs e t = let one : length (x ∷ xs) * moving e t ≡ length xs * moving e t + moving e t = suc-mul (length xs) (moving e t) in omega arith
+pub one_more : {B : Type 0} (book_bound : BookBound) (x : B) (xs : List B) → IsBoundWithin (both_move book_bound (moved_times (length xs) book_bound)) (moved_times (length (x ∷ xs)) book_bound)
+one_more book_bound x xs e t = let one : length (x ∷ xs) * book_bound e t ≡ length xs * book_bound e t + book_bound e t = suc-mul (length xs) (book_bound e t) in omega arith
 
 -- books with room for all steps together have room for the first step
-pub first_room : {B : Type 0} (moving : BookBound) (c : CampaignValue) (x : B) (xs : List B) → HaveRoom (moved_times (length (x ∷ xs)) moving) c → HaveRoom moving c
-first_room moving c x xs room = room_less moving (moved_times (length (x ∷ xs)) moving) c (λ e t. omega (arith, one_more moving x xs e t)) room
+pub first_room : {B : Type 0} (book_bound : BookBound) (c : CampaignValue) (x : B) (xs : List B) → HaveRoom (moved_times (length (x ∷ xs)) book_bound) c → HaveRoom book_bound c
+first_room book_bound c x xs room = room_less book_bound (moved_times (length (x ∷ xs)) book_bound) c (λ e t. omega (arith, one_more book_bound x xs e t)) room
 
 -- after the first step, which moved the books within its bound, the books have room for the later steps
-pub later_room : {B : Type 0} {leaves : Condition} (moving : BookBound) (w : WorldValue) (c d : CampaignValue) (x : B) (xs : List B)
-    → LeavesWell leaves moving w c d → HaveRoom (moved_times (length (x ∷ xs)) moving) c → HaveRoom (moved_times (length xs) moving) d
-later_room moving w c d x xs well room =
-    room_behind moving (moved_times (length xs) moving) w c d well
-    (room_less (both_move moving (moved_times (length xs) moving)) (moved_times (length (x ∷ xs)) moving) c (one_more moving x xs) room)
+pub later_room : {B : Type 0} {leaves : Condition} (book_bound : BookBound) (w : WorldValue) (c d : CampaignValue) (x : B) (xs : List B)
+    → LeavesWell leaves book_bound w c d → HaveRoom (moved_times (length (x ∷ xs)) book_bound) c → HaveRoom (moved_times (length xs) book_bound) d
+later_room book_bound w c d x xs well room =
+    room_for_second book_bound (moved_times (length xs) book_bound) w c d well
+    (room_less (both_move book_bound (moved_times (length xs) book_bound)) (moved_times (length (x ∷ xs)) book_bound) c (one_more book_bound x xs) room)
 
-module _ {A : Type 0} {leaves : Condition} (moving : BookBound) (w : WorldValue) (can : CampaignValue → A → Type 0) (step : CampaignValue → A → CampaignValue) (each : (c : CampaignValue) (x : A) → can c x → LeavesWell leaves moving w c (step c x)) where
+module _ {A : Type 0} {leaves : Condition} (book_bound : BookBound) (w : WorldValue) (can : CampaignValue → A → Type 0) (step : CampaignValue → A → CampaignValue) (each : (c : CampaignValue) (x : A) → can c x → LeavesWell leaves book_bound w c (step c x)) where
   -- steps that can be taken in turn (`CanInTurn`) keep a campaign's rules and its books balanced, within the sum of
   -- their bounds, if each step does
-  pub turns_leave_well : (c : CampaignValue) (xs : List A) → leaves w c → CanInTurn can step c xs → LeavesWell leaves (moved_times (length xs) moving) w c (fold step c xs)
-  turns_leave_well c [] h turns = well_unchanged (moved_times 0 moving) w c h
+  pub turns_leave_well : (c : CampaignValue) (xs : List A) → leaves w c → CanInTurn can step c xs → LeavesWell leaves (moved_times (length xs) book_bound) w c (fold step c xs)
+  turns_leave_well c [] h turns = well_unchanged (moved_times 0 book_bound) w c h
   turns_leave_well c (x ∷ xs) h turns =
       let one = each c x turns.0 in
-      well_within (both_move moving (moved_times (length xs) moving)) (moved_times (length (x ∷ xs)) moving) w c (fold step (step c x) xs) (one_more moving x xs)
-      (both_leave_well moving (moved_times (length xs) moving) w c (step c x) (fold step (step c x) xs) one (turns_leave_well (step c x) xs one.leaves_it turns.1))
+      well_within (both_move book_bound (moved_times (length xs) book_bound)) (moved_times (length (x ∷ xs)) book_bound) w c (fold step (step c x) xs) (one_more book_bound x xs)
+      (both_leave_well book_bound (moved_times (length xs) book_bound) w c (step c x) (fold step (step c x) xs) one (turns_leave_well (step c x) xs one.leaves_it turns.1))

@@ -18,25 +18,25 @@ use Rattle.atl_campaign.specs.Owners.{with_place}
 use Rattle.atl_campaign.specs.Campaign.{CampaignValue, with_booking, with_item}
 use Rattle.atl_campaign.proofs.RegionLaws.{changed-known}
 use Rattle.atl_phase.proofs.PhaseSpecLaws.{PhaseLeavesUnmailed}
-use Rattle.atl_phase.proofs.UnmailedLaws.{HaveTheirMen, OthersHaveMen, SparesMen, carried_leaves, items_of_no_worse, men_put, men_same, men_stay, men_twice, men_unless, others_men, own_faction, place_men, unmailed_spared}
+use Rattle.atl_phase.proofs.UnmailedLaws.{HaveTheirMen, OthersHaveMen, LeavesOthersMen, carried_leaves, items_of_no_worse, men_put, men_same, men_stay, men_twice, men_unless, others_men, own_faction, place_men, unmailed_keep_items}
 use Rattle.atl_market.specs.Build.{after_building_on, after_start, begin, begin_fault, build_effect, build_spec, build_step, go_on, go_on_at, inside_fault, is_building, outside_fault, size_added, with_kind, with_new_structure}
 use Rattle.atl_market.specs.Goods.{with_made, with_used}
 use Rattle.atl_market.specs.Produce as produce
 use Rattle.atl_market.proofs.ThereLaws.{by_option, by_unit}
-use Rattle.atl_market.proofs.UnmailedPotLaws.{ordered_for, others_items, paid_men, shared_leave}
+use Rattle.atl_market.proofs.UnmailedPotLaws.{orders_with_verbs, others_items, paid_men, shared_leave}
 
 -- ---- what a unit uses
 
 -- a unit with `amount` of an item
-abbrev item_set : (item amount : ℕ) → Unit → Unit
-item_set i amount u = record u { holding = record u.holding { items = with_amount_of u.holding.items i amount } }
+abbrev with_item_amount : (item amount : ℕ) → Unit → Unit
+with_item_amount i amount u = record u { holding = record u.holding { items = with_amount_of u.holding.items i amount } }
 
 -- using an item leaves all units their men
 used_men : (c : CampaignValue) (n i amount : ℕ) → HaveTheirMen c (with_used c n i amount)
 used_men c n i amount =
     by_unit c n (HaveTheirMen c) _ (men_stay c) (λ u is.
     let left = amount_of u.holding.items i - amount in
-    men_put c (with_booking (with_item c n i left) Used (Item i) (neg_ℤ (pos amount))) n u (item_set i left u) is (record { faction = refl; men = refl }) (changed-known (item_set i left) c.units n u is))
+    men_put c (with_booking (with_item c n i left) Used (Item i) (neg_ℤ (pos amount))) n u (with_item_amount i left u) is (record { faction = refl; men = refl }) (changed-known (with_item_amount i left) c.units n u is))
 
 -- ---- BUILD
 
@@ -73,23 +73,23 @@ go_on_men w c n u = by_structure (get c.structures u.structure)
     by_structure (Some s) = by_kind s (slice_get w.kinds s.kind)
 
 -- an order of BUILD leaves units of other factions than the order's their men
-built_men : (w : WorldValue) (c : CampaignValue) (f n : ℕ) (x : Unit) (s : OperandsValue) → IfSome (build_effect w n s) (λ deed. OthersHaveMen f c (deed c x).0)
+built_men : (w : WorldValue) (c : CampaignValue) (f n : ℕ) (x : Unit) (s : OperandsValue) → IfSome (build_effect w n s) (λ effect. OthersHaveMen f c (effect c x).0)
 built_men w c f n x (operands.Kind (Some kind)) = by_kind (slice_get w.kinds kind)
   where
     -- `BUILD kind` leaves units of other factions than the order's their men, whether the world has the kind or not
-    by_kind : (o : Option Kind) → IfSome (option_map (begin w n kind) o) (λ deed. OthersHaveMen f c (deed c x).0)
+    by_kind : (o : Option Kind) → IfSome (option_map (begin w n kind) o) (λ effect. OthersHaveMen f c (effect c x).0)
     by_kind None = tt
     by_kind (Some k) = others_men f c (begin w n kind k c x).0 (begin_men w c n kind k x)
 built_men w c f n x (operands.Kind None) = others_men f c (go_on w n c x).0 (go_on_men w c n x)
 built_men w c f n x other = tt
 
 -- each step of BUILD leaves units of other factions than the order's their men
-build_spares : SparesMen build_step
-build_spares w a c t x own = built_men w c t.faction t.unit x t.order_value.operands
+build_leaves_men : LeavesOthersMen build_step
+build_leaves_men w a c t x own = built_men w c t.faction t.unit x t.order_value.operands
 
 -- the phase BUILD leaves units of factions without a mailing their men and items (`LeavesUnmailed`)
 pub build_leaves : PhaseLeavesUnmailed build_spec
-build_leaves = carried_leaves build_step is_building build_spares (unmailed_spared is_building own_faction items_of_no_worse)
+build_leaves = carried_leaves build_step is_building build_leaves_men (unmailed_keep_items is_building own_faction items_of_no_worse)
 
 -- ---- PRODUCE
 
@@ -98,13 +98,13 @@ made_men : (c : CampaignValue) (n i amount : ℕ) → HaveTheirMen c (with_made 
 made_men c n i amount =
     by_unit c n (HaveTheirMen c) _ (men_stay c) (λ u is.
     let more = amount_of u.holding.items i + amount in
-    men_put c (with_booking (with_item c n i more) Made (Item i) (pos amount)) n u (item_set i more u) is (record { faction = refl; men = refl }) (changed-known (item_set i more) c.units n u is))
+    men_put c (with_booking (with_item c n i more) Made (Item i) (pos amount)) n u (with_item_amount i more u) is (record { faction = refl; men = refl }) (changed-known (with_item_amount i more) c.units n u is))
 
 -- the production of one unit leaves all units their men
 produced_men : (asked : FinMap nat_cmp ℕ) (w : WorldValue) (c : CampaignValue) (e : ℕ × ℕ) → HaveTheirMen c (produce.after_production asked w c e)
 unfolding produce.after_production
 produced_men asked w c e =
-    by_option (HaveTheirMen c) _ (get asked e.0) c (men_stay c) (λ i told.
+    by_option (HaveTheirMen c) _ (get asked e.0) c (men_stay c) (λ i says.
     by_option (HaveTheirMen c) _ (slice_get w.items i) c (men_stay c) (λ x is.
     let used = produce.with_raw_used c e.0 (e.1 * x.raw_count) x.raw in
     men_twice c used (with_made used e.0 i e.1)
@@ -114,6 +114,6 @@ produced_men asked w c e =
 -- the phase PRODUCE leaves units of factions without a mailing their men and items (`LeavesUnmailed`)
 pub produce_leaves : PhaseLeavesUnmailed produce.produce_spec
 produce_leaves =
-    shared_leave produce.produce_pots (ordered_for produce.is_produce)
-    (paid_men produce.produce_pots (ordered_for produce.is_produce) (λ w items. produced_men items w))
+    shared_leave produce.produce_pots (orders_with_verbs produce.is_produce)
+    (paid_men produce.produce_pots (orders_with_verbs produce.is_produce) (λ w items. produced_men items w))
     (λ w c d m. others_items produce.is_produce m c d)

@@ -28,9 +28,9 @@ use Rattle.atl_market.specs.Tax.{after_tax, is_tax, tax_pots, tax_spec}
 use Rattle.atl_market.specs.Trade.{buy_spec, is_trade, sell_spec, trade_keeps, trade_meaning, trade_pots}
 use Rattle.atl_market.specs.declared.trade.Trade.{Trade}
 use Rattle.atl_market.specs.declared.trade.Trade.TheVariants.{Buy, Sell}
-use Rattle.atl_market.specs.Unordered.{OthersAreNoWorse, is_ordered}
+use Rattle.atl_market.specs.Unordered.{OthersAreNoWorse, has_own_order}
 use Rattle.atl_market.specs.Work.{after_work, wages_for, work_orders, work_pots, work_spec}
-use Rattle.atl_market.proofs.UnorderedLaws.{unordered_stays}
+use Rattle.atl_market.proofs.UnorderedLaws.{without_order_stays}
 use Rattle.atl_market.proofs.PotLaws.{pots_give}
 use Rattle.atl_market.proofs.RecruitLaws.{recruited_others}
 use Rattle.atl_market.proofs.ThereLaws.{by_region, by_unit}
@@ -39,8 +39,8 @@ use Rattle.atl_market.proofs.TradeLaws.{traded_others, trades_give}
 -- ---- all phases with pots
 
 -- the orders of a month whose verbs pass the test `is_of`, whatever the campaign is
-abbrev pub ordered_for : (Verb → Bool) → CampaignValue → MonthValue → List Task
-ordered_for is_of c = orders_by_unit is_of
+abbrev pub orders_with_verbs : (Verb → Bool) → CampaignValue → MonthValue → List Task
+orders_with_verbs is_of c = orders_by_unit is_of
 
 module _ (p : PotMeaning) (w : WorldValue) (c : CampaignValue) where
   -- the events of a phase with pots report no men of unit `n` who starved
@@ -83,9 +83,10 @@ module _ (p : PotMeaning) (orders : CampaignValue → MonthValue → List Task) 
   unfolding after_sharing
   paid_men paid w c m n u there none = let items = items_by p w c (orders c m) in men_in_turn (p.paid items w) (paid w items) c (entries (given_by p w c (orders c m))) n u there
 
--- a phase after which no unit is worse off keeps the items of units of a faction without a mailing
+-- units of factions without a mailing keep their names and items (`HasItsItems`) in a phase after which no unit is
+-- worse off
 pub none_worse : (w : WorldValue) (c d : CampaignValue) (m : MonthValue) → AreNoWorse c d → UnmailedAre HasItsItems m c d
-none_worse w c d m h n u there none = let (v, behind, better) = h n u there in record { unit = v; there = behind; spared = items_of_no_worse u v better }
+none_worse w c d m h n u there none = let (v, after, better) = h n u there in record { unit = v; there = after; is_unaffected = items_of_no_worse u v better }
 
 -- ---- TAX
 
@@ -100,7 +101,7 @@ tax_men w c e =
 
 -- the phase TAX leaves units of factions without a mailing their men and items (`LeavesUnmailed`)
 pub tax_leaves : PhaseLeavesUnmailed tax_spec
-tax_leaves = shared_leave tax_pots (ordered_for is_tax) (paid_men tax_pots (ordered_for is_tax) (λ w items. tax_men w)) none_worse
+tax_leaves = shared_leave tax_pots (orders_with_verbs is_tax) (paid_men tax_pots (orders_with_verbs is_tax) (λ w items. tax_men w)) none_worse
 
 -- ---- WORK
 
@@ -119,7 +120,7 @@ work_leaves = shared_leave work_pots work_orders (paid_men work_pots work_orders
 
 -- ---- RECRUIT
 
--- among orders of which none is of faction `f`, none is for unit `n` and of faction `f`
+-- no order of a list is for unit `n` and from faction `f`, if none of the list is from faction `f`
 none_listed : (n f : ℕ) (ts : List Task) → AllByRecursion (λ t. t.faction ≢ f) ts → list_any (λ o. o.unit == n && o.faction == f) ts ≡ false
 none_listed n f [] h = refl
 none_listed n f (t ∷ ts) h = neither (t.unit == n) (t.faction == f) _ (other_number t.faction f h.0) (none_listed n f ts h.1)
@@ -131,7 +132,7 @@ none_listed n f (t ∷ ts) h = neither (t.unit == n) (t.faction == f) _ (other_n
 
 module _ (is_of : Verb → Bool) (m : MonthValue) where
   -- a unit of a faction that sent no mailing has no order of its own faction
-  pub unordered : (n : ℕ) (u : Unit) → get m.readings u.faction ≡ None → is_ordered (orders_by_unit is_of m) n u ≡ false
+  pub unordered : (n : ℕ) (u : Unit) → get m.readings u.faction ≡ None → has_own_order (orders_by_unit is_of m) n u ≡ false
   unordered n u none =
       let ts = orders_by_unit is_of m in
       none_listed n u.faction ts (recursion_from_All (λ t. t.faction ≢ u.faction) ts (none_ordered is_of ByUnit m u.faction none))
@@ -139,17 +140,17 @@ module _ (is_of : Verb → Bool) (m : MonthValue) where
   -- if units without an order of their own faction are no worse off, units of factions without a mailing keep their
   -- items
   pub others_items : (c d : CampaignValue) → OthersAreNoWorse (orders_by_unit is_of m) c d → UnmailedAre HasItsItems m c d
-  others_items c d h n u there none = let (v, behind, better) = h n u there (unordered n u none) in record { unit = v; there = behind; spared = items_of_no_worse u v better }
+  others_items c d h n u there none = let (v, after, better) = h n u there (unordered n u none) in record { unit = v; there = after; is_unaffected = items_of_no_worse u v better }
 
 -- the phase RECRUIT leaves units of factions without a mailing their men and items (`LeavesUnmailed`)
 pub recruit_leaves : PhaseLeavesUnmailed recruit_spec
 recruit_leaves =
-    shared_leave recruit_pots (ordered_for is_recruit)
+    shared_leave recruit_pots (orders_with_verbs is_recruit)
     (λ w c m n u there none.
     record {
       unit = u;
-      there = unordered_stays recruit_pots w (λ items. recruited_others w) c (λ items. pots_give (recruits_at w c) c) (ordered_for is_recruit c m) n u there (unordered is_recruit m n u none) ∙ there;
-      spared = record { faction = refl; men = refl };
+      there = without_order_stays recruit_pots w (λ items. recruited_others w) c (λ items. pots_give (recruits_at w c) c) (orders_with_verbs is_recruit c m) n u there (unordered is_recruit m n u none) ∙ there;
+      is_unaffected = record { faction = refl; men = refl };
     })
     (λ w c d m. others_items is_recruit m c d)
 
@@ -159,12 +160,12 @@ module _ (trade : Trade) where
   -- SELL or BUY leaves units of factions without a mailing their men and items (`LeavesUnmailed`)
   trade_leaves : LeavesUnmailed (trade_meaning trade) (trade_keeps trade)
   trade_leaves =
-      shared_leave (trade_pots trade) (ordered_for (is_trade trade))
+      shared_leave (trade_pots trade) (orders_with_verbs (is_trade trade))
       (λ w c m n u there none.
       record {
         unit = u;
-        there = unordered_stays (trade_pots trade) w (λ items. traded_others trade items w) c (trades_give trade w c) (ordered_for (is_trade trade) c m) n u there (unordered (is_trade trade) m n u none) ∙ there;
-        spared = record { faction = refl; men = refl };
+        there = without_order_stays (trade_pots trade) w (λ items. traded_others trade items w) c (trades_give trade w c) (orders_with_verbs (is_trade trade) c m) n u there (unordered (is_trade trade) m n u none) ∙ there;
+        is_unaffected = record { faction = refl; men = refl };
       })
       (λ w c d m. others_items (is_trade trade) m c d)
 

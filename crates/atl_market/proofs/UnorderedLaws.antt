@@ -15,13 +15,13 @@ use Rattle.atl_records.proofs.EveryLaws.{each-from_every, get-insert_other, none
 use Rattle.atl_phase.specs.PhaseOrders.{Task}
 use Rattle.atl_phase.proofs.NoWorseLaws.{no_worse}
 use Rattle.atl_market.specs.PotPhase.{PotMeaning, after_sharing, given_by, items_by, unit_for, want_by, wants_by}
-use Rattle.atl_market.specs.Puts.{with_any, with_each}
-use Rattle.atl_market.specs.Unordered.{OthersAreNoWorse, is_ordered}
+use Rattle.atl_market.specs.Puts.{with_entry_if_some, with_entries}
+use Rattle.atl_market.specs.Unordered.{OthersAreNoWorse, has_own_order}
 use Rattle.atl_market.proofs.DrawLaws.{all_pairs}
 use Rattle.atl_market.proofs.PotLaws.{put_in_turn}
-use Rattle.atl_market.proofs.WantLaws.{GivesToWants, any_then, carries_out}
+use Rattle.atl_market.proofs.WantLaws.{GivesToWants, optional_entry_first, carries_out}
 
--- for `unwanted`: if the disjunction of two tests is false, both are false
+-- for `unwanted`: two tests are both false, if their disjunction is false
 neither : (a b : Bool) → (a || b) ≡ false → (a ≡ false) × (b ≡ false)
 neither true b h = absurd (false≢true (sym h))
 neither false b h = (refl, h)
@@ -43,7 +43,7 @@ module _ (p : PotMeaning) (w : WorldValue) (c : CampaignValue) (n : ℕ) (u : Un
       clash a b f g same one none = grind (arith, nat_tests)
 
   -- an order that isn't for unit `n`, or isn't from its own faction, gives the unit no want
-  unwanted_by : (m : FinMap nat_cmp ℕ) (o : Task) (r : Result Unit EventFault) → unit_for p w c o ≡ r → own o ≡ false → get (with_any m (option_map (λ v. (o.unit, p.want w v o)) (result_ok r))) n ≡ get m n
+  unwanted_by : (m : FinMap nat_cmp ℕ) (o : Task) (r : Result Unit EventFault) → unit_for p w c o ≡ r → own o ≡ false → get (with_entry_if_some m (option_map (λ v. (o.unit, p.want w v o)) (result_ok r))) n ≡ get m n
   unwanted_by m o (Err f) is none = refl
   unwanted_by m o (Ok v) is none =
       let of = carries_out p w c o v is in
@@ -53,16 +53,16 @@ module _ (p : PotMeaning) (w : WorldValue) (c : CampaignValue) (n : ℕ) (u : Un
       no_order o (sym same) (subst (λ (x : Unit). (x.faction == o.faction) ≡ true) unit of.own) none)
 
   -- orders of which none is for unit `n` and from its own faction give the unit no want
-  unwanted : (m : FinMap nat_cmp ℕ) (os : List Task) → is_ordered os n u ≡ false → get (with_each m (filter_map (want_by p w c) os)) n ≡ get m n
+  unwanted : (m : FinMap nat_cmp ℕ) (os : List Task) → has_own_order os n u ≡ false → get (with_entries m (filter_map (want_by p w c) os)) n ≡ get m n
   unwanted m [] none = refl
   unwanted m (o ∷ os) none =
       let (first, rest) = neither _ _ none in
-      ap (λ (k : FinMap nat_cmp ℕ). get k n) (any_then m (want_by p w c o) (filter_map (want_by p w c) os))
-      ∙ unwanted (with_any m (want_by p w c o)) os rest
+      ap (λ (k : FinMap nat_cmp ℕ). get k n) (optional_entry_first m (want_by p w c o) (filter_map (want_by p w c) os))
+      ∙ unwanted (with_entry_if_some m (want_by p w c o)) os rest
       ∙ unwanted_by m o (unit_for p w c o) refl first
 
   -- a unit without an order of its own faction gets nothing, if the phase gives only to units with a want
-  not_given : GivesToWants p w c → (os : List Task) → is_ordered os n u ≡ false → (share : ℕ) → get (given_by p w c os) n ≡ Some share → ⊥
+  not_given : GivesToWants p w c → (os : List Task) → has_own_order os n u ≡ false → (share : ℕ) → get (given_by p w c os) n ≡ Some share → ⊥
   not_given gives os none share is =
       let (want, wanted, low) = gives (items_by p w c os) (wants_by p w c os) n share is in
       none_some want (sym (get-empty nat_cmp n) ∙ sym (unwanted empty os none) ∙ ap (λ (m : FinMap nat_cmp ℕ). get m n) (put_in_turn (filter_map (want_by p w c) os)) ∙ wanted)
@@ -75,18 +75,18 @@ module _ (step : CampaignValue → ℕ × ℕ → CampaignValue) (others : (c : 
   passed_over c [] n apart = refl
   passed_over c (e ∷ es) n apart = passed_over (step c e) es n apart.1 ∙ others c e n apart.0
 
--- Where payments go only to units with a want, and each changes only its own unit, a phase with pots leaves a unit
--- without an order of its own faction as it was.
-pub unordered_stays : (p : PotMeaning) (w : WorldValue) → ((items : FinMap nat_cmp ℕ) (c : CampaignValue) (e : ℕ × ℕ) (k : ℕ) → k ≢ e.0 → get (p.paid items w c e).units k ≡ get c.units k)
-    → (c : CampaignValue) → GivesToWants p w c → (os : List Task) (n : ℕ) (u : Unit) → get c.units n ≡ Some u → is_ordered os n u ≡ false → get (after_sharing p w c os).units n ≡ get c.units n
+-- A phase with pots leaves a unit without an order of its own faction as it was. This supposes that payments go only to
+-- units with a want, and that each changes its own unit alone.
+pub without_order_stays : (p : PotMeaning) (w : WorldValue) → ((items : FinMap nat_cmp ℕ) (c : CampaignValue) (e : ℕ × ℕ) (k : ℕ) → k ≢ e.0 → get (p.paid items w c e).units k ≡ get c.units k)
+    → (c : CampaignValue) → GivesToWants p w c → (os : List Task) (n : ℕ) (u : Unit) → get c.units n ≡ Some u → has_own_order os n u ≡ false → get (after_sharing p w c os).units n ≡ get c.units n
 unfolding after_sharing
-unordered_stays p w others c gives os n u there none =
+without_order_stays p w others c gives os n u there none =
     let given = given_by p w c os in
     let apart = each-from_every (λ k share. n ≢ k) given (λ k share is same. not_given p w c n u there gives os none share (ap (get given) same ∙ is)) in
     passed_over (p.paid (items_by p w c os) w) (others (items_by p w c os)) c (entries given) n (all_pairs (λ e. n ≢ e.0) (entries given) apart)
 
--- Where payments go only to units with a want, and each changes only its own unit, a phase with pots leaves units
--- without an order of their own faction no worse off.
+-- A phase with pots leaves units without an order of their own faction no worse off. This supposes that payments go
+-- only to units with a want, and that each changes its own unit alone.
 pub others_no_worse : (p : PotMeaning) (w : WorldValue) → ((items : FinMap nat_cmp ℕ) (c : CampaignValue) (e : ℕ × ℕ) (k : ℕ) → k ≢ e.0 → get (p.paid items w c e).units k ≡ get c.units k)
     → (c : CampaignValue) → GivesToWants p w c → (os : List Task) → OthersAreNoWorse os c (after_sharing p w c os)
-others_no_worse p w others c gives os n u there none = (u, unordered_stays p w others c gives os n u there none ∙ there, no_worse u)
+others_no_worse p w others c gives os n u there none = (u, without_order_stays p w others c gives os n u there none ∙ there, no_worse u)

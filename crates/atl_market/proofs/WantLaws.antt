@@ -31,7 +31,7 @@ use Rattle.atl_phase.proofs.MapOfListLaws.{find_is}
 use Rattle.atl_market.proofs.PotLaws.{put_in_turn}
 use Rattle.atl_market.specs.PotPhase.{PotMeaning, given_by, item_by, item_in, items_by, unit_for, want_by, wants_by}
 use Rattle.atl_market.specs.Pots.{AreWants}
-use Rattle.atl_market.specs.Puts.{with_any, with_each}
+use Rattle.atl_market.specs.Puts.{with_entry_if_some, with_entries}
 
 -- a phase gives only to units with a want, and to none more than it wants
 abbrev pub GivesToWants : PotMeaning → WorldValue → CampaignValue → Type 0
@@ -40,20 +40,21 @@ GivesToWants p w c =
     → (want : ℕ) × (get wants n ≡ Some want) × (share ≤ want)
 
 -- putting two lists of entries into a map, one after the other, is putting in the first list and then the second
-pub appended_entries : {V : Type 0} (m : FinMap nat_cmp V) (es fs : List (ℕ × V)) → with_each m (es ++ fs) ≡ with_each (with_each m es) fs
+pub appended_entries : {V : Type 0} (m : FinMap nat_cmp V) (es fs : List (ℕ × V)) → with_entries m (es ++ fs) ≡ with_entries (with_entries m es) fs
 appended_entries m es fs = fold-append (λ so_far entry. insert so_far entry.0 entry.1) m es fs
 
--- putting in an optional entry ahead of others is putting in the entry, if there is one, and then the others
-pub any_then : {V : Type 0} (m : FinMap nat_cmp V) (o : Option (ℕ × V)) (es : List (ℕ × V)) → with_each m (cons_option o es) ≡ with_each (with_any m o) es
-any_then m None es = refl
-any_then m (Some e) es = refl
+-- putting a list of entries with an optional entry in front into a map is putting in that entry, if it is there, and
+-- then the list
+pub optional_entry_first : {V : Type 0} (m : FinMap nat_cmp V) (o : Option (ℕ × V)) (es : List (ℕ × V)) → with_entries m (cons_option o es) ≡ with_entries (with_entry_if_some m o) es
+optional_entry_first m None es = refl
+optional_entry_first m (Some e) es = refl
 
 -- what holds of all entries of a map and of a list holds of all entries of the map into which the list is put
-pub every-with_each : (P : ℕ → ℕ → Type 0) (m : FinMap nat_cmp ℕ) (es : List (ℕ × ℕ)) → AllByRecursion (λ e. P e.0 e.1) es → Every P m → Every P (with_each m es)
+pub every-with_each : (P : ℕ → ℕ → Type 0) (m : FinMap nat_cmp ℕ) (es : List (ℕ × ℕ)) → AllByRecursion (λ e. P e.0 e.1) es → Every P m → Every P (with_entries m es)
 every-with_each P m [] each old = old
 every-with_each P m (e ∷ es) each old = every-with_each P (insert m e.0 e.1) es each.1 (every-insert P m e.0 e.1 each.0 old)
 
--- if each want in a map is at most 999,999,999 (`AreWants`), this holds also after a want of at most that is put in
+-- each want in a map is still at most 999,999,999 (`AreWants`) after one more such want is put in
 pub one_want : (m : FinMap nat_cmp ℕ) (n want : ℕ) → want ≤ most_amount → AreWants m → AreWants (insert m n want)
 one_want m n want low old = every-insert (λ number want. want ≤ most_amount) m n want low old
 
@@ -123,17 +124,17 @@ module _ (p : PotMeaning) (w : WorldValue) (c : CampaignValue) where
     named s = option_map (λ i. (t.unit, i)) s
 
     -- with the item of an order put into `items`, its unit has there the item that the order names
-    item_put : (s : Option ℕ) (i : ℕ) → s ≡ Some i → get (with_any items (named s)) t.unit ≡ Some i
-    item_put s i is = ap (λ o. get (with_any items (named o)) t.unit) is ∙ get-insert_same items t.unit i
+    item_put : (s : Option ℕ) (i : ℕ) → s ≡ Some i → get (with_entry_if_some items (named s)) t.unit ≡ Some i
+    item_put s i is = ap (λ o. get (with_entry_if_some items (named o)) t.unit) is ∙ get-insert_same items t.unit i
 
     -- putting the item of an order into `items` changes nothing under the numbers of other units
-    item_elsewhere : (s : Option ℕ) (n : ℕ) → n ≢ t.unit → get (with_any items (named s)) n ≡ get items n
+    item_elsewhere : (s : Option ℕ) (n : ℕ) → n ≢ t.unit → get (with_entry_if_some items (named s)) n ≡ get items n
     item_elsewhere None n apart = refl
     item_elsewhere (Some i) n apart = get-insert_other items t.unit n i apart
 
     -- if each want in map `m` is of an order without a fault (`IsWanted`), so is each once order `t` put its want and
     -- item into the maps
-    wanted_by : (r : Result Unit EventFault) → unit_for p w c t ≡ r → Every (IsWanted items) m → Every (IsWanted (with_any items (cond (is_ok r) (named (item_in t.order_value.operands)) None))) (with_any m (wanting r))
+    wanted_by : (r : Result Unit EventFault) → unit_for p w c t ≡ r → Every (IsWanted items) m → Every (IsWanted (with_entry_if_some items (cond (is_ok r) (named (item_in t.order_value.operands)) None))) (with_entry_if_some m (wanting r))
     wanted_by (Err f) is old = old
     wanted_by (Ok u) is old = λ n want there. elim (cases_eq n t.unit) [
       | inl same ↦
@@ -145,7 +146,7 @@ module _ (p : PotMeaning) (w : WorldValue) (c : CampaignValue) where
             sym same,
             sym (same_Some _ _ mine),
             of.no_fault,
-            λ i is_i. ap (get (with_any items (named (item_in t.order_value.operands)))) same ∙ item_put (item_in t.order_value.operands) i is_i,
+            λ i is_i. ap (get (with_entry_if_some items (named (item_in t.order_value.operands)))) same ∙ item_put (item_in t.order_value.operands) i is_i,
           )
       | inr apart ↦
           let (v, o, here, own, wanted, fine, names) = old n want (sym (get-insert_other m t.unit n (p.want w u t) apart) ∙ there) in
@@ -154,18 +155,18 @@ module _ (p : PotMeaning) (w : WorldValue) (c : CampaignValue) where
 
   -- if each want in map `m` is of an order without a fault (`IsWanted`), so is each once the orders `ts` put their
   -- wants and items into the maps
-  all_wanted : (m items : FinMap nat_cmp ℕ) (ts : List Task) → Every (IsWanted items) m → Every (IsWanted (with_each items (filter_map (item_by p w c) ts))) (with_each m (filter_map (want_by p w c) ts))
+  all_wanted : (m items : FinMap nat_cmp ℕ) (ts : List Task) → Every (IsWanted items) m → Every (IsWanted (with_entries items (filter_map (item_by p w c) ts))) (with_entries m (filter_map (want_by p w c) ts))
   all_wanted m items [] old = old
   all_wanted m items (t ∷ ts) old =
-      subst (λ k. Every (IsWanted k) (with_each m (filter_map (want_by p w c) (t ∷ ts)))) (sym (any_then items (item_by p w c t) (filter_map (item_by p w c) ts)))
-      (subst (Every (IsWanted (with_each (with_any items (item_by p w c t)) (filter_map (item_by p w c) ts)))) (sym (any_then m (want_by p w c t) (filter_map (want_by p w c) ts)))
-      (all_wanted (with_any m (want_by p w c t)) (with_any items (item_by p w c t)) ts (wanted_by m items t (unit_for p w c t) refl old)))
+      subst (λ k. Every (IsWanted k) (with_entries m (filter_map (want_by p w c) (t ∷ ts)))) (sym (optional_entry_first items (item_by p w c t) (filter_map (item_by p w c) ts)))
+      (subst (Every (IsWanted (with_entries (with_entry_if_some items (item_by p w c t)) (filter_map (item_by p w c) ts)))) (sym (optional_entry_first m (want_by p w c t) (filter_map (want_by p w c) ts)))
+      (all_wanted (with_entry_if_some m (want_by p w c t)) (with_entry_if_some items (item_by p w c t)) ts (wanted_by m items t (unit_for p w c t) refl old)))
 
   -- each want that a phase reads from its orders is that of some order without a fault
   wants_are_wanted : (ts : List Task) → Every (IsWanted (items_by p w c ts)) (wants_by p w c ts)
   wants_are_wanted ts =
       subst (Every (IsWanted (items_by p w c ts))) (put_in_turn (filter_map (want_by p w c) ts))
-      (subst (λ k. Every (IsWanted k) (with_each empty (filter_map (want_by p w c) ts))) (put_in_turn (filter_map (item_by p w c) ts)) (all_wanted empty empty ts (every-empty (IsWanted empty))))
+      (subst (λ k. Every (IsWanted k) (with_entries empty (filter_map (want_by p w c) ts))) (put_in_turn (filter_map (item_by p w c) ts)) (all_wanted empty empty ts (every-empty (IsWanted empty))))
 
   module _ (gives : GivesToWants p w c) where
     -- each unit gets at most what it wants by some order without a fault, and its item is the one that the order names

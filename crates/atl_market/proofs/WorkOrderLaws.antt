@@ -12,14 +12,14 @@ use Rattle.std.specs.FinMap.{FinMap, IsAntisymmetric, empty, entries, entries-in
 use Rattle.std.specs.FinMap.Entries.{below_all, by_order}
 use Rattle.std.proofs.lemmas.Bool.{and_parts, cases_eq, false_from_ne_true, false≢true, not-true}
 use Rattle.std.proofs.lemmas.Bool.Decides.{nat_tests}
-use Rattle.atl_world.proofs.GeneralLaws.{equal_turned}
+use Rattle.atl_world.proofs.GeneralLaws.{equality_is_symmetric}
 use Rattle.atl_records.specs.Every.{EachEntry}
 use Rattle.atl_campaign.specs.Campaign.{CampaignValue}
 use Rattle.atl_records.specs.declared.records.Unit.{Unit}
 use Rattle.atl_campaign.proofs.ReadBackLaws.{append_apart, append_each, entries_rise, flat_apart}
 use Rattle.atl_campaign.proofs.GroupLaws.{filter_apart, filter_each}
 use Rattle.atl_records.proofs.EveryLaws.{each-from_every, get-insert_other, other_number, same_number}
-use Rattle.atl_campaign.proofs.MapOfRowsLaws.{each_so}
+use Rattle.atl_campaign.proofs.MapOfRowsLaws.{each_follows}
 use Rattle.atl_phase.specs.Month.{MonthValue}
 use Rattle.atl_phase.specs.PhaseOrders.{Task, is_month_long, key_of, orders_by_unit, task_of}
 use Rattle.atl_phase.specs.declared.phase_order.Arrangement.TheVariants.{ByUnit}
@@ -27,11 +27,11 @@ use Rattle.atl_phase.specs.declared.phase_order.PhaseOrder.{PhaseOrder}
 use Rattle.atl_phase.proofs.MappedLaws.{no_entries}
 use Rattle.atl_phase.proofs.OrderKeyLaws.{listed_tasks}
 use Rattle.atl_phase.specs.OrderEffects.{is_of_faction}
-use Rattle.atl_market.specs.Puts.{with_each}
-use Rattle.atl_market.specs.Idle.{all_idle, all_work, idle_by, own_unit, own_writers}
-use Rattle.atl_market.specs.Unordered.{is_ordered}
+use Rattle.atl_market.specs.Puts.{with_entries}
+use Rattle.atl_market.specs.Idle.{all_idle_orders, all_work, idle_order, own_unit, own_writers}
+use Rattle.atl_market.specs.Unordered.{has_own_order}
 use Rattle.atl_market.specs.Work.{idle_task, idle_work, is_idle, is_work, sorted_by_unit, work_orders, written_work}
-use Rattle.atl_market.proofs.PotLaws.{some_new, still_some}
+use Rattle.atl_market.proofs.PotLaws.{inserted_is_in, still_in_after_entries}
 use Rattle.atl_market.proofs.WantLaws.{appended_entries}
 
 -- for `values_apart`: a test `b` that holds (`T b`) is equal to `true`
@@ -92,20 +92,20 @@ abbrev work_key : Task → List ℕ
 work_key = key_of ByUnit
 
 -- whether two orders have the same key
-abbrev same_work : Task → Task → Bool
-same_work a b = eq_by_cmp (slice_cmp nat_cmp) (work_key a) (work_key b)
+abbrev have_same_key : Task → Task → Bool
+have_same_key a b = eq_by_cmp (slice_cmp nat_cmp) (work_key a) (work_key b)
 
--- if `same_work` says that two orders have the same key, their keys are equal
-keys_tie : (a b : Task) → same_work a b ≡ true → work_key a ≡ work_key b
+-- if `have_same_key` says that two orders have the same key, their keys are equal
+keys_tie : (a b : Task) → have_same_key a b ≡ true → work_key a ≡ work_key b
 keys_tie a b h = slice_cmp-IsAntisymmetric nat_cmp-IsAntisymmetric (work_key a) (work_key b) ((Equal-is (slice_cmp nat_cmp (work_key a) (work_key b))).0 h)
 
 -- two orders that aren't both for one unit and from one faction differ in their keys
-apart_by : (a b : Task) → (a.unit ≡ b.unit → a.faction ≡ b.faction → ⊥) → same_work a b ≡ false
-apart_by a b differ = false_from_ne_true (same_work a b) (λ h. let e = keys_tie a b h in differ (ap (λ k. get_or k 0 0) e) (ap (λ k. get_or k 2 0) e))
+other_orders_differ_in_key : (a b : Task) → (a.unit ≡ b.unit → a.faction ≡ b.faction → ⊥) → have_same_key a b ≡ false
+other_orders_differ_in_key a b differ = false_from_ne_true (have_same_key a b) (λ h. let e = keys_tie a b h in differ (ap (λ k. get_or k 0 0) e) (ap (λ k. get_or k 2 0) e))
 
 -- no two month-long orders have the same key
-long_apart : (m : MonthValue) → IsDistinct same_work (orders_by_unit is_month_long m)
-long_apart m = values_apart (slice_cmp nat_cmp) (slice_cmp-IsAntisymmetric nat_cmp-IsAntisymmetric) (key_of ByUnit) nat_list_cmp_total _
+month_long_keys_differ : (m : MonthValue) → IsDistinct have_same_key (orders_by_unit is_month_long m)
+month_long_keys_differ m = values_apart (slice_cmp nat_cmp) (slice_cmp-IsAntisymmetric nat_cmp-IsAntisymmetric) (key_of ByUnit) nat_list_cmp_total _
 
 -- ---- the units that have an order of their own faction
 
@@ -115,13 +115,13 @@ module _ (c : CampaignValue) where
   IsAmongWriters writers o = is_of_faction o.faction (get c.units o.unit) ≡ true → is_some (get writers o.unit) ≡ true
 
   -- after the writers of some orders are put into a map, it has the unit of each order from the unit's own faction
-  own_is_listed : (m : FinMap nat_cmp ℕ) (os : List Task) → AllByRecursion (IsAmongWriters (with_each m (flat_map (own_unit c) os))) os
+  own_is_listed : (m : FinMap nat_cmp ℕ) (os : List Task) → AllByRecursion (IsAmongWriters (with_entries m (flat_map (own_unit c) os))) os
   own_is_listed m [] = tt
   own_is_listed m (o ∷ os) =
       let rest = flat_map (own_unit c) os in
       let both = appended_entries m (own_unit c o) rest in (
-        (λ own. ap (λ writers. is_some (get writers o.unit)) both ∙ still_some (with_each m (own_unit c o)) rest o.unit (ap (λ b. is_some (get (with_each m (cond b ((o.unit, o.faction) ∷ []) [])) o.unit)) own ∙ some_new m o.unit o.faction)),
-        subst (λ writers. AllByRecursion (IsAmongWriters writers) os) (sym both) (own_is_listed (with_each m (own_unit c o)) os),
+        (λ own. ap (λ writers. is_some (get writers o.unit)) both ∙ still_in_after_entries (with_entries m (own_unit c o)) rest o.unit (ap (λ b. is_some (get (with_entries m (cond b ((o.unit, o.faction) ∷ []) [])) o.unit)) own ∙ inserted_is_in m o.unit o.faction)),
+        subst (λ writers. AllByRecursion (IsAmongWriters writers) os) (sym both) (own_is_listed (with_entries m (own_unit c o)) os),
       )
 
   -- ---- the work of units without an order
@@ -149,29 +149,29 @@ module _ (c : CampaignValue) where
     idle_if n u false is there = tt
 
     -- the work that the code adds for some units is the work of units without an order (`IsIdle`)
-    idle_each : (es : List (ℕ × Unit)) → EachEntry (λ n u. get c.units n ≡ Some u) es → AllByRecursion IsIdle (flat_map (idle_by writers) es)
+    idle_each : (es : List (ℕ × Unit)) → EachEntry (λ n u. get c.units n ≡ Some u) es → AllByRecursion IsIdle (flat_map (idle_order writers) es)
     idle_each [] h = tt
-    idle_each ((n, u) ∷ es) h = append_each IsIdle (idle_by writers (n, u)) (flat_map (idle_by writers) es) (idle_if n u _ refl h.0) (idle_each es h.1)
+    idle_each ((n, u) ∷ es) h = append_each IsIdle (idle_order writers (n, u)) (flat_map (idle_order writers) es) (idle_if n u _ refl h.0) (idle_each es h.1)
 
     -- each order of WORK that the code adds is from its unit's own faction, which wrote none of `os` for the unit
     -- (`IsIdle`)
-    each_idle : AllByRecursion IsIdle (all_idle c os)
+    each_idle : AllByRecursion IsIdle (all_idle_orders c os)
     each_idle = idle_each (entries c.units) (each-from_every (λ n u. get c.units n ≡ Some u) c.units (λ n u is. is))
 
     -- the order of WORK that the code adds for a unit, if it adds one, is for that unit
-    of_unit : (e : ℕ × Unit) → AllByRecursion (λ o. o.unit ≡ e.0) (idle_by writers e)
+    of_unit : (e : ℕ × Unit) → AllByRecursion (λ o. o.unit ≡ e.0) (idle_order writers e)
     of_unit (n, u) = elim (nat_lt 0 u.holding.men && not (is_some (get writers n))) as (λ b. AllByRecursion (λ (o : Task). o.unit ≡ n) (cond b (idle_task n u.faction ∷ []) [])) [ true ↦ (refl, tt) | false ↦ tt ]
 
     -- the code adds at most one order of WORK for a unit
-    just_one : (e : ℕ × Unit) → IsDistinct same_work (idle_by writers e)
+    just_one : (e : ℕ × Unit) → IsDistinct have_same_key (idle_order writers e)
     unfolding IsDistinct
-    just_one (n, u) = elim (nat_lt 0 u.holding.men && not (is_some (get writers n))) as (λ b. IsDistinct same_work (cond b (idle_task n u.faction ∷ []) [])) [ true ↦ (tt, tt) | false ↦ tt ]
+    just_one (n, u) = elim (nat_lt 0 u.holding.men && not (is_some (get writers n))) as (λ b. IsDistinct have_same_key (cond b (idle_task n u.faction ∷ []) [])) [ true ↦ (tt, tt) | false ↦ tt ]
 
     -- no two of the orders that the code adds for units without an order have the same key
-    idle_apart : IsDistinct same_work (all_idle c os)
+    idle_apart : IsDistinct have_same_key (all_idle_orders c os)
     idle_apart =
-        flat_apart same_work (idle_by writers) (λ (e f : ℕ × Unit). e.0 < f.0) (λ e o. o.unit ≡ e.0)
-        (λ e f a b low mine other. apart_by a b (λ same _. absurd (omega (arith, low, mine, other, same)))) of_unit just_one (entries c.units) (entries_rise c.units)
+        flat_apart have_same_key (idle_order writers) (λ (e f : ℕ × Unit). e.0 < f.0) (λ e o. o.unit ≡ e.0)
+        (λ e f a b low mine other. other_orders_differ_in_key a b (λ same _. absurd (omega (arith, low, mine, other, same)))) of_unit just_one (entries c.units) (entries_rise c.units)
 
     -- ---- written orders, and the added ones
 
@@ -180,30 +180,30 @@ module _ (c : CampaignValue) where
     same_faction a b e = grind (arith, nat_tests)
 
     -- a written order and one that is added for a unit without an order differ in their keys
-    written_idle : (o i : Task) → IsAmongWriters writers o → IsIdle i → same_work o i ≡ false
+    written_idle : (o i : Task) → IsAmongWriters writers o → IsIdle i → have_same_key o i ≡ false
     written_idle o i listed idle =
-        apart_by o i (λ unit faction.
+        other_orders_differ_in_key o i (λ unit faction.
         let there : get c.units o.unit ≡ Some idle.unit = ap (get c.units) unit ∙ idle.there in
         let own : is_of_faction o.faction (get c.units o.unit) ≡ true = ap (is_of_faction o.faction) there ∙ same_faction idle.unit.faction o.faction (sym idle.own ∙ sym faction) in
         false≢true (sym (ap (λ n. is_some (get writers n)) unit ∙ idle.unordered) ∙ listed own))
 
     -- no two of the orders of WORK, written or not, have the same key
-    work_apart : IsDistinct same_work os → IsDistinct same_work (all_work c os)
+    work_apart : IsDistinct have_same_key os → IsDistinct have_same_key (all_work c os)
     work_apart apart =
         let chosen = filter (λ (o : Task). is_work o.order_value.verb) os in
-        append_apart same_work chosen (all_idle c os) (filter_apart (λ o. is_work o.order_value.verb) same_work os apart) idle_apart
-        (each_so (IsAmongWriters writers) (λ o. AllByRecursion (λ i. same_work o i ≡ false) (all_idle c os)) (λ o listed. each_so IsIdle (λ i. same_work o i ≡ false) (λ i idle. written_idle o i listed idle) (all_idle c os) each_idle) chosen
+        append_apart have_same_key chosen (all_idle_orders c os) (filter_apart (λ o. is_work o.order_value.verb) have_same_key os apart) idle_apart
+        (each_follows (IsAmongWriters writers) (λ o. AllByRecursion (λ i. have_same_key o i ≡ false) (all_idle_orders c os)) (λ o listed. each_follows IsIdle (λ i. have_same_key o i ≡ false) (λ i idle. written_idle o i listed idle) (all_idle_orders c os) each_idle) chosen
         (filter_each (λ o. is_work o.order_value.verb) (IsAmongWriters writers) os (own_is_listed empty os)))
 
 -- ---- who has an order
 
--- A unit is in the map into which the writers of some orders are put exactly if it was before, or if its own faction
--- wrote one of the orders for it.
-writes_own : (c : CampaignValue) (os : List Task) (n : ℕ) (u : Unit) → get c.units n ≡ Some u → (m : FinMap nat_cmp ℕ) → is_some (get (with_each m (flat_map (own_unit c) os)) n) ≡ (is_ordered os n u || is_some (get m n))
+-- A unit is in a map with the writers of some orders put in exactly if it was before, or if its own faction wrote one
+-- of the orders for it.
+writes_own : (c : CampaignValue) (os : List Task) (n : ℕ) (u : Unit) → get c.units n ≡ Some u → (m : FinMap nat_cmp ℕ) → is_some (get (with_entries m (flat_map (own_unit c) os)) n) ≡ (has_own_order os n u || is_some (get m n))
 writes_own c [] n u is m = refl
 writes_own c (o ∷ os) n u is m =
     ap (λ (k : FinMap nat_cmp ℕ). is_some (get k n)) (appended_entries m (own_unit c o) (flat_map (own_unit c) os))
-    ∙ writes_own c os n u is (with_each m (own_unit c o)) ∙ ap (λ b. is_ordered os n u || b) one ∙ swapped (is_ordered os n u) (o.unit == n && o.faction == u.faction) (is_some (get m n))
+    ∙ writes_own c os n u is (with_entries m (own_unit c o)) ∙ ap (λ b. has_own_order os n u || b) one ∙ swapped (has_own_order os n u) (o.unit == n && o.faction == u.faction) (is_some (get m n))
   where
     -- for `writes_own`: whether one of three tests holds doesn't depend on the order of the tests
     swapped : (a b d : Bool) → (a || (b || d)) ≡ ((b || a) || d)
@@ -217,20 +217,20 @@ writes_own c (o ∷ os) n u is m =
     here same = ap (λ k. is_of_faction o.faction (get c.units k)) same ∙ ap (is_of_faction o.faction) is
 
     -- unit `n` is among the writers after an order for it exactly if its own faction wrote that (`b`), or it was before
-    put_for : (b : Bool) → o.unit ≡ n → is_some (get (with_each m (cond b ((o.unit, o.faction) ∷ []) [])) n) ≡ (b || is_some (get m n))
-    put_for true same = ap (λ k. is_some (get (insert m o.unit o.faction) k)) (sym same) ∙ some_new m o.unit o.faction
+    put_for : (b : Bool) → o.unit ≡ n → is_some (get (with_entries m (cond b ((o.unit, o.faction) ∷ []) [])) n) ≡ (b || is_some (get m n))
+    put_for true same = ap (λ k. is_some (get (insert m o.unit o.faction) k)) (sym same) ∙ inserted_is_in m o.unit o.faction
     put_for false same = refl
 
     -- an order for another unit changes nothing in the map of writers under `n`
-    put_elsewhere : (b : Bool) → n ≢ o.unit → get (with_each m (cond b ((o.unit, o.faction) ∷ []) [])) n ≡ get m n
+    put_elsewhere : (b : Bool) → n ≢ o.unit → get (with_entries m (cond b ((o.unit, o.faction) ∷ []) [])) n ≡ get m n
     put_elsewhere true apart = get-insert_other m o.unit n o.faction apart
     put_elsewhere false apart = refl
 
     -- after an order unit `n` is among the writers exactly if its own faction wrote the order for it, or it was before
-    one : is_some (get (with_each m (own_unit c o)) n) ≡ ((o.unit == n && o.faction == u.faction) || is_some (get m n))
+    one : is_some (get (with_entries m (own_unit c o)) n) ≡ ((o.unit == n && o.faction == u.faction) || is_some (get m n))
     one = elim (cases_eq n o.unit) [
       | inl same ↦
-          put_for (is_of_faction o.faction (get c.units o.unit)) (sym same) ∙ ap (λ b. b || is_some (get m n)) (here (sym same) ∙ equal_turned u.faction o.faction)
+          put_for (is_of_faction o.faction (get c.units o.unit)) (sym same) ∙ ap (λ b. b || is_some (get m n)) (here (sym same) ∙ equality_is_symmetric u.faction o.faction)
           ∙ sym (ap (λ b. (b && o.faction == u.faction) || is_some (get m n)) (ap (λ k. o.unit == k) same ∙ same_number o.unit))
       | inr apart ↦
           ap is_some (put_elsewhere (is_of_faction o.faction (get c.units o.unit)) apart)
@@ -238,8 +238,8 @@ writes_own c (o ∷ os) n u is m =
     ]
 
 -- a unit is in the map of writers exactly if its own faction wrote one of the orders for it
-is_writer : (c : CampaignValue) (os : List Task) (n : ℕ) (u : Unit) → get c.units n ≡ Some u → is_some (get (own_writers c os) n) ≡ is_ordered os n u
-is_writer c os n u is = writes_own c os n u is empty ∙ ap (λ o. is_ordered os n u || is_some o) (get-empty nat_cmp n) ∙ or_false (is_ordered os n u)
+is_writer : (c : CampaignValue) (os : List Task) (n : ℕ) (u : Unit) → get c.units n ≡ Some u → is_some (get (own_writers c os) n) ≡ has_own_order os n u
+is_writer c os n u is = writes_own c os n u is empty ∙ ap (λ o. has_own_order os n u || is_some o) (get-empty nat_cmp n) ∙ or_false (has_own_order os n u)
   where
     -- for `is_writer`: a test or false is the test
     or_false : (b : Bool) → (b || false) ≡ b
@@ -252,14 +252,14 @@ module _ (c : CampaignValue) (ts : List Task) where
   of_idle es = map (λ e. idle_task e.0 e.1.faction) (filter (is_idle ts) es)
 
   -- the order of WORK that the code adds for a unit, if it adds one, is the one that `is_idle` and `idle_task` define
-  one_idle : (n : ℕ) (u : Unit) → get c.units n ≡ Some u → idle_by (own_writers c ts) (n, u) ≡ cond (is_idle ts (n, u)) (idle_task n u.faction ∷ []) []
+  one_idle : (n : ℕ) (u : Unit) → get c.units n ≡ Some u → idle_order (own_writers c ts) (n, u) ≡ cond (is_idle ts (n, u)) (idle_task n u.faction ∷ []) []
   one_idle n u is = ap (λ b. cond (nat_lt 0 u.holding.men && not b) (idle_task n u.faction ∷ []) []) (is_writer c ts n u is)
 
   -- the orders of WORK that the code adds for some units are those that are defined for them (`of_idle`)
-  idle_are : (es : List (ℕ × Unit)) → EachEntry (λ n u. get c.units n ≡ Some u) es → flat_map (idle_by (own_writers c ts)) es ≡ of_idle es
+  idle_are : (es : List (ℕ × Unit)) → EachEntry (λ n u. get c.units n ≡ Some u) es → flat_map (idle_order (own_writers c ts)) es ≡ of_idle es
   idle_are [] h = refl
   idle_are ((n, u) ∷ es) h =
-      ap (λ os. os ++ flat_map (idle_by (own_writers c ts)) es) (one_idle n u h.0)
+      ap (λ os. os ++ flat_map (idle_order (own_writers c ts)) es) (one_idle n u h.0)
       ∙ ap (λ os. cond (is_idle ts (n, u)) (idle_task n u.faction ∷ []) [] ++ os) (idle_are es h.1) ∙ by_test (is_idle ts (n, u))
     where
       -- the orders defined for the units have one more for unit `n` in front, exactly if the unit is idle (`b`)
@@ -276,5 +276,5 @@ pub work_sorted : (c : CampaignValue) (m : MonthValue) (os list : List PhaseOrde
 unfolding work_orders
 work_sorted c m os list are moved up =
     let ts = orders_by_unit is_month_long m in
-    listed_tasks (key_of ByUnit) os list (all_work c ts) are (work_apart c ts (long_apart m)) moved up
+    listed_tasks (key_of ByUnit) os list (all_work c ts) are (work_apart c ts (month_long_keys_differ m)) moved up
     ∙ ap sorted_by_unit (all_are c ts)

@@ -24,8 +24,14 @@ use Rattle.atl_market.specs.declared.trade.Trade.TheVariants.{Sell, Buy}
 -- A holding after a trade of `share` pieces with a market. SELL: goods for money, at `pays` each. BUY: money for goods,
 -- at `price`.
 abbrev pub with_trade : Trade → HoldingValue → (share : ℕ) → Market → HoldingValue
-with_trade Sell h share m = record h { money = h.money + share * m.pays; items = with_amount_of h.items m.item (amount_of h.items m.item - share) }
-with_trade Buy h share m = record h { money = h.money - share * m.price; items = with_amount_of h.items m.item (amount_of h.items m.item + share) }
+with_trade Sell h share m = record h {
+  money = h.money + share * m.pays;
+  items = with_amount_of h.items m.item (amount_of h.items m.item - share);
+}
+with_trade Buy h share m = record h {
+  money = h.money - share * m.price;
+  items = with_amount_of h.items m.item (amount_of h.items m.item + share);
+}
 
 -- a unit after it traded `share` pieces with its market; the unit as it was where it has no market
 abbrev pub trader_of : Trade → Unit → (share : ℕ) → Option Market → Unit
@@ -36,8 +42,9 @@ abbrev pub stock_after : Trade → (stock traded : ℕ) → ℕ
 stock_after Sell stock traded = stock + traded
 stock_after Buy stock traded = stock - traded
 
--- The law of SELL and BUY: in a world (`IsWorld`) all units trade at once. By SELL each gives its share of the item and
--- gets the money for it, and a region's stock of an item grows by all that its units sold of it; by BUY the reverse.
+-- The law that in a world (`IsWorld`) all units trade at once by SELL or BUY. By SELL each gives its share of the item
+-- and gets the money for it, and a region's stock of an item grows by all that its units sold of it. By BUY it is the
+-- reverse.
 abbrev pub TradesAtOnce : Type 0
 TradesAtOnce =
     (trade : Trade) (w : WorldValue) (c : CampaignValue) (os : List Task) → IsWorld w
@@ -52,10 +59,12 @@ with_more_money u money = record u { holding = record u.holding { money = u.hold
 abbrev pub with_less_money : RegionChange
 with_less_money q taken = record q { money = q.money - taken }
 
--- The law of TAX: all units take money at once: each has its share added to its money, and each region has all that its
--- units took taken from its money.
+-- The law that all units take their share of TAX at once. Each unit has its share added to its money, and each region
+-- loses what its units took.
 abbrev pub TaxesAtOnce : Type 0
-TaxesAtOnce = (w : WorldValue) (c : CampaignValue) (os : List Task) → PaysAtOnce tax_pots w (λ n. with_more_money) with_less_money c os
+TaxesAtOnce =
+    (w : WorldValue) (c : CampaignValue) (os : List Task)
+    → PaysAtOnce tax_pots w (λ n. with_more_money) with_less_money c os
 
 -- a unit with its recruits added to its men, and their price taken from its money
 abbrev pub with_recruits : WorldValue → UnitChange
@@ -65,40 +74,41 @@ with_recruits w u recruits = record u { holding = with_paid_recruits u.holding r
 abbrev pub with_less_peasants : RegionChange
 with_less_peasants q joined = record q { peasants = q.peasants - joined }
 
--- The law of RECRUIT: all recruits join at once: each unit has them added to its men and their price taken from its
--- money; each region has the recruits of all its units taken from its peasants.
+-- The law that all recruits of RECRUIT join at once. Each unit gains its recruits and pays their price, and each region
+-- loses as many peasants.
 abbrev pub RecruitsAtOnce : Type 0
 RecruitsAtOnce =
     (w : WorldValue) (c : CampaignValue) (os : List Task)
     → PaysAtOnce recruit_pots w (λ n. with_recruits w) with_less_peasants c os
 
 -- a holding with `amount` less of an item; as it was where no item is given
-abbrev pub with_less : HoldingValue → Option ℕ → (amount : ℕ) → HoldingValue
-with_less h item amount =
+abbrev pub with_raw_taken : HoldingValue → Option ℕ → (amount : ℕ) → HoldingValue
+with_raw_taken h item amount =
     option_map_or (λ i. record h { items = with_amount_of h.items i (amount_of h.items i - amount) }) item h
 
 -- a holding with `amount` more of an item
-abbrev pub with_more : HoldingValue → (item amount : ℕ) → HoldingValue
-with_more h item amount = record h { items = with_amount_of h.items item (amount_of h.items item + amount) }
+abbrev pub with_pieces_added : HoldingValue → (item amount : ℕ) → HoldingValue
+with_pieces_added h item amount = record h { items = with_amount_of h.items item (amount_of h.items item + amount) }
 
 -- A unit with `made` pieces more of item `x`, which has the number `item`, and less of the raw items that the pieces
 -- take.
 abbrev pub maker_of : Unit → (made item : ℕ) → Item → Unit
 maker_of u made item x =
-    record u { holding = with_more (with_less u.holding x.raw (made * x.raw_count)) item made }
+    record u { holding = with_pieces_added (with_raw_taken u.holding x.raw (made * x.raw_count)) item made }
 
 -- a unit that made `made` pieces of the item that its order names (`asked`); as it was where the world has no such item
-abbrev pub maker_by : WorldValue → Unit → (made : ℕ) → Option ℕ → Unit
-maker_by w u made asked = option_map_or (λ i. option_map_or (maker_of u made i) (slice_get w.items i) u) asked u
+abbrev pub unit_after_production : WorldValue → Unit → (made : ℕ) → Option ℕ → Unit
+unit_after_production w u made asked = option_map_or (λ i. option_map_or (maker_of u made i) (slice_get w.items i) u) asked u
 
--- The law of PRODUCE: all units make items at once: each has the pieces that it made added, and the raw items for these
--- pieces taken away; no region changes.
+-- The law that all units make items by PRODUCE at once. Each gains the pieces that it made and loses the raw items that
+-- they take, and no region changes.
 abbrev pub ProducesAtOnce : Type 0
 ProducesAtOnce =
     (w : WorldValue) (c : CampaignValue) (os : List Task)
-    → PaysAtOnce produce_pots w (λ n u made. maker_by w u made (get (items_by produce_pots w c os) n)) unchanged_region c os
+    → PaysAtOnce produce_pots w (λ n u made. unit_after_production w u made (get (items_by produce_pots w c os) n)) unchanged_region c os
 
--- The law of WORK: all units are paid at once: each has the wages of its places added to its money; no region changes.
+-- The law that all units are paid for WORK at once. Each has the wages of its places added to its money, and no region
+-- changes.
 abbrev pub WorksAtOnce : Type 0
 WorksAtOnce =
     (w : WorldValue) (c : CampaignValue) (os : List Task)

@@ -10,7 +10,7 @@ use Rattle.atl_records.specs.declared.records.Unit.{Unit}
 use Rattle.atl_records.specs.Holdings.{amount_of}
 use Rattle.atl_campaign.specs.Campaign.{CampaignValue}
 use Rattle.atl_phase.specs.PhaseOrders.{Task}
-use Rattle.atl_market.specs.ItemPots.{is_for}
+use Rattle.atl_market.specs.ItemPots.{asks_for_item}
 use Rattle.atl_market.specs.PotPhase.{PotMeaning, after_sharing, given_by}
 
 -- whether a unit is there (Some) and is in the region with the given number
@@ -35,7 +35,8 @@ paid_unit gets u share = option_map_or (gets u) share u
 
 -- A phase pays all units at once: `gets` makes of each unit and its share the unit after the phase. `gives` makes of
 -- each region and all that its units got the region after the phase.
-pub record PaysAtOnce (p : PotMeaning) (w : WorldValue) (gets : ℕ → UnitChange) (gives : RegionChange) (c : CampaignValue) (os : List Task) : Type 0 where
+pub record PaysAtOnce (p : PotMeaning) (w : WorldValue) (gets : ℕ → UnitChange) (gives : RegionChange)
+    (c : CampaignValue) (os : List Task) : Type 0 where
   -- each unit is what `gets` makes of it and its share; a unit without a share is as it was
   pub units :
       (n : ℕ) (u : Unit) → get c.units n ≡ Some u
@@ -52,13 +53,14 @@ unchanged_region q share = q
 -- ---- pots by region and item: each changes what the region has of the item
 
 -- the sum of what those units in a region got that ask for an item; `item_of` has the item by unit
-abbrev pub given_of : (item_of : ℕ → Option ℕ) → FinMap nat_cmp ℕ → FinMap nat_cmp Unit → (region item : ℕ) → ℕ
-given_of item_of given units region item =
-    sum (map (λ e. e.1) (filter (λ e. is_in_region region (get units e.0) && is_for item (item_of e.0)) (entries given)))
+abbrev pub given_of_item : (item_of : ℕ → Option ℕ) → FinMap nat_cmp ℕ → FinMap nat_cmp Unit → (region item : ℕ) → ℕ
+given_of_item item_of given units region item =
+    sum (map (λ e. e.1) (filter (λ e. is_in_region region (get units e.0) && asks_for_item item (item_of e.0)) (entries given)))
 
 -- The region `after` is `q` with only its stocks changed: `becomes` makes of each item's old stock, and of the amount
 -- of the item that was given, the new stock.
-pub record HasNewStocks (q : Region) (becomes : (stock given : ℕ) → ℕ) (given : (item : ℕ) → ℕ) (after : Option Region) : Type 0 where
+pub record HasNewStocks (q : Region) (becomes : (stock given : ℕ) → ℕ) (given : (item : ℕ) → ℕ)
+    (after : Option Region) : Type 0 where
   -- how many pieces of each item the region `after` has in stock, by the number of the item
   pub stocks : FinMap nat_cmp ℕ
   -- the region `after` is there, and is `q` with `stocks` in the place of its own stocks
@@ -78,4 +80,4 @@ pub record PaysItemsAtOnce (p : PotMeaning) (w : WorldValue) (item_of : ℕ → 
   -- of the item, the new stock.
   pub regions :
       (r : ℕ) (q : Region) → get c.regions r ≡ Some q
-      → HasNewStocks q becomes (given_of item_of (given_by p w c os) c.units r) (get (after_sharing p w c os).regions r)
+      → HasNewStocks q becomes (given_of_item item_of (given_by p w c os) c.units r) (get (after_sharing p w c os).regions r)

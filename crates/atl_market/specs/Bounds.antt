@@ -1,5 +1,5 @@
 -- What BUILD needs of a campaign and its world (`CanBuild`). The rest is for proofs alone: steps that can be carried
--- out in turn (`CanInTurn`), and how far BUILD may still move the books (`build_reserve`).
+-- out in turn (`CanInTurn`), and how far BUILD may still move the books (`build_remaining`).
 use Rattle.std.specs.Prelude.{⊤, ℕ, ◌≡◌, ◌==◌, length, List, [], ◌∷◌, Some, if◌then◌else◌}
 use Rattle.std.specs.List.{slice_get}
 use Rattle.atl_world.specs.Worlds.{IsKind, WorldValue}
@@ -15,8 +15,10 @@ use Rattle.atl_campaign.specs.Good.{IsSteady}
 use Rattle.atl_campaign.specs.Campaign.{CampaignValue}
 use Rattle.atl_phase.specs.Bounds.{RemainingBound}
 
--- each step of a list can be carried out (`can`) in the campaign that the steps ahead of it leave
-abbrev pub CanInTurn : {X : Type 0} → (CampaignValue → X → Type 0) → (CampaignValue → X → CampaignValue) → CampaignValue → List X → Type 0
+-- the condition that all steps of a list can be carried out in turn: each (by `can`) in the campaign that those ahead
+-- of it leave
+abbrev pub CanInTurn : {X : Type 0} → (CampaignValue → X → Type 0) → (CampaignValue → X → CampaignValue)
+    → CampaignValue → List X → Type 0
 CanInTurn can step c [] = ⊤
 CanInTurn can step c (x ∷ xs) = can c x × CanInTurn can step (step c x) xs
 
@@ -33,5 +35,5 @@ still_bookable e (Item i) h = if entry_index e == entry_index Used then amount_o
 still_bookable e t h = 0
 
 -- the bound on what BUILD may still book: Used of an item by all that the units hold of it, nothing else
-abbrev pub build_reserve : RemainingBound
-build_reserve c e t = sum_over (λ u. still_bookable e t u.holding) c.units
+abbrev pub build_remaining : RemainingBound
+build_remaining c e t = sum_over (λ u. still_bookable e t u.holding) c.units

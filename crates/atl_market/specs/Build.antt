@@ -65,7 +65,13 @@ name_prefix k = if k.ship then codes "Ship " else codes "Building "
 
 -- a structure as it is begun: of a kind, in a region, with `size` of it done, named by its number, without an owner
 abbrev pub new_structure : (number kind : ℕ) → Kind → (region size : ℕ) → Structure
-new_structure number kind k region size = record { kind = kind; name = name_prefix k ++ decimal number; region = region; done = size; owner = 0 }
+new_structure number kind k region size = record {
+  kind = kind;
+  name = name_prefix k ++ decimal number;
+  region = region;
+  done = size;
+  owner = 0;
+}
 
 -- a campaign in which one structure more is begun, under the next number of structures
 abbrev pub with_new_structure : CampaignValue → (kind : ℕ) → Kind → (region size : ℕ) → CampaignValue
@@ -74,7 +80,8 @@ with_new_structure c kind k region size = with_structure_begun c (new_structure 
 -- A campaign after unit `n` used `size` of the material, began a structure with it, left its old one and entered the
 -- new one.
 abbrev pub after_start : CampaignValue → (n kind : ℕ) → Kind → (region size : ℕ) → CampaignValue
-after_start c n kind k region size = with_place (with_new_structure (with_used c n k.material size) kind k region size) n region c.next_structure
+after_start c n kind k region size =
+    with_place (with_new_structure (with_used c n k.material size) kind k region size) n region c.next_structure
 
 -- The effect of `BUILD kind` by unit `n`: a structure is begun, and the outcome is Done with how much of it is done.
 -- With a fault nothing changes, and the outcome is the fault.
@@ -147,6 +154,6 @@ build_moves e t = 0
 -- own faction wrote no order of BUILD is no worse off.
 abbrev pub build_spec : PhaseSpec
 build_spec = record (goes_by_orders build_step is_building IsOwnOrder IsNoWorse) {
-  moving = build_moves;
+  book_bound = build_moves;
   moved = record { money = []; people = []; items = Used ∷ [] };
 }

@@ -8,7 +8,7 @@ use Rattle.atl_records.specs.declared.records.Unit.{Unit}
 use Rattle.atl_campaign.specs.Campaign.{CampaignValue}
 use Rattle.atl_phase.specs.PhaseOrders.{Task}
 use Rattle.atl_phase.specs.OrderEffects.{is_of_faction}
-use Rattle.atl_market.specs.Puts.{with_each}
+use Rattle.atl_market.specs.Puts.{with_entries}
 use Rattle.atl_market.specs.Work.{idle_task, written_work}
 
 -- the unit of an order with the faction that wrote it, if the unit is of that faction; else nothing
@@ -17,16 +17,17 @@ own_unit c t = if is_of_faction t.faction (get c.units t.unit) then (t.unit, t.f
 
 -- a map from each unit for which its own faction wrote one of the orders `ts` to that faction
 abbrev pub own_writers : CampaignValue → List Task → FinMap nat_cmp ℕ
-own_writers c ts = with_each empty (flat_map (own_unit c) ts)
+own_writers c ts = with_entries empty (flat_map (own_unit c) ts)
 
--- an order of WORK for a unit that has men and isn't among the `writers`; else nothing
-abbrev pub idle_by : FinMap nat_cmp ℕ → ℕ × Unit → List Task
-idle_by writers (n, u) = if nat_lt 0 u.holding.men && not (is_some (get writers n)) then idle_task n u.faction ∷ [] else []
+-- an order of WORK for a unit that has men and isn't in the map `writers`, which has the units with an order of their
+-- own faction; else nothing
+abbrev pub idle_order : FinMap nat_cmp ℕ → ℕ × Unit → List Task
+idle_order writers (n, u) = if nat_lt 0 u.holding.men && not (is_some (get writers n)) then idle_task n u.faction ∷ [] else []
 
 -- an order of WORK for each unit with men for which its own faction wrote none of the orders `ts`, by unit
-abbrev pub all_idle : CampaignValue → List Task → List Task
-all_idle c ts = flat_map (idle_by (own_writers c ts)) (entries c.units)
+abbrev pub all_idle_orders : CampaignValue → List Task → List Task
+all_idle_orders c ts = flat_map (idle_order (own_writers c ts)) (entries c.units)
 
 -- the orders of WORK among `ts`, and then one for each unit with men for which its own faction wrote none of `ts`
 abbrev pub all_work : CampaignValue → List Task → List Task
-all_work c ts = written_work ts ++ all_idle c ts
+all_work c ts = written_work ts ++ all_idle_orders c ts

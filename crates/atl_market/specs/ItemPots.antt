@@ -8,14 +8,14 @@ use Rattle.std.specs.FinMap.{FinMap, entries, from_entries, retain_keys}
 use Rattle.atl_campaign.specs.Campaign.{CampaignValue}
 use Rattle.atl_market.specs.Pots.{share_of}
 
--- whether the item that a unit asks for (`asked`, if any) is the given one
-abbrev pub is_for : ℕ → Option ℕ → Bool
-is_for item asked = option_map_or (λ other. other == item) asked false
+-- whether a unit asks for the given item; `asked` is the item that it asks for, if any
+abbrev pub asks_for_item : ℕ → Option ℕ → Bool
+asks_for_item item asked = option_map_or (λ other. other == item) asked false
 
 module _ (item_of : ℕ → Option ℕ) where
   -- the wants, by unit, of those units that ask for the item with the given number
   abbrev pub wants_for : FinMap nat_cmp ℕ → (item : ℕ) → FinMap nat_cmp ℕ
-  wants_for wants item = retain_keys wants (λ number. is_for item (item_of number))
+  wants_for wants item = retain_keys wants (λ number. asks_for_item item (item_of number))
 
   module _ (pot_of : (item region : ℕ) → ℕ) (wants : FinMap nat_cmp ℕ) (c : CampaignValue) where
     -- The share that a unit, by its number, gets of what its region has of the item that it asks for, if it asks for

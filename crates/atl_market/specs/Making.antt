@@ -66,8 +66,8 @@ pub record HasRoomAndRaw (w : WorldValue) (u : Unit) (made i : ℕ) (x : Item) :
   -- the unit holds as much of the raw item, if there is one, as the `made` pieces take
   pub raw : (r : ℕ) → x.raw ≡ Some r → made * x.raw_count ≤ amount_of u.holding.items r
 
--- The unit of a pair (unit, share) can make its share of its item: it is there, has room and raw items for it, and the
--- books have room for a holding's limit made and used.
+-- The unit of a pair (unit, share) can make its share of its item. It is there, and has room and raw items for the
+-- share. The books have room for 999,999,999 of each item made, and as much used.
 pub record CanProduce (asked : FinMap nat_cmp ℕ) (w : WorldValue) (c : CampaignValue) (e : ℕ × ℕ) : Type 0 where
   -- the unit under the number of the pair
   pub unit : Unit

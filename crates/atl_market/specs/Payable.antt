@@ -33,8 +33,8 @@ pub record CanTax (w : WorldValue) (c : CampaignValue) (e : ℕ × ℕ) : Type 0
   -- the campaign is early
   pub early : IsEarly w c
 
--- The unit of a pair (unit, share) can get its share of recruits: it has the money and room for the men, its region
--- has the peasants, and the books have room.
+-- The unit of a pair (unit, share) can get its share of recruits. It has the money and room for the men, its region has
+-- the peasants, and the books have room.
 pub record CanRecruit (w : WorldValue) (c : CampaignValue) (e : ℕ × ℕ) : Type 0 where
   -- the unit of the pair and its region are in the campaign
   pub at : IsSomewhere c e.0

@@ -52,8 +52,8 @@ pub record PotMeaning : Type 0 where
   -- the campaign after a unit, by its number, got its share of the pot of its region, or of that of its item there
   pub paid : (items : FinMap nat_cmp ℕ) → WorldValue → CampaignValue → ℕ × ℕ → CampaignValue
 
--- A map of amounts by unit, from a list of entries; of several entries for one unit the last counts. There is one at
--- most: of the orders of a phase that its own faction wrote for a unit only one counts.
+-- A map by unit, such as of wants, from a list of pairs (unit, number); of several pairs for one unit the last counts.
+-- There is one at most: of the orders of a phase that its own faction wrote for a unit only one counts.
 abbrev pub by_unit : List (ℕ × ℕ) → FinMap nat_cmp ℕ
 by_unit es = from_entries (reverse es)
 
@@ -95,8 +95,8 @@ module _ (p : PotMeaning) (w : WorldValue) (c : CampaignValue) where
 
   -- ---- what is reported
 
-  -- The outcome of an order: its fault, or Done with the event's number for the amount in `given` (0 where there is
-  -- none).
+  -- The outcome of an order: its fault, or Done with the number that the phase reports for the unit's share. `given`
+  -- has the shares by unit; a unit without one has the share 0.
   abbrev pub outcome_of : FinMap nat_cmp ℕ → Task → Result Unit EventFault → Outcome
   outcome_of given t (Err fault) = Fault (event_fault_number fault)
   outcome_of given t (Ok u) = Done (p.event_number w u (unwrap_or (get given t.unit) 0))

@@ -5,11 +5,11 @@ use Rattle.std.specs.Ordering.{nat_cmp}
 use Rattle.std.specs.FinMap.{FinMap, get, keys, from_entries}
 use Rattle.atl_world.specs.Limits.{most_amount}
 use Rattle.atl_records.specs.Every.{Every, HasValue}
-use Rattle.atl_campaign.specs.Campaign.{CampaignValue, numbers_in}
+use Rattle.atl_campaign.specs.Campaign.{CampaignValue, numbers_in_region}
 use Rattle.atl_records.specs.declared.records.Unit.{Unit}
 use Rattle.atl_shares.specs.Share.{shares}
 
--- each want in a map of wants by unit is at most 999,999,999 (`most_amount`)
+-- the condition on a map of wants, by unit, that each want is at most 999,999,999 (`most_amount`)
 abbrev pub AreWants : FinMap nat_cmp ℕ → Type 0
 AreWants wants = Every (λ number want. want ≤ most_amount) wants
 
@@ -23,7 +23,7 @@ takers_among wants numbers = filter (λ number. is_some (get wants number)) numb
 
 -- the units of a region that have a want, in unit order
 abbrev pub takers_in : FinMap nat_cmp ℕ → FinMap nat_cmp Unit → ℕ → List ℕ
-takers_in wants units region = takers_among wants (numbers_in region units)
+takers_in wants units region = takers_among wants (numbers_in_region region units)
 
 -- the wants of a region's units that have one, in unit order
 abbrev pub wants_in : FinMap nat_cmp ℕ → FinMap nat_cmp Unit → ℕ → List ℕ
@@ -48,7 +48,7 @@ module _ (pot_of : ℕ → ℕ) (wants : FinMap nat_cmp ℕ) (c : CampaignValue)
   abbrev pub amount_given : ℕ → ℕ
   amount_given number = unwrap_or (share_of number) 0
 
--- each unit that has a share wants at least that much, and is in a region of the campaign
+-- the law that only takers get shares: a unit with a share wants at least that much, and is in a region of the campaign
 abbrev pub OnlyTakersGet : Type 0
 OnlyTakersGet =
     (pot_of : ℕ → ℕ) (wants : FinMap nat_cmp ℕ) (c : CampaignValue) (number share : ℕ)
@@ -59,7 +59,7 @@ OnlyTakersGet =
     × (get c.units number ≡ Some u)
     × HasValue c.regions u.region
 
--- each unit that has a want and is in a region of the campaign has a share, at most its want
+-- the law that each taker gets a share, of at most its want: each unit with a want that is in a region of the campaign
 abbrev pub EachTakerGets : Type 0
 EachTakerGets =
     (pot_of : ℕ → ℕ) (wants : FinMap nat_cmp ℕ) (c : CampaignValue) (number want : ℕ) (u : Unit)
@@ -68,22 +68,24 @@ EachTakerGets =
     → HasValue c.regions u.region
     → (share : ℕ) × (share_of pot_of wants c number ≡ Some share) × (share ≤ want)
 
--- the units of a region that have a want get the shares of its pot by their wants, in unit order
+-- the law that the units of a region that have a want get the shares of its pot by their wants, in unit order
 abbrev pub SharesEachPot : Type 0
 SharesEachPot =
     (pot_of : ℕ → ℕ) (wants : FinMap nat_cmp ℕ) (c : CampaignValue) (region : ℕ)
     → HasValue c.regions region
-    → map (share_of pot_of wants c) (takers_in wants c.units region) ≡ map Some (shares (pot_of region) (wants_in wants c.units region))
+    → map (share_of pot_of wants c) (takers_in wants c.units region)
+    ≡ map Some (shares (pot_of region) (wants_in wants c.units region))
 
--- the units of a region that have a want get its whole pot together, or all that they want where that is less
+-- the law that the units of a region together get its whole pot, or all that they want where that is less
 abbrev pub GivesEachPot : Type 0
 GivesEachPot =
     (pot_of : ℕ → ℕ) (wants : FinMap nat_cmp ℕ) (c : CampaignValue) (region : ℕ)
     → HasValue c.regions region
-    → sum (map (amount_given pot_of wants c) (takers_in wants c.units region)) ≡ min (pot_of region) (sum (wants_in wants c.units region))
+    → sum (map (amount_given pot_of wants c) (takers_in wants c.units region))
+    ≡ min (pot_of region) (sum (wants_in wants c.units region))
 
--- The shares in a region follow from its pot, its units with a want and their wants alone: two campaigns in which these
--- are equal give equal shares there.
+-- The law that the shares in a region follow from its pot, its units with a want and their wants alone. Two campaigns
+-- in which these are equal give equal shares there.
 abbrev pub OtherRegionsDoNotCount : Type 0
 OtherRegionsDoNotCount =
     (pot_of other_pots : ℕ → ℕ) (wants other_wants : FinMap nat_cmp ℕ) (c other : CampaignValue) (region : ℕ)
@@ -92,4 +94,5 @@ OtherRegionsDoNotCount =
     → pot_of region ≡ other_pots region
     → takers_in wants c.units region ≡ takers_in other_wants other.units region
     → wants_in wants c.units region ≡ wants_in other_wants other.units region
-    → map (share_of pot_of wants c) (takers_in wants c.units region) ≡ map (share_of other_pots other_wants other) (takers_in wants c.units region)
+    → map (share_of pot_of wants c) (takers_in wants c.units region)
+    ≡ map (share_of other_pots other_wants other) (takers_in wants c.units region)

@@ -24,7 +24,7 @@ use Rattle.atl_phase.specs.PhaseSpecs.{PhaseSpec}
 use Rattle.atl_market.specs.Goods.{with_made, with_used}
 use Rattle.atl_market.specs.ItemPots.{item_share}
 use Rattle.atl_market.specs.PotPhase.{PotMeaning, item_in, pots_by_orders}
-use Rattle.atl_market.specs.Unordered.{spares_unordered}
+use Rattle.atl_market.specs.Unordered.{no_worse_without_order}
 
 -- whether a verb is PRODUCE
 abbrev pub is_produce : Verb → Bool
@@ -61,7 +61,8 @@ output_item w asked n = option_and_then (λ x. if is_some x.raw then None else g
 abbrev pub output_at : WorldValue → (item region : ℕ) → ℕ
 output_at w i region = option_map_or (λ t. unwrap_or (slice_get t.output i) 0) (terrain_of w region) 0
 
--- the share that a unit, by its number, gets of what its region gives of the item that it makes without raw items
+-- a unit's share of its region's output of the item that it makes, by the unit's number; None without a share, as for
+-- an item that takes raw items
 abbrev pub output_share : WorldValue → FinMap nat_cmp ℕ → CampaignValue → FinMap nat_cmp ℕ → ℕ → Option ℕ
 output_share w asked c wants n = item_share (output_item w asked) (output_at w) wants c n
 
@@ -69,13 +70,13 @@ output_share w asked c wants n = item_share (output_item w asked) (output_at w) 
 
 -- How much a unit makes, by its number and its want: its share of what its region gives of the item, or, out of raw
 -- items, all that it wants.
-abbrev pub made_by : WorldValue → FinMap nat_cmp ℕ → CampaignValue → FinMap nat_cmp ℕ → ℕ × ℕ → ℕ
-made_by w asked c wants (n, want) =
+abbrev pub amount_made : WorldValue → FinMap nat_cmp ℕ → CampaignValue → FinMap nat_cmp ℕ → ℕ × ℕ → ℕ
+amount_made w asked c wants (n, want) =
     if is_some (output_item w asked n) then unwrap_or (output_share w asked c wants n) 0 else want
 
 -- how much each unit that has a want makes, by unit
 abbrev pub made_amounts : FinMap nat_cmp ℕ → WorldValue → CampaignValue → FinMap nat_cmp ℕ → FinMap nat_cmp ℕ
-made_amounts asked w c wants = from_entries (map (λ e. (e.0, made_by w asked c wants e)) (entries wants))
+made_amounts asked w c wants = from_entries (map (λ e. (e.0, amount_made w asked c wants e)) (entries wants))
 
 -- ---- what changes
 
@@ -99,15 +100,15 @@ abbrev pub is_unskilled : HoldingValue → Item → Bool
 is_unskilled h x = if is_some x.skill then nat_lt (level_in_any h x.skill) x.level else true
 
 -- whether an item needs raw items, `count` each, and a unit holds too few of them for a single piece
-abbrev pub lacks_raw : HoldingValue → (count : ℕ) → (raw : Option ℕ) → Bool
-lacks_raw h count raw = option_map_or (λ r. amount_of h.items r / count == 0) raw false
+abbrev pub is_raw_missing : HoldingValue → (count : ℕ) → (raw : Option ℕ) → Bool
+is_raw_missing h count raw = option_map_or (λ r. amount_of h.items r / count == 0) raw false
 
 -- The first fault of PRODUCE, if there is one: NoMen, NoSkill, NoMaterial; without an item of the world NoMen,
 -- else NoSkill.
-abbrev pub make_fault : HoldingValue → Option Item → Option EventFault
-make_fault h None = first_fault ((h.men == 0, NoMen) ∷ (true, NoSkill) ∷ [])
-make_fault h (Some x) =
-    first_fault ((h.men == 0, NoMen) ∷ (is_unskilled h x, NoSkill) ∷ (lacks_raw h x.raw_count x.raw, NoMaterial) ∷ [])
+abbrev pub produce_fault : HoldingValue → Option Item → Option EventFault
+produce_fault h None = first_fault ((h.men == 0, NoMen) ∷ (true, NoSkill) ∷ [])
+produce_fault h (Some x) =
+    first_fault ((h.men == 0, NoMen) ∷ (is_unskilled h x, NoSkill) ∷ (is_raw_missing h x.raw_count x.raw, NoMaterial) ∷ [])
 
 -- ---- the phase
 
@@ -115,7 +116,7 @@ make_fault h (Some x) =
 -- were made.
 abbrev pub produce_pots : PotMeaning
 produce_pots = record {
-  fault = λ w u t. make_fault u.holding (item_of w (item_in t.order_value.operands));
+  fault = λ w u t. produce_fault u.holding (item_of w (item_in t.order_value.operands));
   want = λ w u t. most_makeable w u.holding (item_in t.order_value.operands);
   grants = made_amounts;
   event_number = λ w u made. made;
@@ -134,13 +135,13 @@ produce_moves most e t = 0
 
 -- what PRODUCE leaves alone: each unit for which its own faction wrote no order of PRODUCE is there and no worse off
 abbrev pub produce_keeps : Frame
-produce_keeps = spares_unordered is_produce
+produce_keeps = no_worse_without_order is_produce
 
 -- the specification of the phase PRODUCE, which books Made and Used of items
 abbrev pub produce_spec : PhaseSpec
 produce_spec = record {
   meaning = produce_meaning;
-  moving = produce_moves most_moved;
+  book_bound = produce_moves most_moved;
   moved = record { money = []; people = []; items = Made ∷ Used ∷ [] };
   keeps = produce_keeps;
 }

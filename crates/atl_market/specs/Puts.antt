@@ -5,10 +5,10 @@ use Rattle.std.specs.Option.{option_map_or}
 use Rattle.std.specs.Ordering.{nat_cmp}
 use Rattle.std.specs.FinMap.{FinMap, insert}
 
--- a map into which some entries were put, one after another
-abbrev pub with_each : {V : Type 0} → FinMap nat_cmp V → List (ℕ × V) → FinMap nat_cmp V
-with_each m entries = fold (λ so_far entry. insert so_far entry.0 entry.1) m entries
+-- the map `m` with entries put into it, one after another
+abbrev pub with_entries : {V : Type 0} → FinMap nat_cmp V → List (ℕ × V) → FinMap nat_cmp V
+with_entries m entries = fold (λ so_far entry. insert so_far entry.0 entry.1) m entries
 
--- a map into which an entry was put; the map as it is where no entry is given
-abbrev pub with_any : {V : Type 0} → FinMap nat_cmp V → Option (ℕ × V) → FinMap nat_cmp V
-with_any m entry = option_map_or (λ e. insert m e.0 e.1) entry m
+-- the map `m` with an entry put into it; `m` itself where no entry is given (None)
+abbrev pub with_entry_if_some : {V : Type 0} → FinMap nat_cmp V → Option (ℕ × V) → FinMap nat_cmp V
+with_entry_if_some m entry = option_map_or (λ e. insert m e.0 e.1) entry m

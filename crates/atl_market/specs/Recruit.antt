@@ -19,7 +19,7 @@ use Rattle.atl_phase.specs.Outcomes.{first_fault}
 use Rattle.atl_phase.specs.There.{at_region, at_unit}
 use Rattle.atl_market.specs.Pots.{pot_shares}
 use Rattle.atl_market.specs.PotPhase.{PotMeaning, count_in, pots_by_orders}
-use Rattle.atl_market.specs.Unordered.{spares_unordered}
+use Rattle.atl_market.specs.Unordered.{no_worse_without_order}
 use Rattle.atl_phase.specs.PhaseSpecs.{PhaseSpec, books_money}
 
 -- whether a verb is RECRUIT
@@ -72,7 +72,7 @@ recruit_moves most = moves_only most Recruiting Money
 
 -- what RECRUIT leaves alone: each unit for which its own faction wrote no order of RECRUIT is there and no worse off
 abbrev pub recruit_keeps : Frame
-recruit_keeps = spares_unordered is_recruit
+recruit_keeps = no_worse_without_order is_recruit
 
 -- the specification of the phase RECRUIT, which books Recruiting of money
 abbrev pub recruit_spec : PhaseSpec

@@ -11,7 +11,7 @@ use Rattle.atl_records.specs.declared.records.Unit.{Unit}
 use Rattle.atl_records.specs.Limits.{holding_limit}
 use Rattle.atl_campaign.specs.Campaign.{CampaignValue, with_money, with_region_money}
 use Rattle.atl_phase.specs.Meaning.{Meaning}
-use Rattle.atl_phase.specs.NoWorse.{spares_all}
+use Rattle.atl_phase.specs.NoWorse.{all_no_worse}
 use Rattle.atl_phase.specs.Outcomes.{first_fault}
 use Rattle.atl_phase.specs.There.{at_region, at_unit}
 use Rattle.atl_market.specs.Pots.{pot_shares}
@@ -58,4 +58,4 @@ tax_meaning = pots_by_orders tax_pots is_tax
 
 -- the specification of the phase TAX: money only goes from regions to units, so nothing is booked
 abbrev pub tax_spec : PhaseSpec
-tax_spec = spec_without_books tax_meaning spares_all
+tax_spec = spec_without_books tax_meaning all_no_worse

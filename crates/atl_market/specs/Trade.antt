@@ -28,7 +28,7 @@ use Rattle.atl_market.specs.declared.trade.Trade.{Trade}
 use Rattle.atl_market.specs.declared.trade.Trade.TheVariants.{Sell, Buy}
 use Rattle.atl_market.specs.ItemPots.{item_shares}
 use Rattle.atl_market.specs.PotPhase.{PotMeaning, count_in, item_in, pots_by_orders}
-use Rattle.atl_market.specs.Unordered.{spares_unordered}
+use Rattle.atl_market.specs.Unordered.{no_worse_without_order}
 
 -- the trade of a phase: `Sell` if it sells, else `Buy`
 abbrev pub trade_of : (sells : Bool) → Trade
@@ -57,8 +57,8 @@ abbrev pub trade_fault : Trade → HoldingValue → Option Market → Option Eve
 trade_fault trade h None = Some NoMarket
 trade_fault trade h (Some m) = first_fault ((has_too_little trade h m, NotEnough) ∷ [])
 
--- The most pieces that a unit can trade: for SELL by what it has of the item and its room for money, for BUY by its
--- money and its room for the item.
+-- The most pieces that a unit can trade with a market. SELL is limited by its amount of the item and its room for
+-- money, BUY by its money and its room for the item.
 abbrev pub most_tradable : Trade → HoldingValue → Market → ℕ
 most_tradable Sell h m = min (amount_of h.items m.item) ((holding_limit - h.money) / m.pays)
 most_tradable Buy h m = min (h.money / m.price) (holding_limit - amount_of h.items m.item)
@@ -70,9 +70,9 @@ trade_want trade h asked market = option_map_or (λ m. min asked (most_tradable 
 -- ---- the pots
 
 -- the pot of a market: for SELL its limit less its stock, for BUY its stock
-abbrev pub pot_by : Trade → (limit stock : ℕ) → ℕ
-pot_by Sell limit stock = limit - stock
-pot_by Buy limit stock = stock
+abbrev pub market_pot : Trade → (limit stock : ℕ) → ℕ
+market_pot Sell limit stock = limit - stock
+market_pot Buy limit stock = stock
 
 -- the limit of the stock of a region's market for an item; 0 where there is no market
 abbrev pub limit_of : WorldValue → (item region : ℕ) → ℕ
@@ -80,7 +80,7 @@ limit_of w item region = option_map_or (λ m. m.limit) (market_of w region item)
 
 -- how much of an item there is to share in a region: its market's limit less its stock for SELL, its stock for BUY
 abbrev pub trade_pot : Trade → WorldValue → CampaignValue → (item region : ℕ) → ℕ
-trade_pot trade w c item region = pot_by trade (limit_of w item region) (stock_of c region item)
+trade_pot trade w c item region = market_pot trade (limit_of w item region) (stock_of c region item)
 
 -- ---- what changes
 
@@ -110,8 +110,8 @@ abbrev pub with_trade_result : HoldingValue → (item : ℕ) → TradeResult →
 with_trade_result h item d = record h { money = d.money; items = with_amount_of h.items item d.amount }
 
 -- a campaign with unit `n`, the stock of its region and the books as the result of a trade leaves them
-abbrev pub with_result : CampaignValue → ℕ → Unit → (item : ℕ) → BooksEntry → TradeResult → CampaignValue
-with_result c n u item entry d =
+abbrev pub with_trade_booked : CampaignValue → ℕ → Unit → (item : ℕ) → BooksEntry → TradeResult → CampaignValue
+with_trade_booked c n u item entry d =
     let paid = with_holding c n (with_trade_result u.holding item d) in
     with_booking (with_stock paid u.region item d.stock) entry Money d.booked
 
@@ -121,7 +121,7 @@ unfoldable pub after_trade : Trade → FinMap nat_cmp ℕ → WorldValue → Cam
 after_trade trade items w c (n, share) =
     at_unit c n (λ u.
     option_map_or
-    (λ m. with_result c n u m.item (trade_entry trade) (trade_result_of trade u.holding (stock_of c u.region m.item) share m))
+    (λ m. with_trade_booked c n u m.item (trade_entry trade) (trade_result_of trade u.holding (stock_of c u.region m.item) share m))
     (market_for w u (get items n)) c)
 
 -- ---- the phases
@@ -147,7 +147,7 @@ trade_moves trade most = moves_only most (trade_entry trade) Money
 
 -- what SELL or BUY leaves alone: units for which their own faction wrote no order of the phase are no worse off
 abbrev pub trade_keeps : Trade → Frame
-trade_keeps trade = spares_unordered (is_trade trade)
+trade_keeps trade = no_worse_without_order (is_trade trade)
 
 -- the specification of the phase SELL, which books Sold of money
 abbrev pub sell_spec : PhaseSpec

@@ -20,20 +20,20 @@ use Rattle.atl_market.specs.declared.trade.Trade.TheVariants.{Sell, Buy}
 use Rattle.atl_market.specs.Payable.{IsSomewhere}
 use Rattle.atl_market.specs.Trade.{market_for, trade_moves}
 
--- A unit can sell `share` pieces (it has them, and room for the money) or buy them (it has the money, and room for
--- them); without a market `share` is 0.
+-- A unit can sell or buy `share` pieces of a market's item. For SELL it has them, and room for the money. For BUY it
+-- has the money, and room for them. Without a market `share` is 0.
 abbrev pub CanAfford : Trade → HoldingValue → (share : ℕ) → Option Market → Type 0
 CanAfford trade h share None = share ≡ 0
 CanAfford Sell h share (Some m) = (share ≤ amount_of h.items m.item) × (h.money + share * m.pays ≤ holding_limit)
 CanAfford Buy h share (Some m) = (share * m.price ≤ h.money) × (amount_of h.items m.item + share ≤ holding_limit)
 
 -- the market has room for `share` pieces (SELL), or has them in stock (BUY); always so without a market
-abbrev pub HasPot : Trade → (stock share : ℕ) → Option Market → Type 0
-HasPot trade stock share None = ⊤
-HasPot Sell stock share (Some m) = stock + share ≤ m.limit
-HasPot Buy stock share (Some m) = share ≤ stock
+abbrev pub PotAllowsShare : Trade → (stock share : ℕ) → Option Market → Type 0
+PotAllowsShare trade stock share None = ⊤
+PotAllowsShare Sell stock share (Some m) = stock + share ≤ m.limit
+PotAllowsShare Buy stock share (Some m) = share ≤ stock
 
--- a market's prices are at least 1, and its limit is at most 999,999,999
+-- the conditions on a market's numbers: its two prices are at least 1, and its limit is at most 999,999,999
 pub record IsPriced (m : Market) : Type 0 where
   -- the money that a unit pays for a piece is at least 1
   pub price : 1 ≤ m.price
@@ -50,7 +50,9 @@ pub record CanTrade (trade : Trade) (items : FinMap nat_cmp ℕ) (w : WorldValue
   -- the unit can trade its share with the market of its order's item; without a market the share is 0
   pub deal : CanAfford trade at.unit.holding e.1 (market_for w at.unit (get items e.0))
   -- the market of the order's item, if there is one, has room for the share (SELL) or has it in stock (BUY)
-  pub pot : (m : Market) → market_for w at.unit (get items e.0) ≡ Some m → HasPot trade (amount_of at.region.stocks m.item) e.1 (Some m)
+  pub pot :
+      (m : Market) → market_for w at.unit (get items e.0) ≡ Some m
+      → PotAllowsShare trade (amount_of at.region.stocks m.item) e.1 (Some m)
   -- the world keeps the rules of worlds
   pub world : IsWorld w
   -- the campaign is early

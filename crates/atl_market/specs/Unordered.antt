@@ -11,13 +11,14 @@ use Rattle.atl_phase.specs.PhaseOrders.{Task, orders_by_unit}
 use Rattle.atl_phase.specs.NoWorse.{IsNoWorse}
 
 -- whether one of the orders `os` is for a unit, by its number, and from the unit's own faction
-abbrev pub is_ordered : List Task → ℕ → Unit → Bool
-is_ordered os n u = list_any (λ o. o.unit == n && o.faction == u.faction) os
+abbrev pub has_own_order : List Task → ℕ → Unit → Bool
+has_own_order os n u = list_any (λ o. o.unit == n && o.faction == u.faction) os
 
--- each unit for which its own faction wrote none of the orders `os` is still there, and no worse off
+-- each unit of `before` for which its own faction wrote none of the orders `os` is there in `after`, and no worse off
 abbrev pub OthersAreNoWorse : List Task → CampaignValue → CampaignValue → Type 0
-OthersAreNoWorse os before after = Every (λ n u. is_ordered os n u ≡ false → (v : Unit) × (get after.units n ≡ Some v) × IsNoWorse u v) before.units
+OthersAreNoWorse os before after =
+    Every (λ n u. has_own_order os n u ≡ false → (v : Unit) × (get after.units n ≡ Some v) × IsNoWorse u v) before.units
 
 -- what a phase with the verbs `is_of` leaves alone: units for which their own faction wrote no order are no worse off
-abbrev pub spares_unordered : (Verb → Bool) → Frame
-spares_unordered is_of w m before after = OthersAreNoWorse (orders_by_unit is_of m) before after
+abbrev pub no_worse_without_order : (Verb → Bool) → Frame
+no_worse_without_order is_of w m before after = OthersAreNoWorse (orders_by_unit is_of m) before after

@@ -21,11 +21,11 @@ use Rattle.atl_campaign.specs.Campaign.{CampaignValue, with_booking, with_money}
 use Rattle.atl_phase.specs.Month.{MonthValue}
 use Rattle.atl_phase.specs.Meaning.{BookBound, Meaning, moves_only}
 use Rattle.atl_phase.specs.PhaseOrders.{Task, is_month_long, key_of, orders_by_unit}
-use Rattle.atl_phase.specs.NoWorse.{spares_all}
+use Rattle.atl_phase.specs.NoWorse.{all_no_worse}
 use Rattle.atl_phase.specs.declared.phase_order.Arrangement.TheVariants.{ByUnit}
 use Rattle.atl_phase.specs.Outcomes.{first_fault}
 use Rattle.atl_phase.specs.There.{at_unit}
-use Rattle.atl_market.specs.Unordered.{is_ordered}
+use Rattle.atl_market.specs.Unordered.{has_own_order}
 use Rattle.atl_market.specs.PotPhase.{PotMeaning, pots_meaning}
 use Rattle.atl_market.specs.Pots.{pot_shares}
 use Rattle.atl_phase.specs.PhaseSpecs.{PhaseSpec, books_money}
@@ -34,11 +34,11 @@ use Rattle.atl_phase.specs.PhaseSpecs.{PhaseSpec, books_money}
 
 -- an order of WORK for a unit that has none: on line 0, as if its faction had written it
 abbrev pub idle_task : (unit faction : ℕ) → Task
-idle_task unit faction = record { faction = faction; unit = unit; line = 0; place = 0; order_value = order_of verbs.Work Nothing }
+idle_task unit faction = record { faction = faction; unit = unit; line = 0; index = 0; order_value = order_of verbs.Work Nothing }
 
 -- whether a unit has men and its own faction wrote none of the orders `ts` for it
 abbrev pub is_idle : List Task → ℕ × Unit → Bool
-is_idle ts (n, u) = nat_lt 0 u.holding.men && not (is_ordered ts n u)
+is_idle ts (n, u) = nat_lt 0 u.holding.men && not (has_own_order ts n u)
 
 -- an order of WORK for each unit with men for which its own faction wrote none of the orders `ts`, by unit
 abbrev pub idle_work : CampaignValue → List Task → List Task
@@ -114,4 +114,4 @@ work_moves most = moves_only most Wages Money
 
 -- the specification of the phase WORK, which books Wages of money and takes nothing from any unit
 abbrev pub work_spec : PhaseSpec
-work_spec = books_money Wages work_meaning spares_all
+work_spec = books_money Wages work_meaning all_no_worse

@@ -12,7 +12,7 @@ ghost use Rattle.atl_records.specs.declared.records.Unit.{Unit};
 ghost use Rattle.atl_phase.specs.Bounds.{HaveRoom};
 ghost use Rattle.atl_phase.specs.OrderEffects.{faction_effect};
 ghost use Rattle.atl_market.specs.Build.{after_start, begin, begin_fault, build_moves, build_spec, build_step, go_on, inside_fault, is_building, is_structure_limit, name_prefix, outside_fault, size_added};
-ghost use Rattle.atl_market.specs.Bounds.{CanBuild, build_reserve};
+ghost use Rattle.atl_market.specs.Bounds.{CanBuild, build_remaining};
 ghost use Rattle.atl_market.specs.Making.{CanUse};
 
 use crate::goods::use_item;
@@ -39,8 +39,8 @@ fn kind_of(world: &World, number: u16) -> Option<&Kind>
     world.kinds().get(usize::from(number))
 }
 
-/// How much a unit adds to a structure of which `done` is done: the least of its men times level,
-/// the material that it holds, and what is missing to the kind's size.
+/// How much a unit adds to a structure: the least of its men times level, the material that it
+/// holds, and what is missing to the kind's size. So far `done` of the structure is done.
 fn size_added(kind: &Kind, holding: &Holding, done: u32) -> u32
     ensures { result ≡ size_added kind.now holding.now done }
 {
@@ -121,9 +121,9 @@ fn name_of(alloc: Global, kind: &Kind, number: u32) -> Result<Text, AllocError>
     Ok(Text::from_string(letters))
 }
 
-/// A unit begins a structure: it uses `size` of the kind's material, leaves its old structure and
-/// enters the new one.
-fn start(
+/// Begins a structure: the unit uses `size` of the kind's material, leaves its old structure and
+/// enters the new one. AllocError without memory; the campaign may then be changed in part.
+fn start_structure(
     alloc: Global,
     world: &World,
     campaign: &mut Campaign,
@@ -166,7 +166,7 @@ fn begin(
 ) -> Result<Outcome, AllocError>
     requires kind { slice_get world.now.kinds number ≡ Some kind.now }
     requires can { CanBuild world.now campaign.old.value }
-    requires room { HaveRoom (build_reserve campaign.old.value) campaign.old.value }
+    requires room { HaveRoom (build_remaining campaign.old.value) campaign.old.value }
     ensures what { IfOk result
         (λ outcome. (campaign.new.value, outcome)
         ≡ faction_effect (begin world.now order.entry.unit number kind.now) campaign.old.value
@@ -181,7 +181,7 @@ fn begin(
     }
     let size = size_added(kind, &unit.holding, 0);
     let region = unit.region;
-    start(
+    start_structure(
         alloc, world, campaign, order.unit, number, kind, region, size,
     )?;
     Ok(Outcome::Done(u64::from(size)))
@@ -196,7 +196,7 @@ fn go_on(
     order: PhaseOrder<'_>,
 ) -> Result<Outcome, AllocError>
     requires can { CanBuild world.now campaign.old.value }
-    requires room { HaveRoom (build_reserve campaign.old.value) campaign.old.value }
+    requires room { HaveRoom (build_remaining campaign.old.value) campaign.old.value }
     ensures what { IfOk result
         (λ outcome. (campaign.new.value, outcome)
         ≡ faction_effect (go_on world.now order.entry.unit) campaign.old.value order.entry.faction
@@ -240,9 +240,9 @@ impl OrderPhase for BuildPhase {
 
     ghost holds = { CanBuild };
 
-    ghost reserve = { build_reserve };
+    ghost remaining = { build_remaining };
 
-    ghost moving = { build_moves };
+    ghost book_bound = { build_moves };
 
     /// Carries out `BUILD kind` or BUILD; None for an order that the phase passes over.
     fn carry_out(
@@ -272,7 +272,7 @@ impl OrderPhase for BuildPhase {
 impl Phase for BuildPhase {
     ghost meaning = { build_spec.meaning };
 
-    ghost moving = { build_moves };
+    ghost book_bound = { build_moves };
 
     ghost keeps = { build_spec.keeps };
 

@@ -8,7 +8,7 @@ ghost use Rattle.atl_market.specs.RegionsWithWants.{regions_with_wants};
 ghost use Rattle.atl_market.specs.ItemGroups.{item_shares_in, region_shares, with_want};
 ghost use Rattle.atl_market.specs.ItemPots.{item_share};
 ghost use Rattle.atl_market.specs.Pots.{AreWants};
-ghost use Rattle.atl_market.specs.Puts.{with_each};
+ghost use Rattle.atl_market.specs.Puts.{with_entries};
 
 use crate::pots::{regions_with_wants, share_pot};
 use atl_campaign::Campaign;
@@ -40,7 +40,7 @@ pub(crate) trait ItemPots {
 }
 
 /// The wants of units: for each item a map from each unit that asks for it to its want.
-type Groups = Numbered<Numbered<u32>>;
+type WantGroups = Numbered<Numbered<u32>>;
 
 /// Puts a unit's want into the group of the item that it asks for, if it has a want and asks for
 /// one.
@@ -48,7 +48,7 @@ fn note_want<P: ItemPots>(
     alloc: Global,
     pots: &P,
     wants: &Numbered<u32>,
-    groups: &mut Groups,
+    groups: &mut WantGroups,
     unit: u32,
 ) -> Result<(), AllocError>
     ensures { OnOk result (groups.new ≡ with_want (P.item_of pots.now) wants.now groups.old unit) }
@@ -65,7 +65,7 @@ fn wants_by_item<P: ItemPots>(
     pots: &P,
     units: &[u32],
     wants: &Numbered<u32>,
-) -> Result<Groups, AllocError>
+) -> Result<WantGroups, AllocError>
     ensures { IfOk result (λ groups. groups
         ≡ fold (with_want (P.item_of pots.now) wants.now) finmap.empty units.now) }
 {
@@ -94,13 +94,13 @@ fn share_items<P: ItemPots>(
     pots: &P,
     wants: &Numbered<u32>,
     region: u32,
-    groups: &Groups,
+    groups: &WantGroups,
     given: &mut Numbered<u32>,
 ) -> Result<(), AllocError>
     requires ready { P.ready pots.now }
     requires wants { AreWants wants.now }
     ensures { OnOk result (given.new
-        ≡ with_each given.old (flat_map (item_shares_in (P.pot_of pots.now) wants.now region)
+        ≡ with_entries given.old (flat_map (item_shares_in (P.pot_of pots.now) wants.now region)
         (finmap.entries groups.now))) }
 {
     for (item, group) in groups.iter() {
@@ -125,7 +125,7 @@ fn share_region<P: ItemPots>(
     requires wants { AreWants wants.now }
     requires asked { asked.now ≡ regions_with_wants wants.now campaign.now.value }
     ensures { OnOk result (given.new
-        ≡ with_each given.old (region_shares (P.item_of pots.now) (P.pot_of pots.now) wants.now
+        ≡ with_entries given.old (region_shares (P.item_of pots.now) (P.pot_of pots.now) wants.now
         campaign.now.value region)) }
 {
     if asked.get(region).is_none() {

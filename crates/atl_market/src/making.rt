@@ -5,7 +5,7 @@ ghost use Rattle.atl_world.specs.Limits.{most_amount};
 ghost use Rattle.atl_campaign.specs.Covers.{MarksChanges};
 ghost use Rattle.atl_records.specs.Limits.{holding_limit};
 ghost use Rattle.atl_market.specs.Making.{CanMakeOf, CanUse};
-ghost use Rattle.atl_market.specs.Produce.{is_unskilled, item_of, lacks_raw, make_fault, most_makeable, most_makeable_of, up_to_raw, with_item_made, with_raw_used};
+ghost use Rattle.atl_market.specs.Produce.{is_unskilled, item_of, is_raw_missing, produce_fault, most_makeable, most_makeable_of, up_to_raw, with_item_made, with_raw_used};
 
 use crate::goods::{make_item, use_item};
 use atl_campaign::{Campaign, EventFault, HOLDING_LIMIT, Holding, level_in_any};
@@ -30,9 +30,9 @@ fn is_unskilled(holding: &Holding, item: &Item) -> bool
 
 /// Whether an item needs raw items, `count` each, and a unit holds too few of them for a single
 /// piece.
-fn lacks_raw(holding: &Holding, count: u32, raw: Option<u16>) -> bool
+fn is_raw_missing(holding: &Holding, count: u32, raw: Option<u16>) -> bool
     requires { 1 ≤ count }
-    ensures { result ≡ lacks_raw holding.now count raw }
+    ensures { result ≡ is_raw_missing holding.now count raw }
 {
     match raw {
         Some(raw) => holding.amount(u32::from(raw)) / count == 0,
@@ -54,8 +54,12 @@ fn up_to_raw(holding: &Holding, count: u32, raw: Option<u16>, most: u32) -> u32
 }
 
 /// The first fault of PRODUCE, if there is one: NoMen, NoSkill, NoMaterial.
-pub(crate) fn make_fault(world: &World, holding: &Holding, asked: Option<u16>) -> Option<EventFault>
-    ensures { result ≡ make_fault holding.now (item_of world.now asked) }
+pub(crate) fn produce_fault(
+    world: &World,
+    holding: &Holding,
+    asked: Option<u16>,
+) -> Option<EventFault>
+    ensures { result ≡ produce_fault holding.now (item_of world.now asked) }
 {
     if holding.men() == 0 {
         return Some(EventFault::NoMen);
@@ -66,7 +70,7 @@ pub(crate) fn make_fault(world: &World, holding: &Holding, asked: Option<u16>) -
     if is_unskilled(holding, item) {
         return Some(EventFault::NoSkill);
     }
-    lacks_raw(holding, item.raw_count, item.raw).then_some(EventFault::NoMaterial)
+    is_raw_missing(holding, item.raw_count, item.raw).then_some(EventFault::NoMaterial)
 }
 
 /// How many of an item a unit can make: the least of its men times level, its room for the item,

@@ -3,8 +3,8 @@
 ghost use Rattle.std.specs.Prelude.{⊤, ℕ, ◌≡◌, map, IfOk};
 ghost use Rattle.std.specs.FinMap as finmap;
 ghost use Rattle.atl_market.specs.Pots.{AreWants};
-ghost use Rattle.atl_market.specs.Produce.{made_amounts, made_by, output_at, output_item, output_share};
-ghost use Rattle.atl_market.specs.Puts.{with_each};
+ghost use Rattle.atl_market.specs.Produce.{made_amounts, amount_made, output_at, output_item, output_share};
+ghost use Rattle.atl_market.specs.Puts.{with_entries};
 
 use crate::item_pots::{ItemPots, item_shares};
 use crate::making::item_of;
@@ -59,7 +59,7 @@ impl<'a> ItemPots for Outputs<'a> {
 
 /// How much a unit makes: its share of what its region gives of its item, or, where its item needs
 /// raw items, all of its want.
-fn made_by(
+fn amount_made(
     world: &World,
     campaign: &Campaign,
     asked: &Numbered<u16>,
@@ -70,7 +70,7 @@ fn made_by(
 ) -> u32
     requires { (n : ℕ) → finmap.get shares.now n
         ≡ output_share world.now asked.now campaign.now.value wants.now n }
-    ensures { result ≡ made_by world.now asked.now campaign.now.value wants.now (unit, want) }
+    ensures { result ≡ amount_made world.now asked.now campaign.now.value wants.now (unit, want) }
 {
     match output_item(world, asked, unit) {
         Some(_) => shares.get(unit).copied().unwrap_or(0),
@@ -95,7 +95,7 @@ pub(crate) fn made_amounts(
     for (unit, want) in wants.iter() {
         made.insert(
             unit,
-            made_by(world, campaign, asked, wants, &shares, unit, *want),
+            amount_made(world, campaign, asked, wants, &shares, unit, *want),
         )?;
     }
     Ok(made)

@@ -12,7 +12,7 @@ ghost use Rattle.atl_phase.specs.PhaseOrders.{task_of};
 ghost use Rattle.atl_market.specs.PotPhase.{PotMeaning, after_sharing, count_in, event_of, events_by, given_by, item_by, item_in, items_by, unit_for, want_by, wants_by};
 ghost use Rattle.atl_market.specs.Bounds.{CanInTurn};
 ghost use Rattle.atl_market.specs.Pots.{AreWants};
-ghost use Rattle.atl_market.specs.Puts.{with_any};
+ghost use Rattle.atl_market.specs.Puts.{with_entry_if_some};
 
 use atl_campaign::{Campaign, Event, EventFault, Outcome, Unit};
 use atl_orders::Operands;
@@ -57,7 +57,8 @@ pub(crate) trait PotPhase {
         requires needs { needs self.now world.now campaign.now.value }
         requires wants { AreWants wants.now }
         ensures { IfOk result (λ given. given
-            ≡ PotMeaning.grants (meaning self.now) items.now world.now campaign.now.value wants.now) };
+            ≡ PotMeaning.grants (meaning self.now) items.now world.now campaign.now.value
+            wants.now) };
 
     /// The number in the event of a unit's order, by the unit's share of the pot.
     fn event_number(&self, world: &World, unit: &Unit, share: u32) -> u64
@@ -135,11 +136,11 @@ fn note_order<P: PotPhase>(
 ) -> Result<(), AllocError>
     requires { AreWants wants.old }
     ensures wants { OnOk result
-        (wants.new ≡ with_any wants.old
+        (wants.new ≡ with_entry_if_some wants.old
         (want_by (P.meaning phase.now) world.now campaign.now.value (task_of order.entry))) }
     ensures bound { OnOk result (AreWants wants.new) }
     ensures items { OnOk result
-        (items.new ≡ with_any items.old
+        (items.new ≡ with_entry_if_some items.old
         (item_by (P.meaning phase.now) world.now campaign.now.value (task_of order.entry))) }
 {
     let Ok(unit) = unit_for(phase, world, campaign, order) else {
@@ -154,7 +155,7 @@ fn note_order<P: PotPhase>(
 
 /// What each unit wants by its order in `orders`, and the item that the order names, each by unit.
 /// An order with a fault wants nothing and names no item.
-#[tactic(auto, using(crate::proofs::WantLaws::any_then))]
+#[tactic(auto, using(crate::proofs::WantLaws::optional_entry_first))]
 fn wants_and_items<P: PotPhase>(
     alloc: Global,
     phase: &P,

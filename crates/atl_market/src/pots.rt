@@ -6,7 +6,7 @@ ghost use Rattle.atl_world.specs.Limits.{most_amount};
 ghost use Rattle.atl_market.specs.RegionsWithWants.{regions_with_wants};
 ghost use Rattle.atl_shares.specs.Share.{shares};
 ghost use Rattle.atl_market.specs.Pots.{AreWants, EachTakerGets, GivesEachPot, OnlyTakersGet, OtherRegionsDoNotCount, SharesEachPot, pot_shares, shares_in, takers_among, want_of};
-ghost use Rattle.atl_market.specs.Puts.{with_each};
+ghost use Rattle.atl_market.specs.Puts.{with_entries};
 
 use atl_campaign::Campaign;
 use atl_shares::share;
@@ -70,7 +70,7 @@ fn wants_of(alloc: Global, takers: &[u32], wants: &Numbered<u32>) -> Result<Vec<
 fn put_shares(takers: &[u32], shares: &[u64], given: &mut Numbered<u32>) -> Result<(), AllocError>
     requires length { length shares.now ≡ length takers.now }
     requires bound { All (λ share. share ≤ most_amount) shares.now }
-    ensures { OnOk result (given.new ≡ with_each given.old (zip takers.now shares.now)) }
+    ensures { OnOk result (given.new ≡ with_entries given.old (zip takers.now shares.now)) }
 {
     for i in 0..takers.len() {
         given.insert(takers[i], shares[i] as u32)?;
@@ -90,7 +90,8 @@ pub(crate) fn share_pot(
     requires pot { pot ≤ most_amount }
     requires wants { AreWants wants.now }
     ensures { OnOk result (given.new
-        ≡ with_each given.old (zip takers.now (shares pot (map (want_of wants.now) takers.now)))) }
+        ≡ with_entries given.old (zip takers.now
+        (shares pot (map (want_of wants.now) takers.now)))) }
 {
     let wanted = wants_of(alloc, takers, wants)?;
     let shares = share(alloc, pot, &wanted)?;
@@ -129,7 +130,7 @@ fn share_region<P: Pots>(
     requires wants { AreWants wants.now }
     requires asked { asked.now ≡ regions_with_wants wants.now campaign.now.value }
     ensures { OnOk result (given.new
-        ≡ with_each given.old (shares_in (P.pot_of pots.now) wants.now campaign.now.value.units
+        ≡ with_entries given.old (shares_in (P.pot_of pots.now) wants.now campaign.now.value.units
         region)) }
 {
     if asked.get(region).is_none() {
@@ -166,15 +167,15 @@ pub fn pot_shares<P: Pots>(
     Ok(given)
 }
 
-/// The laws of who gets a share of `pot_shares`: only units that have a want and are in a region of
-/// the campaign, each of them, and none more than it wants. Does nothing.
+/// The laws of who gets a share of `pot_shares`. Only units that have a want and are in a region of
+/// the campaign get one. Each of them does, and none gets more than it wants. Does nothing.
 pub fn takers_alone_get()
     ensures only { OnlyTakersGet }
     ensures each { EachTakerGets }
 {}
 
-/// The laws of one region's pot: the units there that have a want get its shares in unit order;
-/// these add up to the lesser of the pot and of all their wants; and no other region counts. Does
+/// The laws of one region's pot. The units there that have a want get its shares in unit order.
+/// These add up to the lesser of the pot and of all their wants. No other region counts. Does
 /// nothing. See docs/RULES.md, "Shares".
 pub fn each_pot_is_shared()
     ensures shares { SharesEachPot }

@@ -7,7 +7,7 @@ ghost use Rattle.atl_market.specs.Making.{CanProduce};
 ghost use Rattle.atl_market.specs.Produce.{after_production, is_produce, produce_keeps, produce_meaning, produce_moves, produce_pots};
 ghost use Rattle.atl_market.specs.AfterPots.{ProducesAtOnce};
 
-use crate::making::{item_of, make, make_fault, most_makeable};
+use crate::making::{item_of, make, most_makeable, produce_fault};
 use crate::outputs::made_amounts;
 use crate::pot_phase::{PotPhase, named_item, share_out};
 use atl_campaign::{Campaign, EventFault, Unit};
@@ -32,7 +32,7 @@ impl PhaseVerbs for ProducePhase {
 }
 
 /// The fault, want and share of a unit in PRODUCE, by the item that its order names, and what it
-/// makes of its share; the event says how many were made.
+/// makes of its share. The event says how many were made.
 impl PotPhase for ProducePhase {
     ghost meaning = { λ _. produce_pots };
 
@@ -42,7 +42,7 @@ impl PotPhase for ProducePhase {
 
     /// NoMen, NoSkill or NoMaterial, by the item that the order names; None without a fault.
     fn fault(&self, world: &World, unit: &Unit, order: PhaseOrder<'_>) -> Option<EventFault> {
-        make_fault(world, &unit.holding, named_item(order))
+        produce_fault(world, &unit.holding, named_item(order))
     }
 
     /// The most that the unit can make of the item that the order names.
@@ -100,7 +100,7 @@ pub(crate) fn world_is_well_formed(world: &World)
 impl Phase for ProducePhase {
     ghost meaning = { produce_meaning };
 
-    ghost moving = { produce_moves most_moved };
+    ghost book_bound = { produce_moves most_moved };
 
     ghost keeps = { produce_keeps };
 
@@ -121,8 +121,8 @@ impl Phase for ProducePhase {
     }
 }
 
-/// The law that all units produce at once: what a unit made is added to what it had as the phase
-/// began, and the raw items that went into it are taken off; no region changes. Does nothing. See
+/// The law that all units produce at once. What a unit made is added to what it had as the phase
+/// began, and the raw items that went into it are taken off. No region changes. Does nothing. See
 /// docs/RULES.md, "Producing".
 pub fn units_produce_all_at_once()
     ensures { ProducesAtOnce }

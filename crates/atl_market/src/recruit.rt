@@ -129,7 +129,7 @@ impl Phase for RecruitPhase {
 
     ghost leaves = { IsEarly };
 
-    ghost moving = { recruit_moves most_moved };
+    ghost book_bound = { recruit_moves most_moved };
 
     ghost keeps = { recruit_keeps };
 
@@ -149,8 +149,8 @@ impl Phase for RecruitPhase {
     }
 }
 
-/// The law that all recruits join at once: they are added to the men that their unit had as the
-/// phase began, their price is taken off its money, and they are taken off the peasants of its
+/// The law that all recruits join at once. They are added to the men that their unit had as the
+/// phase began, and their price is taken off its money. They are taken off the peasants of its
 /// region. Does nothing. See docs/RULES.md, "Recruiting".
 pub fn recruits_join_all_at_once()
     ensures { RecruitsAtOnce }

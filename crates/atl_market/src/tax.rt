@@ -1,7 +1,7 @@
 //! TAX: the units on guard share the money of their region. See docs/RULES.md, "Tax".
 ghost use Rattle.atl_world.specs.Worlds.{WorldValue};
 ghost use Rattle.atl_campaign.specs.Good.{IsEarly};
-ghost use Rattle.atl_phase.specs.NoWorse.{spares_all};
+ghost use Rattle.atl_phase.specs.NoWorse.{all_no_worse};
 ghost use Rattle.atl_market.specs.Tax.{is_tax, money_at, tax_meaning, tax_pots};
 ghost use Rattle.atl_market.specs.Payable.{CanTax};
 ghost use Rattle.atl_market.specs.AfterPots.{TaxesAtOnce};
@@ -123,7 +123,7 @@ impl Phase for TaxPhase {
 
     ghost leaves = { IsEarly };
 
-    ghost keeps = { spares_all };
+    ghost keeps = { all_no_worse };
 
     /// Plays TAX, and returns the campaign and the month after it. AllocError without memory.
     fn run(
@@ -141,7 +141,7 @@ impl Phase for TaxPhase {
     }
 }
 
-/// The law that all units take their tax at once: each has its share added to the money that it had
+/// The law that all units take their tax at once. Each has its share added to the money that it had
 /// as the phase began, and what its units took is taken off each region's money. Does nothing. See
 /// docs/RULES.md, "Tax".
 pub fn tax_pays_all_at_once()

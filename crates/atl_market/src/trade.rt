@@ -8,8 +8,8 @@ ghost use Rattle.atl_campaign.specs.Covers.{MarksChanges};
 ghost use Rattle.atl_campaign.specs.Good.{IsEarly};
 ghost use Rattle.atl_records.specs.declared.records.Unit.{Unit};
 ghost use Rattle.atl_phase.specs.Meaning.{most_moved};
-ghost use Rattle.atl_market.specs.Trade.{has_too_little, is_trade, limit_of, market_for, most_tradable, trade_entry, trade_fault, trade_keeps, trade_meaning, trade_moves, trade_of, trade_pot, trade_pots, trade_result_of, with_result};
-ghost use Rattle.atl_market.specs.Trading.{CanAfford, CanBookTrade, CanTrade, HasPot, IsPriced};
+ghost use Rattle.atl_market.specs.Trade.{has_too_little, is_trade, limit_of, market_for, most_tradable, trade_entry, trade_fault, trade_keeps, trade_meaning, trade_moves, trade_of, trade_pot, trade_pots, trade_result_of, with_trade_booked};
+ghost use Rattle.atl_market.specs.Trading.{CanAfford, CanBookTrade, CanTrade, PotAllowsShare, IsPriced};
 ghost use Rattle.atl_market.specs.AfterPots.{TradesAtOnce};
 
 use crate::item_pots::{ItemPots, item_shares};
@@ -51,7 +51,7 @@ pub(crate) struct TradeResult {
     pub booked: i64,
 }
 
-/// Under which entry of the books a trade is booked.
+/// Finds the entry of the books under which a trade is booked.
 impl Trade {
     /// The entry of the books under which the money of a trade is booked.
     fn entry(self) -> BooksEntry
@@ -108,8 +108,8 @@ fn most_tradable(trade: Trade, holding: &Holding, market: &Market) -> u32
     }
 }
 
-/// What a unit holds of money and item, the market's stock, and the money to book, after the unit
-/// traded `share` pieces with a market that had `stock` of them.
+/// The result of trading `share` pieces with a market that had `stock` of them: the unit's money
+/// and amount of the item, the market's stock, and the money to book.
 fn trade_result_of(
     trade: Trade,
     holding: &Holding,
@@ -118,7 +118,7 @@ fn trade_result_of(
     market: &Market,
 ) -> TradeResult
     requires holder { CanAfford trade holding.now share (Some market.now) }
-    requires pot { HasPot trade stock share (Some market.now) }
+    requires pot { PotAllowsShare trade stock share (Some market.now) }
     requires priced { IsPriced market.now }
     ensures { result ≡ trade_result_of trade holding.now stock share market.now }
 {
@@ -160,7 +160,7 @@ fn book_trade(
     requires { CanBookTrade campaign.old.value number entry deal }
     ensures what { OnOk result
         ((u : Unit) → finmap.get campaign.old.value.units number ≡ Some u → u.region ≡ region
-        → campaign.new.value ≡ with_result campaign.old.value number u item entry deal) }
+        → campaign.new.value ≡ with_trade_booked campaign.old.value number u item entry deal) }
     ensures marks { OnOk result (MarksChanges campaign.old campaign.new) }
 {
     campaign.set_money(number, deal.money);
@@ -326,7 +326,7 @@ impl<const SELLS: bool> Phase for TradePhase<SELLS> {
 
     ghost leaves = { IsEarly };
 
-    ghost moving = { trade_moves (trade_of SELLS) most_moved };
+    ghost book_bound = { trade_moves (trade_of SELLS) most_moved };
 
     ghost keeps = { trade_keeps (trade_of SELLS) };
 

@@ -6,14 +6,14 @@ ghost use Rattle.std.specs.Cmp.Lexicographic.{slice_cmp};
 ghost use Rattle.std.specs.Ordering.{nat_cmp};
 ghost use Rattle.atl_campaign.specs.Good.{IsSteady};
 ghost use Rattle.atl_phase.specs.Meaning.{most_moved};
-ghost use Rattle.atl_phase.specs.NoWorse.{spares_all};
+ghost use Rattle.atl_phase.specs.NoWorse.{all_no_worse};
 ghost use Rattle.atl_world.specs.ByNumber.{terrain_of};
 ghost use Rattle.atl_market.specs.Work.{places_at, wages_for, work_meaning, work_moves, work_orders, work_pots, written_work};
 ghost use Rattle.atl_orders.specs.declared.order.Operands.TheVariants.{Nothing};
 ghost use Rattle.atl_orders.specs.declared.verb.Verb.TheVariants.{Work};
 ghost use Rattle.atl_phase.specs.PhaseOrders.{key_of, task_of};
 ghost use Rattle.atl_phase.specs.declared.phase_order.Arrangement.TheVariants.{ByUnit};
-ghost use Rattle.atl_market.specs.Idle.{all_idle, own_writers};
+ghost use Rattle.atl_market.specs.Idle.{all_idle_orders, own_writers};
 ghost use Rattle.atl_market.specs.AfterPots.{WorksAtOnce};
 ghost use Rattle.atl_market.specs.Payable.{CanWork};
 
@@ -69,7 +69,7 @@ fn written_work<'m>(
 /// Appends an order of WORK, on line 0, for each unit with men for which its own faction wrote none
 /// of `orders`, the month-long ones. Each appended order refers to the mailing `mailing` and the
 /// order `work`.
-fn add_idle<'m>(
+fn add_idle_orders<'m>(
     alloc: Global,
     campaign: &Campaign,
     orders: &[PhaseOrder<'m>],
@@ -79,7 +79,8 @@ fn add_idle<'m>(
 ) -> Result<(), AllocError>
     requires { work.now ≡ record { verb = Work; operands = Nothing } }
     ensures { OnOk result (map task_of list.new.items
-        ≡ map task_of list.old.items ++ all_idle campaign.now.value (map task_of orders.now)) }
+        ≡ map task_of list.old.items ++ all_idle_orders campaign.now.value
+        (map task_of orders.now)) }
 {
     let writers = own_writers(alloc, campaign, orders)?;
     for (number, unit) in campaign.units() {
@@ -88,7 +89,7 @@ fn add_idle<'m>(
                 unit: number,
                 line: 0,
                 faction: unit.faction,
-                place: 0,
+                index: 0,
                 mailing,
                 order: work,
             })?;
@@ -97,8 +98,8 @@ fn add_idle<'m>(
     Ok(())
 }
 
-/// Sorts orders by unit, line and faction, and last by their index in the mailing (`place`).
-fn sort(list: &mut Vec<PhaseOrder<'_>>)
+/// Sorts orders by unit, line and faction, and last by their index in the mailing (`index`).
+fn sort_by_unit(list: &mut Vec<PhaseOrder<'_>>)
     ensures moved { IsPermutation list.old.items list.new.items }
     ensures sorted { IsSortedByKey (λ o. key_of ByUnit (task_of o)) (slice_cmp nat_cmp)
         list.new.items }
@@ -111,7 +112,7 @@ fn sort(list: &mut Vec<PhaseOrder<'_>>)
                 written.unit as usize,
                 written.line as usize,
                 written.faction as usize,
-                written.place,
+                written.index,
             ]
         },
     );
@@ -133,8 +134,8 @@ fn work_orders<'m>(
 {
     let orders = month.orders(alloc, &MonthLongVerbs, Arrangement::ByUnit)?;
     let mut list = written_work(alloc, &orders)?;
-    add_idle(alloc, campaign, &orders, mailing, work, &mut list)?;
-    sort(&mut list);
+    add_idle_orders(alloc, campaign, &orders, mailing, work, &mut list)?;
+    sort_by_unit(&mut list);
     Ok(list)
 }
 
@@ -250,9 +251,9 @@ impl PotPhase for WorkPhase {
 impl Phase for WorkPhase {
     ghost meaning = { work_meaning };
 
-    ghost moving = { work_moves most_moved };
+    ghost book_bound = { work_moves most_moved };
 
-    ghost keeps = { spares_all };
+    ghost keeps = { all_no_worse };
 
     /// Plays WORK, and returns the campaign and the month after it. AllocError without memory.
     fn run(
@@ -275,8 +276,8 @@ impl Phase for WorkPhase {
     }
 }
 
-/// The law that all units are paid their wages at once: each by what it held and where it was as
-/// the phase began, and nothing else of a unit changes, nor of a region. Does nothing. See
+/// The law that all units are paid their wages at once, each by what it held and where it was as
+/// the phase began. Nothing else of a unit changes, nor of a region. Does nothing. See
 /// docs/RULES.md, "Work".
 pub fn work_pays_all_at_once()
     ensures { WorksAtOnce }

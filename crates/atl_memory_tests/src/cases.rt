@@ -57,7 +57,7 @@ const REPORTED: &str = "A report.";
 /// its 5 men to the unit that it forms. Its 3 men take 30 money in tax, and of 90 it pays for one
 /// recruit. Unit 6 has 5 wood, gives 2 of it away and builds with 3. The 4 men of unit 2 get 30
 /// days each and 30 more, as all are taught. In the forest 15 men make as much wood.
-static OF_AVALON: [&str; 14] = [
+static LINES_FOR_AVALON: [&str; 14] = [
     "Unit 1, line 4, FORM: done 12.",
     "Unit 1, line 7, FORM: done 13.",
     "Unit 1, line 9, PAY: done 40.",
@@ -76,7 +76,7 @@ static OF_AVALON: [&str; 14] = [
 
 /// Lines that Bree's report on the month must have. Unit 11 has no money for the fee or for its
 /// upkeep of 10, and unit 10 can give it only 4: it has 4, earns 20, and pays 20 for itself.
-static OF_BREE: [&str; 2] = [
+static LINES_FOR_BREE: [&str; 2] = [
     "Unit 11, line 3, STUDY: fault 23 NoFee.",
     "Unit 11: 1 starved.",
 ];
@@ -105,7 +105,7 @@ impl Drop for Case {
 }
 
 /// A list of one command.
-fn one(alloc: Global, command: Command) -> Result<Vec<Command>, AllocError> {
+fn one_command(alloc: Global, command: Command) -> Result<Vec<Command>, AllocError> {
     let mut commands = Vec::new(alloc);
     commands.push(command)?;
     Ok(commands)
@@ -115,10 +115,10 @@ fn one(alloc: Global, command: Command) -> Result<Vec<Command>, AllocError> {
 /// commands.
 fn commands_of(alloc: Global, call: Call) -> Result<Vec<Command>, AllocError> {
     match call {
-        Call::Join | Call::Books => one(alloc, join(alloc)?),
-        Call::Mail => one(alloc, next_mail(alloc)?),
-        Call::Close => one(alloc, close(alloc)?),
-        Call::Report => one(alloc, report(alloc)?),
+        Call::Join | Call::Books => one_command(alloc, join(alloc)?),
+        Call::Mail => one_command(alloc, next_mail(alloc)?),
+        Call::Close => one_command(alloc, close(alloc)?),
+        Call::Report => one_command(alloc, report(alloc)?),
         Call::RunAll => all_commands(alloc),
         Call::Found | Call::Open | Call::Upgrade | Call::Parts | Call::Check => {
             Ok(Vec::new(alloc))
@@ -153,8 +153,8 @@ fn reports(campaign: &Campaign, faction: u32, lines: &[&str]) -> bool {
 fn is_month_right(campaign: Option<&Campaign>) -> bool {
     match campaign {
         Some(campaign) => {
-            reports(campaign, 1, &OF_AVALON)
-                && reports(campaign, 2, &OF_BREE)
+            reports(campaign, 1, &LINES_FOR_AVALON)
+                && reports(campaign, 2, &LINES_FOR_BREE)
                 && campaign.unit(12).is_some()
                 && campaign.unit(13).is_none()
                 && campaign.unit(11).is_none()

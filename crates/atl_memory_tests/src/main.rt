@@ -14,7 +14,7 @@ mod trials;
 
 use crate::cases::{CALLS, Call, Case};
 use crate::shortage::{Limit, Shortage};
-use crate::trials::{TrialResult, tried};
+use crate::trials::{TrialResult, try_case};
 use std::alloc::{AllocError, Global};
 use std::{env, io};
 
@@ -39,7 +39,7 @@ fn with_blocks(rt: &HostRuntime, case: &Case, shortage: &mut Shortage) -> io::Re
     let call = case.call;
     for blocks in 0..2_000u32 {
         shortage.limit = Limit::Blocks(blocks);
-        match tried(rt.alloc(), case, shortage) {
+        match try_case(rt.alloc(), case, shortage) {
             TrialResult::Held => {}
             TrialResult::Done if blocks > 0 => {
                 return println!(rt; "{call:?}: without memory Memory, and with it done");
@@ -50,8 +50,9 @@ fn with_blocks(rt: &HostRuntime, case: &Case, shortage: &mut Shortage) -> io::Re
     println!(rt; "{call:?}: never done")
 }
 
-/// Tries a call with one growth (a request for memory) refused each time, a later one in steps of
-/// `step`, until none is refused, and prints the result.
+/// Tries a call again and again, each time with one growth (a request for memory) refused, and
+/// prints the result. The number of the refused growth rises by `step` each time, until none is
+/// refused.
 fn with_refusals(
     rt: &HostRuntime,
     case: &Case,
@@ -63,7 +64,7 @@ fn with_refusals(
     for refused in 0..1_000_000u32 {
         let growth = refused.saturating_mul(step).saturating_add(1);
         shortage.limit = Limit::Growth(growth);
-        match tried(rt.alloc(), case, shortage) {
+        match try_case(rt.alloc(), case, shortage) {
             TrialResult::Held => {}
             TrialResult::MadeGood => made_good = made_good.saturating_add(1),
             TrialResult::Done => {

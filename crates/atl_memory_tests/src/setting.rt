@@ -1,10 +1,10 @@
 //! Makes the campaign in which calls are tried, and the commands. Two factions, Avalon and Bree,
 //! have eleven units and a boat, and both have sent mail. The island (`ISLE`) and the rows of the
-//! factions, units and boat (`ROWS`) are in atl_test_worlds.
+//! factions, units and boat (`MONTH_ROWS`) are in atl_test_worlds.
 use atl_service::{Answer, Command, Service, found, open};
 use atl_test_files::old_file;
 use atl_test_worlds::ISLE;
-use atl_test_worlds::month::{OF_AVALON, OF_BREE, ROWS};
+use atl_test_worlds::month::{AVALON_MAILING, BREE_MAILING, MONTH_ROWS};
 use atl_world::Sequence;
 use sqlite::{Alter, Connection, MemStore};
 use std::alloc::{AllocError, Global};
@@ -93,11 +93,11 @@ pub fn founded<S: Alter + Drop>(alloc: Global, conn: Connection<S>) -> Option<Se
     }
 }
 
-/// The service of the island's campaign with the factions, units and boat of `ROWS`, without mail;
-/// None if a step fails.
+/// The service of the island's campaign with the factions, units and boat of `MONTH_ROWS`, without
+/// mail; None if a step fails.
 fn filled<S: Alter + Drop>(alloc: Global, conn: Connection<S>) -> Option<Service<S>> {
     let mut conn = founded(alloc, conn)?.end();
-    conn.execute_batch(ROWS).ok()?;
+    conn.execute_batch(MONTH_ROWS).ok()?;
     match open(alloc, conn) {
         Ok(service) => Some(service),
         Err(_) => None,
@@ -112,12 +112,12 @@ fn sends<S: Alter>(service: &mut Service<S>, mail: Result<Command, AllocError>) 
     }
 }
 
-/// The service of the island's campaign with the rows of `ROWS` and the mail of both factions; None
-/// if a step fails.
+/// The service of the island's campaign with the rows of `MONTH_ROWS` and the mail of both
+/// factions; None if a step fails.
 pub fn begun<S: Alter + Drop>(alloc: Global, conn: Connection<S>) -> Option<Service<S>> {
     let mut service = filled(alloc, conn)?;
-    let are_kept = sends(&mut service, mail(alloc, 1, "pw", OF_AVALON))
-        && sends(&mut service, mail(alloc, 2, "pb", OF_BREE));
+    let are_kept = sends(&mut service, mail(alloc, 1, "pw", AVALON_MAILING))
+        && sends(&mut service, mail(alloc, 2, "pb", BREE_MAILING));
     if are_kept { Some(service) } else { None }
 }
 

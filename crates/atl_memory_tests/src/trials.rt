@@ -132,7 +132,7 @@ fn end_of(alloc: Global, answers: &[Answer], wanted: &[String]) -> End {
 
 /// What a call did (`Behaviour`), judged by the answers to a case's commands and the state of the
 /// service after them.
-fn ended<S: Alter + Drop>(
+fn judge_answers<S: Alter + Drop>(
     alloc: Global,
     service: Service<S>,
     answers: &[Answer],
@@ -150,7 +150,8 @@ fn ended<S: Alter + Drop>(
 fn works_as_before<S: Alter + Drop>(alloc: Global, mut service: Service<S>, case: &Case) -> bool {
     let is_as_before = is_text(rows(alloc, service.campaign()), case.rows_after(0));
     match service.run_all(&case.commands) {
-        Ok(answers) => is_as_before && ended(alloc, service, &answers, case) == Behaviour::Done,
+        Ok(answers) => is_as_before
+            && judge_answers(alloc, service, &answers, case) == Behaviour::Done,
         Err(_) => false,
     }
 }
@@ -259,7 +260,7 @@ fn runs<S: Alter + Drop>(
     let answer = service.run(command);
     shortage.end(alloc);
     match Vec::from_array(alloc, [answer]) {
-        Ok(answers) => ended(alloc, service, &answers, case),
+        Ok(answers) => judge_answers(alloc, service, &answers, case),
         Err(_) => Behaviour::Wrong("no room"),
     }
 }
@@ -276,7 +277,7 @@ fn runs_all<S: Alter + Drop>(
     let answers = service.run_all(&case.commands);
     shortage.end(alloc);
     match answers {
-        Ok(answers) => ended(alloc, service, &answers, case),
+        Ok(answers) => judge_answers(alloc, service, &answers, case),
         Err(_) => after_memory(works_as_before(alloc, service, case)),
     }
 }
@@ -357,7 +358,7 @@ fn reads<S: Alter + Drop>(
 }
 
 /// Tries the call of a case on a service with memory short; the call is any but a founding.
-fn called<S: Alter + Drop>(
+fn try_on_service<S: Alter + Drop>(
     alloc: Global,
     service: Service<S>,
     case: &Case,
@@ -375,7 +376,7 @@ fn called<S: Alter + Drop>(
 
 /// Tries the call of a case with memory short in an empty database, which is filled before any call
 /// but a founding.
-fn tried_in<S: Alter + Drop>(
+fn try_in_database<S: Alter + Drop>(
     alloc: Global,
     conn: Connection<S>,
     case: &Case,
@@ -385,15 +386,15 @@ fn tried_in<S: Alter + Drop>(
         return founds(alloc, conn, case, shortage);
     }
     match begun(alloc, conn) {
-        Some(service) => called(alloc, service, case, shortage),
+        Some(service) => try_on_service(alloc, service, case, shortage),
         None => Behaviour::Wrong("no campaign"),
     }
 }
 
 /// Tries the call of a case with memory short, in a new database in memory, and judges the outcome.
-pub fn tried(alloc: Global, case: &Case, shortage: &mut Shortage) -> TrialResult {
+pub fn try_case(alloc: Global, case: &Case, shortage: &mut Shortage) -> TrialResult {
     let behaviour = match Connection::open_in_memory(alloc) {
-        Ok(conn) => tried_in(alloc, conn, case, shortage),
+        Ok(conn) => try_in_database(alloc, conn, case, shortage),
         Err(_) => Behaviour::Wrong("no connection"),
     };
     judged(shortage.was_refused, behaviour)

@@ -21,7 +21,7 @@ use Rattle.atl_phase.specs.Meaning.{BookBound, Condition, IsNear, IsSameMonth, L
 use Rattle.atl_phase.specs.Bounds.{HaveRoom}
 use Rattle.atl_phase.proofs.MonthLaws.{mailings_have_no_order}
 use Rattle.atl_phase.proofs.MeaningLaws.{IsBoundWithin, near_more, room_when_sound}
-use Rattle.atl_month.specs.Month.{BooksAreNear, MailOrderDoesNotCount, after_month, month_meaning, month_moves, month_of, new_month, phases_moving, early_phases, last_phases, later_phases, month_keeps}
+use Rattle.atl_month.specs.Month.{BooksAreNear, MailOrderDoesNotCount, after_month, month_meaning, month_moves, month_of, new_month, phases_bound, early_phases, last_phases, later_phases, month_keeps}
 use Rattle.atl_month.specs.Sweep.{IsSwept}
 use Rattle.atl_month.proofs.CountLaws.{has_all_back}
 use Rattle.atl_month.proofs.MoveLaws.{month_within, moves_in_month, phases_little}
@@ -34,7 +34,7 @@ use Rattle.atl_phase.specs.OrderEffects.{IsUnaffected}
 use Rattle.atl_phase.specs.Unmailed.{IsLeft, IsLessBy, starved_in}
 use Rattle.atl_phase.proofs.UnmailedLaws.{ClosesUnmailed, both_leave, then_closes}
 use Rattle.atl_phase.proofs.PhaseSpecLaws.{closed_together, each_also, leave_together}
-use Rattle.atl_month.proofs.PhaseLaws.{IsPhase, early_are, last_leave, later_are}
+use Rattle.atl_month.proofs.PhaseLaws.{KeepsPhaseLaws, early_are, last_leave, later_are}
 use Rattle.atl_month.specs.Unmailed.{SentNone, UnmailedAreLeft}
 
 module _ (w : WorldValue) (d : CampaignValue) where
@@ -47,7 +47,7 @@ module _ (w : WorldValue) (d : CampaignValue) where
   unfolding total
   finished_balances old t = old t
 
-module _ (w : WorldValue) (c d : CampaignValue) (moving : BookBound) (little : IsBoundWithin moving moves_in_month) (early : c.month < last_month) (well : LeavesWell IsSwept moving w c d) where
+module _ (w : WorldValue) (c d : CampaignValue) (book_bound : BookBound) (little : IsBoundWithin book_bound moves_in_month) (early : c.month < last_month) (well : LeavesWell IsSwept book_bound w c d) where
   -- The phases of a month leave the number of the month last closed, the reports and the set of factions
   -- (`IsSameMonth`).
   abbrev same : IsSameMonth c d
@@ -67,7 +67,7 @@ module _ (w : WorldValue) (c d : CampaignValue) (moving : BookBound) (little : I
   -- the campaign after the month
   amounts_within : AreAmountsWithin c → AreAmountsWithin (after_month d)
   amounts_within old e t =
-      near_within (amount_in c.books e t) (amount_in d.books e t) (moving e t) (amount_bound c) (amount_bound (after_month d)) (little e t)
+      near_within (amount_in c.books e t) (amount_in d.books e t) (book_bound e t) (amount_bound c) (amount_bound (after_month d)) (little e t)
       (bound_grows c.month d.month (len c.factions) (len d.factions) same.month same.count) (well.near e t) (old e t)
 
   -- once the phases ran, the month is counted and the mail is removed, a sound campaign is sound again
@@ -90,19 +90,19 @@ module _ (w : WorldValue) (c d : CampaignValue) (moving : BookBound) (little : I
 
 -- ---- what a month leaves of the books and of the factions
 
-module _ {leaves : Condition} (w : WorldValue) (c d : CampaignValue) (well : LeavesWell leaves phases_moving w c d) where
+module _ {leaves : Condition} (w : WorldValue) (c d : CampaignValue) (well : LeavesWell leaves phases_bound w c d) where
   -- the phases of a month move each amount of the books by at most 10^14 - 1 for each phase that may move it
   -- (`month_moves`)
   pub books_near : BooksAreNear month_moves c d
-  books_near e t = near_more (phases_moving e t) (month_moves e t) (amount_in c.books e t) (amount_in d.books e t) (month_within e t) (well.near e t)
+  books_near e t = near_more (phases_bound e t) (month_moves e t) (amount_in c.books e t) (amount_in d.books e t) (month_within e t) (well.near e t)
 
   -- each faction of a campaign is still there after the phases of a month
   pub factions_stay : (n : ℕ) → HasValue c.factions n → HasValue d.factions n
   factions_stay = has_all_back c.factions d.factions well.same_month.count well.same_month.factions
 
 -- the books of a sound campaign have room for the phases of a month
-pub phases_room : (w : WorldValue) (c : CampaignValue) → IsSound w c → HaveRoom phases_moving c
-phases_room w c sound = room_when_sound w c phases_moving (λ e t. omega (arith, phases_little e t)) sound
+pub phases_room : (w : WorldValue) (c : CampaignValue) → IsSound w c → HaveRoom phases_bound c
+phases_room w c sound = room_when_sound w c phases_bound (λ e t. omega (arith, phases_little e t)) sound
 
 -- If some phases, run on month `m`, made campaign `d` and some events, they make the same when run on month `begin`,
 -- which is equal to `m`.
@@ -127,7 +127,7 @@ mail_order_does_not_count w c words mailings others own same = ap (λ readings. 
 -- (`ClosesUnmailed`)
 month_leaves : ClosesUnmailed month_meaning month_keeps
 month_leaves =
-    then_closes (both_leave (leave_together early_phases (each_also (λ phase (is : IsPhase phase). is.leaves) early_phases early_are)) (leave_together later_phases (each_also (λ phase (is : IsPhase phase). is.leaves) later_phases later_are)))
+    then_closes (both_leave (leave_together early_phases (each_also (λ phase (is : KeepsPhaseLaws phase). is.leaves) early_phases early_are)) (leave_together later_phases (each_also (λ phase (is : KeepsPhaseLaws phase). is.leaves) later_phases later_are)))
     (closed_together last_phases last_leave)
 
 -- if none of the mailings is of a faction, the month has no mailing of that faction
@@ -144,11 +144,12 @@ none_read f ms none = get-from_entries nat_cmp_total (map (λ r. (r.faction, r))
           | Greater ↦ λ o. not_found ms none.1
         ] refl
 
--- Phases of `ClosesUnmailed` leave units of factions without a mailing their items, and their men less the starved. If
--- the month begins without events, its events report these men; a unit all of whose men starved may be gone (`IsLeft`).
-left_behind : (phases : Meaning) (keeps : Frame) → ClosesUnmailed phases keeps → (w : WorldValue) (c d : CampaignValue) (m : MonthValue) (events : List Event) → m.events ≡ [] → ◌≡◌ {A = CampaignValue × List Event} (d, events) ((phases w c m).0, (phases w c m).1.events) → keeps w m c d
+-- Phases that do as `ClosesUnmailed` says leave units of factions without a mailing their items, and their men less the
+-- starved. If the month begins without events, its events report these men. A unit all of whose men starved may be gone
+-- (`IsLeft`).
+phases_leave_unmailed : (phases : Meaning) (keeps : Frame) → ClosesUnmailed phases keeps → (w : WorldValue) (c d : CampaignValue) (m : MonthValue) (events : List Event) → m.events ≡ [] → ◌≡◌ {A = CampaignValue × List Event} (d, events) ((phases w c m).0, (phases w c m).1.events) → keeps w m c d
     → Every (λ n u. get m.readings u.faction ≡ None → IsLeft (starved_in events n) d n u) c.units
-left_behind phases keeps closes w c d m events begins is kept n u there none some =
+phases_leave_unmailed phases keeps closes w c d m events begins is kept n u there none some =
     let state : d ≡ (phases w c m).0 = ap (λ (p : CampaignValue × List Event). p.0) is in
     let events_are : events ≡ (phases w c m).1.events = ap (λ (p : CampaignValue × List Event). p.1) is in
     let from_none : starved_in m.events n ≡ 0 = ap (λ es. starved_in es n) begins in
@@ -162,4 +163,4 @@ pub unmailed_left : (w : WorldValue) (c d : CampaignValue) (ms : List Mailing) (
     → month_keeps w (new_month (by_faction (map reading_of ms)) words) c d → UnmailedAreLeft ms events c d
 unfolding month_of
 unmailed_left w c d ms words events is kept n u there none =
-    left_behind month_meaning month_keeps month_leaves w c d (new_month (by_faction (map reading_of ms)) words) events refl is kept n u there (none_read u.faction ms none)
+    phases_leave_unmailed month_meaning month_keeps month_leaves w c d (new_month (by_faction (map reading_of ms)) words) events refl is kept n u there (none_read u.faction ms none)

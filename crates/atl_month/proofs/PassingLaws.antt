@@ -16,7 +16,7 @@ use Rattle.atl_records.specs.declared.books.Thing.{Thing}
 use Rattle.atl_records.specs.declared.books.Thing.TheVariants.{Item, Money, People}
 use Rattle.atl_records.specs.declared.records.Unit.{Unit}
 use Rattle.atl_records.specs.Every.{EachEntry, Every}
-use Rattle.atl_campaign.specs.Founding.{things_of}
+use Rattle.atl_campaign.specs.Founding.{thing_count}
 use Rattle.atl_campaign.specs.Good.{IsSteady}
 use Rattle.atl_records.specs.Holdings.{HoldingValue, amount_of, with_amount_of}
 use Rattle.atl_campaign.specs.Lending.{with_holding_at}
@@ -27,14 +27,14 @@ use Rattle.atl_campaign.specs.Totals.{total}
 use Rattle.atl_records.proofs.BookLaws.{booked-after_booking}
 use Rattle.atl_records.proofs.EveryLaws.{every-insert, get-insert_other, same_number}
 use Rattle.atl_campaign.proofs.HoldingLaws.{MayHaveWithoutNewGuard, may_hold_money, steady-unit_amount, total-unit_amount}
-use Rattle.atl_campaign.proofs.RegionLaws.{changed-known, get-insert_same, steady-amount, total-amount}
+use Rattle.atl_campaign.proofs.RegionLaws.{changed-known, get-insert_same, steady-amount, total-booking}
 use Rattle.atl_phase.specs.Meaning.{BookBound, IsNear, IsSameMonth, both_move, moves_only}
 use Rattle.atl_phase.proofs.MeaningLaws.{near_same, near_twice, same_month_by, same_month_twice}
 use Rattle.atl_records.proofs.HoldingLaws.{amount_within, every_amount, set_same, set_other}
 use Rattle.atl_phase.proofs.BookingLaws.{booked-near, within-neg}
 use Rattle.atl_phase.proofs.NoWorseLaws.{no_worse, no_worse_twice}
-use Rattle.atl_phase.specs.Bounds.{moving_items}
-use Rattle.atl_instant.proofs.QuitLaws.{held_in_items, part_of}
+use Rattle.atl_phase.specs.Bounds.{items_bound}
+use Rattle.atl_instant.proofs.QuitLaws.{held_in_items, amount_as_thing}
 use Rattle.atl_month.specs.Sweep.{IsKept, accepted_of, after_passing_item, after_passing_money, with_lost}
 use Rattle.std.proofs.lemmas.Bool.{cases_eq}
 
@@ -67,14 +67,14 @@ kept-with u money items more all = record {
 
 -- Campaign `d` is campaign `c` after something of unit `n` was passed on, which leaves unit `n` unchanged and takes
 -- nothing from any unit. The total of each thing is above the books by `owing` more than before, and the books moved by
--- at most `moving`.
-pub record PassesOn (w : WorldValue) (n : ℕ) (owing : Thing → ℕ) (moving : BookBound) (c d : CampaignValue) : Type 0 where
+-- at most `book_bound`.
+pub record PassesOn (w : WorldValue) (n : ℕ) (owing : Thing → ℕ) (book_bound : BookBound) (c d : CampaignValue) : Type 0 where
   -- the campaign is steady after something was passed on
   pub steady : IsSteady w d
   -- of each thing the total is above the books by `owing` more than before
   pub owes : (s : Thing) (x : ℕ) → Owes c s x → Owes d s (x + owing s)
-  -- each amount of the books moves by at most its bound in `moving`
-  pub near : (e : BooksEntry) (s : Thing) → IsNear (moving e s) (amount_in c.books e s) (amount_in d.books e s)
+  -- each amount of the books moves by at most its bound in `book_bound`
+  pub near : (e : BooksEntry) (s : Thing) → IsNear (book_bound e s) (amount_in c.books e s) (amount_in d.books e s)
   -- the number of the month last closed, the reports and the set of factions stay
   pub same : IsSameMonth c d
   -- unit `n`, whose money or items are passed on, is itself unchanged
@@ -105,31 +105,32 @@ passes-trans {o} {p} {i} {j} w n a b c one two = record {
   near = λ e s. near_twice (i e s) (j e s) (amount_in a.books e s) (amount_in b.books e s) (amount_in c.books e s) (one.near e s) (two.near e s);
   same = same_month_twice a b c one.same two.same;
   unit = two.unit ∙ one.unit;
-  forth = λ m u is. let (v, there, kept) = one.forth m u is in let (x, behind, more) = two.forth m v there in (x, behind, kept-trans u v x kept more);
+  forth = λ m u is. let (v, there, kept) = one.forth m u is in let (x, later, more) = two.forth m v there in (x, later, kept-trans u v x kept more);
   back = λ m x is. let (v, there, more) = two.back m x is in let (u, before, kept) = one.back m v there in (u, before, kept-trans u v x kept more);
 }
 
--- Giving `taken` and booking `lost` as lost, of a thing for which test `b` holds, puts the total above the books by
--- both together more than before. The total of any other thing is above the books by as much as before.
+-- If `taken` of a thing is given to a unit and `lost` of it is booked as lost, its total is above the books by both
+-- together more than before. The total of any other thing is above the books by as much as before. Test `b` says
+-- whether a thing is the one.
 total_above_books : (b : Bool) (taken lost x before after : ℕ) (books : ℤ) → after ≡ before + cond b taken 0 → pos before ≡ books +ℤ pos x
     → pos after ≡ (books +ℤ cond b (neg_ℤ (pos lost)) (pos 0)) +ℤ pos (x + cond b (taken + lost) 0)
 total_above_books b taken lost x before after books e h = grind (arith, ints, e, h)
 
--- Booking `lost` as lost, of a thing for which test `b` holds, puts the total above the books by `lost` more than
--- before. The total of any other thing is above the books by as much as before.
+-- If `lost` of a thing is booked as lost, its total is above the books by `lost` more than before. The total of any
+-- other thing is above the books by as much as before. Test `b` says whether a thing is the one.
 owed_all : (b : Bool) (lost x all : ℕ) (books : ℤ) → pos all ≡ books +ℤ pos x
     → pos all ≡ (books +ℤ cond b (neg_ℤ (pos lost)) (pos 0)) +ℤ pos (x + cond b lost 0)
 owed_all b lost x all books h = grind (arith, ints, h)
 
-module _ (w : WorldValue) (c : CampaignValue) (n : ℕ) (t : Thing) (inside : thing_index t < things_of w) (steady : IsSteady w c) where
+module _ (w : WorldValue) (c : CampaignValue) (n : ℕ) (t : Thing) (inside : thing_index t < thing_count w) (steady : IsSteady w c) where
   -- booking an amount of a thing as lost is passing it on (`PassesOn`), in a steady campaign
-  pub all_lost : (amount : ℕ) → PassesOn w n (λ s. part_of s t amount) (moves_only amount Lost t) c (with_lost c t amount)
+  pub all_lost : (amount : ℕ) → PassesOn w n (λ s. amount_as_thing s t amount) (moves_only amount Lost t) c (with_lost c t amount)
   all_lost amount = record {
     steady = steady-amount w c Lost t (neg_ℤ (pos amount)) inside steady;
     owes = λ s x h.
-        ap pos (total-amount c Lost t s (neg_ℤ (pos amount)))
+        ap pos (total-booking c Lost t s (neg_ℤ (pos amount)))
         ∙ owed_all (thing_index s == thing_index t) amount x (total c s) (booked c.books s) h
-        ∙ ap (λ z. z +ℤ pos (x + part_of s t amount))
+        ∙ ap (λ z. z +ℤ pos (x + amount_as_thing s t amount))
         (sym (booked-after_booking c.books Lost t (neg_ℤ (pos amount)) s));
     near = booked-near c.books Lost t (neg_ℤ (pos amount)) amount (within-neg amount amount (omega arith));
     same = same_month_by refl;
@@ -141,23 +142,23 @@ module _ (w : WorldValue) (c : CampaignValue) (n : ℕ) (t : Thing) (inside : th
   -- an amount of which a unit takes a part
   module _ (k : ℕ) (v : Unit) (h : HoldingValue) (is : get c.units k ≡ Some v) (apart : n ≢ k) (may : MayHaveWithoutNewGuard w v h)
       (kept : IsKept v (record v { holding = h })) (taken lost : ℕ)
-      (more : (s : Thing) → unit_amount s h ≡ unit_amount s v.holding + part_of s t taken) where
+      (more : (s : Thing) → unit_amount s h ≡ unit_amount s v.holding + amount_as_thing s t taken) where
     -- the campaign in which the receiver has the part that it takes, while the rest isn't booked yet
     abbrev given : CampaignValue
     given = with_holding_at c k h (Some v)
 
     -- giving the part raises the total of the thing by that part, and no other total
-    grown : (s : Thing) → total given s ≡ total c s + part_of s t taken
+    grown : (s : Thing) → total given s ≡ total c s + amount_as_thing s t taken
     grown s = omega (arith, total-unit_amount w c k v h is s, more s)
 
     -- giving a part of an amount to a unit and booking the rest as lost is passing it on (`PassesOn`)
-    pub part_lost : PassesOn w n (λ s. part_of s t (taken + lost)) (moves_only (taken + lost) Lost t) c (with_lost given t lost)
+    pub part_lost : PassesOn w n (λ s. amount_as_thing s t (taken + lost)) (moves_only (taken + lost) Lost t) c (with_lost given t lost)
     part_lost = record {
       steady = steady-amount w given Lost t (neg_ℤ (pos lost)) inside (steady-unit_amount w c k v h is may steady);
       owes = λ s x e.
-          ap pos (total-amount given Lost t s (neg_ℤ (pos lost)))
+          ap pos (total-booking given Lost t s (neg_ℤ (pos lost)))
           ∙ total_above_books (thing_index s == thing_index t) taken lost x (total c s) (total given s) (booked c.books s) (grown s) e
-          ∙ ap (λ z. z +ℤ pos (x + part_of s t (taken + lost)))
+          ∙ ap (λ z. z +ℤ pos (x + amount_as_thing s t (taken + lost)))
           (sym (booked-after_booking c.books Lost t (neg_ℤ (pos lost)) s));
       near =
           booked-near c.books Lost t (neg_ℤ (pos lost)) (taken + lost)
@@ -198,17 +199,18 @@ more_amount items i n j = elim (cases_eq j i) [
 accepted_and_rest : (amount have : ℕ) → accepted_of amount have + (amount - accepted_of amount have) ≡ amount
 accepted_and_rest amount have = omega arith
 
--- a unit that has `have` of a thing, within the limit of a holding, is still within it with what it accepts more
-fits : (amount have : ℕ) → have ≤ holding_limit → have + accepted_of amount have ≤ holding_limit
-fits amount have l = omega arith
+-- a unit that has `have` of a thing, within the limit of a holding, is within the limit also with what it accepts
+-- besides
+accepted_fits : (amount have : ℕ) → have ≤ holding_limit → have + accepted_of amount have ≤ holding_limit
+accepted_fits amount have l = omega arith
 
 module _ (w : WorldValue) (c : CampaignValue) (n k : ℕ) (apart : n ≢ k) (steady : IsSteady w c) where
   -- campaign `d` is one in which an amount of a thing of unit `n` was passed on (`PassesOn`), which moves Lost alone
   abbrev Passed : Thing → ℕ → CampaignValue → Type 0
-  Passed t amount d = PassesOn w n (λ s. part_of s t amount) (moves_only amount Lost t) c d
+  Passed t amount d = PassesOn w n (λ s. amount_as_thing s t amount) (moves_only amount Lost t) c d
 
   -- a holding with more money has that much more money, and as much as before of each item
-  more_money : (h : HoldingValue) (n : ℕ) (s : Thing) → unit_amount s (record h { money = h.money + n }) ≡ unit_amount s h + part_of s Money n
+  more_money : (h : HoldingValue) (n : ℕ) (s : Thing) → unit_amount s (record h { money = h.money + n }) ≡ unit_amount s h + amount_as_thing s Money n
   more_money h n Money = refl
   more_money h n People = grind (arith, nat_tests)
   more_money h n (Item i) = grind (arith, nat_tests)
@@ -242,13 +244,13 @@ module _ (w : WorldValue) (c : CampaignValue) (n k : ℕ) (apart : n ≢ k) (ste
           (ap (λ m. with_lost (record c { units = m }) Money (amount - taken))
           (sym (changed-known (λ u. record u { holding = record u.holding { money = money } }) c.units k v is)))
           (subst (λ a. Passed Money a (with_lost (with_holding_at c k h (Some v)) Money (amount - taken))) (accepted_and_rest amount v.holding.money)
-          (part_lost w c n Money (omega arith) steady k v h is apart (may_hold_money w c k money v is (fits amount v.holding.money most) steady)
+          (part_lost w c n Money (omega arith) steady k v h is apart (may_hold_money w c k money v is (accepted_fits amount v.holding.money most) steady)
           (kept-with v money v.holding.items (omega arith) (λ i. omega arith))
           taken (amount - taken) (more_money v.holding taken)))
 
   -- a holding with more of an item has that much more of the item, and as much as before of any other thing
   more_item : (h : HoldingValue) (i n : ℕ) (s : Thing)
-      → unit_amount s (record h { items = with_amount_of h.items i (amount_of h.items i + n) }) ≡ unit_amount s h + part_of s (Item i) n
+      → unit_amount s (record h { items = with_amount_of h.items i (amount_of h.items i + n) }) ≡ unit_amount s h + amount_as_thing s (Item i) n
   more_item h i n Money = grind (arith, nat_tests)
   more_item h i n People = grind (arith, nat_tests)
   more_item h i n (Item j) = more_amount h.items i n j
@@ -265,7 +267,7 @@ module _ (w : WorldValue) (c : CampaignValue) (n k : ℕ) (apart : n ≢ k) (ste
   pass_item i amount known = by_unit (get c.units k) refl
     where
       -- the item is one of the things of the world's books
-      inside : thing_index (Item i) < things_of w
+      inside : thing_index (Item i) < thing_count w
       inside = omega (arith, known)
 
       -- giving the item is passing it on (`Passed`), whether unit `k` is there, and takes a part, or isn't, and all is
@@ -276,8 +278,8 @@ module _ (w : WorldValue) (c : CampaignValue) (n k : ℕ) (apart : n ≢ k) (ste
           let have = amount_of v.holding.items i in
           let taken = accepted_of amount have in
           let items = with_amount_of v.holding.items i (have + taken) in
-          let most = fits amount have (amount_within v.holding i (steady.numbers.units k v is).1) in
-          let place = steady.known.units k v is in
+          let most = accepted_fits amount have (amount_within v.holding i (steady.numbers.units k v is).1) in
+          let location = steady.known.units k v is in
           let holding = (steady.numbers.units k v is).1 in
           subst (Passed (Item i) amount)
           (ap (λ m. with_lost (record c { units = m }) (Item i) (amount - taken))
@@ -292,8 +294,8 @@ module _ (w : WorldValue) (c : CampaignValue) (n k : ℕ) (apart : n ≢ k) (ste
               items = every_amount (λ j a. (1 ≤ a) × (a ≤ holding_limit)) v.holding.items i (have + taken) (λ some. (some, most)) holding.items;
             };
             name = steady.names.units k v is;
-            items = every_amount (λ j a. j < length w.items) v.holding.items i (have + taken) (λ some. known) place.items;
-            skills = place.skills;
+            items = every_amount (λ j a. j < length w.items) v.holding.items i (have + taken) (λ some. known) location.items;
+            skills = location.skills;
             days = steady.days k v is;
             guard = λ g. g;
           })
@@ -305,7 +307,7 @@ module _ (w : WorldValue) (c : CampaignValue) (n k : ℕ) (apart : n ≢ k) (ste
 -- Items of the world that go in turn to unit `k`, up to the unit's room, with the rest booked as lost, are passed on
 -- from unit `n` (`PassesOn`). This supposes that the campaign is steady, and that `n` isn't `k`.
 pub pass_items : (w : WorldValue) (c : CampaignValue) (n k : ℕ) → n ≢ k → (es : List (ℕ × ℕ)) → EachEntry (λ i a. i < length w.items) es → IsSteady w c
-    → PassesOn w n (held_in_items es) (moving_items es) c (fold (after_passing_item k) c es)
+    → PassesOn w n (held_in_items es) (items_bound es) c (fold (after_passing_item k) c es)
 pass_items w c n k apart [] known steady = passes-refl w n c steady
 pass_items w c n k apart ((i, a) ∷ es) known steady =
     let one = pass_item w c n k apart steady i a known.0 in

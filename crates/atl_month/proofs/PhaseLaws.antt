@@ -41,9 +41,9 @@ use Rattle.atl_month.proofs.UnmailedEndLaws.{season_leaves, sweep_leaves, upkeep
 
 -- ---- the books
 
--- the bound `moving` is at most 10^14 - 1 under the entries that a phase lists for each thing, and 0 elsewhere
+-- the bound `book_bound` is at most 10^14 - 1 under the entries that a phase lists for each thing, and 0 elsewhere
 abbrev MovesAlone : BookBound → MovedEntries → Type 0
-MovesAlone moving moved = (e : BooksEntry) (t : Thing) → moving e t ≤ (if may_move moved e t then most_moved else 0)
+MovesAlone book_bound moved = (e : BooksEntry) (t : Thing) → book_bound e t ≤ (if may_move moved e t then most_moved else 0)
 
 -- a phase that moves nothing moves only the entries that it lists (`MovesAlone`), whichever these are
 moves_nothing_alone : (moved : MovedEntries) → MovesAlone moves_nothing moved
@@ -112,15 +112,15 @@ sweep_alone e (Item i) = grind (arith, nat_tests)
 
 -- a phase moves its own entries of the books alone, and leaves units of factions without a mailing their items, and
 -- their men less the starved
-pub record IsPhase (phase : PhaseSpec) : Type 0 where
+pub record KeepsPhaseLaws (phase : PhaseSpec) : Type 0 where
   -- the phase moves its own entries of the books alone, each by less than 10^14
   pub moves : MovesItsOwn phase
   -- the phase leaves units of factions without a mailing their items, and their men less the starved
   pub leaves : PhaseLeavesUnmailed phase
 
--- a phase that keeps the law of the books and the law of units without a mailing keeps both together (`IsPhase`)
-is_phase : (phase : PhaseSpec) → MovesItsOwn phase → PhaseLeavesUnmailed phase → IsPhase phase
-is_phase phase moves leaves = record { moves = moves; leaves = leaves }
+-- a phase that keeps the law of the books and the law of units without a mailing keeps both together (`KeepsPhaseLaws`)
+keeps_phase_laws : (phase : PhaseSpec) → MovesItsOwn phase → PhaseLeavesUnmailed phase → KeepsPhaseLaws phase
+keeps_phase_laws phase moves leaves = record { moves = moves; leaves = leaves }
 
 -- a fact of one phase, paired with the facts of the phases that follow
 infixr 5 ◌▹◌
@@ -128,31 +128,31 @@ infixr 5 ◌▹◌
 one ▹ others = (one, others)
 
 -- each phase from FORM to RECRUIT moves its own entries alone, and leaves units of factions without a mailing their
--- items, and their men less the starved (`IsPhase`)
-pub early_are : EachPhase IsPhase early_phases
+-- items, and their men less the starved (`KeepsPhaseLaws`)
+pub early_are : EachPhase KeepsPhaseLaws early_phases
 early_are =
-    is_phase form_spec (moves_nothing_alone no_moved_entries) form_leaves
-    ▹ is_phase name_spec (moves_nothing_alone no_moved_entries) name_leaves
-    ▹ is_phase place_spec (moves_nothing_alone no_moved_entries) place_leaves
-    ▹ is_phase give_spec (moves_nothing_alone no_moved_entries) give_leaves
-    ▹ is_phase transfer_spec (moves_nothing_alone no_moved_entries) transfer_leaves
-    ▹ is_phase sell_spec (money_alone entries.Sold) sell_leaves
-    ▹ is_phase buy_spec (money_alone entries.Bought) buy_leaves
-    ▹ is_phase tax_spec (moves_nothing_alone no_moved_entries) tax_leaves
-    ▹ is_phase recruit_spec (money_alone entries.Recruiting) recruit_leaves
+    keeps_phase_laws form_spec (moves_nothing_alone no_moved_entries) form_leaves
+    ▹ keeps_phase_laws name_spec (moves_nothing_alone no_moved_entries) name_leaves
+    ▹ keeps_phase_laws place_spec (moves_nothing_alone no_moved_entries) place_leaves
+    ▹ keeps_phase_laws give_spec (moves_nothing_alone no_moved_entries) give_leaves
+    ▹ keeps_phase_laws transfer_spec (moves_nothing_alone no_moved_entries) transfer_leaves
+    ▹ keeps_phase_laws sell_spec (money_alone entries.Sold) sell_leaves
+    ▹ keeps_phase_laws buy_spec (money_alone entries.Bought) buy_leaves
+    ▹ keeps_phase_laws tax_spec (moves_nothing_alone no_moved_entries) tax_leaves
+    ▹ keeps_phase_laws recruit_spec (money_alone entries.Recruiting) recruit_leaves
     ▹ tt
 
 -- each phase from GUARD 1 to PRODUCE moves its own entries alone, and leaves units of factions without a mailing their
--- items, and their men less the starved (`IsPhase`)
-pub later_are : EachPhase IsPhase later_phases
+-- items, and their men less the starved (`KeepsPhaseLaws`)
+pub later_are : EachPhase KeepsPhaseLaws later_phases
 later_are =
-    is_phase guard_spec (moves_nothing_alone no_moved_entries) guard_leaves
-    ▹ is_phase quit_spec quit_alone quit_leaves
-    ▹ is_phase walk_spec (moves_nothing_alone no_moved_entries) walk_leaves
-    ▹ is_phase sail_spec (moves_nothing_alone no_moved_entries) sail_leaves
-    ▹ is_phase build_spec build_alone build_leaves
-    ▹ is_phase learn_spec (money_alone entries.Study) learn_leaves
-    ▹ is_phase produce_spec produce_alone produce_leaves
+    keeps_phase_laws guard_spec (moves_nothing_alone no_moved_entries) guard_leaves
+    ▹ keeps_phase_laws quit_spec quit_alone quit_leaves
+    ▹ keeps_phase_laws walk_spec (moves_nothing_alone no_moved_entries) walk_leaves
+    ▹ keeps_phase_laws sail_spec (moves_nothing_alone no_moved_entries) sail_leaves
+    ▹ keeps_phase_laws build_spec build_alone build_leaves
+    ▹ keeps_phase_laws learn_spec (money_alone entries.Study) learn_leaves
+    ▹ keeps_phase_laws produce_spec produce_alone produce_leaves
     ▹ tt
 
 -- each of WORK, upkeep, season and sweep moves its own entries of the books alone, each by less than 10^14

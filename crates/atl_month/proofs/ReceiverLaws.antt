@@ -18,7 +18,7 @@ use Rattle.atl_campaign.specs.Good.{IsSteady}
 use Rattle.atl_campaign.specs.Owners.{first_or_zero}
 use Rattle.atl_campaign.specs.Campaign.{CampaignValue}
 use Rattle.atl_records.proofs.EveryLaws.{sorted}
-use Rattle.atl_campaign.proofs.OrderedLaws.{below}
+use Rattle.atl_campaign.proofs.OrderedLaws.{less_by_cmp}
 use Rattle.atl_campaign.proofs.NumberListLaws.{IsListed, listed_passing, passing_listed}
 use Rattle.atl_month.specs.Receivers.{AreReceivers, ReceiverMap, or_if_zero, receiver_in, with_receiver, with_receiver_of}
 use Rattle.atl_month.specs.Sweep.{IsKept, after_sweeping_unit, receiver, receives}
@@ -41,7 +41,7 @@ module _ {V : Type 0} (p : V → Bool) where
   below_listed : (x k : ℕ) (es : List (ℕ × V)) → below_all nat_cmp x es ≡ true → IsListed k (numbers_among p es) → x < k
   below_listed x k [] low h = absurd h
   below_listed x k (e ∷ es) low h =
-      either_listed (p e.1) e.0 k (numbers_among p es) (λ same. let l = below x e.0 (and_parts _ _ low).0 in omega (arith, same, l)) (below_listed x k es (and_parts _ _ low).1)
+      either_listed (p e.1) e.0 k (numbers_among p es) (λ same. let l = less_by_cmp x e.0 (and_parts _ _ low).0 in omega (arith, same, l)) (below_listed x k es (and_parts _ _ low).1)
       (subst (IsListed k) (chosen-cons p e es) h)
 
   -- of the numbers in sorted entries whose values pass the test, the first is the least
@@ -115,11 +115,11 @@ module _ (w : WorldValue) (c : CampaignValue) (n : ℕ) (steady : IsSteady w c) 
 
 module _ (m : ReceiverMap) (n : ℕ) (u : Unit) (es : List (ℕ × Unit)) (low : 1 ≤ n) where
   -- the receiver of a faction in a region among the units that come after unit `n`; 0 where there is none
-  abbrev behind : (region faction : ℕ) → ℕ
-  behind r f = first_or_zero (numbers_among (receives r f) es)
+  abbrev after : (region faction : ℕ) → ℕ
+  after r f = first_or_zero (numbers_among (receives r f) es)
 
   -- the first receiver among unit `n` and those after it is unit `n` if it receives, else the first of those after it
-  opened : (r f : ℕ) → first_or_zero (numbers_among (receives r f) ((n, u) ∷ es)) ≡ cond (receives r f u) n (behind r f)
+  opened : (r f : ℕ) → first_or_zero (numbers_among (receives r f) ((n, u) ∷ es)) ≡ cond (receives r f u) n (after r f)
   opened r f = ap first_or_zero (chosen-cons (receives r f) (n, u) es) ∙ first_of_cond (receives r f u) (numbers_among (receives r f) es)
     where
       -- for `opened`: the first number of a list with `n` in front (if `b`) is `n`, and without it that of the list
@@ -135,11 +135,11 @@ module _ (m : ReceiverMap) (n : ℕ) (u : Unit) (es : List (ℕ × Unit)) (low :
 
   -- Noting unit `n` keeps the receiver of each faction in each region: the one in the map, else the first that receives
   -- among the units not noted yet.
-  pub noted_goes_on : (r f : ℕ) → or_if_zero (receiver_in (with_receiver_of m n u) r f) (behind r f)
+  pub noted_goes_on : (r f : ℕ) → or_if_zero (receiver_in (with_receiver_of m n u) r f) (after r f)
       ≡ or_if_zero (receiver_in m r f) (first_or_zero (numbers_among (receives r f) ((n, u) ∷ es)))
   noted_goes_on r f =
-      ap (λ x. or_if_zero x (behind r f)) (noted (nat_lt 0 u.holding.men && (receiver_in m u.region u.faction == 0)) r f)
-      ∙ goes_on (u.region == r) (u.faction == f) (nat_lt 0 u.holding.men) (get (group_of m r) f) (receiver_in m u.region u.faction) (behind r f)
+      ap (λ x. or_if_zero x (after r f)) (noted (nat_lt 0 u.holding.men && (receiver_in m u.region u.faction == 0)) r f)
+      ∙ goes_on (u.region == r) (u.faction == f) (nat_lt 0 u.holding.men) (get (group_of m r) f) (receiver_in m u.region u.faction) (after r f)
       (λ region faction. ap (λ k. receiver_in m k f) (sym (is_equal u.region r region)) ∙ ap (receiver_in m u.region) (sym (is_equal u.faction f faction)))
       ∙ ap (or_if_zero (receiver_in m r f)) (sym (opened r f))
     where
@@ -155,8 +155,8 @@ module _ (m : ReceiverMap) (n : ℕ) (u : Unit) (es : List (ℕ × Unit)) (low :
 pub nothing_noted : (c : CampaignValue) (m : ReceiverMap) → m ≡ empty → (r f : ℕ) → or_if_zero (receiver_in m r f) (first_or_zero (numbers_among (receives r f) (entries c.units))) ≡ receiver c r f
 nothing_noted c m none r f = rw (none, get-empty nat_cmp r, get-empty nat_cmp f) refl
 
--- If the map alone, with no unit to come, gives each receiver of the campaign, it has the campaign's receivers
--- (`AreReceivers`).
+-- The map has the campaign's receivers (`AreReceivers`), if the map and the units still to come give these receivers,
+-- and no unit is still to come.
 pub all_noted : (c : CampaignValue) (m : ReceiverMap) → ((r f : ℕ) → or_if_zero (receiver_in m r f) (first_or_zero (numbers_among (receives r f) [])) ≡ receiver c r f) → AreReceivers c m
 all_noted c m h r f = plain (receiver_in m r f) ∙ h r f
   where

@@ -23,7 +23,7 @@ use Rattle.atl_records.specs.Books.{amount_in, booked, thing_at, thing_index, am
 use Rattle.atl_campaign.specs.Campaign.{MarkedCampaign, CampaignValue, with_booking, with_stock}
 use Rattle.atl_campaign.specs.Covers.{MarksChanges}
 use Rattle.atl_records.specs.Every.{EachEntry, HasValue}
-use Rattle.atl_campaign.specs.Founding.{things_of}
+use Rattle.atl_campaign.specs.Founding.{thing_count}
 use Rattle.atl_campaign.specs.Good.{IsSteady}
 use Rattle.atl_records.specs.Holdings.{amount_of}
 use Rattle.atl_campaign.specs.Marking.{MarksStock, mark_amount}
@@ -34,22 +34,22 @@ use Rattle.atl_records.proofs.BookLaws.{booked-after_booking}
 use Rattle.atl_campaign.proofs.CoverLaws.{marks-stock}
 use Rattle.atl_records.proofs.EveryEntryLaws.{entry_small}
 use Rattle.atl_records.proofs.EveryLaws.{each-from_every, sorted, same_number}
-use Rattle.atl_campaign.proofs.RegionLaws.{steady-amount, total-amount}
+use Rattle.atl_campaign.proofs.RegionLaws.{steady-amount, total-booking}
 use Rattle.atl_campaign.proofs.StockLaws.{steady-stock, total-stock, total-stock_other}
 use Rattle.atl_phase.specs.Meaning.{BookBound, LeavesWell, moves_only}
 use Rattle.atl_phase.specs.Bounds.{HasRoom, HaveRoom}
 use Rattle.atl_phase.proofs.BookingLaws.{booked-near, within-pos}
 use Rattle.atl_phase.proofs.MarkLaws.{marks_by, booked_marks}
-use Rattle.atl_phase.proofs.MeaningLaws.{both_leave_well, room_behind, room_less, same_month_by, well_unchanged, well_within}
+use Rattle.atl_phase.proofs.MeaningLaws.{both_leave_well, room_for_second, room_less, same_month_by, well_unchanged, well_within}
 use Rattle.atl_month.specs.Restock.{after_market_restock, after_restock, markets_of, restock, stocks_by}
-use Rattle.atl_campaign.proofs.OrderedLaws.{below}
+use Rattle.atl_campaign.proofs.OrderedLaws.{less_by_cmp}
 
 -- ---- how far new goods move the books
 
 -- the bound on what the new goods of some markets book: up to 999,999,999 under Stocked of each market's item
-abbrev pub stocking : List (ℕ × Market) → BookBound
-stocking [] e t = 0
-stocking (x ∷ xs) e t = moves_only most_amount Stocked (Item x.0) e t + stocking xs e t
+abbrev pub stocking_bound : List (ℕ × Market) → BookBound
+stocking_bound [] e t = 0
+stocking_bound (x ∷ xs) e t = moves_only most_amount Stocked (Item x.0) e t + stocking_bound xs e t
 
 -- the bound on the new goods of one item is within the bound of restocking (`stocks_by`)
 one_stocked : (k : ℕ) (e : BooksEntry) (t : Thing) → moves_only most_amount Stocked (Item k) e t ≤ stocks_by most_amount e t
@@ -62,15 +62,15 @@ other_item : (k : ℕ) (e : BooksEntry) (t : Thing) → thing_index t ≢ 2 + k 
 other_item k e t apart = grind (arith, nat_tests, entry_small e)
 
 -- the new goods of markets whose items are all above `k` move nothing of item `k`
-none_above : (k : ℕ) (xs : List (ℕ × Market)) (e : BooksEntry) (t : Thing) → thing_index t ≡ 2 + k → below_all nat_cmp k xs ≡ true → stocking xs e t ≡ 0
+none_above : (k : ℕ) (xs : List (ℕ × Market)) (e : BooksEntry) (t : Thing) → thing_index t ≡ 2 + k → below_all nat_cmp k xs ≡ true → stocking_bound xs e t ≡ 0
 none_above k [] e t at above = refl
 none_above k (x ∷ xs) e t at above =
     let both = and_parts (is_lt (nat_cmp k x.0)) (below_all nat_cmp k xs) above in
-    let less = below k x.0 both.0 in
+    let less = less_by_cmp k x.0 both.0 in
     omega (arith, other_item x.0 e t (λ same. omega (arith, at, same, less)), none_above k xs e t at both.1)
 
 -- the new goods of markets with different items move Stocked of each item by at most 999,999,999, and nothing else
-pub stocks_little : (xs : List (ℕ × Market)) → is_sorted nat_cmp xs ≡ true → (e : BooksEntry) (t : Thing) → stocking xs e t ≤ stocks_by most_amount e t
+pub stocks_little : (xs : List (ℕ × Market)) → is_sorted nat_cmp xs ≡ true → (e : BooksEntry) (t : Thing) → stocking_bound xs e t ≤ stocks_by most_amount e t
 stocks_little [] rising e t = omega arith
 stocks_little (x ∷ xs) rising e t =
     let both = and_parts (below_all nat_cmp x.0 xs) (is_sorted nat_cmp xs) rising in
@@ -113,7 +113,7 @@ module _ (w : WorldValue) (c : CampaignValue) (n i : ℕ) (m : Market) (r : Regi
   stock_fits = omega (arith, stock_small)
 
   -- the item is one of the things of the world's books
-  inside : thing_index (Item i) < things_of w
+  inside : thing_index (Item i) < thing_count w
   inside = omega (arith, known.item, known.number_is)
 
   -- the campaign with the new goods in stock, not booked yet
@@ -127,8 +127,8 @@ module _ (w : WorldValue) (c : CampaignValue) (n i : ℕ) (m : Market) (r : Regi
   -- the total of the market's item grows by the new goods, and each other total stays
   filled_total : (t : Thing) → total filled t ≡ total c t + cond (thing_index t == 2 + i) more 0
   filled_total t = elim (cases_eq (thing_index t) (2 + i)) [
-    | inl place ↦
-        let same : t ≡ Item i = sym (thing_at_index t) ∙ ap thing_at place ∙ thing_at_index (Item i) in
+    | inl location ↦
+        let same : t ≡ Item i = sym (thing_at_index t) ∙ ap thing_at location ∙ thing_at_index (Item i) in
         let its = total-stock c n i (stock + more) r here in
         subst (λ (u : Thing). total filled u ≡ total c u + cond (thing_index u == 2 + i) more 0) (sym same) (grind (arith, nat_tests, its))
     | inr apart ↦ let kept = total-stock_other c n i (stock + more) r here t (λ same. apart (ap thing_index same)) in grind (arith, nat_tests, kept)
@@ -137,7 +137,7 @@ module _ (w : WorldValue) (c : CampaignValue) (n i : ℕ) (m : Market) (r : Regi
   -- if the books balance before, they balance with the new goods in stock and booked
   balanced : Balances c → Balances (with_booking filled Stocked (Item i) (pos more))
   balanced old t =
-      ap pos (total-amount filled Stocked (Item i) t (pos more)) ∙ ap pos (filled_total t) ∙ added (thing_index t == 2 + i) (total c t) (booked c.books t) (old t)
+      ap pos (total-booking filled Stocked (Item i) t (pos more)) ∙ ap pos (filled_total t) ∙ added (thing_index t == 2 + i) (total c t) (booked c.books t) (old t)
       ∙ sym (booked-after_booking c.books Stocked (Item i) (pos more) t)
     where
       -- For `balanced`: if the total of a thing is what the books account for, it still is with the new goods added to
@@ -171,12 +171,12 @@ module _ (w : WorldValue) (n : ℕ) (there : HasValue w.regions n) where
   one_leaves_well c x of steady = let (r, here) = (steady.known.regions n).1 there in market_leaves_well w c n x.0 x.1 r here of.0 of.1 steady
 
   -- New goods of a region's markets, in turn, keep a steady campaign steady and its books balanced, and book at most
-  -- 999,999,999 of each market's item (`stocking`).
-  all_leave_well : (xs : List (ℕ × Market)) → EachEntry (IsMarketOf w n) xs → (c : CampaignValue) → IsSteady w c → LeavesWell IsSteady (stocking xs) w c (after_restock n c xs)
-  all_leave_well [] each c steady = well_unchanged (stocking []) w c steady
+  -- 999,999,999 of each market's item (`stocking_bound`).
+  all_leave_well : (xs : List (ℕ × Market)) → EachEntry (IsMarketOf w n) xs → (c : CampaignValue) → IsSteady w c → LeavesWell IsSteady (stocking_bound xs) w c (after_restock n c xs)
+  all_leave_well [] each c steady = well_unchanged (stocking_bound []) w c steady
   all_leave_well (x ∷ xs) each c steady =
       let one = one_leaves_well c x each.0 steady in
-      both_leave_well (moves_only most_amount Stocked (Item x.0)) (stocking xs) w c (after_market_restock n c x) (after_restock n c (x ∷ xs)) one
+      both_leave_well (moves_only most_amount Stocked (Item x.0)) (stocking_bound xs) w c (after_market_restock n c x) (after_restock n c (x ∷ xs)) one
       (all_leave_well xs each.1 (after_market_restock n c x) one.leaves_it)
 
 -- an empty map of markets has no entries
@@ -205,18 +205,18 @@ module _ (w : WorldValue) (world : IsWorld w) (n : ℕ) where
       by_plan : (o : Option RegionPlan) → get w.regions n ≡ o → LeavesWell IsSteady (stocks_by most_amount) w c (after_restock n c (entries (option_map_or (λ (p : RegionPlan). p.markets) o empty)))
       by_plan None is = subst (λ es. LeavesWell IsSteady (stocks_by most_amount) w c (after_restock n c es)) (sym none_there) (well_unchanged (stocks_by most_amount) w c steady)
       by_plan (Some p) is =
-          well_within (stocking (entries p.markets)) (stocks_by most_amount) w c (after_restock n c (entries p.markets)) (stocks_little (entries p.markets) (sorted p.markets))
+          well_within (stocking_bound (entries p.markets)) (stocks_by most_amount) w c (after_restock n c (entries p.markets)) (stocks_little (entries p.markets) (sorted p.markets))
           (all_leave_well w n (p, is) (entries p.markets) (markets_are p is) c steady)
 
 -- new goods of a market change no unit
-one_keeps : (n : ℕ) (c : CampaignValue) (x : ℕ × Market) → (after_market_restock n c x).units ≡ c.units
+market_restock_keeps_units : (n : ℕ) (c : CampaignValue) (x : ℕ × Market) → (after_market_restock n c x).units ≡ c.units
 unfolding after_market_restock
-one_keeps n c x = refl
+market_restock_keeps_units n c x = refl
 
 -- new goods of several markets change no unit
 pub restocked_keeps : (n : ℕ) (c : CampaignValue) (xs : List (ℕ × Market)) → (after_restock n c xs).units ≡ c.units
 restocked_keeps n c [] = refl
-restocked_keeps n c (x ∷ xs) = restocked_keeps n (after_market_restock n c x) xs ∙ one_keeps n c x
+restocked_keeps n c (x ∷ xs) = restocked_keeps n (after_market_restock n c x) xs ∙ market_restock_keeps_units n c x
 
 -- ---- what the code books and marks
 
@@ -224,19 +224,20 @@ restocked_keeps n c (x ∷ xs) = restocked_keeps n (after_market_restock n c x) 
 pub restock_small : (m : Market) (stock : ℕ) → m.limit ≤ most_amount → restock m stock ≤ most_amount
 restock_small m stock l = omega (arith, l)
 
--- if the books have room for the new goods of item `i`, its amount under Stocked has room for 999,999,999 more
+-- the amount of item `i` under Stocked has room for 999,999,999 more, if the books have room for the new goods of this
+-- item
 pub room_alone : (c : CampaignValue) (i : ℕ) → HaveRoom (moves_only most_amount Stocked (Item i)) c → HasRoom most_amount (amount_in c.books Stocked (Item i))
 room_alone c i room =
     subst (λ b. HasRoom (if b then most_amount else 0) (amount_in c.books Stocked (Item i))) (same_number (amount_number Stocked (Item i))) (room Stocked (Item i))
 
 -- books with room for the new goods of all markets have room for those of the first
-pub room_for_market : (x : ℕ × Market) (xs : List (ℕ × Market)) (c : CampaignValue) → HaveRoom (stocking (x ∷ xs)) c → HaveRoom (moves_only most_amount Stocked (Item x.0)) c
-room_for_market x xs c room = room_less (moves_only most_amount Stocked (Item x.0)) (stocking (x ∷ xs)) c (λ e t. omega arith) room
+pub room_for_market : (x : ℕ × Market) (xs : List (ℕ × Market)) (c : CampaignValue) → HaveRoom (stocking_bound (x ∷ xs)) c → HaveRoom (moves_only most_amount Stocked (Item x.0)) c
+room_for_market x xs c room = room_less (moves_only most_amount Stocked (Item x.0)) (stocking_bound (x ∷ xs)) c (λ e t. omega arith) room
 
 -- If the books have room for the new goods of all markets, they have room for those of the other markets after the
 -- first market got its own.
-pub room_behind_market : (w : WorldValue) (n : ℕ) → HasValue w.regions n → (x : ℕ × Market) (xs : List (ℕ × Market)) (c : CampaignValue) → IsMarketOf w n x.0 x.1 → IsSteady w c → HaveRoom (stocking (x ∷ xs)) c → HaveRoom (stocking xs) (after_market_restock n c x)
-room_behind_market w n there x xs c of steady room = room_behind (moves_only most_amount Stocked (Item x.0)) (stocking xs) w c (after_market_restock n c x) (one_leaves_well w n there c x of steady) room
+pub room_for_later_markets : (w : WorldValue) (n : ℕ) → HasValue w.regions n → (x : ℕ × Market) (xs : List (ℕ × Market)) (c : CampaignValue) → IsMarketOf w n x.0 x.1 → IsSteady w c → HaveRoom (stocking_bound (x ∷ xs)) c → HaveRoom (stocking_bound xs) (after_market_restock n c x)
+room_for_later_markets w n there x xs c of steady room = room_for_second (moves_only most_amount Stocked (Item x.0)) (stocking_bound xs) w c (after_market_restock n c x) (one_leaves_well w n there c x of steady) room
 
 -- setting a stock and booking the new goods marks all that these two steps change
 pub market_marks : (stock more n i : ℕ) (c d e : MarkedCampaign) → d.value ≡ with_stock c.value n i (stock + more) → MarksStock c n i (stock + more) d.marks

@@ -27,13 +27,13 @@ use Rattle.atl_records.specs.Amounts.{region_amount}
 use Rattle.atl_campaign.specs.Totals.{Balances, total}
 use Rattle.atl_records.proofs.BookLaws.{booked-after_booking, booked_for}
 use Rattle.atl_campaign.proofs.CoverLaws.{marks-region, marks-trans}
-use Rattle.atl_campaign.proofs.RegionLaws.{IsRegion-money, IsRegion-peasants, region-changed, steady-amount, steady-region, total-amount, total-region}
+use Rattle.atl_campaign.proofs.RegionLaws.{IsRegion-money, IsRegion-peasants, region-changed, steady-amount, steady-region, total-booking, total-region}
 use Rattle.atl_records.proofs.EveryLaws.{none_some}
 use Rattle.atl_phase.specs.Meaning.{IsNear, LeavesWell, both_move, most_moved, moves_only}
 use Rattle.atl_phase.specs.Bounds.{HaveRoom, moved_times}
 use Rattle.atl_phase.specs.There.{at_region}
 use Rattle.atl_phase.proofs.MarkLaws.{marks_by, booked_marks}
-use Rattle.atl_phase.proofs.MeaningLaws.{both_leave_well, fold_leaves_well, near_more, near_twice, room_behind_one, room_for_one, room_less, same_month_by, well_unchanged, well_within}
+use Rattle.atl_phase.proofs.MeaningLaws.{both_leave_well, fold_leaves_well, near_more, near_twice, room_after_one, room_for_one, room_less, same_month_by, well_unchanged, well_within}
 use Rattle.atl_phase.proofs.BookingLaws.{booked-near, within-pos}
 use Rattle.atl_month.specs.Restock.{after_restock, markets_of, stocks_by}
 use Rattle.atl_month.specs.Season.{births, grows_by, income, season, season_at, season_moves, season_of, with_growth}
@@ -88,7 +88,7 @@ module _ (w : WorldValue) (c : CampaignValue) (n : ℕ) (r : Region) (born earne
   -- births and income raise the total of people by those born and that of money by the income, and no other total
   total_grown : (t : Thing) → pos (total (with_growth c n r.peasants r.money born earned) t) ≡ (pos (total c t) +ℤ booked_for t People (pos born)) +ℤ booked_for t Money (pos earned)
   total_grown t =
-      total_of t (total-amount counted Income Money t (pos earned)) (total-amount paid Births People t (pos born))
+      total_of t (total-booking counted Income Money t (pos earned)) (total-booking paid Births People t (pos born))
       (total-region more_people c n r is t) (total-region more_money peopled n (more_people r) peopled_there t)
     where
       -- For `total_grown`: the total of thing `t` grows by its part of the births and the income, given how each step
@@ -238,13 +238,13 @@ season_at_keeps w c (n, word) = by_terrain (terrain_of w n)
     by_terrain (Some t) = by_region t (get c.regions n)
 
 -- the season of several regions in turn changes no unit
-each_keeps : (w : WorldValue) (c : CampaignValue) (xs : List (ℕ × ℕ)) → (fold (season_at w) c xs).units ≡ c.units
-each_keeps w c [] = refl
-each_keeps w c (x ∷ xs) = each_keeps w (season_at w c x) xs ∙ season_at_keeps w c x
+seasons_keep_units : (w : WorldValue) (c : CampaignValue) (xs : List (ℕ × ℕ)) → (fold (season_at w) c xs).units ≡ c.units
+seasons_keep_units w c [] = refl
+seasons_keep_units w c (x ∷ xs) = seasons_keep_units w (season_at w c x) xs ∙ season_at_keeps w c x
 
 -- the season of all regions changes no unit
 pub season_keeps_units : (w : WorldValue) (c : CampaignValue) (words : List ℕ) → (season w c words).units ≡ c.units
-season_keeps_units w c words = each_keeps w c (zip (map (λ (e : ℕ × RegionPlan). e.0) (entries w.regions)) words)
+season_keeps_units w c words = seasons_keep_units w c (zip (map (λ (e : ℕ × RegionPlan). e.0) (entries w.regions)) words)
 
 -- ---- the season region by region
 
@@ -256,13 +256,13 @@ season_goes_on w c d all regions rest words tail n word plan listed given is who
 
 -- If the books have room for the season of all regions, they have room for the season of the other regions after that
 -- of the first.
-pub room_goes_on : (w : WorldValue) → IsWorld w → (c d : CampaignValue) (regions rest : List (ℕ × RegionPlan)) (n word : ℕ) (plan : RegionPlan)
+pub room_for_later_seasons : (w : WorldValue) → IsWorld w → (c d : CampaignValue) (regions rest : List (ℕ × RegionPlan)) (n word : ℕ) (plan : RegionPlan)
     → regions ≡ (n, plan) ∷ rest → d ≡ season_at w c (n, word) → IsSteady w c → HaveRoom (moved_times (length regions) (season_moves most_amount)) c → HaveRoom (moved_times (length rest) (season_moves most_amount)) d
-room_goes_on w world c d regions rest n word plan listed is steady room =
-    rw is (room_behind_one (season_moves most_amount) w (season_at w) (season_at_leaves_well w world) c (n, word) (n, plan) rest steady (subst (λ (l : List (ℕ × RegionPlan)). HaveRoom (moved_times (length l) (season_moves most_amount)) c) listed room))
+room_for_later_seasons w world c d regions rest n word plan listed is steady room =
+    rw is (room_after_one (season_moves most_amount) w (season_at w) (season_at_leaves_well w world) c (n, word) (n, plan) rest steady (subst (λ (l : List (ℕ × RegionPlan)). HaveRoom (moved_times (length l) (season_moves most_amount)) c) listed room))
 
 -- books with room for the season of all regions have room for that of the first
-pub room_now : (w : WorldValue) → IsWorld w → (c : CampaignValue) (regions rest : List (ℕ × RegionPlan)) (n : ℕ) (plan : RegionPlan)
+pub room_for_first_season : (w : WorldValue) → IsWorld w → (c : CampaignValue) (regions rest : List (ℕ × RegionPlan)) (n : ℕ) (plan : RegionPlan)
     → regions ≡ (n, plan) ∷ rest → HaveRoom (moved_times (length regions) (season_moves most_amount)) c → HaveRoom (season_moves most_amount) c
-room_now w world c regions rest n plan listed room =
+room_for_first_season w world c regions rest n plan listed room =
     room_for_one (season_moves most_amount) w (season_at w) (season_at_leaves_well w world) c (n, plan) rest (subst (λ (l : List (ℕ × RegionPlan)). HaveRoom (moved_times (length l) (season_moves most_amount)) c) listed room)

@@ -19,7 +19,7 @@ use Rattle.atl_records.specs.declared.records.Unit.{Unit}
 use Rattle.atl_records.specs.Every.{Every}
 use Rattle.atl_campaign.specs.Good.{HaveMen, IsSteady, UnitlessAreGone}
 use Rattle.atl_campaign.specs.Owners.{without_unit}
-use Rattle.atl_campaign.specs.Campaign.{CampaignValue, active, numbers_of, with_gone}
+use Rattle.atl_campaign.specs.Campaign.{CampaignValue, active, numbers_of_faction, with_gone}
 use Rattle.atl_records.proofs.EveryLaws.{none_some}
 use Rattle.atl_phase.specs.Meaning.{LeavesWell, both_move, most_moved}
 use Rattle.atl_phase.specs.Bounds.{moved_times}
@@ -92,22 +92,22 @@ module _ (w : WorldValue) (c : CampaignValue) (n : ℕ) (steady : IsSteady w c) 
 -- ---- all units
 
 -- the list has each unit of the campaign that has no men
-abbrev AreListed : List ℕ → CampaignValue → Type 0
-AreListed ns c = Every (λ m v. v.holding.men ≡ 0 → IsListed m ns) c.units
+abbrev AreMenlessListed : List ℕ → CampaignValue → Type 0
+AreMenlessListed ns c = Every (λ m v. v.holding.men ≡ 0 → IsListed m ns) c.units
 
 -- for `all_have_men` and `all_are_gone`: a number that is listed in `n ∷ ns`, and isn't `n`, is listed in `ns`
-behind_it : (m n : ℕ) (ns : List ℕ) → m ≢ n → IsListed m (n ∷ ns) → IsListed m ns
-behind_it m n ns apart (inl same) = absurd (apart same)
-behind_it m n ns apart (inr rest) = rest
+listed_later : (m n : ℕ) (ns : List ℕ) → m ≢ n → IsListed m (n ∷ ns) → IsListed m ns
+listed_later m n ns apart (inl same) = absurd (apart same)
+listed_later m n ns apart (inr rest) = rest
 
 module _ (w : WorldValue) where
   -- after sweeping units that include all without men, each unit has men
-  pub all_have_men : (ns : List ℕ) (c : CampaignValue) → IsSteady w c → AreListed ns c → HaveMen (fold after_sweeping_unit c ns)
+  pub all_have_men : (ns : List ℕ) (c : CampaignValue) → IsSteady w c → AreMenlessListed ns c → HaveMen (fold after_sweeping_unit c ns)
   all_have_men [] c steady listed = λ m v there. let some : v.holding.men ≢ 0 = listed m v there in omega arith
   all_have_men (n ∷ ns) c steady listed =
       all_have_men ns (after_sweeping_unit c n) (swept_at_leaves_well w c n steady).leaves_it (λ m v there none.
       let (apart, (x, was, kept)) = units_left_were_there w c n steady m v there in
-      behind_it m n ns (apart none) (listed m x was (sym kept.men ∙ none)))
+      listed_later m n ns (apart none) (listed m x was (sym kept.men ∙ none)))
 
   -- in a steady campaign, after several units were swept each unit that had men is there, and nothing was taken from it
   -- (`IsKept`)
@@ -115,25 +115,25 @@ module _ (w : WorldValue) where
   all_keep [] c steady m x there some = (x, there, kept-refl x)
   all_keep (n ∷ ns) c steady m x there some =
       let (v, here, kept) = swept_at_keeps w c n steady m x there some in
-      let (y, behind, more) = all_keep ns (after_sweeping_unit c n) (swept_at_leaves_well w c n steady).leaves_it m v here (omega (arith, kept.men, some)) in
-      (y, behind, kept-trans x v y kept more)
+      let (y, after, more) = all_keep ns (after_sweeping_unit c n) (swept_at_leaves_well w c n steady).leaves_it m v here (omega (arith, kept.men, some)) in
+      (y, after, kept-trans x v y kept more)
 
 -- ---- factions
 
 module _ (c : CampaignValue) (n : ℕ) where
   -- P holds of the campaign after sweeping faction `n`, if it holds in each case. Where the faction isn't there or has
   -- a unit, nothing changes; else the faction is gone.
-  by_gone : (P : CampaignValue → Type 0) → (((f : Faction) → get c.factions n ≡ Some f → numbers_of n c.units ≢ []) → P c)
-      → ((f : Faction) → get c.factions n ≡ Some f → numbers_of n c.units ≡ [] → P (with_gone c n)) → P (after_sweeping_faction c n)
-  by_gone P stays gone = by_units (numbers_of n c.units) refl
+  by_gone : (P : CampaignValue → Type 0) → (((f : Faction) → get c.factions n ≡ Some f → numbers_of_faction n c.units ≢ []) → P c)
+      → ((f : Faction) → get c.factions n ≡ Some f → numbers_of_faction n c.units ≡ [] → P (with_gone c n)) → P (after_sweeping_faction c n)
+  by_gone P stays gone = by_units (numbers_of_faction n c.units) refl
     where
       -- for `by_gone`: the property P holds after faction `n`, without units, was set to gone, be it there (`o`) or not
-      by_faction : numbers_of n c.units ≡ [] → (o : Option Faction) → get c.factions n ≡ o → P (with_gone c n)
+      by_faction : numbers_of_faction n c.units ≡ [] → (o : Option Faction) → get c.factions n ≡ o → P (with_gone c n)
       by_faction none None is = subst P (sym (none-gone c n is)) (stays (λ f there. none_some f (sym is ∙ there)))
       by_faction none (Some f) is = gone f is none
 
       -- for `by_gone`: the property P holds after faction `n` was swept, whether it has no units or some (`ns`)
-      by_units : (ns : List ℕ) → numbers_of n c.units ≡ ns → P (if is_empty ns then with_gone c n else c)
+      by_units : (ns : List ℕ) → numbers_of_faction n c.units ≡ ns → P (if is_empty ns then with_gone c n else c)
       by_units [] is = by_faction is (get c.factions n) refl
       by_units (k ∷ ns) is = stays (λ f there none. let one : k ∷ ns ≡ [] = sym is ∙ none in cc)
 
@@ -152,13 +152,13 @@ module _ (c : CampaignValue) (n : ℕ) where
 
   -- each faction of campaign `d` that has no unit, and isn't gone, was there before as it is now, and isn't faction `n`
   abbrev OthersRemain : CampaignValue → Type 0
-  OthersRemain d = Every (λ m f. numbers_of m c.units ≡ [] → f.gone ≡ false → (m ≢ n) × (get c.factions m ≡ Some f)) d.factions
+  OthersRemain d = Every (λ m f. numbers_of_faction m c.units ≡ [] → f.gone ≡ false → (m ≢ n) × (get c.factions m ≡ Some f)) d.factions
 
   -- after sweeping faction `n`, each faction that has no unit and isn't gone is as before, and isn't faction `n`
   pub gone_at_remains : OthersRemain (after_sweeping_faction c n)
   gone_at_remains =
       by_gone OthersRemain
-      (λ some m f there none stays. (λ own. some f (ap (get c.factions) (sym own) ∙ there) (ap (λ k. numbers_of k c.units) (sym own) ∙ none), there))
+      (λ some m f there none stays. (λ own. some f (ap (get c.factions) (sym own) ∙ there) (ap (λ k. numbers_of_faction k c.units) (sym own) ∙ none), there))
       (λ x is bare m f there none stays. elim (cases_eq m n) [
         | inl own ↦
             let one : Some (as_gone x) ≡ Some f = sym (get-gone c n x is) ∙ ap (get (with_gone c n).factions) (sym own) ∙ there in
@@ -168,17 +168,17 @@ module _ (c : CampaignValue) (n : ℕ) where
       ])
 
 -- the list has each faction of the campaign that has no unit and isn't gone
-abbrev AreToGo : List ℕ → CampaignValue → Type 0
-AreToGo ns c = Every (λ m f. numbers_of m c.units ≡ [] → f.gone ≡ false → IsListed m ns) c.factions
+abbrev AreUnitlessListed : List ℕ → CampaignValue → Type 0
+AreUnitlessListed ns c = Every (λ m f. numbers_of_faction m c.units ≡ [] → f.gone ≡ false → IsListed m ns) c.factions
 
 -- after sweeping factions that include all which have no unit and aren't gone, each faction without units is gone
-all_are_gone : (ns : List ℕ) (c : CampaignValue) → AreToGo ns c → UnitlessAreGone (fold after_sweeping_faction c ns)
+all_are_gone : (ns : List ℕ) (c : CampaignValue) → AreUnitlessListed ns c → UnitlessAreGone (fold after_sweeping_faction c ns)
 all_are_gone [] c listed = λ m f there none. true_from_ne_false f.gone (listed m f there none)
 all_are_gone (n ∷ ns) c listed =
     all_are_gone ns (after_sweeping_faction c n) (λ m f there none stays.
-    let here : numbers_of m c.units ≡ [] = ap (numbers_of m) (sym (gone_at_units c n)) ∙ none in
+    let here : numbers_of_faction m c.units ≡ [] = ap (numbers_of_faction m) (sym (gone_at_units c n)) ∙ none in
     let (apart, was) = gone_at_remains c n m f there here stays in
-    behind_it m n ns apart (listed m f was here stays))
+    listed_later m n ns apart (listed m f was here stays))
 
 -- sweeping factions leaves the units as they are
 units_stay : (ns : List ℕ) (c : CampaignValue) → (fold after_sweeping_faction c ns).units ≡ c.units

@@ -29,8 +29,8 @@ use Rattle.atl_records.proofs.EveryLaws.{each-from_every, sorted}
 use Rattle.atl_phase.specs.Meaning.{BookBound, IsNear, LeavesWell, both_move, moves_only}
 use Rattle.atl_records.proofs.HoldingLaws.{amount_within}
 use Rattle.atl_phase.proofs.MeaningLaws.{near_more, near_room, room_less}
-use Rattle.atl_phase.specs.Bounds.{moving_items, HaveRoom}
-use Rattle.atl_instant.proofs.QuitLaws.{no_money, no_people, of_item, held_in_items, part_of, moves_what_leaves}
+use Rattle.atl_phase.specs.Bounds.{items_bound, HaveRoom}
+use Rattle.atl_instant.proofs.QuitLaws.{no_money, no_people, list_amount_is_found, held_in_items, amount_as_thing, moves_what_leaves}
 use Rattle.atl_month.specs.Sweep.{IsKept, after_passing_all, after_passing_money, loses_by, receiver, receives, accepted_of, after_passing_item, with_lost}
 use Rattle.atl_records.proofs.RemovedLaws.{get-remove_other, still}
 use Rattle.atl_campaign.proofs.NumberListLaws.{IsListed, listed_passing}
@@ -42,19 +42,19 @@ use Rattle.atl_instant.specs.Quit.{loss_under}
 
 -- how much of each thing a unit with this holding passes on
 abbrev owing_all : HoldingValue → Thing → ℕ
-owing_all h s = part_of s Money h.money + held_in_items (entries h.items) s
+owing_all h s = amount_as_thing s Money h.money + held_in_items (entries h.items) s
 
 -- the bound on what passing on all of a holding books: Lost of its money and of each item, each by at most as much as
 -- it has
 abbrev pub moving_all : HoldingValue → BookBound
-moving_all h = both_move (moves_only h.money Lost Money) (moving_items (entries h.items))
+moving_all h = both_move (moves_only h.money Lost Money) (items_bound (entries h.items))
 
 -- what a unit without men passes on of each thing is all that it has of it
 all_owed : (h : HoldingValue) → h.men ≡ 0 → (s : Thing) → owing_all h s ≡ unit_amount s h
 all_owed h none Money = omega (arith, no_money (entries h.items))
 all_owed h none People = omega (arith, none, no_people (entries h.items))
 all_owed h none (Item j) =
-    let items : held_in_items (entries h.items) (Item j) ≡ amount_of h.items j = of_item j (entries h.items) (sorted h.items) ∙ ap (λ (o : Option ℕ). unwrap_or o 0) (sym (get-entries h.items j)) in
+    let items : held_in_items (entries h.items) (Item j) ≡ amount_of h.items j = list_amount_is_found j (entries h.items) (sorted h.items) ∙ ap (λ (o : Option ℕ). unwrap_or o 0) (sym (get-entries h.items j)) in
     grind (arith, nat_tests)
 
 -- ---- how far it moves the books
@@ -202,31 +202,31 @@ pub near_leaves_room : (j k : BookBound) (c d : CampaignValue) → ((e : BooksEn
 near_leaves_room j k c d near room e t = near_room (j e t) (k e t) (amount_in c.books e t) (amount_in d.books e t) (near e t) (room e t)
 
 -- no number is its own successor: the laws below pass things on as if from unit `suc to`, which isn't unit `to`
-another : (n : ℕ) → suc n ≢ n
-another n same = omega (arith, same)
+successor_differs : (n : ℕ) → suc n ≢ n
+successor_differs n same = omega (arith, same)
 
 module _ (w : WorldValue) (c : CampaignValue) (steady : IsSteady w c) where
   -- An item of the world that goes to unit `to`, or is lost, is passed on (`PassesOn`), as if from the unit with the
   -- next number.
   pub item_passes : (to i amount : ℕ) → i < length w.items
-      → PassesOn w (suc to) (λ s. part_of s (Item i) amount) (moves_only amount Lost (Item i)) c (after_passing_item to c (i, amount))
-  item_passes to i amount known = pass_item w c (suc to) to (another to) steady i amount known
+      → PassesOn w (suc to) (λ s. amount_as_thing s (Item i) amount) (moves_only amount Lost (Item i)) c (after_passing_item to c (i, amount))
+  item_passes to i amount known = pass_item w c (suc to) to (successor_differs to) steady i amount known
 
   -- after the first item was passed on, the books have room for the others, if they had room for all
-  pub rest_room : (to : ℕ) (x : ℕ × ℕ) (xs : List (ℕ × ℕ)) → x.0 < length w.items → HaveRoom (moving_items (x ∷ xs)) c
-      → HaveRoom (moving_items xs) (after_passing_item to c x)
+  pub rest_room : (to : ℕ) (x : ℕ × ℕ) (xs : List (ℕ × ℕ)) → x.0 < length w.items → HaveRoom (items_bound (x ∷ xs)) c
+      → HaveRoom (items_bound xs) (after_passing_item to c x)
   rest_room to x xs known room =
-      near_leaves_room (moves_only x.1 Lost (Item x.0)) (moving_items xs) c (after_passing_item to c x) (item_passes to x.0 x.1 known).near room
+      near_leaves_room (moves_only x.1 Lost (Item x.0)) (items_bound xs) c (after_passing_item to c x) (item_passes to x.0 x.1 known).near room
 
   -- a steady campaign stays steady when money goes to unit `to`, up to its room, and the rest is booked as lost
   pub money_steady : (to amount : ℕ) → IsSteady w (after_passing_money c to amount)
-  money_steady to amount = (pass_money w c (suc to) to (another to) steady amount).steady
+  money_steady to amount = (pass_money w c (suc to) to (successor_differs to) steady amount).steady
 
   -- After the money of a unit without men was passed on, the books have room for its items, if they had room for all
   -- that it may lose.
   pub items_room : (n to : ℕ) (u : Unit) → get c.units n ≡ Some u → u.holding.men ≡ 0 → HaveRoom (loses_by most_amount) c
-      → HaveRoom (moving_items (entries u.holding.items)) (after_passing_money c to u.holding.money)
+      → HaveRoom (items_bound (entries u.holding.items)) (after_passing_money c to u.holding.money)
   items_room n to u is none room =
-      near_leaves_room (moves_only u.holding.money Lost Money) (moving_items (entries u.holding.items)) c (after_passing_money c to u.holding.money)
-      (pass_money w c (suc to) to (another to) steady u.holding.money).near
+      near_leaves_room (moves_only u.holding.money Lost Money) (items_bound (entries u.holding.items)) c (after_passing_money c to u.holding.money)
+      (pass_money w c (suc to) to (successor_differs to) steady u.holding.money).near
       (room_less (moving_all u.holding) (loses_by most_amount) c (moves_little w c n u is none steady) room)

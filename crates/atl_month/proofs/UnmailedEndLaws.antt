@@ -38,7 +38,7 @@ less_plus a b u v x one two = record {
 nobody_less : (u : Unit) → IsLessBy 0 u u
 nobody_less u = record { faction = refl; name = refl; men = omega arith; items = λ i. omega arith }
 
--- after its upkeep a unit has exactly as many men less as starved of it (`IsLessBy`)
+-- after its upkeep a unit has its men less exactly those who starved (`IsLessBy`)
 fewer_by : (s : UpkeepResult) (u : Unit) → IsLessBy s.starved u (unit_after_upkeep s u)
 fewer_by s u = record { faction = refl; name = grind arith; men = grind (arith, nat_tests); items = λ i. grind arith }
 
@@ -46,31 +46,32 @@ fewer_by s u = record { faction = refl; name = grind arith; men = grind (arith, 
 abbrev starved_of_n : ℕ → UpkeepResult → ℕ
 starved_of_n n s = if s.unit == n then s.starved else 0
 
--- after upkeep of one unit each unit has exactly as many men less as starved of it, which is 0 for the other units
-supplied_at : (c : CampaignValue) (s : UpkeepResult) (n : ℕ) (u : Unit) → get c.units n ≡ Some u → IsUnaffected (IsLessBy (starved_of_n n s)) (upkeep_at c s) n u
-supplied_at c s n u there = elim (cases_eq n s.unit) [
+-- after the upkeep of one unit each unit has its men less exactly those who starved (`IsLessBy`); of the other units
+-- nobody did
+fewer_after_one : (c : CampaignValue) (s : UpkeepResult) (n : ℕ) (u : Unit) → get c.units n ≡ Some u → IsUnaffected (IsLessBy (starved_of_n n s)) (upkeep_at c s) n u
+fewer_after_one c s n u there = elim (cases_eq n s.unit) [
   | inl own ↦
       let here : get c.units s.unit ≡ Some u = ap (get c.units) (sym own) ∙ there in
       record {
         unit = unit_after_upkeep s u;
         there = ap (get (upkeep_at c s).units) own ∙ own_unit c s u here;
-        spared = subst (λ b. IsLessBy (if b then s.starved else 0) u (unit_after_upkeep s u)) (sym (equal_passes s.unit n (sym own))) (fewer_by s u);
+        is_unaffected = subst (λ b. IsLessBy (if b then s.starved else 0) u (unit_after_upkeep s u)) (sym (equal_passes s.unit n (sym own))) (fewer_by s u);
       }
   | inr apart ↦
       record {
         unit = u;
         there = other_unit c s n apart ∙ there;
-        spared = subst (λ b. IsLessBy (if b then s.starved else 0) u u) (sym (other_number s.unit n (λ same. apart (sym same)))) (nobody_less u);
+        is_unaffected = subst (λ b. IsLessBy (if b then s.starved else 0) u u) (sym (other_number s.unit n (λ same. apart (sym same)))) (nobody_less u);
       }
 ]
 
--- after upkeep of several units each unit has exactly as many men less as starved of it altogether (`IsLessBy`)
-all_supplied : (c : CampaignValue) (ss : List UpkeepResult) (n : ℕ) (u : Unit) → get c.units n ≡ Some u → IsUnaffected (IsLessBy (sum_by (starved_of_n n) ss)) (fold upkeep_at c ss) n u
-all_supplied c [] n u there = record { unit = u; there = there; spared = nobody_less u }
-all_supplied c (s ∷ ss) n u there =
-    let one = supplied_at c s n u there in
-    let two = all_supplied (upkeep_at c s) ss n one.unit one.there in
-    record { unit = two.unit; there = two.there; spared = subst (λ k. IsLessBy k u two.unit) (sym (sum_by-cons (starved_of_n n) s ss)) (less_plus (starved_of_n n s) (sum_by (starved_of_n n) ss) u one.unit two.unit one.spared two.spared) }
+-- after the upkeep of several units each unit has its men less exactly all those of them who starved (`IsLessBy`)
+fewer_after_upkeep : (c : CampaignValue) (ss : List UpkeepResult) (n : ℕ) (u : Unit) → get c.units n ≡ Some u → IsUnaffected (IsLessBy (sum_by (starved_of_n n) ss)) (fold upkeep_at c ss) n u
+fewer_after_upkeep c [] n u there = record { unit = u; there = there; is_unaffected = nobody_less u }
+fewer_after_upkeep c (s ∷ ss) n u there =
+    let one = fewer_after_one c s n u there in
+    let two = fewer_after_upkeep (upkeep_at c s) ss n one.unit one.there in
+    record { unit = two.unit; there = two.there; is_unaffected = subst (λ k. IsLessBy k u two.unit) (sym (sum_by-cons (starved_of_n n) s ss)) (less_plus (starved_of_n n s) (sum_by (starved_of_n n) ss) u one.unit two.unit one.is_unaffected two.is_unaffected) }
 
 -- how many men of unit `n` starved by one event
 abbrev by_event : ℕ → Event → ℕ
@@ -97,8 +98,8 @@ upkeep_leaves = record {
   readings = λ w c m. refl;
   starved_reported = λ w c m n. omega (arith, starved_add_up w c m n);
   left = λ w c m keeps n u there none.
-      let one = all_supplied c (upkeep_results w c) n u there in
-      record { unit = one.unit; there = one.there; spared = subst (λ k. IsLessBy k u one.unit) (less (starved_in m.events n) (men_starved w c n) _ (starved_add_up w c m n)) one.spared };
+      let one = fewer_after_upkeep c (upkeep_results w c) n u there in
+      record { unit = one.unit; there = one.there; is_unaffected = subst (λ k. IsLessBy k u one.unit) (less (starved_in m.events n) (men_starved w c n) _ (starved_add_up w c m n)) one.is_unaffected };
 }
   where
     -- how many men of unit `n` starve by the upkeep of the campaign
@@ -120,7 +121,7 @@ pub season_leaves : LeavesUnmailed season_meaning season_keeps
 season_leaves =
     whole_leaves {meaning = season_meaning} {keeps = season_keeps} (λ w c m. refl) (λ w c m n. refl)
     (λ w c m same n u there none. men_same c (season_meaning w c m).0 same n u there)
-    (λ w c m same n u there none. record { unit = u; there = ap (λ (units : FinMap nat_cmp Unit). get units n) same ∙ there; spared = record { name = refl; items = λ i. omega arith } })
+    (λ w c m same n u there none. record { unit = u; there = ap (λ (units : FinMap nat_cmp Unit). get units n) same ∙ there; is_unaffected = record { name = refl; items = λ i. omega arith } })
 
 -- the sweep, as the last phase, leaves units of factions without a mailing their items, and their men less the starved
 -- (`ClosesUnmailed`)
@@ -128,6 +129,6 @@ pub sweep_leaves : ClosesUnmailed sweep_meaning sweep_keeps
 sweep_leaves = record {
   starved_reported = λ w c m n. omega arith;
   left = λ w c m keeps n u there none some.
-      let (v, behind, kept) = keeps n u there (omega (arith, some)) in
-      record { unit = v; there = behind; spared = record { faction = kept.no_worse.faction; name = kept.no_worse.name; men = omega (arith, kept.men); items = kept.no_worse.items } };
+      let (v, after, kept) = keeps n u there (omega (arith, some)) in
+      record { unit = v; there = after; is_unaffected = record { faction = kept.no_worse.faction; name = kept.no_worse.name; men = omega (arith, kept.men); items = kept.no_worse.items } };
 }

@@ -1,4 +1,4 @@
--- Laws of upkeep: it keeps a campaign steady and its books balanced, each unit can pay when its turn comes, and what
+-- Laws of upkeep: it keeps a campaign steady and its books balanced, and each unit can pay when its turn comes. What
 -- upkeep takes from a unit follows from the units of its faction in its region alone.
 use Rattle.std.proofs.Common.{◌≡◌, ◌≢◌, ◌==◌, ℕ, ◌+◌, ◌-◌, ◌*◌, ◌/◌, ◌≤◌, ◌<◌, Bool, true, false, Option, Some, None, List, [], ◌∷◌, length, map, refl, sym, ap, subst, ◌∙◌, arith}
 use Rattle.std.specs.Prelude.{IsTrue, ℤ, pos, neg_ℤ, ◌+ℤ◌, fold, is_some, unwrap_or, if◌then◌else◌}
@@ -34,7 +34,7 @@ use Rattle.atl_campaign.proofs.ReadBackLaws.{Rise, entries_rise}
 use Rattle.atl_records.proofs.BookLaws.{booked-after_booking, booked_for}
 use Rattle.atl_records.proofs.EveryLaws.{each-from_every, every-empty, get-insert_other, every-from_each}
 use Rattle.atl_campaign.proofs.HoldingLaws.{MayHaveWithoutNewGuard, steady-unit_amount, total-unit_amount}
-use Rattle.atl_campaign.proofs.RegionLaws.{steady-amount, total-amount, get-insert_same}
+use Rattle.atl_campaign.proofs.RegionLaws.{steady-amount, total-booking, get-insert_same}
 use Rattle.atl_phase.specs.Meaning.{IsNear, LeavesWell, BookBound, moves_only, most_moved}
 use Rattle.atl_phase.specs.Bounds.{HaveRoom, moved_times}
 use Rattle.atl_phase.specs.Holdings.{with_days}
@@ -57,8 +57,8 @@ use Rattle.atl_month.proofs.UpkeepSharingLaws.{can_spare}
 -- ---- what a unit may hold after its upkeep
 
 -- a skill is of the world, and `days` of it are at least 1 and at most what `men` men may have
-abbrev IsStudied : WorldValue → (men skill days : ℕ) → Type 0
-IsStudied w men skill days = (skill < length w.skills) × (1 ≤ days) × (days ≤ most_days * men)
+abbrev AreSkillDays : WorldValue → (men skill days : ℕ) → Type 0
+AreSkillDays w men skill days = (skill < length w.skills) × (1 ≤ days) × (days ≤ most_days * men)
 
 module _ (w : WorldValue) (left men : ℕ) (fewer : left ≤ men) where
   -- the days that stay with fewer men are at most as many as those men may have
@@ -74,9 +74,9 @@ abbrev pub days_left : ℕ → HoldingValue → FinMap nat_cmp ℕ
 days_left left h = amounts_for (going_of left h) (keys h.days)
 
 -- a holding with fewer men has their part of the days, and all else as it was
-module _ (w : WorldValue) (h : HoldingValue) (left : ℕ) (fewer : left ≤ h.men) (days : Every (IsStudied w h.men) h.days) where
+module _ (w : WorldValue) (h : HoldingValue) (left : ℕ) (fewer : left ≤ h.men) (days : Every (AreSkillDays w h.men) h.days) where
   -- the days that stay with fewer men are of skills of the world, and no more than those men may have
-  studied_left : Every (IsStudied w left) (days_left left h)
+  studied_left : Every (AreSkillDays w left) (days_left left h)
   studied_left k d is =
       let (some, said) = each_said (going_of left h) (keys h.days) k d is in
       by_option (get h.days k) refl some said
@@ -87,7 +87,7 @@ module _ (w : WorldValue) (h : HoldingValue) (left : ℕ) (fewer : left ≤ h.me
 
       -- the days that stay of skill `k` are no more than the men left may have, whether the holding has days of the
       -- skill or not
-      by_option : (o : Option ℕ) → get h.days k ≡ o → 1 ≤ d → d ≡ unwrap_or o 0 * left / h.men → IsStudied w left k d
+      by_option : (o : Option ℕ) → get h.days k ≡ o → 1 ≤ d → d ≡ unwrap_or o 0 * left / h.men → AreSkillDays w left k d
       by_option None there some said = let none : d ≡ 0 = said ∙ nothing in absurd (omega (arith, some, none))
       by_option (Some had) there some said =
           let (known, _, most) = days k had there in
@@ -95,7 +95,7 @@ module _ (w : WorldValue) (h : HoldingValue) (left : ℕ) (fewer : left ≤ h.me
 
   -- a holding has `left` men, days that these may have, and the name, guard flag and items of holding `h`
   abbrev IsWithMen : HoldingValue → Type 0
-  IsWithMen k = (k.men ≡ left) × Every (IsStudied w left) k.days × (k.name ≡ h.name) × (k.guard ≡ h.guard) × (k.items ≡ h.items)
+  IsWithMen k = (k.men ≡ left) × Every (AreSkillDays w left) k.days × (k.name ≡ h.name) × (k.guard ≡ h.guard) × (k.items ≡ h.items)
 
   -- the holding with `left` of its men has days that these may have, and its name, guard flag and items as they were
   less_men : IsWithMen (with_men_left left h)
@@ -106,12 +106,12 @@ module _ (w : WorldValue) (h : HoldingValue) (left : ℕ) (fewer : left ≤ h.me
       by_men : (b : Bool) → (left == h.men) ≡ b → IsWithMen (if b then h else record h { men = left; days = days_left left h })
       by_men true is =
           let same : h.men ≡ left = grind (arith, nat_tests) in
-          (same, subst (λ n. Every (IsStudied w n) h.days) same days, refl, refl, refl)
+          (same, subst (λ n. Every (AreSkillDays w n) h.days) same days, refl, refl, refl)
       by_men false is = (refl, studied_left, refl, refl, refl)
 
 -- ---- the upkeep of a unit that is there
 
--- a campaign after the upkeep, with its booking, of the unit that a look-up found; unchanged where it found none
+-- a campaign after the upkeep of the unit that a look-up found, which is booked; unchanged where the look-up found none
 abbrev pub upkeep_in : CampaignValue → UpkeepResult → Option Unit → CampaignValue
 upkeep_in c s o = option_map_or (λ u.
     let held = with_holding_at c s.unit (after_upkeep s u.holding) (Some u) in
@@ -133,7 +133,7 @@ module _ (w : WorldValue) (c : CampaignValue) (s : UpkeepResult) (u : Unit) (is 
   left = old.men - s.starved
 
   -- the days of the unit before its upkeep are days that its men may have
-  studied : Every (IsStudied w old.men) old.days
+  studied : Every (AreSkillDays w old.men) old.days
   studied k days there =
       let skills = (steady.known.units s.unit u is).skills in
       let range = steady.days s.unit u is k days there in
@@ -152,7 +152,7 @@ module _ (w : WorldValue) (c : CampaignValue) (s : UpkeepResult) (u : Unit) (is 
   -- did (`MayHaveWithoutNewGuard`)
   may_hold : MayHaveWithoutNewGuard w u now
   may_hold =
-      let place = steady.known.units s.unit u is in
+      let location = steady.known.units s.unit u is in
       let holding = (steady.numbers.units s.unit u is).1 in
       let (men, days, name, guard, items) = with_less in
       record {
@@ -162,7 +162,7 @@ module _ (w : WorldValue) (c : CampaignValue) (s : UpkeepResult) (u : Unit) (is 
           items = subst AreAmounts (sym items) holding.items;
         };
         name = subst (λ n. IsTrue (name_ok n)) (sym name) (steady.names.units s.unit u is);
-        items = subst (Every (λ i amount. i < length w.items)) (sym items) place.items;
+        items = subst (Every (λ i amount. i < length w.items)) (sym items) location.items;
         skills = λ k d there. (days k d there).0;
         days = λ k d there. let (known, some, most) = days k d there in (some, subst (λ n. d ≤ most_days * n) (sym men) most);
         guard = guard_kept;
@@ -190,7 +190,7 @@ module _ (w : WorldValue) (c : CampaignValue) (s : UpkeepResult) (u : Unit) (is 
   total_after : (t : Thing)
       → pos (total after t) ≡ (pos (total c t) +ℤ booked_for t Money (neg_ℤ (pos s.paid))) +ℤ booked_for t People (neg_ℤ (pos s.starved))
   total_after t =
-      total_of t (total-amount paid_off Starved People t (neg_ℤ (pos s.starved))) (total-amount held_back Upkeep Money t (neg_ℤ (pos s.paid)))
+      total_of t (total-booking paid_off Starved People t (neg_ℤ (pos s.starved))) (total-booking held_back Upkeep Money t (neg_ℤ (pos s.paid)))
       (total-unit_amount w c s.unit u now is t)
     where
       -- For `total_after`: the total of thing `t` falls by what the unit paid or by those who starved, or stays, given
@@ -266,20 +266,20 @@ other_unit c s n apart = by_unit (get c.units s.unit)
     by_unit None = refl
     by_unit (Some u) = get-insert_other c.units s.unit n (record u { holding = after_upkeep s u.holding }) apart
 
--- If the campaign has the listed units, all with higher numbers than the unit that pays, it has them as listed also
--- after that unit paid.
+-- the campaign has the listed units as listed also after a unit paid, if it had them so before, and all have higher
+-- numbers than that unit
 pub each_still : (c : CampaignValue) (s : UpkeepResult) (es : List (ℕ × Unit)) → AllByRecursion (λ e. s.unit < e.0) es
     → EachEntry (λ n u. get c.units n ≡ Some u) es → EachEntry (λ n u. get (upkeep_at c s).units n ≡ Some u) es
 each_still c s [] above there = tt
 each_still c s (e ∷ es) above there = (other_unit c s e.0 (λ same. omega (arith, above.0, same)) ∙ there.0, each_still c s es above.1 there.1)
 
 -- what upkeep takes from one unit, where `all` are the units of the campaign
-abbrev pub settled_one : ℕ → (all : List UpkeepInput) → UpkeepInput → UpkeepResult
-settled_one m all p = upkeep_result_among m (peers_of p.region p.faction all) p
+abbrev pub upkeep_result_one : ℕ → (all : List UpkeepInput) → UpkeepInput → UpkeepResult
+upkeep_result_one m all p = upkeep_result_among m (peers_of p.region p.faction all) p
 
 -- what upkeep takes from each of some units, where `all` are the units of the campaign
-abbrev pub settled_each : ℕ → (all : List UpkeepInput) → List (ℕ × Unit) → List UpkeepResult
-settled_each m all es = map (settled_one m all) (map upkeep_input_of es)
+abbrev pub upkeep_result_each : ℕ → (all : List UpkeepInput) → List (ℕ × Unit) → List UpkeepResult
+upkeep_result_each m all es = map (upkeep_result_one m all) (map upkeep_input_of es)
 
 module _ (w : WorldValue) (some : 1 ≤ w.rules.maintenance) (all : List UpkeepInput) where
   -- the bound on what the upkeep of one unit books: Upkeep of money and Starved of people, each by at most 999,999,999
@@ -288,16 +288,16 @@ module _ (w : WorldValue) (some : 1 ≤ w.rules.maintenance) (all : List UpkeepI
 
   -- what upkeep takes from each of some units, where `all` are the units of the campaign
   abbrev each_of : List (ℕ × Unit) → List UpkeepResult
-  each_of es = settled_each w.rules.maintenance all es
+  each_of es = upkeep_result_each w.rules.maintenance all es
 
   -- The upkeep of some units, sorted by their numbers, can be paid in turn. This supposes that the campaign is steady
   -- and has the units as listed, and that its books have room for the upkeep of all.
-  settled_in_turn : (es : List (ℕ × Unit)) (c : CampaignValue) → Rise es → EachEntry (λ n u. get c.units n ≡ Some u) es
+  upkeep_result_in_turn : (es : List (ℕ × Unit)) (c : CampaignValue) → Rise es → EachEntry (λ n u. get c.units n ≡ Some u) es
       → IsSteady w c → HaveRoom (moved_times (length (each_of es)) step_moves) c → CanInTurn (CanPayUpkeep w) upkeep_at c (each_of es)
-  settled_in_turn [] c rise there steady room = tt
-  settled_in_turn ((n, u) ∷ es) c rise there steady room =
+  upkeep_result_in_turn [] c rise there steady room = tt
+  upkeep_result_in_turn ((n, u) ∷ es) c rise there steady room =
       let p = upkeep_input_of (n, u) in
-      let s = settled_one w.rules.maintenance all p in
+      let s = upkeep_result_one w.rules.maintenance all p in
       let rest = each_of es in
       let can : CanPayUpkeep w c s = record {
         unit = u;
@@ -308,7 +308,7 @@ module _ (w : WorldValue) (some : 1 ≤ w.rules.maintenance) (all : List UpkeepI
       } in
       let well = upkeep_at_leaves_well w c s can in (
         can,
-        settled_in_turn es (upkeep_at c s) rise.1 (each_still c s es rise.0 there.1) well.leaves_it
+        upkeep_result_in_turn es (upkeep_at c s) rise.1 (each_still c s es rise.0 there.1) well.leaves_it
             (later_room step_moves w c (upkeep_at c s) s rest well room),
       )
 
@@ -332,7 +332,7 @@ module _ (w : WorldValue) (c : CampaignValue) (some : 1 ≤ w.rules.maintenance)
 
   -- upkeep takes from at most 100,000 units, as many as there may be
   few : length list ≤ most_units
-  few = omega (arith, length-map (upkeep_inputs_of c) (settled_one w.rules.maintenance (upkeep_inputs_of c)), length-map (entries c.units) upkeep_input_of, len-entries c.units, steady.numbers.few_units)
+  few = omega (arith, length-map (upkeep_inputs_of c) (upkeep_result_one w.rules.maintenance (upkeep_inputs_of c)), length-map (entries c.units) upkeep_input_of, len-entries c.units, steady.numbers.few_units)
 
   -- the upkeep of all units together moves each amount of the books by less than 10^14
   little : IsBoundWithin (moved_times (length list) (takes_up_to most_amount)) (takes_up_to most_moved)
@@ -341,7 +341,7 @@ module _ (w : WorldValue) (c : CampaignValue) (some : 1 ≤ w.rules.maintenance)
   -- each unit can pay what upkeep takes from it when its turn comes
   pub all_can_pay : CanInTurn (CanPayUpkeep w) upkeep_at c list
   all_can_pay =
-      settled_in_turn w some (upkeep_inputs_of c) (entries c.units) c (entries_rise c.units)
+      upkeep_result_in_turn w some (upkeep_inputs_of c) (entries c.units) c (entries_rise c.units)
       (each-from_every (λ n u. get c.units n ≡ Some u) c.units (λ n u is. is)) steady
       (room_less (moved_times (length list) (takes_up_to most_amount)) (takes_up_to most_moved) c little room)
 
@@ -372,11 +372,11 @@ pays_nothing c s u is fed none =
 -- ---- where somebody starves
 
 -- if each amount of a map is at least 1, it is still so after some amounts are set, of which those set to 0 are removed
-every_set : (f : ℕ → ℕ → ℕ) (es : List (ℕ × ℕ)) (had : FinMap nat_cmp ℕ) → Every (λ k d. 1 ≤ d) had
+each_stays_positive : (f : ℕ → ℕ → ℕ) (es : List (ℕ × ℕ)) (had : FinMap nat_cmp ℕ) → Every (λ k d. 1 ≤ d) had
     → Every (λ k d. 1 ≤ d) (fold (λ (m : FinMap nat_cmp ℕ) (e : ℕ × ℕ). with_amount_of m e.0 (f e.0 e.1)) had es)
-every_set f [] had old = old
-every_set f (e ∷ es) had old =
-    every_set f es (with_amount_of had e.0 (f e.0 e.1)) (every_amount (λ k d. 1 ≤ d) had e.0 (f e.0 e.1) (λ some. some) old)
+each_stays_positive f [] had old = old
+each_stays_positive f (e ∷ es) had old =
+    each_stays_positive f es (with_amount_of had e.0 (f e.0 e.1)) (every_amount (λ k d. 1 ≤ d) had e.0 (f e.0 e.1) (λ some. some) old)
 
 -- Setting the days of each skill, one by one, to those that stay with fewer men gives the map of the days that stay
 -- (`days_left`).
@@ -384,7 +384,7 @@ days_set : (left : ℕ) (h : HoldingValue) → Every (λ k d. 1 ≤ d) h.days �
 days_set left h listed =
     set_again h.days stays none listed
     ∙ same_amounts anew (days_left left h)
-    (every_set stays (entries h.days) empty (every-empty (λ k d. 1 ≤ d)))
+    (each_stays_positive stays (entries h.days) empty (every-empty (λ k d. 1 ≤ d)))
     (λ k d there. (each_said (going_of left h) (keys h.days) k d there).0)
     (λ k. set_each h.days stays k empty (λ free. ap (λ (o : Option ℕ). unwrap_or o 0) (get-empty nat_cmp k) ∙ sym (none k))
     ∙ sym (as_said (going_of left h) (keys h.days) k (λ other. none_go left h k (not_listed k other))))
@@ -410,11 +410,11 @@ days_set left h listed =
         by_option None is = refl
         by_option (Some d) is = cc
 
--- if some men of a unit starve, at most all, setting its men, its money and its days of each skill to what upkeep
--- leaves gives the holding after upkeep (`after_upkeep`)
-pub starved_supplied : (s : UpkeepResult) (h : HoldingValue) → 1 ≤ s.starved → s.starved ≤ h.men → Every (λ k d. 1 ≤ d) h.days
+-- A holding with its men, its money and its days of each skill set to what upkeep leaves is the holding after upkeep
+-- (`after_upkeep`). For this some men of the unit starve, and no more than it has.
+pub starving_sets_holding : (s : UpkeepResult) (h : HoldingValue) → 1 ≤ s.starved → s.starved ≤ h.men → Every (λ k d. 1 ≤ d) h.days
     → record h { men = h.men - s.starved; money = h.money - s.paid; days = with_days h.days (staying_list (h.men - s.starved) h.men h.days) } ≡ after_upkeep s h
-starved_supplied s h some fewer listed =
+starving_sets_holding s h some fewer listed =
     let set = days_set (h.men - s.starved) h listed in
     let other : (h.men - s.starved == h.men) ≡ false = grind (arith, nat_tests) in
     rw (set, other) refl
@@ -432,31 +432,31 @@ own_unit c s u is = ap (λ (d : CampaignValue). get d.units s.unit) (upkeep_at_i
 module _ (m : ℕ) (all : List UpkeepInput) where
   -- a unit with a lower number than all whose turn is still to come stays as it is
   others_stay : (es : List (ℕ × Unit)) (c : CampaignValue) (n : ℕ) → AllByRecursion (λ e. n < e.0) es
-      → get (fold upkeep_at c (settled_each m all es)).units n ≡ get c.units n
+      → get (fold upkeep_at c (upkeep_result_each m all es)).units n ≡ get c.units n
   others_stay [] c n h = refl
   others_stay (e ∷ es) c n h =
-      let s = settled_one m all (upkeep_input_of e) in
+      let s = upkeep_result_one m all (upkeep_input_of e) in
       others_stay es (upkeep_at c s) n h.1 ∙ other_unit c s n (λ same. omega (arith, h.0, same))
 
   -- unit `n`, which was `u`, is in campaign `after` with what its upkeep among all units leaves it
-  abbrev IsSettled : CampaignValue → ℕ → Unit → Type 0
-  IsSettled after n u = get after.units n ≡ Some (unit_after_upkeep (settled_one m all (upkeep_input_of (n, u))) u)
+  abbrev HasUpkeepResult : CampaignValue → ℕ → Unit → Type 0
+  HasUpkeepResult after n u = get after.units n ≡ Some (unit_after_upkeep (upkeep_result_one m all (upkeep_input_of (n, u))) u)
 
   -- after the upkeep of some units in the order of their numbers, which the campaign has as listed, each of them has
   -- what its upkeep among all units leaves it
-  each_settled : (es : List (ℕ × Unit)) (c : CampaignValue) → Rise es → EachEntry (λ n u. get c.units n ≡ Some u) es
-      → EachEntry (IsSettled (fold upkeep_at c (settled_each m all es))) es
-  each_settled [] c rise there = tt
-  each_settled ((n, u) ∷ es) c rise there =
-      let s = settled_one m all (upkeep_input_of (n, u)) in
+  each_upkeep_result : (es : List (ℕ × Unit)) (c : CampaignValue) → Rise es → EachEntry (λ n u. get c.units n ≡ Some u) es
+      → EachEntry (HasUpkeepResult (fold upkeep_at c (upkeep_result_each m all es))) es
+  each_upkeep_result [] c rise there = tt
+  each_upkeep_result ((n, u) ∷ es) c rise there =
+      let s = upkeep_result_one m all (upkeep_input_of (n, u)) in
       let next = upkeep_at c s in (
         others_stay es next n rise.0 ∙ own_unit c s u there.0,
-        each_settled es next rise.1 (each_still c s es rise.0 there.1),
+        each_upkeep_result es next rise.1 (each_still c s es rise.0 there.1),
       )
 
 -- after upkeep each unit has what its upkeep among the units of its faction in its region leaves it
 pub upkeep_is_of_peers : (w : WorldValue) (c : CampaignValue)
-    → Every (IsSettled w.rules.maintenance (upkeep_inputs_of c) (upkeep c (upkeep_results w c))) c.units
+    → Every (HasUpkeepResult w.rules.maintenance (upkeep_inputs_of c) (upkeep c (upkeep_results w c))) c.units
 upkeep_is_of_peers w c =
     let here = each-from_every (λ n u. get c.units n ≡ Some u) c.units (λ n u is. is) in
-    every-from_each _ c.units (each_settled w.rules.maintenance (upkeep_inputs_of c) (entries c.units) c (entries_rise c.units) here)
+    every-from_each _ c.units (each_upkeep_result w.rules.maintenance (upkeep_inputs_of c) (entries c.units) c (entries_rise c.units) here)

@@ -24,8 +24,8 @@ use Rattle.atl_month.proofs.GroupedLaws.{get-grouped}
 -- ---- a unit more
 
 -- a unit is of its own faction and in its own region
-own : (p : UpkeepInput) → is_input_of p.region p.faction p ≡ true
-own p = rw (same_number p.region, same_number p.faction) refl
+is_own_input : (p : UpkeepInput) → is_input_of p.region p.faction p ≡ true
+is_own_input p = rw (same_number p.region, same_number p.faction) refl
 
 module _ (amount : UpkeepInput → ℕ) (xs : List UpkeepInput) (p : UpkeepInput) where
   -- a sum over the units of a faction in a region grows by a further unit's amount, if that is one of them
@@ -42,7 +42,7 @@ module _ (amount : UpkeepInput → ℕ) (xs : List UpkeepInput) (p : UpkeepInput
 
   -- a sum over the units of a further unit's faction in its region grows by that unit's amount
   more_own : sum_by amount (peers_of p.region p.faction (xs ++ p ∷ [])) ≡ sum_by amount (peers_of p.region p.faction xs) + amount p
-  more_own = more_among p.region p.faction ∙ ap (λ b. sum_by amount (peers_of p.region p.faction xs) + cond b (amount p) 0) (own p)
+  more_own = more_among p.region p.faction ∙ ap (λ b. sum_by amount (peers_of p.region p.faction xs) + cond b (amount p) 0) (is_own_input p)
 
   -- a sum over the units of a faction in a region stays with a further unit that isn't one of them
   more_other : (s g : ℕ) → is_input_of s g p ≡ false → sum_by amount (peers_of s g (xs ++ p ∷ [])) ≡ sum_by amount (peers_of s g xs)
@@ -85,14 +85,15 @@ pub no_accounts : (m s g : ℕ) → account_at empty s g ≡ account_of m [] [] 
 no_accounts m s g = rw (get-empty nat_cmp s, get-empty nat_cmp g) refl
 
 -- the sums of an account are at most what `n` units may have left and be short of
-pub record IsFew (n : ℕ) (a : Account) : Type 0 where
+pub record IsAccountWithin (n : ℕ) (a : Account) : Type 0 where
   -- the money that the account's units have left is within what `n` units may have
   pub left : a.left ≤ holding_limit * n
   -- the money that the account's units are short of is within what `n` units may be short of
   pub short : a.short ≤ most_per_head * men_limit * n
 
--- the accounts of the empty map are within what 0 units may have left and be short of (`IsFew`): they are all 0
-pub none_few : (s g : ℕ) → IsFew 0 (account_at empty s g)
+-- the accounts of the empty map are within what 0 units may have left and be short of (`IsAccountWithin`): they are all
+-- 0
+pub none_few : (s g : ℕ) → IsAccountWithin 0 (account_at empty s g)
 none_few s g = rw (no_accounts 0 s g) (record { left = omega arith; short = omega arith })
 
 module _ (m : ℕ) (before : List UpkeepInput) (p : UpkeepInput) where
@@ -111,14 +112,14 @@ module _ (m : ℕ) (before : List UpkeepInput) (p : UpkeepInput) where
       (λ s g apart. each s g
       ∙ account_is _ _ _ _ _ _ _ _ (sym (more_other (left_of m) before p s g apart)) (sym (more_other (short_of m) before p s g apart)) (none_given _ _) (none_given _ _))
 
--- If the sums of each account are within those of `n` units (`IsFew`), they are, with one more unit counted, within
--- those of `n + 1`.
+-- If the sums of each account are within those of `n` units (`IsAccountWithin`), they are, with one more unit counted,
+-- within those of `n + 1`.
 pub few_more : (m n : ℕ) (accounts : FactionAccounts) (p : UpkeepInput) (a : Account) → left_of m p ≤ holding_limit → short_of m p ≤ most_per_head * men_limit
-    → ((s g : ℕ) → IsFew n (account_at accounts s g)) → a ≡ with_counted m p (account_at accounts p.region p.faction)
-    → (s g : ℕ) → IsFew (n + 1) (account_at (with_account accounts p.region p.faction a) s g)
+    → ((s g : ℕ) → IsAccountWithin n (account_at accounts s g)) → a ≡ with_counted m p (account_at accounts p.region p.faction)
+    → (s g : ℕ) → IsAccountWithin (n + 1) (account_at (with_account accounts p.region p.faction a) s g)
 few_more m n accounts p a left short each is =
     let old = each p.region p.faction in
-    each_account (λ s g b. IsFew (n + 1) b) accounts p a
+    each_account (λ s g b. IsAccountWithin (n + 1) b) accounts p a
     (rw is (record { left = omega (arith, old.left, left); short = omega (arith, old.short, short) }))
     (λ s g apart. let o = each s g in record { left = omega (arith, o.left); short = omega (arith, o.short) })
 
@@ -160,13 +161,13 @@ lower_first (p ∷ ps) (suc i) d order l =
 
 -- ---- the upkeep of all units
 
--- for `settled_more`: what the units before gave in turn, with what the next one gives, is the lesser of what all these
--- want to give (`before + want`) and the amount to give
+-- for `upkeep_result_more`: what the units before gave in turn, with what the next one gives, is the lesser of what all
+-- these want to give (`before + want`) and the amount to give
 next_dealt : (before want amount : ℕ) → min before amount + min (amount - min before amount) want ≡ min (before + want) amount
 next_dealt before want amount = omega arith
 
--- For `settled_is`: what a unit gives or gets in turn is what all units up to and with this one give or get together,
--- less what the units before it do.
+-- For `upkeep_result_is`: what a unit gives or gets in turn is what all units up to and with this one give or get
+-- together, less what the units before it do.
 is_dealt : (before want amount : ℕ) → min (amount - min before amount) want ≡ min (before + want) amount - min before amount
 is_dealt before want amount = omega arith
 
@@ -186,9 +187,9 @@ module _ (m : ℕ) (all before : List UpkeepInput) (p : UpkeepInput) (accounts :
 
   -- after a unit had its turn, each account is that of all units, of which those before it and it had their turn
   -- (`account_of`)
-  pub settled_more : (a : Account) → a ≡ account_after m (account_at accounts p.region p.faction) p
+  pub upkeep_result_more : (a : Account) → a ≡ account_after m (account_at accounts p.region p.faction) p
       → (s g : ℕ) → account_at (with_account accounts p.region p.faction a) s g ≡ account_of m all (before ++ p ∷ []) s g
-  settled_more a is =
+  upkeep_result_more a is =
       each_account (λ s g b. b ≡ account_of m all (before ++ p ∷ []) s g) accounts p a
       (is ∙ ap (λ b. account_after m b p) (each p.region p.faction)
       ∙ account_is _ _ _ _ _ _ _ _ refl refl
@@ -206,10 +207,10 @@ module _ (m : ℕ) (all before : List UpkeepInput) (p : UpkeepInput) (accounts :
 
   -- if the units that had their turn before a unit are those with lower numbers, upkeep takes from it by its account
   -- what the definition says (`upkeep_result_among`)
-  pub settled_is : filter (is_lower p.unit) all ≡ before → upkeep_result_by m (account_at accounts p.region p.faction) p ≡ upkeep_result_among m peers p
-  settled_is first =
+  pub upkeep_result_is : filter (is_lower p.unit) all ≡ before → upkeep_result_by m (account_at accounts p.region p.faction) p ≡ upkeep_result_among m peers p
+  upkeep_result_is first =
       ap (λ b. upkeep_result_by m b p) (each p.region p.faction)
-      ∙ same_settled _ _ _ _ (ap (λ n. paid_by m p + n) (part_of (left_of m))) (ap (λ n. starved_of m (short_of m p - n)) (part_of (short_of m)))
+      ∙ same_upkeep_result _ _ _ _ (ap (λ n. paid_by m p + n) (part_of (left_of m))) (ap (λ n. starved_of m (short_of m p - n)) (part_of (short_of m)))
     where
       -- what a unit gives or gets by the account is what it gives or gets in turn, after its peers with lower numbers
       part_of : (f : UpkeepInput → ℕ) → min (amount - min (sum_by f (peers_of p.region p.faction before)) amount) (f p) ≡ amount_in_turn amount (sum_by f (filter (is_lower p.unit) peers)) (f p)
@@ -218,12 +219,12 @@ module _ (m : ℕ) (all before : List UpkeepInput) (p : UpkeepInput) (accounts :
           ∙ ap (λ xs. amount_in_turn amount (sum_by f xs) (f p)) (sym (before_among first))
 
       -- a result of upkeep for the unit, with these numbers of money paid and men starved
-      settled : (paid starved : ℕ) → UpkeepResult
-      settled paid starved = record { unit = p.unit; faction = p.faction; paid = paid; starved = starved }
+      upkeep_result : (paid starved : ℕ) → UpkeepResult
+      upkeep_result paid starved = record { unit = p.unit; faction = p.faction; paid = paid; starved = starved }
 
       -- two results of upkeep for the unit are equal if as much is paid and as many men starve by both
-      same_settled : (a b c d : ℕ) → a ≡ c → b ≡ d → settled a b ≡ settled c d
-      same_settled a b c d x y = rw (x, y) refl
+      same_upkeep_result : (a b c d : ℕ) → a ≡ c → b ≡ d → upkeep_result a b ≡ upkeep_result c d
+      same_upkeep_result a b c d x y = rw (x, y) refl
 
   -- Of the account of the unit's faction in its region, at most the amount to give was given so far, and at most that
   -- amount covered.

@@ -42,7 +42,8 @@ to_give a = min a.left a.short
 
 -- an account to which is added what one more unit has left and what it is short of
 abbrev pub with_counted : ℕ → UpkeepInput → Account → Account
-with_counted maintenance input a = record a { left = a.left + left_of maintenance input; short = a.short + short_of maintenance input }
+with_counted maintenance input a =
+    record a { left = a.left + left_of maintenance input; short = a.short + short_of maintenance input }
 
 -- what upkeep takes from a unit, by the account of its faction in its region as it is when the unit's turn comes
 abbrev pub upkeep_result_by : ℕ → Account → UpkeepInput → UpkeepResult
@@ -60,7 +61,7 @@ account_after maintenance a input = record a {
   covered = a.covered + min (to_give a - a.covered) (short_of maintenance input);
 }
 
--- of an account, at most the amount to give (`to_give`) was given so far, and at most that amount covered
+-- the amounts given and covered so far by an account are both at most its amount to give (`to_give`)
 pub record IsOpen (a : Account) : Type 0 where
   -- at most the amount to give was given so far
   pub given : a.given ≤ to_give a

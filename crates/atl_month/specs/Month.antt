@@ -14,7 +14,7 @@ use Rattle.atl_records.specs.Books.{amount_in}
 use Rattle.atl_campaign.specs.Campaign.{CampaignValue, with_month, without_mail}
 use Rattle.atl_phase.specs.Month.{MonthValue, HaveOwnFactions, by_faction}
 use Rattle.atl_phase.specs.Meaning.{BookBound, Frame, IsNear, Meaning, both_keep, both_move, most_moved, then_also}
-use Rattle.atl_phase.specs.PhaseSpecs.{EachPhase, MovesItsOwn, PhaseSpec, keeps_of, meaning_of, moving_of, moving_phases_of}
+use Rattle.atl_phase.specs.PhaseSpecs.{EachPhase, MovesItsOwn, PhaseSpec, keeps_of, meaning_of, book_bound_of, moving_phase_count_of}
 use Rattle.atl_instant.specs.Form.{form_spec}
 use Rattle.atl_instant.specs.Give.{give_spec}
 use Rattle.atl_instant.specs.Guard.{guard_spec}
@@ -44,7 +44,8 @@ new_month readings words = record { readings = readings; aliases = empty; words 
 
 -- the phases from FORM to RECRUIT, in order, in which no unit begins to guard
 abbrev pub early_phases : List PhaseSpec
-early_phases = form_spec ∷ name_spec ∷ place_spec ∷ give_spec ∷ transfer_spec ∷ sell_spec ∷ buy_spec ∷ tax_spec ∷ recruit_spec ∷ []
+early_phases =
+    form_spec ∷ name_spec ∷ place_spec ∷ give_spec ∷ transfer_spec ∷ sell_spec ∷ buy_spec ∷ tax_spec ∷ recruit_spec ∷ []
 
 -- the phases from GUARD 1 to PRODUCE, in order; WORK is not among them, since units without an order work too
 abbrev pub later_phases : List PhaseSpec
@@ -72,7 +73,7 @@ month_keeps = both_keep orders_meaning orders_keep (keeps_of last_phases)
 
 -- the campaign after the phases of a month, and its events; the month isn't counted and the mail not removed yet
 unfoldable pub month_of : WorldValue → CampaignValue → FinMap nat_cmp Reading → List ℕ → CampaignValue × List Event
-month_of w c readings words = let behind = month_meaning w c (new_month readings words) in (behind.0, behind.1.events)
+month_of w c readings words = let after = month_meaning w c (new_month readings words) in (after.0, after.1.events)
 
 -- ---- the books
 
@@ -81,35 +82,38 @@ abbrev pub PhasesMoveLittle : Type 0
 PhasesMoveLittle = EachPhase MovesItsOwn early_phases × EachPhase MovesItsOwn later_phases × EachPhase MovesItsOwn last_phases
 
 -- how many phases of a month may move the amount under an entry and of a thing
-abbrev pub moving_phases : BooksEntry → Thing → ℕ
-moving_phases e t = moving_phases_of early_phases e t + moving_phases_of later_phases e t + moving_phases_of last_phases e t
+abbrev pub moving_phase_count : BooksEntry → Thing → ℕ
+moving_phase_count e t = moving_phase_count_of early_phases e t + moving_phase_count_of later_phases e t + moving_phase_count_of last_phases e t
 
 -- the law that at most two phases of a month may move an amount of the books
 abbrev pub TwoMoveAtMost : Type 0
-TwoMoveAtMost = (e : BooksEntry) (t : Thing) → moving_phases e t ≤ 2
+TwoMoveAtMost = (e : BooksEntry) (t : Thing) → moving_phase_count e t ≤ 2
 
 -- the bound on how far the phases from FORM to PRODUCE together may move each amount of the books
-abbrev pub orders_moving : BookBound
-orders_moving = both_move (moving_of early_phases) (moving_of later_phases)
+abbrev pub orders_bound : BookBound
+orders_bound = both_move (book_bound_of early_phases) (book_bound_of later_phases)
 
 -- the bound on how far all phases of a month together may move each amount of the books
-abbrev pub phases_moving : BookBound
-phases_moving = both_move orders_moving (moving_of last_phases)
+abbrev pub phases_bound : BookBound
+phases_bound = both_move orders_bound (book_bound_of last_phases)
 
 -- the bound on how far a month may move an amount of the books: 10^14 - 1 for each phase that may move it
 abbrev pub month_moves : BookBound
-month_moves e t = moving_phases e t * most_moved
+month_moves e t = moving_phase_count e t * most_moved
 
--- each amount of the books of campaign `after` differs from that of campaign `before` by at most its bound in `moving`
+-- each amount of the books of campaign `after` differs from that of campaign `before` by at most its bound in
+-- `book_bound`
 abbrev pub BooksAreNear : BookBound → (before after : CampaignValue) → Type 0
-BooksAreNear moving before after = (e : BooksEntry) (t : Thing) → IsNear (moving e t) (amount_in before.books e t) (amount_in after.books e t)
+BooksAreNear book_bound before after =
+    (e : BooksEntry) (t : Thing) → IsNear (book_bound e t) (amount_in before.books e t) (amount_in after.books e t)
 
 -- ---- the mailings
 
 -- the law that the mailings of a month, given in another order, make the same campaign and the same events
 abbrev pub MailOrderDoesNotCount : Type 0
 MailOrderDoesNotCount =
-    (w : WorldValue) (c : CampaignValue) (words : List ℕ) (mailings others : List Mailing) → HaveOwnFactions mailings → IsPermutation mailings others →
+    (w : WorldValue) (c : CampaignValue) (words : List ℕ) (mailings others : List Mailing) →
+    HaveOwnFactions mailings → IsPermutation mailings others →
     month_of w c (by_faction (map reading_of mailings)) words ≡ month_of w c (by_faction (map reading_of others)) words
 
 -- a campaign with its month counted and its mail removed

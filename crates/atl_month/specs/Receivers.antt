@@ -7,7 +7,7 @@ use Rattle.atl_campaign.specs.Campaign.{CampaignValue}
 use Rattle.atl_month.specs.Sweep.{receiver}
 use Rattle.atl_world.specs.Groups.{group_of}
 
--- the numbers of receiving units, by region and then by faction
+-- for each region, and then for each faction, the number of its receiver: the unit that gets what removed units leave
 abbrev pub ReceiverMap : Type 0
 ReceiverMap = FinMap nat_cmp (FinMap nat_cmp ℕ)
 
@@ -19,9 +19,12 @@ receiver_in m region faction = unwrap_or (get (group_of m region) faction) 0
 abbrev pub with_receiver : ReceiverMap → (region faction number : ℕ) → ReceiverMap
 with_receiver m region faction number = insert m region (insert (group_of m region) faction number)
 
--- a map with a unit, by its number, as its faction's receiver in its region, if it has men and none is there yet
+-- a map after a unit was noted, by its number: as its faction's receiver in its region, if it has men and the map has
+-- none there yet
 abbrev pub with_receiver_of : ReceiverMap → ℕ → Unit → ReceiverMap
-with_receiver_of m n u = if nat_lt 0 u.holding.men && (receiver_in m u.region u.faction == 0) then with_receiver m u.region u.faction n else m
+with_receiver_of m n u =
+    if nat_lt 0 u.holding.men && (receiver_in m u.region u.faction == 0) then with_receiver m u.region u.faction n
+    else m
 
 -- a map has, for each region and faction, the campaign's receiver: the lowest-numbered unit with men there, or 0
 abbrev pub AreReceivers : CampaignValue → ReceiverMap → Type 0

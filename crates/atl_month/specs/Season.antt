@@ -39,8 +39,8 @@ season_of w c n word t r =
     let earned = income w.rules.income t.money_limit (r.peasants + born) r.money in
     after_restock n (with_growth c n r.peasants r.money born earned) (entries (markets_of w n))
 
--- A campaign after the season of a region, by its number, with its word of the dice; unchanged where the region isn't
--- there.
+-- A campaign after the season (births, income, new goods) of the region with this number, with its word of the dice;
+-- unchanged where the region isn't there.
 unfoldable pub season_at : WorldValue → CampaignValue → ℕ × ℕ → CampaignValue
 season_at w c (n, word) =
     option_map_or (λ t. at_region c n (season_of w c n word t)) (terrain_of w n) c
@@ -70,7 +70,7 @@ season_keeps w m before after = after.units ≡ before.units
 abbrev pub season_spec : PhaseSpec
 season_spec = record {
   meaning = season_meaning;
-  moving = season_moves most_moved;
+  book_bound = season_moves most_moved;
   moved = record { money = Income ∷ []; people = Births ∷ []; items = Stocked ∷ [] };
   keeps = season_keeps;
 }

@@ -15,7 +15,7 @@ use Rattle.atl_records.specs.Holdings.{amount_of}
 use Rattle.atl_records.specs.Limits.{holding_limit}
 use Rattle.atl_campaign.specs.Good.{HaveMen, IsSteady, UnitlessAreGone}
 use Rattle.atl_campaign.specs.Owners.{first_or_zero, without_unit}
-use Rattle.atl_campaign.specs.Campaign.{CampaignValue, active, numbers_of, with_booking, with_gone, with_item, with_money}
+use Rattle.atl_campaign.specs.Campaign.{CampaignValue, active, numbers_of_faction, with_booking, with_gone, with_item, with_money}
 use Rattle.atl_phase.specs.Month.{MonthValue}
 use Rattle.atl_phase.specs.Meaning.{BookBound, Frame, most_moved}
 use Rattle.atl_phase.specs.NoWorse.{IsNoWorse}
@@ -85,7 +85,7 @@ is_empty (n ∷ ns) = false
 
 -- a campaign in which faction `n` is gone if it has no unit; else the campaign as it was
 abbrev pub after_sweeping_faction : CampaignValue → ℕ → CampaignValue
-after_sweeping_faction c n = if is_empty (numbers_of n c.units) then with_gone c n else c
+after_sweeping_faction c n = if is_empty (numbers_of_faction n c.units) then with_gone c n else c
 
 -- ---- the phase
 
@@ -124,13 +124,14 @@ pub record IsKept (before after : Unit) : Type 0 where
 -- What the sweep leaves alone: each unit with men is still there, no worse off, with its men and their days as they
 -- were.
 abbrev pub sweep_keeps : Frame
-sweep_keeps w m before after = Every (λ n u. 1 ≤ u.holding.men → (v : Unit) × (get after.units n ≡ Some v) × IsKept u v) before.units
+sweep_keeps w m before after =
+    Every (λ n u. 1 ≤ u.holding.men → (v : Unit) × (get after.units n ≡ Some v) × IsKept u v) before.units
 
 -- the specification of the sweep as a phase of the month, which books Lost of money and items
 abbrev pub sweep_spec : PhaseSpec
 sweep_spec = record {
   meaning = sweep_meaning;
-  moving = loses_by most_moved;
+  book_bound = loses_by most_moved;
   moved = record { money = Lost ∷ []; people = []; items = Lost ∷ [] };
   keeps = sweep_keeps;
 }

@@ -14,4 +14,5 @@ SentNone mailings faction = All (λ m. m.faction ≢ faction) mailings
 -- Each unit of a faction without a mailing is there afterwards, unless all its men starved: with its name, no less of
 -- any item, and exactly its men less those who starved.
 abbrev pub UnmailedAreLeft : List Mailing → List Event → (before after : CampaignValue) → Type 0
-UnmailedAreLeft mailings events before after = Every (λ n u. SentNone mailings u.faction → IsLeft (starved_in events n) after n u) before.units
+UnmailedAreLeft mailings events before after =
+    Every (λ n u. SentNone mailings u.faction → IsLeft (starved_in events n) after n u) before.units

@@ -71,7 +71,8 @@ starved_event s = record { faction = s.faction; unit = s.unit; line = 0; verb = 
 
 -- the meaning of upkeep as a phase: the campaign after it, and the month with the Starved events
 abbrev pub upkeep_meaning : WorldValue → CampaignValue → MonthValue → CampaignValue × MonthValue
-upkeep_meaning w c m = (upkeep c (upkeep_results w c), record m { events = m.events ++ map starved_event (filter starves (upkeep_results w c)) })
+upkeep_meaning w c m =
+    (upkeep c (upkeep_results w c), record m { events = m.events ++ map starved_event (filter starves (upkeep_results w c)) })
 
 -- ---- what it moves, and what it keeps
 
@@ -84,8 +85,8 @@ abbrev pub upkeep_keeps : Frame
 upkeep_keeps w m before after =
     Every (λ n u.
     let peers = peers_of u.region u.faction (upkeep_inputs_of before) in
-    let settled = upkeep_result_among w.rules.maintenance peers (upkeep_input_of (n, u)) in
-    get after.units n ≡ Some (record u { holding = after_upkeep settled u.holding }))
+    let upkeep_result = upkeep_result_among w.rules.maintenance peers (upkeep_input_of (n, u)) in
+    get after.units n ≡ Some (record u { holding = after_upkeep upkeep_result u.holding }))
     before.units
 
 -- the specification of upkeep as a phase of the month, which books Upkeep of money and Starved of people

@@ -77,11 +77,11 @@ upkeep_results_of maintenance inputs =
 -- ---- what a unit can spare
 
 -- what upkeep takes from a unit is no more than its money, and no more than its men
-pub record CanSpare (settled : UpkeepResult) (men money : ℕ) : Type 0 where
+pub record CanSpare (upkeep_result : UpkeepResult) (men money : ℕ) : Type 0 where
   -- the unit pays at most its money
-  pub paid : settled.paid ≤ money
+  pub paid : upkeep_result.paid ≤ money
   -- at most the unit's men starve
-  pub starved : settled.starved ≤ men
+  pub starved : upkeep_result.starved ≤ men
 
 -- the law that upkeep takes no more from any unit than its money and its men, where `maintenance` is at least 1
 abbrev pub EachCanSpare : Type 0

@@ -28,8 +28,10 @@ pub record CanPayUpkeep (w : WorldValue) (c : CampaignValue) (s : UpkeepResult) 
 
 -- after upkeep of a unit, if it is there, its holding is `after_upkeep`; nothing else is changed, and nothing is booked
 abbrev pub IsAfterUpkeep : CampaignValue → UpkeepResult → CampaignValue → Type 0
-IsAfterUpkeep before s after = (u : Unit) → get before.units s.unit ≡ Some u → after ≡ with_holding_at before s.unit (after_upkeep s u.holding) (Some u)
+IsAfterUpkeep before s after =
+    (u : Unit) → get before.units s.unit ≡ Some u → after ≡ with_holding_at before s.unit (after_upkeep s u.holding) (Some u)
 
--- for each skill, with its number, the days times the men left, divided by the men before, rounded down
+-- a list of each skill, by its number, with the days that stay: the days times the men left, divided by the men before,
+-- rounded down
 abbrev pub staying_list : (left men : ℕ) → FinMap nat_cmp ℕ → List (ℕ × ℕ)
 staying_list left men days = map (λ e. (e.0, e.1 * left / men)) (entries days)

@@ -1,6 +1,6 @@
 //! The phases from FORM to PRODUCE as one phase. See docs/RULES.md, "Closing a month".
 ghost use Rattle.atl_campaign.specs.Good.{IsEarly};
-ghost use Rattle.atl_month.specs.Month.{orders_keep, orders_meaning, orders_moving};
+ghost use Rattle.atl_month.specs.Month.{orders_keep, orders_meaning, orders_bound};
 
 use atl_action::{LearnPhase, MovePhase, SailPhase};
 use atl_campaign::Campaign;
@@ -23,7 +23,7 @@ impl Phase for OrderPhases {
 
     ghost needs = { IsEarly };
 
-    ghost moving = { orders_moving };
+    ghost book_bound = { orders_bound };
 
     ghost keeps = { orders_keep };
 

@@ -95,7 +95,11 @@ fn carry_out_season(
 
 /// Carries out the season of the regions in the order of their numbers, as far as there are words
 /// of the dice.
-fn turn_regions(world: &World, campaign: &mut Campaign, words: &[u32]) -> Result<(), AllocError>
+fn carry_out_seasons(
+    world: &World,
+    campaign: &mut Campaign,
+    words: &[u32],
+) -> Result<(), AllocError>
     requires steady { IsSteady world.now campaign.old.value }
     requires room { HaveRoom (season_moves most_moved) campaign.old.value }
     ensures what { OnOk result
@@ -103,13 +107,13 @@ fn turn_regions(world: &World, campaign: &mut Campaign, words: &[u32]) -> Result
     ensures marks { OnOk result (MarksChanges campaign.old campaign.new) }
     ensures world { IsWorld world.now }
 {
-    let mut place = 0;
+    let mut index = 0;
     for (number, _) in world.regions().iter() {
-        match words.get(place) {
+        match words.get(index) {
             Some(word) => carry_out_season(world, campaign, number, *word)?,
             None => return Ok(()),
         }
-        place += 1;
+        index += 1;
     }
     Ok(())
 }
@@ -119,14 +123,14 @@ fn turn_regions(world: &World, campaign: &mut Campaign, words: &[u32]) -> Result
 impl Phase for SeasonPhase {
     ghost meaning = { season_meaning };
 
-    ghost moving = { season_moves most_moved };
+    ghost book_bound = { season_moves most_moved };
 
     ghost keeps = { season_keeps };
 
     /// Returns the campaign after the season of its regions, and the month as it was; AllocError
     /// without memory.
     fn run(&self, _: Global, world: &World, mut campaign: Campaign, month: Month) -> PhaseResult {
-        turn_regions(world, &mut campaign, month.words())?;
+        carry_out_seasons(world, &mut campaign, month.words())?;
         Ok((campaign, month))
     }
 }

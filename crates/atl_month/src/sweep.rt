@@ -9,7 +9,7 @@ ghost use Rattle.atl_campaign.specs.Good.{IsSteady};
 ghost use Rattle.atl_records.specs.declared.books.BooksEntry.TheVariants.{Lost};
 ghost use Rattle.atl_records.specs.declared.books.Thing.TheVariants.{Item, Money};
 ghost use Rattle.atl_phase.specs.Meaning.{most_moved};
-ghost use Rattle.atl_phase.specs.Bounds.{HasRoom, HaveRoom, moved_times, moving_items};
+ghost use Rattle.atl_phase.specs.Bounds.{HasRoom, HaveRoom, moved_times, items_bound};
 ghost use Rattle.atl_month.specs.Sweep.{IsSwept, accepted_of, after_passing_item, after_passing_money, after_sweeping_faction, after_sweeping_unit, loses_by, menless_units, sweep_keeps, sweep_meaning};
 ghost use Rattle.atl_month.specs.Receivers.{AreReceivers};
 
@@ -97,7 +97,7 @@ fn pass_items(
 ) -> Result<(), AllocError>
     requires steady { IsSteady world.now campaign.old.value }
     requires known { EachEntry (λ i amount. i < length world.now.items) items.now }
-    requires room { HaveRoom (moving_items items.now) campaign.old.value }
+    requires room { HaveRoom (items_bound items.now) campaign.old.value }
     ensures what { OnOk result
         (campaign.new.value ≡ fold (after_passing_item to) campaign.old.value items.now) }
     ensures marks { OnOk result (MarksChanges campaign.old campaign.new) }
@@ -202,7 +202,7 @@ impl Phase for SweepPhase {
 
     ghost leaves = { IsSwept };
 
-    ghost moving = { loses_by most_moved };
+    ghost book_bound = { loses_by most_moved };
 
     ghost keeps = { sweep_keeps };
 

@@ -56,21 +56,26 @@ fn days_with(alloc: Global, left: u32, holding: &Holding) -> Result<Vec<(u32, u3
 
 /// Takes from a unit the money that it pays and the men who starve, with their days. No item is
 /// marked.
-fn starve(alloc: Global, campaign: &mut Campaign, settled: &UpkeepResult) -> Result<(), AllocError>
-    requires can { (w : WorldValue) × CanPayUpkeep w campaign.old.value settled.now }
-    requires some { 1 ≤ settled.now.starved }
-    ensures what { OnOk result (IsAfterUpkeep campaign.old.value settled.now campaign.new.value) }
+fn starve(
+    alloc: Global,
+    campaign: &mut Campaign,
+    upkeep_result: &UpkeepResult,
+) -> Result<(), AllocError>
+    requires can { (w : WorldValue) × CanPayUpkeep w campaign.old.value upkeep_result.now }
+    requires some { 1 ≤ upkeep_result.now.starved }
+    ensures what { OnOk result (IsAfterUpkeep campaign.old.value upkeep_result.now
+        campaign.new.value) }
     ensures marks { OnOk result (MarksChanges campaign.old campaign.new) }
     ensures items { OnOk result (MarksNoItems campaign.old.marks campaign.new.marks) }
 {
-    let Some(unit) = campaign.unit(settled.unit) else {
+    let Some(unit) = campaign.unit(upkeep_result.unit) else {
         return Ok(());
     };
-    let left = unit.holding.men() - settled.starved;
-    let money = unit.holding.money() - settled.paid;
+    let left = unit.holding.men() - upkeep_result.starved;
+    let money = unit.holding.money() - upkeep_result.paid;
     let days = days_with(alloc, left, &unit.holding)?;
-    campaign.set_money(settled.unit, money);
-    set_people(campaign, settled.unit, left, &days)
+    campaign.set_money(upkeep_result.unit, money);
+    set_people(campaign, upkeep_result.unit, left, &days)
 }
 
 /// Takes from a unit the money that it pays for upkeep and the men who starve, without booking
@@ -78,24 +83,25 @@ fn starve(alloc: Global, campaign: &mut Campaign, settled: &UpkeepResult) -> Res
 fn take_upkeep(
     alloc: Global,
     campaign: &mut Campaign,
-    settled: &UpkeepResult,
+    upkeep_result: &UpkeepResult,
 ) -> Result<(), AllocError>
-    requires { (w : WorldValue) × CanPayUpkeep w campaign.old.value settled.now }
-    ensures what { OnOk result (IsAfterUpkeep campaign.old.value settled.now campaign.new.value) }
+    requires { (w : WorldValue) × CanPayUpkeep w campaign.old.value upkeep_result.now }
+    ensures what { OnOk result (IsAfterUpkeep campaign.old.value upkeep_result.now
+        campaign.new.value) }
     ensures marks { OnOk result (MarksChanges campaign.old campaign.new) }
     ensures items { OnOk result (MarksNoItems campaign.old.marks campaign.new.marks) }
     ensures goods { OnOk result
-        (settled.now.starved ≡ 0 → MarksNoGoods campaign.old.marks campaign.new.marks) }
+        (upkeep_result.now.starved ≡ 0 → MarksNoGoods campaign.old.marks campaign.new.marks) }
 {
-    if settled.starved != 0 {
-        return starve(alloc, campaign, settled);
+    if upkeep_result.starved != 0 {
+        return starve(alloc, campaign, upkeep_result);
     }
-    if settled.paid == 0 {
+    if upkeep_result.paid == 0 {
         return Ok(());
     }
-    if let Some(unit) = campaign.unit(settled.unit) {
-        let left = unit.holding.money() - settled.paid;
-        campaign.set_money(settled.unit, left);
+    if let Some(unit) = campaign.unit(upkeep_result.unit) {
+        let left = unit.holding.money() - upkeep_result.paid;
+        campaign.set_money(upkeep_result.unit, left);
     }
     Ok(())
 }
@@ -105,22 +111,28 @@ fn take_upkeep(
 fn charge_upkeep(
     alloc: Global,
     campaign: &mut Campaign,
-    settled: &UpkeepResult,
+    upkeep_result: &UpkeepResult,
 ) -> Result<(), AllocError>
-    requires { (w : WorldValue) × CanPayUpkeep w campaign.old.value settled.now }
-    ensures what { OnOk result (campaign.new.value ≡ upkeep_at campaign.old.value settled.now) }
+    requires { (w : WorldValue) × CanPayUpkeep w campaign.old.value upkeep_result.now }
+    ensures what { OnOk result (campaign.new.value ≡ upkeep_at campaign.old.value
+        upkeep_result.now) }
     ensures marks { OnOk result (MarksChanges campaign.old campaign.new) }
     ensures items { OnOk result (MarksNoItems campaign.old.marks campaign.new.marks) }
     ensures goods { OnOk result
-        (settled.now.starved ≡ 0 → MarksNoGoods campaign.old.marks campaign.new.marks) }
+        (upkeep_result.now.starved ≡ 0 → MarksNoGoods campaign.old.marks campaign.new.marks) }
 {
-    take_upkeep(alloc, campaign, settled)?;
-    book_taken(campaign, BooksEntry::Upkeep, Thing::Money, settled.paid);
+    take_upkeep(alloc, campaign, upkeep_result)?;
+    book_taken(
+        campaign,
+        BooksEntry::Upkeep,
+        Thing::Money,
+        upkeep_result.paid,
+    );
     book_taken(
         campaign,
         BooksEntry::Starved,
         Thing::People,
-        settled.starved,
+        upkeep_result.starved,
     );
     Ok(())
 }
@@ -135,8 +147,8 @@ fn charge_all(
     ensures what { OnOk result (campaign.new.value ≡ upkeep campaign.old.value list.now) }
     ensures marks { OnOk result (MarksChanges campaign.old campaign.new) }
 {
-    for settled in list {
-        charge_upkeep(alloc, campaign, settled)?;
+    for upkeep_result in list {
+        charge_upkeep(alloc, campaign, upkeep_result)?;
     }
     Ok(())
 }
@@ -149,14 +161,14 @@ fn report_starved(month: &mut Month, list: &[UpkeepResult]) -> Result<(), AllocE
               ++ map starved_event (filter starves list.now);
         }) }
 {
-    for settled in list {
-        if settled.starved != 0 {
+    for upkeep_result in list {
+        if upkeep_result.starved != 0 {
             month.add_event(Event {
-                faction: settled.faction,
-                unit: settled.unit,
+                faction: upkeep_result.faction,
+                unit: upkeep_result.unit,
                 line: 0,
                 verb: EventVerb::Upkeep,
-                outcome: Outcome::Starved(u64::from(settled.starved)),
+                outcome: Outcome::Starved(u64::from(upkeep_result.starved)),
             })?;
         }
     }
@@ -167,7 +179,7 @@ fn report_starved(month: &mut Month, list: &[UpkeepResult]) -> Result<(), AllocE
 impl Phase for UpkeepPhase {
     ghost meaning = { upkeep_meaning };
 
-    ghost moving = { takes_up_to most_moved };
+    ghost book_bound = { takes_up_to most_moved };
 
     ghost keeps = { upkeep_keeps };
 

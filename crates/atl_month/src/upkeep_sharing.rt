@@ -80,7 +80,7 @@ fn payment_of(maintenance: u32, account: &mut Account, input: &UpkeepInput) -> U
     requires most { maintenance ≤ most_per_head }
     requires input { IsUpkeepInput input.now }
     requires account { IsOpen account.old }
-    ensures settled { result ≡ upkeep_result_by maintenance account.old input.now }
+    ensures upkeep_result { result ≡ upkeep_result_by maintenance account.old input.now }
     ensures account { account.new ≡ account_after maintenance account.old input.now }
 {
     let (left, short) = left_and_short(maintenance, input);
@@ -119,9 +119,9 @@ pub fn upkeep_payments(
     let mut list = Vec::new(alloc);
     for input in inputs {
         let mut account = account_of(&accounts, input);
-        let settled = payment_of(maintenance, &mut account, input);
+        let upkeep_result = payment_of(maintenance, &mut account, input);
         put_account(alloc, &mut accounts, input, account)?;
-        list.push(settled)?;
+        list.push(upkeep_result)?;
     }
     Ok(list)
 }

@@ -17,41 +17,41 @@ use Rattle.atl_market.specs.Work.{work_spec}
 use Rattle.atl_month.specs.Upkeep.{upkeep_spec}
 use Rattle.atl_month.proofs.PhaseLaws.{early_are, later_are, upkeep_alone, work_alone}
 
--- How far a phase may move one amount of the books (`moved`) is at most 5*10^18: it is at most `most_moved` if the
--- phase may move this amount (`b`), and at most 0 if not.
-little : (b : Bool) (moved : ℕ) → moved ≤ (if b then most_moved else 0) → moved ≤ 5000000000000000000
-little true moved l = omega (arith, l)
-little false moved l = omega (arith, l)
+-- `moved`, how far a phase moves one amount of the books, is at most 5*10^18 if it keeps the phase's bound. That
+-- bound is `most_moved` if the phase may move this amount (`b` is true), and 0 if not.
+moved_amount_is_bounded : (b : Bool) (moved : ℕ) → moved ≤ (if b then most_moved else 0) → moved ≤ 5000000000000000000
+moved_amount_is_bounded true moved l = omega (arith, l)
+moved_amount_is_bounded false moved l = omega (arith, l)
 
 -- The books of a good campaign have room for all that a phase may book, if the phase moves only its own entries, each
 -- by at most `most_moved`.
-room_of : (phase : PhaseSpec) → MovesItsOwn phase → (w : WorldValue) (c : CampaignValue) → IsGood w c → HaveRoom phase.moving c
-room_of phase own w c good = room_when_sound w c phase.moving (λ e t. little (may_move phase.moved e t) (phase.moving e t) (own e t)) good.sound
+room_for_phase : (phase : PhaseSpec) → MovesItsOwn phase → (w : WorldValue) (c : CampaignValue) → IsGood w c → HaveRoom phase.book_bound c
+room_for_phase phase own w c good = room_when_sound w c phase.book_bound (λ e t. moved_amount_is_bounded (may_move phase.moved e t) (phase.book_bound e t) (own e t)) good.sound
 
 -- The books of a good campaign have room for all that the phase SELL may book.
-pub room_for_selling : (w : WorldValue) (c : CampaignValue) → IsGood w c → HaveRoom sell_spec.moving c
-room_for_selling = room_of sell_spec early_are.1.1.1.1.1.0.moves
+pub room_for_selling : (w : WorldValue) (c : CampaignValue) → IsGood w c → HaveRoom sell_spec.book_bound c
+room_for_selling = room_for_phase sell_spec early_are.1.1.1.1.1.0.moves
 
 -- The books of a good campaign have room for all that the phase BUY may book.
-pub room_for_buying : (w : WorldValue) (c : CampaignValue) → IsGood w c → HaveRoom buy_spec.moving c
-room_for_buying = room_of buy_spec early_are.1.1.1.1.1.1.0.moves
+pub room_for_buying : (w : WorldValue) (c : CampaignValue) → IsGood w c → HaveRoom buy_spec.book_bound c
+room_for_buying = room_for_phase buy_spec early_are.1.1.1.1.1.1.0.moves
 
 -- The books of a good campaign have room for all that the phase TAX may book.
-pub room_for_tax : (w : WorldValue) (c : CampaignValue) → IsGood w c → HaveRoom tax_spec.moving c
-room_for_tax = room_of tax_spec early_are.1.1.1.1.1.1.1.0.moves
+pub room_for_tax : (w : WorldValue) (c : CampaignValue) → IsGood w c → HaveRoom tax_spec.book_bound c
+room_for_tax = room_for_phase tax_spec early_are.1.1.1.1.1.1.1.0.moves
 
 -- The books of a good campaign have room for all that the phase RECRUIT may book.
-pub room_for_recruiting : (w : WorldValue) (c : CampaignValue) → IsGood w c → HaveRoom recruit_spec.moving c
-room_for_recruiting = room_of recruit_spec early_are.1.1.1.1.1.1.1.1.0.moves
+pub room_for_recruiting : (w : WorldValue) (c : CampaignValue) → IsGood w c → HaveRoom recruit_spec.book_bound c
+room_for_recruiting = room_for_phase recruit_spec early_are.1.1.1.1.1.1.1.1.0.moves
 
 -- The books of a good campaign have room for all that the phase PRODUCE may book.
-pub room_for_producing : (w : WorldValue) (c : CampaignValue) → IsGood w c → HaveRoom produce_spec.moving c
-room_for_producing = room_of produce_spec later_are.1.1.1.1.1.1.0.moves
+pub room_for_producing : (w : WorldValue) (c : CampaignValue) → IsGood w c → HaveRoom produce_spec.book_bound c
+room_for_producing = room_for_phase produce_spec later_are.1.1.1.1.1.1.0.moves
 
 -- The books of a good campaign have room for all that the phase WORK may book.
-pub room_for_work : (w : WorldValue) (c : CampaignValue) → IsGood w c → HaveRoom work_spec.moving c
-room_for_work = room_of work_spec work_alone
+pub room_for_work : (w : WorldValue) (c : CampaignValue) → IsGood w c → HaveRoom work_spec.book_bound c
+room_for_work = room_for_phase work_spec work_alone
 
 -- The books of a good campaign have room for all that upkeep may book.
-pub room_for_upkeep : (w : WorldValue) (c : CampaignValue) → IsGood w c → HaveRoom upkeep_spec.moving c
-room_for_upkeep = room_of upkeep_spec upkeep_alone
+pub room_for_upkeep : (w : WorldValue) (c : CampaignValue) → IsGood w c → HaveRoom upkeep_spec.book_bound c
+room_for_upkeep = room_for_phase upkeep_spec upkeep_alone

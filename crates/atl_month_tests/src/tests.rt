@@ -10,6 +10,6 @@ mod phases;
 mod pots;
 mod reference;
 mod reports;
+mod row_text;
 mod settling;
 mod shares;
-mod telling;

@@ -16,12 +16,12 @@ use Rattle.atl_orders.specs.declared.reading.ReaderState.{ReaderState}
 use Rattle.atl_orders.specs.declared.reading.ReaderState.TheVariants.{Nowhere, At, Forming, Skipping}
 use Rattle.atl_orders.specs.Words.{WordText, words, begins, number_of}
 use Rattle.atl_orders.specs.Operands.{number_at, alias_at}
-use Rattle.atl_orders.specs.Orders.{OrderValue, said_by}
+use Rattle.atl_orders.specs.Orders.{OrderValue, read_order}
 use Rattle.atl_orders.specs.Aliasing.{no_alias}
 use Rattle.atl_orders.specs.TextLines.{lines}
 use Rattle.atl_orders.specs.Reading.{is_plain, keyword_of, Effect, nothing, faulty, says, LineStep, target, effect_for, order_effect, unit_step, end_step, block_step, form_step, keyword_step, words_step, line_step}
 use Rattle.atl_orders.specs.Mailing.{EntryValue, entry_of, effects, faction_of, HeaderValue, header_line, header_from, after_header, reading}
-use Rattle.atl_orders.proofs.OperandLaws.{Holds, Counted, Sound, count_holds, from_one, number_within, said_sound}
+use Rattle.atl_orders.proofs.OperandLaws.{Holds, NumberRead, IsOrderInBounds, count_holds, nonzero_is_from_one, number_within, said_sound}
 use Rattle.atl_orders.specs.Bounds.{IsWithin, IsNumber, IsAlias, IsUnitRef, IsOrderOf, IsEntry, LinesRise, IsReading, ReadingsKeepBounds}
 
 -- ---- lines
@@ -47,7 +47,7 @@ IsStep world s = IsEffect world s.effect × IsStateInBounds s.state
 
 module _ (world : WorldValue) (given : ℕ → Bool) where
   -- what a UNIT line gives and the state after it are in bounds (`IsStep`), if its number is from 1 to 999,999,999
-  unit_sound : (r : Result Counted LineFault) → Holds (λ (x : Counted). IsNumber x.0) r → IsStep world (unit_step given r)
+  unit_sound : (r : Result NumberRead LineFault) → Holds (λ (x : NumberRead). IsNumber x.0) r → IsStep world (unit_step given r)
   unit_sound (Ok n) h = (tt, h)
   unit_sound (Err fault) h = (tt, tt)
 
@@ -60,7 +60,7 @@ module _ (world : WorldValue) (given : ℕ → Bool) where
   end_sound (Skipping (Some n)) h = (tt, h)
 
   -- what a FORM line outside of blocks gives and the state after it are in bounds (`IsStep`), if its unit and alias are
-  block_sound : (n : ℕ) (r : Result Counted LineFault) → IsNumber n → Holds (λ (x : Counted). IsAlias x.0) r → IsStep world (block_step n given r)
+  block_sound : (n : ℕ) (r : Result NumberRead LineFault) → IsNumber n → Holds (λ (x : NumberRead). IsAlias x.0) r → IsStep world (block_step n given r)
   block_sound n (Ok a) h k = cond_both (given a.0) _ _ (IsStep world) (λ _. (tt, h)) (λ _. ((h, k), (h, k)))
   block_sound n (Err fault) h k = (tt, h)
 
@@ -72,12 +72,12 @@ module _ (world : WorldValue) (given : ℕ → Bool) where
   forming_sound (Skipping parent) ws h = (tt, h)
 
   -- what an order's line gives for a unit is in bounds (`IsEffect`), if the order and the unit are
-  for_unit : (unit : UnitRef) (r : Result OrderValue LineFault) → IsUnitRef unit → Sound world r → IsEffect world (effect_for unit r)
+  for_unit : (unit : UnitRef) (r : Result OrderValue LineFault) → IsUnitRef unit → IsOrderInBounds world r → IsEffect world (effect_for unit r)
   for_unit unit (Ok order_value) h k = (h, k)
   for_unit unit (Err fault) h k = tt
 
   -- what an order's line gives is in bounds (`IsEffect`), if the reader's state and the order are
-  order_sound : (state : ReaderState) (r : Result OrderValue LineFault) → IsStateInBounds state → Sound world r → IsEffect world (order_effect (target state) r)
+  order_sound : (state : ReaderState) (r : Result OrderValue LineFault) → IsStateInBounds state → IsOrderInBounds world r → IsEffect world (order_effect (target state) r)
   order_sound Nowhere r h k = tt
   order_sound (At n) r h k = for_unit (Number n) r h k
   order_sound (Forming parent alias) r h k = for_unit (Alias alias) r h.1 k
@@ -89,7 +89,7 @@ module _ (world : WorldValue) (given : ℕ → Bool) where
   keyword_sound state (Some keywords.Unit) ws h = unit_sound (number_at ws) (count_holds most_number BadNumber ws)
   keyword_sound state (Some keywords.End) ws h = end_sound state h
   keyword_sound state (Some keywords.Form) ws h = forming_sound state ws h
-  keyword_sound state (Some (keywords.Order verb)) ws h = (order_sound state (said_by world verb ws) h (said_sound world verb ws), h)
+  keyword_sound state (Some (keywords.Order verb)) ws h = (order_sound state (read_order world verb ws) h (said_sound world verb ws), h)
 
   -- what a line gives by its words and the state after it are in bounds (`IsStep`), if the state before it is
   words_sound : (state : ReaderState) (ws : List WordText) → IsStateInBounds state → IsStep world (words_step world state given ws)
@@ -126,7 +126,7 @@ rise_step world n m nothing rest h k = k m (omega arith)
 rise_step world n m (faulty fault) rest h k = k m (omega arith)
 rise_step world n m (says unit order_value) rest h k = (h, k n (omega arith))
 
--- the line numbers of the orders of lines from n on are strictly ascending, and above each m below n
+-- the line numbers of the orders of lines from n on are strictly ascending, and above each number m that is below n
 body_rises : (world : WorldValue) (lines : List (List ℕ)) (n m : ℕ) (state : ReaderState) (given : ℕ → Bool) → m < n → LinesRise m (flat_map entry_of (effects world n state given lines))
 unfolding effects
 body_rises world [] n m state given h = tt
@@ -143,10 +143,10 @@ IsHeaded h = IsWithin last_faction h.faction × (0 < h.next)
 faction_within : (ws : List WordText) (n : ℕ) → faction_of ws ≡ Some n → IsWithin last_faction n
 faction_within [] n h = cc
 faction_within (w ∷ []) n h = cc
-faction_within (w ∷ v ∷ ws) n h = from_one last_faction (number_of last_faction v.bytes) n (number_within last_faction v.bytes) h
+faction_within (w ∷ v ∷ ws) n h = nonzero_is_from_one last_faction (number_of last_faction v.bytes) n (number_within last_faction v.bytes) h
 
--- what a header line gives, if no fault, has a faction from 1 to 9,999 and a next line above 0 (`IsHeaded`), if the
--- number f that the line names, if any, is in this range
+-- A header line gives a fault, or a faction from 1 to 9,999 and a next line above 0 (`IsHeaded`). This supposes that
+-- the number f that the line names, if any, is in this range.
 line_headed : (n : ℕ) (rest : List (List ℕ)) (f : Option ℕ) → ((k : ℕ) → f ≡ Some k → IsWithin last_faction k) → Holds IsHeaded (header_line n rest f)
 line_headed n rest None h = tt
 line_headed n rest (Some k) h = (h k refl, omega arith)

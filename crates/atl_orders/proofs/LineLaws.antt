@@ -53,15 +53,15 @@ return_cut (b ∷ []) (suc n) e h = absurd (omega arith)
 return_cut (b ∷ c ∷ bs) zero e h = absurd (omega arith)
 return_cut (b ∷ c ∷ bs) (suc n) e h = ap (λ l. b ∷ l) (return_cut (c ∷ bs) n (omega arith) h)
 
--- without_return keeps a line that, if it has n + 1 bytes, has no carriage return at index n
-kept : (line : List ℕ) → ((n : ℕ) → length line ≡ n + 1 → get_or line n 0 ≢ carriage_return) → without_return line ≡ line
-kept [] h = refl
-kept (b ∷ []) h = ap (λ t. cond t [] (b ∷ [])) (ne_eqb b carriage_return (h 0 (omega arith)))
-kept (b ∷ c ∷ bs) h = ap (λ l. b ∷ l) (kept (c ∷ bs) (λ n e. h (suc n) (omega arith)))
+-- without_return keeps a line without a carriage return at its last index, which is n for a line of n + 1 bytes
+line_kept_by_length : (line : List ℕ) → ((n : ℕ) → length line ≡ n + 1 → get_or line n 0 ≢ carriage_return) → without_return line ≡ line
+line_kept_by_length [] h = refl
+line_kept_by_length (b ∷ []) h = ap (λ t. cond t [] (b ∷ [])) (ne_eqb b carriage_return (h 0 (omega arith)))
+line_kept_by_length (b ∷ c ∷ bs) h = ap (λ l. b ∷ l) (line_kept_by_length (c ∷ bs) (λ n e. h (suc n) (omega arith)))
 
 -- without_return keeps a line whose last byte is no carriage return
-pub return_kept : (line : List ℕ) → (0 < length line → get_or line (length line - 1) 0 ≢ carriage_return) → without_return line ≡ line
-return_kept line h = kept line (λ n e g. h (omega arith) (ap (λ k. get_or line k 0) (omega arith) ∙ g))
+pub line_without_return_kept : (line : List ℕ) → (0 < length line → get_or line (length line - 1) 0 ≢ carriage_return) → without_return line ≡ line
+line_without_return_kept line h = line_kept_by_length line (λ n e g. h (omega arith) (ap (λ k. get_or line k 0) (omega arith) ∙ g))
 
 -- ---- where lines are in a text
 
@@ -77,8 +77,8 @@ take_front text n = record { back = drop n text; whole = sym (take-append-drop n
 pub front_further : (text mid front : List ℕ) → StartsWith text mid → StartsWith mid front → StartsWith text front
 front_further text mid front a b = record { back = b.back ++ a.back; whole = a.whole ∙ ap (λ l. l ++ a.back) b.whole ∙ append_assoc front b.back a.back }
 
--- a line at the start of `left`, the rest of a text, ends in the text at the text's length, less that of `left`, plus
--- the line's own
+-- a line at the start of `left`, the rest of a text, ends at this index of the text: the text's length, less that of
+-- `left`, plus the line's own
 pub line_ends_at : (text left line : List ℕ) → EndsWith text left → StartsWith left line → EndsAt text (length text - length left + length line) line
 line_ends_at text left line e s =
     let a : length text ≡ length e.front + length left = ap length e.whole ∙ length-append e.front left in
@@ -89,7 +89,7 @@ line_ends_at text left line e s =
 pub starts_shorter : (text front : List ℕ) → StartsWith text front → length front ≤ length text
 starts_shorter text front s = omega (arith, ap length s.whole, length-append front s.back)
 
--- if a text ends with `left`, and `left` with `rest`, the text ends with `rest`
+-- a text that ends with `left` also ends with `rest`, where there is a `rest`, if `left` ends with it
 pub rest_further : (text left : List ℕ) (rest : Option (List ℕ)) → EndsWith text left → IfSome rest (EndsWith left) → IfSome rest (EndsWith text)
 rest_further text left None e r = tt
 rest_further text left (Some rest) e r = ends_further text left rest e r

@@ -16,11 +16,11 @@ use Rattle.atl_orders.specs.declared.fault.LineFault.TheVariants.{BadNumber, Unk
 use Rattle.atl_orders.specs.declared.verb.Verb.{Verb}
 use Rattle.atl_orders.specs.Words.{WordText, is_word, number_of}
 use Rattle.atl_world.specs.Steps.{◌>>=◌}
-use Rattle.atl_orders.specs.Operands.{or_fault, not_zero, word_at, count_at, number_at, alias_at, unit_at, item_at, amount_of_item_at, skill_at, kind_at, direction_at, numbered, new_unit_ref, and_then_units, units_of, some_units_at}
+use Rattle.atl_orders.specs.Operands.{or_fault, not_zero, word_at, count_at, number_at, alias_at, unit_at, item_at, amount_of_item_at, skill_at, kind_at, direction_at, unit_by_number, new_unit_ref, and_then_units, units_of, some_units_at}
 use Rattle.atl_orders.specs.declared.verb.Shape.{Shape}
 use Rattle.atl_orders.specs.declared.verb.Shape.TheVariants as shapes
 use Rattle.atl_orders.specs.Verbs.{row_of}
-use Rattle.atl_orders.specs.Orders.{OperandsValue, OrderValue, kind_of_name, read_flag, read_units, read_unit_and_number, read_unit_and_goods, read_name, read_kind, read_operands, said_by}
+use Rattle.atl_orders.specs.Orders.{OperandsValue, OrderValue, kind_of_name, read_flag, read_units, read_unit_and_number, read_unit_and_goods, read_name, read_kind, read_operands, read_order}
 use Rattle.atl_orders.specs.Bounds.{IsWithin, IsNumber, IsAlias, IsUnitRef, AreOperandsOf, IsOrderOf}
 
 -- a condition holds of the value of a result, or the result is a fault
@@ -28,11 +28,11 @@ abbrev pub Holds : {X E : Type 0} → (X → Type 0) → Result X E → Type 0
 Holds P (Ok x) = P x
 Holds P (Err e) = Unit {0}
 
--- if P holds of the value of the result r, and Q of what the step f reads after any value with P, then Q holds of what
--- r and then f give
-after : {A B : Type 0} (P : A → Type 0) (Q : B → Type 0) (r : Result A LineFault) (f : A → Result B LineFault) → Holds P r → ((x : A) → P x → Holds Q (f x)) → Holds Q (r >>= f)
-after P Q (Ok x) f h g = g x h
-after P Q (Err e) f h g = tt
+-- A condition Q holds of what two steps of reading give: the result r, and then f of its value. This supposes that P
+-- holds of r's value, and Q of what f gives for each value with P.
+two_steps_hold : {A B : Type 0} (P : A → Type 0) (Q : B → Type 0) (r : Result A LineFault) (f : A → Result B LineFault) → Holds P r → ((x : A) → P x → Holds Q (f x)) → Holds Q (r >>= f)
+two_steps_hold P Q (Ok x) f h g = g x h
+two_steps_hold P Q (Err e) f h g = tt
 
 -- if P holds of an option's value, P holds of the result that has this value, or a fault if there is no value
 value_or_fault : {X : Type 0} (P : X → Type 0) (fault : LineFault) (o : Option X) → ((x : X) → o ≡ Some x → P x) → Holds P (or_fault fault o)
@@ -40,9 +40,9 @@ value_or_fault P fault None g = tt
 value_or_fault P fault (Some x) g = g x refl
 
 -- a condition that is always true (`Unit`) holds of every result: for a step of reading whose value has no bounds
-anything : {X : Type 0} (r : Result X LineFault) → Holds (λ _. Unit {0}) r
-anything (Ok x) = tt
-anything (Err e) = tt
+always_true_holds : {X : Type 0} (r : Result X LineFault) → Holds (λ _. Unit {0}) r
+always_true_holds (Ok x) = tt
+always_true_holds (Err e) = tt
 
 -- ---- numbers
 
@@ -51,23 +51,23 @@ pub number_within : (most : ℕ) (bytes : List ℕ) (n : ℕ) → number_of most
 number_within most bytes n h = grind (arith, nat_tests)
 
 -- a number that is at most `most` and not 0 is from 1 to `most`
-pub from_one : (most : ℕ) (o : Option ℕ) (n : ℕ) → ((k : ℕ) → o ≡ Some k → k ≤ most) → not_zero o ≡ Some n → IsWithin most n
-from_one most None n f h = cc
-from_one most (Some k) n f h = let m : k ≤ most = f k refl in (grind (arith, nat_tests), grind (arith, nat_tests))
+pub nonzero_is_from_one : (most : ℕ) (o : Option ℕ) (n : ℕ) → ((k : ℕ) → o ≡ Some k → k ≤ most) → not_zero o ≡ Some n → IsWithin most n
+nonzero_is_from_one most None n f h = cc
+nonzero_is_from_one most (Some k) n f h = let m : k ≤ most = f k refl in (grind (arith, nat_tests), grind (arith, nat_tests))
 
 -- the number that a word is read as, with `most` as the limit and 0 as a fault, is from 1 to `most`
 word_number : (most : ℕ) (fault : LineFault) (w : WordText) → Holds (IsWithin most) (or_fault fault (not_zero (number_of most w.bytes)))
-word_number most fault w = value_or_fault (IsWithin most) fault (not_zero (number_of most w.bytes)) (λ n h. from_one most (number_of most w.bytes) n (number_within most w.bytes) h)
+word_number most fault w = value_or_fault (IsWithin most) fault (not_zero (number_of most w.bytes)) (λ n h. nonzero_is_from_one most (number_of most w.bytes) n (number_within most w.bytes) h)
 
 -- a number that was read, and the words after it
-abbrev pub Counted : Type 0
-Counted = ℕ × List WordText
+abbrev pub NumberRead : Type 0
+NumberRead = ℕ × List WordText
 
 -- a number that `count_at` reads is from 1 to `most`
-pub count_holds : (most : ℕ) (fault : LineFault) (ws : List WordText) → Holds (λ (x : Counted). IsWithin most x.0) (count_at most fault ws)
+pub count_holds : (most : ℕ) (fault : LineFault) (ws : List WordText) → Holds (λ (x : NumberRead). IsWithin most x.0) (count_at most fault ws)
 unfolding count_at
 count_holds most fault [] = tt
-count_holds most fault (w ∷ ws) = after (IsWithin most) _ (or_fault fault (not_zero (number_of most w.bytes))) _ (word_number most fault w) (λ n h. h)
+count_holds most fault (w ∷ ws) = two_steps_hold (IsWithin most) _ (or_fault fault (not_zero (number_of most w.bytes))) _ (word_number most fault w) (λ n h. h)
 
 -- ---- units
 
@@ -81,31 +81,31 @@ unfolding unit_at
 unit_holds [] = tt
 unit_holds (w ∷ ws) =
     cond_both (is_word (codes "NEW") w) _ _ (Holds (λ (x : UnitRead). IsUnitRef x.0))
-    (λ _. after (λ (x : Counted). IsAlias x.0) _ (alias_at ws) _ (count_holds last_alias BadAlias ws) (λ n h. h))
-    (λ _. after (λ (x : Counted). IsNumber x.0) _ (number_at (w ∷ ws)) _ (count_holds most_number BadNumber (w ∷ ws)) (λ n h. h))
+    (λ _. two_steps_hold (λ (x : NumberRead). IsAlias x.0) _ (alias_at ws) _ (count_holds last_alias BadAlias ws) (λ n h. h))
+    (λ _. two_steps_hold (λ (x : NumberRead). IsNumber x.0) _ (number_at (w ∷ ws)) _ (count_holds most_number BadNumber (w ∷ ws)) (λ n h. h))
 
 -- if a unit that was read, and further units that were read, are in range, so are all that `and_then_units` makes of
 -- both
-and_then : (unit : Result UnitRef LineFault) (units : Result (List UnitRef) LineFault) → Holds IsUnitRef unit → Holds (All IsUnitRef) units → Holds (All IsUnitRef) (and_then_units unit units)
-and_then unit units h k = after IsUnitRef _ unit _ h (λ u p. after (All IsUnitRef) _ units _ k (λ us q. All-cons IsUnitRef u us p q))
+and_then_units_hold : (unit : Result UnitRef LineFault) (units : Result (List UnitRef) LineFault) → Holds IsUnitRef unit → Holds (All IsUnitRef) units → Holds (All IsUnitRef) (and_then_units unit units)
+and_then_units_hold unit units h k = two_steps_hold IsUnitRef _ unit _ h (λ u p. two_steps_hold (All IsUnitRef) _ units _ k (λ us q. All-cons IsUnitRef u us p q))
 
 -- a unit that a word names by its number has a number from 1 to 999,999,999
-numbered_holds : (w : WordText) → Holds IsUnitRef (numbered w)
-numbered_holds w = after IsNumber _ (or_fault BadNumber (not_zero (number_of most_number w.bytes))) _ (word_number most_number BadNumber w) (λ n h. h)
+numbered_holds : (w : WordText) → Holds IsUnitRef (unit_by_number w)
+numbered_holds w = two_steps_hold IsNumber _ (or_fault BadNumber (not_zero (number_of most_number w.bytes))) _ (word_number most_number BadNumber w) (λ n h. h)
 
 -- a unit that a word after NEW names by its alias has an alias from 1 to 9,999
 named_holds : (w : WordText) → Holds IsUnitRef (new_unit_ref w)
-named_holds w = after IsAlias _ (or_fault BadAlias (not_zero (number_of last_alias w.bytes))) _ (word_number last_alias BadAlias w) (λ n h. h)
+named_holds w = two_steps_hold IsAlias _ (or_fault BadAlias (not_zero (number_of last_alias w.bytes))) _ (word_number last_alias BadAlias w) (λ n h. h)
 
 -- all units that the words up to the line's end name have numbers and aliases in range
 units_hold : (ws : List WordText) → Holds (All IsUnitRef) (units_of ws)
 unfolding units_of
 units_hold [] = All-nil IsUnitRef
-units_hold (w ∷ []) = cond_both (is_word (codes "NEW") w) _ _ (Holds (All IsUnitRef)) (λ _. tt) (λ _. and_then (numbered w) (Ok []) (numbered_holds w) (All-nil IsUnitRef))
+units_hold (w ∷ []) = cond_both (is_word (codes "NEW") w) _ _ (Holds (All IsUnitRef)) (λ _. tt) (λ _. and_then_units_hold (unit_by_number w) (Ok []) (numbered_holds w) (All-nil IsUnitRef))
 units_hold (w ∷ v ∷ ws) =
     cond_both (is_word (codes "NEW") w) _ _ (Holds (All IsUnitRef))
-    (λ _. and_then (new_unit_ref v) (units_of ws) (named_holds v) (units_hold ws))
-    (λ _. and_then (numbered w) (units_of (v ∷ ws)) (numbered_holds w) (units_hold (v ∷ ws)))
+    (λ _. and_then_units_hold (new_unit_ref v) (units_of ws) (named_holds v) (units_hold ws))
+    (λ _. and_then_units_hold (unit_by_number w) (units_of (v ∷ ws)) (numbered_holds w) (units_hold (v ∷ ws)))
 
 -- ---- things of the world
 
@@ -126,8 +126,8 @@ Goods = ℕ × ℕ
 -- an amount that is read is from 1 to 999,999,999, and its item one of the world's items
 goods_hold : (world : WorldValue) (ws : List WordText) → Holds (λ (x : Goods). IsNumber x.0 × (x.1 < length world.items)) (amount_of_item_at world ws)
 goods_hold world ws =
-    after (λ (x : Counted). IsNumber x.0) _ (number_at ws) _ (count_holds most_number BadNumber ws) (λ amount h.
-    after (λ i. i < length world.items) _ (item_at world amount.1) _ (item_holds world amount.1) (λ item k. (h, k)))
+    two_steps_hold (λ (x : NumberRead). IsNumber x.0) _ (number_at ws) _ (count_holds most_number BadNumber ws) (λ amount h.
+    two_steps_hold (λ i. i < length world.items) _ (item_at world amount.1) _ (item_holds world amount.1) (λ item k. (h, k)))
 
 -- a skill that is read is one of the world's skills
 skill_holds : (world : WorldValue) (ws : List WordText) → Holds (λ i. i < length world.skills) (skill_at world ws)
@@ -142,19 +142,19 @@ kind_holds world (w ∷ ws) = value_or_fault _ UnknownThing _ (λ i h. index_wit
 -- ---- what the words after a verb name
 
 -- the operands of a result, if it is no fault, have numbers in range, names by the rule, and things that a world has
-abbrev AreSound : WorldValue → Result OperandsValue LineFault → Type 0
-AreSound world r = Holds (AreOperandsOf world) r
+abbrev AreOperandsInBounds : WorldValue → Result OperandsValue LineFault → Type 0
+AreOperandsInBounds world r = Holds (AreOperandsOf world) r
 
 -- the order of a result, if it is no fault, has numbers in range, names by the rule, and things that a world has
-abbrev pub Sound : WorldValue → Result OrderValue LineFault → Type 0
-Sound world r = Holds (IsOrderOf world) r
+abbrev pub IsOrderInBounds : WorldValue → Result OrderValue LineFault → Type 0
+IsOrderInBounds world r = Holds (IsOrderOf world) r
 
 module _ (world : WorldValue) where
-  -- if words are read as a flag, the operands are in bounds (`AreSound`), since a flag has no bound
-  flag_sound : (ws : List WordText) → AreSound world (read_flag ws)
+  -- if words are read as a flag, the operands are in bounds (`AreOperandsInBounds`), since a flag has no bound
+  flag_sound : (ws : List WordText) → AreOperandsInBounds world (read_flag ws)
   flag_sound ws =
-      after _ (AreOperandsOf world) (word_at ws) _ (anything (word_at ws)) (λ w _.
-      after _ (AreOperandsOf world) (or_fault BadNumber (number_of 1 w.0.bytes)) _ (anything (or_fault BadNumber (number_of 1 w.0.bytes))) (λ n _. tt))
+      two_steps_hold _ (AreOperandsOf world) (word_at ws) _ (always_true_holds (word_at ws)) (λ w _.
+      two_steps_hold _ (AreOperandsOf world) (or_fault BadNumber (number_of 1 w.0.bytes)) _ (always_true_holds (or_fault BadNumber (number_of 1 w.0.bytes))) (λ n _. tt))
 
   -- a list has one unit or more, and all have their number or alias in range
   abbrev AreSomeUnits : List UnitRef → Type 0
@@ -162,65 +162,67 @@ module _ (world : WorldValue) where
 
   -- a unit in range in front of units in range makes a list of one unit or more, all in range
   more_units : (unit : Result UnitRef LineFault) (units : Result (List UnitRef) LineFault) → Holds IsUnitRef unit → Holds (All IsUnitRef) units → Holds AreSomeUnits (and_then_units unit units)
-  more_units unit units h k = after IsUnitRef AreSomeUnits unit _ h (λ u p. after (All IsUnitRef) AreSomeUnits units _ k (λ us q. (omega arith, All-cons IsUnitRef u us p q)))
+  more_units unit units h k = two_steps_hold IsUnitRef AreSomeUnits unit _ h (λ u p. two_steps_hold (All IsUnitRef) AreSomeUnits units _ k (λ us q. (omega arith, All-cons IsUnitRef u us p q)))
 
   -- if the words up to the line's end are read as a list of units, it has one or more, all in range (`AreSomeUnits`)
   some_hold : (ws : List WordText) → Holds AreSomeUnits (some_units_at ws)
   unfolding units_of
   some_hold [] = tt
-  some_hold (w ∷ []) = cond_both (is_word (codes "NEW") w) _ _ (Holds AreSomeUnits) (λ _. tt) (λ _. more_units (numbered w) (Ok []) (numbered_holds w) (All-nil IsUnitRef))
+  some_hold (w ∷ []) = cond_both (is_word (codes "NEW") w) _ _ (Holds AreSomeUnits) (λ _. tt) (λ _. more_units (unit_by_number w) (Ok []) (numbered_holds w) (All-nil IsUnitRef))
   some_hold (w ∷ v ∷ ws) =
       cond_both (is_word (codes "NEW") w) _ _ (Holds AreSomeUnits)
       (λ _. more_units (new_unit_ref v) (units_of ws) (named_holds v) (units_hold ws))
-      (λ _. more_units (numbered w) (units_of (v ∷ ws)) (numbered_holds w) (units_hold (v ∷ ws)))
+      (λ _. more_units (unit_by_number w) (units_of (v ∷ ws)) (numbered_holds w) (units_hold (v ∷ ws)))
 
-  -- if words are read as a list of units, it has one unit or more, all in range (`AreSound`)
-  units_sound : (ws : List WordText) → AreSound world (read_units ws)
-  units_sound ws = after AreSomeUnits (AreOperandsOf world) (some_units_at ws) _ (some_hold ws) (λ us h. h)
+  -- if words are read as a list of units, it has one unit or more, all in range (`AreOperandsInBounds`)
+  units_sound : (ws : List WordText) → AreOperandsInBounds world (read_units ws)
+  units_sound ws = two_steps_hold AreSomeUnits (AreOperandsOf world) (some_units_at ws) _ (some_hold ws) (λ us h. h)
 
-  -- if words are read as a unit and a number, both are in range (`AreSound`)
-  unit_and_number_sound : (ws : List WordText) → AreSound world (read_unit_and_number ws)
+  -- if words are read as a unit and a number, both are in range (`AreOperandsInBounds`)
+  unit_and_number_sound : (ws : List WordText) → AreOperandsInBounds world (read_unit_and_number ws)
   unit_and_number_sound ws =
-      after _ (AreOperandsOf world) (unit_at ws) _ (unit_holds ws) (λ to h.
-      after _ (AreOperandsOf world) (number_at to.1) _ (count_holds most_number BadNumber to.1) (λ n k. (h, k)))
+      two_steps_hold _ (AreOperandsOf world) (unit_at ws) _ (unit_holds ws) (λ to h.
+      two_steps_hold _ (AreOperandsOf world) (number_at to.1) _ (count_holds most_number BadNumber to.1) (λ n k. (h, k)))
 
-  -- if words are read as a unit, an amount and an item, these are in range, and the world has the item (`AreSound`)
-  unit_and_goods_sound : (ws : List WordText) → AreSound world (read_unit_and_goods world ws)
+  -- if words are read as a unit, an amount and an item, these are in range, and the world has the item
+  -- (`AreOperandsInBounds`)
+  unit_and_goods_sound : (ws : List WordText) → AreOperandsInBounds world (read_unit_and_goods world ws)
   unit_and_goods_sound ws =
-      after _ (AreOperandsOf world) (unit_at ws) _ (unit_holds ws) (λ to h.
-      after _ (AreOperandsOf world) (amount_of_item_at world to.1) _ (goods_hold world to.1) (λ goods k. (h, k.0, k.1)))
+      two_steps_hold _ (AreOperandsOf world) (unit_at ws) _ (unit_holds ws) (λ to h.
+      two_steps_hold _ (AreOperandsOf world) (amount_of_item_at world to.1) _ (goods_hold world to.1) (λ goods k. (h, k.0, k.1)))
 
-  -- if words are read as what gets a new name, and the name, the name keeps the rule of names (`AreSound`)
-  name_sound : (ws : List WordText) → AreSound world (read_name ws)
+  -- if words are read as what gets a new name, and the name, the name keeps the rule of names (`AreOperandsInBounds`)
+  name_sound : (ws : List WordText) → AreOperandsInBounds world (read_name ws)
   name_sound ws =
-      after _ (AreOperandsOf world) (word_at ws) _ (anything (word_at ws)) (λ w _.
-      after _ (AreOperandsOf world) (or_fault UnknownThing (kind_of_name w.0)) _ (anything (or_fault UnknownThing (kind_of_name w.0))) (λ what _.
-      after _ (AreOperandsOf world) (word_at w.1) _ (anything (word_at w.1)) (λ v _.
-      cond_both (name_ok (name_of v.0.bytes v.0.quoted)) _ _ (AreSound world) (λ h. h) (λ _. tt))))
+      two_steps_hold _ (AreOperandsOf world) (word_at ws) _ (always_true_holds (word_at ws)) (λ w _.
+      two_steps_hold _ (AreOperandsOf world) (or_fault UnknownThing (kind_of_name w.0)) _ (always_true_holds (or_fault UnknownThing (kind_of_name w.0))) (λ what _.
+      two_steps_hold _ (AreOperandsOf world) (word_at w.1) _ (always_true_holds (word_at w.1)) (λ v _.
+      cond_both (name_ok (name_of v.0.bytes v.0.quoted)) _ _ (AreOperandsInBounds world) (λ h. h) (λ _. tt))))
 
-  -- if words are read as a kind of structure or none, the world has the kind (`AreSound`)
-  kind_sound : (ws : List WordText) → AreSound world (read_kind world ws)
+  -- if words are read as a kind of structure or none, the world has the kind (`AreOperandsInBounds`)
+  kind_sound : (ws : List WordText) → AreOperandsInBounds world (read_kind world ws)
   kind_sound [] = tt
-  kind_sound (w ∷ ws) = after _ (AreOperandsOf world) (kind_at world (w ∷ ws)) _ (kind_holds world (w ∷ ws)) (λ kind h. h)
+  kind_sound (w ∷ ws) = two_steps_hold _ (AreOperandsOf world) (kind_at world (w ∷ ws)) _ (kind_holds world (w ∷ ws)) (λ kind h. h)
 
-  -- the operands that the words after a verb give are in bounds (`AreSound`), whatever the shape in the order table
-  operands_sound : (shape : Shape) (ws : List WordText) → AreSound world (read_operands world shape ws)
+  -- the operands that the words after a verb give are in bounds (`AreOperandsInBounds`), whatever the shape in the
+  -- order table
+  operands_sound : (shape : Shape) (ws : List WordText) → AreOperandsInBounds world (read_operands world shape ws)
   operands_sound shapes.Nothing ws = tt
-  operands_sound shapes.Alias ws = after _ (AreOperandsOf world) (alias_at ws) _ (count_holds last_alias BadAlias ws) (λ n h. h)
+  operands_sound shapes.Alias ws = two_steps_hold _ (AreOperandsOf world) (alias_at ws) _ (count_holds last_alias BadAlias ws) (λ n h. h)
   operands_sound shapes.Flag ws = flag_sound ws
-  operands_sound shapes.Number ws = after _ (AreOperandsOf world) (number_at ws) _ (count_holds most_number BadNumber ws) (λ n h. h)
-  operands_sound shapes.Unit ws = after _ (AreOperandsOf world) (unit_at ws) _ (unit_holds ws) (λ u h. h)
+  operands_sound shapes.Number ws = two_steps_hold _ (AreOperandsOf world) (number_at ws) _ (count_holds most_number BadNumber ws) (λ n h. h)
+  operands_sound shapes.Unit ws = two_steps_hold _ (AreOperandsOf world) (unit_at ws) _ (unit_holds ws) (λ u h. h)
   operands_sound shapes.Units ws = units_sound ws
   operands_sound shapes.UnitAndNumber ws = unit_and_number_sound ws
   operands_sound shapes.UnitAndGoods ws = unit_and_goods_sound ws
-  operands_sound shapes.Goods ws = after _ (AreOperandsOf world) (amount_of_item_at world ws) _ (goods_hold world ws) (λ goods h. h)
+  operands_sound shapes.Goods ws = two_steps_hold _ (AreOperandsOf world) (amount_of_item_at world ws) _ (goods_hold world ws) (λ goods h. h)
   operands_sound shapes.Name ws = name_sound ws
-  operands_sound shapes.Direction ws = after _ (AreOperandsOf world) (direction_at ws) _ (anything (direction_at ws)) (λ d _. tt)
+  operands_sound shapes.Direction ws = two_steps_hold _ (AreOperandsOf world) (direction_at ws) _ (always_true_holds (direction_at ws)) (λ d _. tt)
   operands_sound shapes.Kind ws = kind_sound ws
-  operands_sound shapes.Skill ws = after _ (AreOperandsOf world) (skill_at world ws) _ (skill_holds world ws) (λ skill h. h)
-  operands_sound shapes.Item ws = after _ (AreOperandsOf world) (item_at world ws) _ (item_holds world ws) (λ item h. h)
+  operands_sound shapes.Skill ws = two_steps_hold _ (AreOperandsOf world) (skill_at world ws) _ (skill_holds world ws) (λ skill h. h)
+  operands_sound shapes.Item ws = two_steps_hold _ (AreOperandsOf world) (item_at world ws) _ (item_holds world ws) (λ item h. h)
 
-  -- the order that a verb and the words after it give has its numbers, names and things in bounds (`Sound`)
-  pub said_sound : (verb : Verb) (ws : List WordText) → Sound world (said_by world verb ws)
-  unfolding said_by
-  said_sound verb ws = after (AreOperandsOf world) (IsOrderOf world) (read_operands world (row_of verb).shape ws) _ (operands_sound (row_of verb).shape ws) (λ os h. h)
+  -- the order that a verb and the words after it give has its numbers, names and things in bounds (`IsOrderInBounds`)
+  pub said_sound : (verb : Verb) (ws : List WordText) → IsOrderInBounds world (read_order world verb ws)
+  unfolding read_order
+  said_sound verb ws = two_steps_hold (AreOperandsOf world) (IsOrderOf world) (read_operands world (row_of verb).shape ws) _ (operands_sound (row_of verb).shape ws) (λ os h. h)

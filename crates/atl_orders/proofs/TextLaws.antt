@@ -31,20 +31,20 @@ data HasHeaderOrNone (n : ℕ) (all : List (List ℕ)) : Type 0 where
       → header_from n all ≡ header_line (length above + n) below (faction_of (words header)) → HasHeaderOrNone n all
 
 -- k + (n + 1) is (k + 1) + n: k lines after line n + 1 is k + 1 lines after line n
-later : (n k : ℕ) → k + (n + 1) ≡ suc k + n
-later n k = omega arith
+lines_after_next : (n k : ℕ) → k + (n + 1) ≡ suc k + n
+lines_after_next n k = omega arith
 
 -- 0 + n is n: the first of lines that are numbered from n on has the number n
 from_none : (n : ℕ) → 0 + n ≡ n
 from_none n = omega arith
 
--- if lines have no header or a first one, as `header_from` gives it (`HasHeaderOrNone`), so have they with a line that
--- is no header in front
+-- lines still have no header, or a first one, as `header_from` gives it (`HasHeaderOrNone`), with a line that is no
+-- header put in front
 with_line_above : (n : ℕ) (line : List ℕ) (rest : List (List ℕ)) → IsNoHeader line → header_from n (line ∷ rest) ≡ header_from (n + 1) rest → HasHeaderOrNone (n + 1) rest → HasHeaderOrNone n (line ∷ rest)
 with_line_above n line rest h e (none a f) = none (All-cons IsNoHeader line rest h a) (e ∙ f)
 with_line_above n line rest h e (one above header below is f) =
     one (line ∷ above) header below (record { whole = ap (λ l. line ∷ l) is.whole; leads = is.leads; first = All-cons IsNoHeader line above h is.first })
-    (e ∙ f ∙ ap (λ k. header_line k below (faction_of (words header))) (later n (length above)))
+    (e ∙ f ∙ ap (λ k. header_line k below (faction_of (words header))) (lines_after_next n (length above)))
 
 -- lines have no header or a first one (`HasHeaderOrNone`), whether their first line, line n, is a header or not, if
 -- this holds of the lines after it
@@ -60,29 +60,29 @@ has_header_or_none n [] = none (All-nil IsNoHeader) refl
 has_header_or_none n (line ∷ rest) = with_first_line (is_header line) n line rest refl refl (has_header_or_none (n + 1) rest)
 
 -- `header_from` gives NoHeader for lines without a header
-no_one : (n : ℕ) (all : List (List ℕ)) → HaveNoHeader all → header_from n all ≡ Err NoHeader
+no_header_found : (n : ℕ) (all : List (List ℕ)) → HaveNoHeader all → header_from n all ≡ Err NoHeader
 unfolding header_from
-no_one n [] a = refl
-no_one n (line ∷ rest) a = rw (All-head IsNoHeader line rest a) (no_one (n + 1) rest (All-tail IsNoHeader line rest a))
+no_header_found n [] a = refl
+no_header_found n (line ∷ rest) a = rw (All-head IsNoHeader line rest a) (no_header_found (n + 1) rest (All-tail IsNoHeader line rest a))
 
 -- `header_from` gives for lines with a header what their first header gives
 first_one : (n : ℕ) (above : List (List ℕ)) (header : List ℕ) (below : List (List ℕ)) → HaveNoHeader above → is_header header ≡ true → header_from n (above ++ header ∷ below) ≡ header_line (length above + n) below (faction_of (words header))
 unfolding header_from
 first_one n [] header below a h = rw h (ap (λ k. header_line k below (faction_of (words header))) (sym (from_none n)))
-first_one n (line ∷ above) header below a h = rw (All-head IsNoHeader line above a) (first_one (n + 1) above header below (All-tail IsNoHeader line above a) h ∙ ap (λ k. header_line k below (faction_of (words header))) (later n (length above)))
+first_one n (line ∷ above) header below a h = rw (All-head IsNoHeader line above a) (first_one (n + 1) above header below (All-tail IsNoHeader line above a) h ∙ ap (λ k. header_line k below (faction_of (words header))) (lines_after_next n (length above)))
 
 -- ---- a whole text
 
 -- k + 1 + 1 is k + 2: the line after a header with k lines above it has the number k + 2
-numbered : (k : ℕ) → k + 1 + 1 ≡ k + 2
-numbered k = omega arith
+line_after_header : (k : ℕ) → k + 1 + 1 ≡ k + 2
+line_after_header k = omega arith
 
 module _ (world : WorldValue) (text : List ℕ) where
   -- the rules (`TextSays`) allow the result for a text with a header, whether the header names a faction or not
   headed_fits : (o : Option ℕ) → length text ≤ most_bytes → (above : List (List ℕ)) (header : List ℕ) (below : List (List ℕ)) → HaveHeader (lines text) above header below → faction_of (words header) ≡ o → TextSays world text (after_header world (header_line (length above + 1) below o))
   headed_fits None s above header below is f = bad_header s above header below is f refl
   headed_fits (Some faction) s above header below is f =
-      rw (numbered (length above)) (mailing s above header below is faction f _ _ (body_fits world (length above + 2) Nowhere no_alias below) refl)
+      rw (line_after_header (length above)) (mailing s above header below is faction f _ _ (body_fits world (length above + 2) Nowhere no_alias below) refl)
 
   -- the rules (`TextSays`) allow the result for a text of at most most_bytes bytes, whether it has a header or not
   found_fits : length text ≤ most_bytes → HasHeaderOrNone 1 (lines text) → TextSays world text (after_header world (header_from 1 (lines text)))
@@ -110,8 +110,8 @@ module _ (world : WorldValue) (text : List ℕ) where
   pub text_only : (read : Result Reading MailFault) → TextSays world text read → read ≡ reading world text
   unfolding reading
   text_only read (too_long h e) = rw (long_is h) e
-  text_only read (no_header s a e) = rw (short_is s, no_one 1 (lines text) a) e
+  text_only read (no_header s a e) = rw (short_is s, no_header_found 1 (lines text) a) e
   text_only read (bad_header s above header below is f e) = rw (short_is s, first_is above header below is, f) e
   text_only read (mailing s above header below is faction f entries faults b e) =
       let only = body_only world b in
-      rw (short_is s, first_is above header below is, f, numbered (length above)) (e ∙ rw (only.0, only.1) refl)
+      rw (short_is s, first_is above header below is, f, line_after_header (length above)) (e ∙ rw (only.0, only.1) refl)

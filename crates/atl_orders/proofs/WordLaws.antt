@@ -17,10 +17,11 @@ use Rattle.atl_orders.specs.Positions.{IsPartOf, EndsWith, EndsAt}
 
 -- ---- the index of the first element that passes a test, or the length
 
--- for `found_or_len`: an index n, at most the length m, is the one that was found if it is below m, else the default
-placed : (t : Bool) (n m : ℕ) → nat_lt n m ≡ t → n ≤ m → unwrap_or (cond t (Some n) None) m ≡ n
-placed true n m h l = refl
-placed false n m h l = grind (arith, nat_tests)
+-- for `found_or_len`: an index n, at most the length m, is the value of Some n if it is below m, and the default m if
+-- not
+index_or_length : (t : Bool) (n m : ℕ) → nat_lt n m ≡ t → n ≤ m → unwrap_or (cond t (Some n) None) m ≡ n
+index_or_length true n m h l = refl
+index_or_length false n m h l = grind (arith, nat_tests)
 
 -- the index of the first element that passes a test, or the list's length without one, is at most the length
 pub found_within : {X : Type 0} (p : X → Bool) (xs : List X) → position_or_len p xs ≤ length xs
@@ -28,7 +29,7 @@ found_within p xs = prefix_len-le-length (λ x. not (p x)) xs
 
 -- the index of the first element that passes a test, or the list's length without one, is `position_or_len`
 pub found_or_len : {X : Type 0} (p : X → Bool) (xs : List X) → unwrap_or (position p xs) (length xs) ≡ position_or_len p xs
-found_or_len p xs = placed (nat_lt (position_or_len p xs) (length xs)) (position_or_len p xs) (length xs) refl (found_within p xs)
+found_or_len p xs = index_or_length (nat_lt (position_or_len p xs) (length xs)) (position_or_len p xs) (length xs) refl (found_within p xs)
 
 -- ---- words
 
@@ -68,8 +69,8 @@ drop-bare false n b bs h =
     let more : 1 + n ≡ suc n = omega arith in
     rw (less, more) refl
 
--- a line that begins with a byte b that doesn't end words has as its first word the bytes up to the first that does, or
--- to the line's end, and then the words of the rest
+-- A line that begins with a byte b that doesn't end words has a first word without quotes, and then the words of the
+-- rest. This word has the bytes up to the first that ends words, or to the line's end.
 pub words-bare : (b : ℕ) (bs : List ℕ) → ends_word b ≡ false → words (b ∷ bs) ≡ record { bytes = before_first ends_word (b ∷ bs); quoted = false } ∷ words (drop (position_or_len ends_word (b ∷ bs)) (b ∷ bs))
 unfolding words_after
 words-bare b bs h =

@@ -5,6 +5,6 @@ use Rattle.std.specs.Prelude.{ℕ, Bool, false, ◌||◌, ◌==◌}
 abbrev pub no_alias : ℕ → Bool
 no_alias k = false
 
--- whether a number, the last argument, is in a set of aliases to which one alias more was added
+-- `with_alias given alias`: the set of aliases `given` with `alias` added, as a test of each number
 abbrev pub with_alias : (ℕ → Bool) → ℕ → ℕ → Bool
 with_alias given alias k = k == alias || given k

@@ -10,7 +10,7 @@ use Rattle.atl_orders.specs.declared.order.Operands.TheVariants as operands
 use Rattle.atl_orders.specs.Orders.{OperandsValue, OrderValue}
 use Rattle.atl_orders.specs.Mailing.{EntryValue, Reading, reading}
 
--- the second number is from 1 to the first
+-- `IsWithin most n`: the number n is from 1 to `most`
 abbrev pub IsWithin : ℕ → ℕ → Type 0
 IsWithin most n = (1 ≤ n) × (n ≤ most)
 

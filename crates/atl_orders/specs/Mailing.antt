@@ -103,7 +103,9 @@ pub record IsMailingOf (faction : ℕ) (text : List ℕ) : Type 0 where
   -- the text has at most most_bytes (65,536) bytes
   pub short : length text ≤ most_bytes
   -- the first header of the text names the faction
-  pub header : (next : ℕ) × (rest : List (List ℕ)) × (header_from 1 (lines text) ≡ Ok (record { faction = faction; next = next; rest = rest }))
+  pub header :
+      (next : ℕ) × (rest : List (List ℕ))
+      × (header_from 1 (lines text) ≡ Ok (record { faction = faction; next = next; rest = rest }))
 
 -- ---- what the code returns
 
@@ -119,11 +121,12 @@ reading_of m = record { faction = m.faction; entries = map (entry_value m.text) 
 abbrev pub IsReadWith : WorldValue → Mailing → Type 0
 IsReadWith world m = reading world m.text ≡ Ok (reading_of m)
 
--- The first result, which a call returned, shows the second, that of the definition: it is the same fault, or a value
--- of which the function makes the definition's. Or the call returned Memory, whatever the definition gives.
-abbrev pub Reads : {X Y : Type 0} → (X → Y) → Result X MailFault → Result Y MailFault → Type 0
-Reads view (Ok x) read = read ≡ Ok (view x)
-Reads view (Err Memory) read = Unit {0}
-Reads view (Err TooLong) read = read ≡ Err TooLong
-Reads view (Err NoHeader) read = read ≡ Err NoHeader
-Reads view (Err BadHeader) read = read ≡ Err BadHeader
+-- `AgreesOrMemory view result read`: what a call returned, `result`, agrees with `read`, the result of the definition.
+-- Both are the same fault, or `view` of the call's value is the definition's value. Or the call returned Memory,
+-- whatever the definition gives.
+abbrev pub AgreesOrMemory : {X Y : Type 0} → (X → Y) → Result X MailFault → Result Y MailFault → Type 0
+AgreesOrMemory view (Ok x) read = read ≡ Ok (view x)
+AgreesOrMemory view (Err Memory) read = Unit {0}
+AgreesOrMemory view (Err TooLong) read = read ≡ Err TooLong
+AgreesOrMemory view (Err NoHeader) read = read ≡ Err NoHeader
+AgreesOrMemory view (Err BadHeader) read = read ≡ Err BadHeader

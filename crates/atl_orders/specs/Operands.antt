@@ -93,8 +93,8 @@ direction_at ws = do
 -- ---- units up to the line's end
 
 -- the unit whose number, from 1 to 999,999,999, a word writes; else BadNumber
-abbrev pub numbered : WordText → Result UnitRef LineFault
-numbered w = or_fault BadNumber (not_zero (number_of most_number w.bytes)) >>= λ n. Ok (Number n)
+abbrev pub unit_by_number : WordText → Result UnitRef LineFault
+unit_by_number w = or_fault BadNumber (not_zero (number_of most_number w.bytes)) >>= λ n. Ok (Number n)
 
 -- the unit whose alias, from 1 to 9,999, a word after NEW writes; else BadAlias
 abbrev pub new_unit_ref : WordText → Result UnitRef LineFault
@@ -107,8 +107,10 @@ and_then_units unit units = unit >>= λ u. units >>= λ us. Ok (u ∷ us)
 -- the units that all words up to the line's end name, which may be none; else the first fault
 unfoldable pub units_of : List WordText → Result (List UnitRef) LineFault
 units_of [] = Ok []
-units_of (w ∷ []) = if is_word (codes "NEW") w then Err MissingWord else and_then_units (numbered w) (Ok [])
-units_of (w ∷ v ∷ ws) = if is_word (codes "NEW") w then and_then_units (new_unit_ref v) (units_of ws) else and_then_units (numbered w) (units_of (v ∷ ws))
+units_of (w ∷ []) = if is_word (codes "NEW") w then Err MissingWord else and_then_units (unit_by_number w) (Ok [])
+units_of (w ∷ v ∷ ws) =
+    if is_word (codes "NEW") w then and_then_units (new_unit_ref v) (units_of ws)
+    else and_then_units (unit_by_number w) (units_of (v ∷ ws))
 
 -- the units that all words up to the line's end name, one or more; else the first fault
 abbrev pub some_units_at : List WordText → Result (List UnitRef) LineFault

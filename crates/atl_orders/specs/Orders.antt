@@ -67,8 +67,8 @@ kind_of_name w =
     else None
 
 -- the operands of NAME: what gets a new name, and the name; or BadName if the name breaks the rule of names
-abbrev pub name_by : NameKind → List ℕ → Result OperandsValue LineFault
-name_by what bytes = if name_ok bytes then Ok (operands.Name what bytes) else Err BadName
+abbrev pub name_operands : NameKind → List ℕ → Result OperandsValue LineFault
+name_operands what bytes = if name_ok bytes then Ok (operands.Name what bytes) else Err BadName
 
 -- the operands of NAME: what gets a new name, and the name, read from the words after it; or their first fault
 abbrev pub read_name : List WordText → Result OperandsValue LineFault
@@ -76,7 +76,7 @@ read_name ws = do
   w ← word_at ws
   what ← or_fault UnknownThing (kind_of_name w.0)
   v ← word_at w.1
-  name_by what (name_of v.0.bytes v.0.quoted)
+  name_operands what (name_of v.0.bytes v.0.quoted)
 
 -- the operands of a verb that takes a kind of structure or nothing, read from the words after it; or their first fault
 abbrev pub read_kind : WorldValue → List WordText → Result OperandsValue LineFault
@@ -107,8 +107,8 @@ abbrev pub order_of : Verb → OperandsValue → OrderValue
 order_of verb named = record { verb = verb; operands = named }
 
 -- the order that a verb and the words after it give, or the first fault of these words
-unfoldable pub said_by : WorldValue → Verb → List WordText → Result OrderValue LineFault
-said_by world verb ws = do
+unfoldable pub read_order : WorldValue → Verb → List WordText → Result OrderValue LineFault
+read_order world verb ws = do
   named ← read_operands world (row_of verb).shape ws
   Ok (order_of verb named)
 

@@ -19,7 +19,7 @@ use Rattle.atl_orders.specs.Verbs.{verb_of}
 use Rattle.atl_orders.specs.Operands.{number_at, alias_at}
 use Rattle.atl_orders.specs.declared.order.Operands.TheVariants as operands
 use Rattle.atl_orders.specs.declared.verb.Verb.TheVariants as verbs
-use Rattle.atl_orders.specs.Orders.{OrderValue, order_of, said_by}
+use Rattle.atl_orders.specs.Orders.{OrderValue, order_of, read_order}
 
 -- whether a byte may be in a line: tab, and from space to `~`
 abbrev pub is_plain : ℕ → Bool
@@ -64,9 +64,9 @@ target (Forming parent alias) = Some (Alias alias)
 target (Skipping parent) = None
 
 -- the reader's state after a block has ended, by the unit that was named before the block, if one was
-abbrev pub outside : Option ℕ → ReaderState
-outside None = Nowhere
-outside (Some n) = At n
+abbrev pub state_naming_unit : Option ℕ → ReaderState
+state_naming_unit None = Nowhere
+state_naming_unit (Some n) = At n
 
 -- the step of a UNIT line: further orders are for its unit; on a fault they are for no unit
 abbrev pub unit_step : (ℕ → Bool) → Result (ℕ × List WordText) LineFault → LineStep
@@ -78,14 +78,14 @@ abbrev pub end_step : ReaderState → (ℕ → Bool) → LineStep
 end_step Nowhere given = step (faulty EndAlone) Nowhere given
 end_step (At n) given = step (faulty EndAlone) (At n) given
 end_step (Forming parent alias) given = step nothing (At parent) given
-end_step (Skipping parent) given = step nothing (outside parent) given
+end_step (Skipping parent) given = step nothing (state_naming_unit parent) given
 
 -- the order FORM with an alias
 abbrev pub form_value : ℕ → OrderValue
 form_value alias = order_of verbs.Form (operands.Alias alias)
 
--- the step of a FORM line for unit n outside of blocks: a new alias is given, and its block opens; on a fault, as
--- BadAlias for an alias given before, the block is skipped
+-- The step of a FORM line for unit n outside of blocks: a new alias is given, and its block opens. On a fault, as
+-- BadAlias for an alias given before, the block is skipped.
 abbrev pub block_step : ℕ → (ℕ → Bool) → Result (ℕ × List WordText) LineFault → LineStep
 block_step parent given (Ok n) =
     if given n.0
@@ -93,8 +93,8 @@ block_step parent given (Ok n) =
     else step (says (Number parent) (form_value n.0)) (Forming parent n.0) (with_alias given n.0)
 block_step parent given (Err fault) = step (faulty fault) (Skipping (Some parent)) given
 
--- the step of a FORM line: a block opens, which is skipped with the fault NoUnit if no unit is named; inside a block
--- the fault is NestedForm, and the open block stays
+-- The step of a FORM line: a block opens, which is skipped with the fault NoUnit if no unit is named. Inside a block
+-- the fault is NestedForm, and the open block stays.
 abbrev pub form_step : ReaderState → (ℕ → Bool) → List WordText → LineStep
 form_step Nowhere given ws = step (faulty NoUnit) (Skipping None) given
 form_step (At n) given ws = block_step n given (alias_at ws)
@@ -117,7 +117,8 @@ keyword_step world state given None ws = step (faulty UnknownOrder) state given
 keyword_step world state given (Some keywords.Unit) ws = unit_step given (number_at ws)
 keyword_step world state given (Some keywords.End) ws = end_step state given
 keyword_step world state given (Some keywords.Form) ws = form_step state given ws
-keyword_step world state given (Some (keywords.Order verb)) ws = step (order_effect (target state) (said_by world verb ws)) state given
+keyword_step world state given (Some (keywords.Order verb)) ws =
+    step (order_effect (target state) (read_order world verb ws)) state given
 
 -- the step of a line by its words; a line without words changes nothing
 abbrev pub words_step : WorldValue → ReaderState → (ℕ → Bool) → List WordText → LineStep

@@ -20,23 +20,24 @@ use Rattle.atl_orders.specs.Aliasing.{no_alias, with_alias}
 use Rattle.atl_orders.specs.TextLines.{lines}
 use Rattle.atl_orders.specs.Words.{WordText, words, begins}
 use Rattle.atl_orders.specs.Operands.{number_at, alias_at}
-use Rattle.atl_orders.specs.Orders.{OrderValue, said_by}
-use Rattle.atl_orders.specs.Reading.{is_plain, keyword_of, nothing, faulty, says, LineStep, step, form_value, target, outside, line_step}
+use Rattle.atl_orders.specs.Orders.{OrderValue, read_order}
+use Rattle.atl_orders.specs.Reading.{is_plain, keyword_of, nothing, faulty, says, LineStep, step, form_value, target, state_naming_unit, line_step}
 use Rattle.atl_orders.specs.Mailing.{EntryValue, entry_of, fault_of, effects, faction_of, Reading, reading}
 
 -- the reader's state once the open block is closed, None if no block is open
-abbrev pub outer : ReaderState → Option ReaderState
-outer Nowhere = None
-outer (At n) = None
-outer (Forming parent alias) = Some (At parent)
-outer (Skipping parent) = Some (outside parent)
+abbrev pub state_after_block : ReaderState → Option ReaderState
+state_after_block Nowhere = None
+state_after_block (At n) = None
+state_after_block (Forming parent alias) = Some (At parent)
+state_after_block (Skipping parent) = Some (state_naming_unit parent)
 
 -- a word, which is the first of a line, is this keyword
 abbrev pub FirstWordIs : WordText → Keyword → Type 0
 FirstWordIs w k = keyword_of w ≡ Some k
 
 -- the rules for a line with words, by the first word w: the line has the step s
-pub data WordsSay (world : WorldValue) (state : ReaderState) (given : ℕ → Bool) (w : WordText) (ws : List WordText) (s : LineStep) : Type 0 where
+pub data WordsSay (world : WorldValue) (state : ReaderState) (given : ℕ → Bool)
+    (w : WordText) (ws : List WordText) (s : LineStep) : Type 0 where
   -- UNIT with a number: further orders are for the unit of this number, and an open block ends
   unit_named : FirstWordIs w keywords.Unit → (n : ℕ) (rest : List WordText) → number_at ws ≡ Ok (n, rest)
       → s ≡ step nothing (At n) given → WordsSay world state given w ws s
@@ -44,13 +45,13 @@ pub data WordsSay (world : WorldValue) (state : ReaderState) (given : ℕ → Bo
   unit_faulty : FirstWordIs w keywords.Unit → (fault : LineFault) → number_at ws ≡ Err fault
       → s ≡ step (faulty fault) Nowhere given → WordsSay world state given w ws s
   -- END in a block: the block is closed
-  block_closed : FirstWordIs w keywords.End → (out : ReaderState) → outer state ≡ Some out
+  block_closed : FirstWordIs w keywords.End → (out : ReaderState) → state_after_block state ≡ Some out
       → s ≡ step nothing out given → WordsSay world state given w ws s
   -- END outside of blocks: the line has the fault EndAlone
-  end_alone : FirstWordIs w keywords.End → outer state ≡ None
+  end_alone : FirstWordIs w keywords.End → state_after_block state ≡ None
       → s ≡ step (faulty EndAlone) state given → WordsSay world state given w ws s
   -- FORM in a block: the line has the fault NestedForm, and the block stays open
-  form_nested : FirstWordIs w keywords.Form → (out : ReaderState) → outer state ≡ Some out
+  form_nested : FirstWordIs w keywords.Form → (out : ReaderState) → state_after_block state ≡ Some out
       → s ≡ step (faulty NestedForm) state given → WordsSay world state given w ws s
   -- FORM where no unit is named: the line has the fault NoUnit, and a block opens that is skipped
   form_nowhere : FirstWordIs w keywords.Form → state ≡ Nowhere
@@ -68,17 +69,18 @@ pub data WordsSay (world : WorldValue) (state : ReaderState) (given : ℕ → Bo
   -- is given now, and the new unit's block opens
   form_new : FirstWordIs w keywords.Form → (n : ℕ) → state ≡ At n
       → (alias : ℕ) (rest : List WordText) → alias_at ws ≡ Ok (alias, rest) → given alias ≡ false
-      → s ≡ step (says (Number n) (form_value alias)) (Forming n alias) (with_alias given alias) → WordsSay world state given w ws s
+      → s ≡ step (says (Number n) (form_value alias)) (Forming n alias) (with_alias given alias)
+      → WordsSay world state given w ws s
   -- an order where no unit is named, or in a block that is skipped: the line has the fault NoUnit
   order_nowhere : (verb : Verb) → FirstWordIs w (keywords.Order verb) → target state ≡ None
       → s ≡ step (faulty NoUnit) state given → WordsSay world state given w ws s
   -- an order for the named unit, or in a block for the new unit, whose words have a fault: the line has this fault
   order_faulty : (verb : Verb) → FirstWordIs w (keywords.Order verb) → (unit : UnitRef) → target state ≡ Some unit
-      → (fault : LineFault) → said_by world verb ws ≡ Err fault
+      → (fault : LineFault) → read_order world verb ws ≡ Err fault
       → s ≡ step (faulty fault) state given → WordsSay world state given w ws s
   -- an order whose words have no fault: it is for the named unit, or in a block for the new unit
   order_said : (verb : Verb) → FirstWordIs w (keywords.Order verb) → (unit : UnitRef) → target state ≡ Some unit
-      → (order_value : OrderValue) → said_by world verb ws ≡ Ok order_value
+      → (order_value : OrderValue) → read_order world verb ws ≡ Ok order_value
       → s ≡ step (says unit order_value) state given → WordsSay world state given w ws s
   -- any other first word: the line has the fault UnknownOrder
   unknown : keyword_of w ≡ None
@@ -96,9 +98,10 @@ pub data LineSays (world : WorldValue) (state : ReaderState) (given : ℕ → Bo
   some_words : list_all is_plain line ≡ true → (w : WordText) (ws : List WordText) → words line ≡ w ∷ ws
       → WordsSay world state given w ws s → LineSays world state given line s
 
--- the rules for the lines after the header: which orders and which faulty lines they give; the first line's number,
--- the reader's state and the given aliases come in front of the lines
-pub data BodySays (world : WorldValue) : ℕ → ReaderState → (ℕ → Bool) → List (List ℕ) → List EntryValue → List FaultyLine → Type 0 where
+-- The rules for the lines after the header: which orders and which faulty lines they give. The arguments before the
+-- lines are the first line's number, the reader's state and the given aliases.
+pub data BodySays (world : WorldValue) : ℕ → ReaderState → (ℕ → Bool) → List (List ℕ)
+    → List EntryValue → List FaultyLine → Type 0 where
   -- where no line is left, there are no further orders and faulty lines
   text_ended : (n : ℕ) (state : ReaderState) (given : ℕ → Bool) → BodySays world n state given [] [] []
   -- a line that begins with `#END`: no orders and no faulty lines, from this line on
@@ -145,7 +148,8 @@ pub data TextSays (world : WorldValue) (text : List ℕ) (read : Result Reading 
   mailing : length text ≤ most_bytes
       → (above : List (List ℕ)) (header : List ℕ) (below : List (List ℕ)) → HaveHeader (lines text) above header below
       → (faction : ℕ) → faction_of (words header) ≡ Some faction
-      → (entries : List EntryValue) (faults : List FaultyLine) → BodySays world (length above + 2) Nowhere no_alias below entries faults
+      → (entries : List EntryValue) (faults : List FaultyLine)
+      → BodySays world (length above + 2) Nowhere no_alias below entries faults
       → read ≡ Ok (record { faction = faction; entries = entries; faults = faults }) → TextSays world text read
 
 -- The step that the function `line_step` gives a line is the one that the rules `LineSays` allow, and no other.
@@ -169,7 +173,8 @@ abbrev pub BodyRules : Type 0
 BodyRules =
     ((world : WorldValue) (n : ℕ) (state : ReaderState) (given : ℕ → Bool) (lines : List (List ℕ))
     → BodySays world n state given lines (entries_from world n state given lines) (faults_from world n state given lines))
-    × ((world : WorldValue) (n : ℕ) (state : ReaderState) (given : ℕ → Bool) (lines : List (List ℕ)) (entries : List EntryValue) (faults : List FaultyLine)
+    × ((world : WorldValue) (n : ℕ) (state : ReaderState) (given : ℕ → Bool) (lines : List (List ℕ))
+    (entries : List EntryValue) (faults : List FaultyLine)
     → BodySays world n state given lines entries faults
     → (entries ≡ entries_from world n state given lines) × (faults ≡ faults_from world n state given lines))
 
@@ -177,4 +182,5 @@ BodyRules =
 abbrev pub TextRules : Type 0
 TextRules =
     ((world : WorldValue) (text : List ℕ) → TextSays world text (reading world text))
-    × ((world : WorldValue) (text : List ℕ) (read : Result Reading MailFault) → TextSays world text read → read ≡ reading world text)
+    × ((world : WorldValue) (text : List ℕ) (read : Result Reading MailFault)
+    → TextSays world text read → read ≡ reading world text)

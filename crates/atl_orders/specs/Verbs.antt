@@ -55,10 +55,11 @@ abbrev pub row_value : CodeRow → Row
 row_value r = row r.keyword.now r.shape r.slot
 
 -- the verbs that an order's line can begin with; FORM is left out, since it has lines of its own
-abbrev pub listed : List Verb
-listed =
-    Name ∷ Guard ∷ Enter ∷ Leave ∷ Promote ∷ Give ∷ Pay ∷ Transfer ∷ Sell ∷ Buy ∷ Tax ∷ Recruit ∷ Quit ∷ Move ∷ Sail ∷ Build ∷ Teach ∷ Study ∷ Produce ∷ Work ∷ []
+abbrev pub listed_verbs : List Verb
+listed_verbs =
+    Name ∷ Guard ∷ Enter ∷ Leave ∷ Promote ∷ Give ∷ Pay ∷ Transfer ∷ Sell ∷ Buy
+    ∷ Tax ∷ Recruit ∷ Quit ∷ Move ∷ Sail ∷ Build ∷ Teach ∷ Study ∷ Produce ∷ Work ∷ []
 
 -- the verb other than FORM whose keyword a word is, in any case; BOARD is read as ENTER, and None comes for other words
 abbrev pub verb_of : WordText → Option Verb
-verb_of w = if is_word (codes "BOARD") w then Some Enter else find (λ verb. is_word (keyword verb) w) listed
+verb_of w = if is_word (codes "BOARD") w then Some Enter else find (λ verb. is_word (keyword verb) w) listed_verbs

@@ -35,10 +35,10 @@ abbrev pub view_of_result : {X Y : Type 0} → (X → Y) → Result X LineFault 
 view_of_result view (Ok x) = Ok (view x)
 view_of_result view (Err e) = Err e
 
--- the first result, which a call returned, shows the second, that of the definition: it is the same fault, or a value
--- of which the function makes the definition's
-abbrev pub Gives : {X Y : Type 0} → (X → Y) → Result X LineFault → Result Y LineFault → Type 0
-Gives view result read = read ≡ view_of_result view result
+-- `Agrees view result read`: what a call returned, `result`, agrees with `read`, the result of the definition. Both are
+-- the same fault, or `view` of the call's value is the definition's value.
+abbrev pub Agrees : {X Y : Type 0} → (X → Y) → Result X LineFault → Result Y LineFault → Type 0
+Agrees view result read = read ≡ view_of_result view result
 
 -- the units of a list, and then those of a result; or the fault of the result
 abbrev pub with_units : List UnitRef → Result (List UnitRef) LineFault → Result (List UnitRef) LineFault

@@ -33,8 +33,10 @@ words_after (suc skip) (b ∷ bs) = words_after skip bs
 words_after zero (b ∷ bs) =
     if is_blank b then words_after zero bs
     else if b == semicolon then []
-    else if is_quote b then record { bytes = before_first is_quote bs; quoted = true } ∷ words_after (position_or_len is_quote bs + 1) bs
-    else record { bytes = before_first ends_word (b ∷ bs); quoted = false } ∷ words_after (position_or_len ends_word (b ∷ bs) - 1) bs
+    else if is_quote b
+    then record { bytes = before_first is_quote bs; quoted = true } ∷ words_after (position_or_len is_quote bs + 1) bs
+    else record { bytes = before_first ends_word (b ∷ bs); quoted = false }
+    ∷ words_after (position_or_len ends_word (b ∷ bs) - 1) bs
 
 -- the words of a line, up to a comment
 abbrev pub words : List ℕ → List WordText
@@ -49,7 +51,7 @@ abbrev pub begins : List ℕ → List WordText → Bool
 begins name [] = false
 begins name (w ∷ ws) = is_word name w
 
--- the number that one or more digits write, if it is at most the number given; None otherwise
+-- `number_of most bytes`: the number that the digits `bytes` write, if it is at most `most`; else None
 abbrev pub number_of : ℕ → List ℕ → Option ℕ
 number_of most bytes =
     if nat_lt 0 (length bytes) && list_all is_ascii_digit bytes && nat_le (digits_value 10 bytes) most

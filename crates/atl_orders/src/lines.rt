@@ -18,7 +18,7 @@ fn first_feed(bytes: &[u8]) -> Option<usize>
 }
 
 /// A line without the carriage return at its end, if there is one.
-#[tactic(auto, using(crate::proofs::LineLaws::return_cut, crate::proofs::LineLaws::return_kept, crate::proofs::LineLaws::all_front, crate::proofs::LineLaws::take_front))]
+#[tactic(auto, using(crate::proofs::LineLaws::return_cut, crate::proofs::LineLaws::line_without_return_kept, crate::proofs::LineLaws::all_front, crate::proofs::LineLaws::take_front))]
 fn without_return(line: &[u8]) -> &[u8]
     ensures value { result.now ≡ without_return line.now }
     ensures front { StartsWith line.now result.now }

@@ -8,7 +8,7 @@ ghost use Rattle.atl_orders.specs.Words.{words};
 ghost use Rattle.atl_orders.specs.Positions.{EndsWith};
 ghost use Rattle.atl_orders.specs.TextLines.{lines};
 ghost use Rattle.atl_orders.specs.Views.{rest_size, effect_of, header_value, with_line};
-ghost use Rattle.atl_orders.specs.Mailing.{faction_of, header_from, after_header, reading, reading_of, IsMailingOf, IsReadWith, Reads};
+ghost use Rattle.atl_orders.specs.Mailing.{faction_of, header_from, after_header, reading, reading_of, IsMailingOf, IsReadWith, AgreesOrMemory};
 
 use crate::aliases::Aliases;
 use crate::fault::{FaultyLine, MailFault};
@@ -73,8 +73,8 @@ impl Mailing {
     }
 
     /// The bytes of a name in an order of this mailing: the part of the text in the span, as far as
-    /// it is there, with `_` as a space if the name is without quotes. For an order that was read
-    /// they keep the rule of names.
+    /// it is there. In a name without quotes `_` is read as a space. For an order that was read
+    /// these bytes keep the rule of names.
     pub fn name(&self, alloc: Global, span: Span) -> Result<Sequence<u8>, AllocError>
         ensures { IfOk result (λ bytes. bytes ≡ name_in self.now.text span) }
     {
@@ -142,7 +142,7 @@ struct Header<'a> {
 #[tactic(auto, using(crate::proofs::WordLaws::ends_further, crate::proofs::WordLaws::ends_with_all), unfolding(crate::specs::Mailing::header_from))]
 fn find_header(text: &[u8]) -> Result<Header<'_>, MailFault>
     requires { length text.now ≤ most_bytes }
-    ensures exact { Reads header_value result (header_from 1 (lines text.now)) }
+    ensures exact { AgreesOrMemory header_value result (header_from 1 (lines text.now)) }
     ensures rest { IfOk result (λ h. IfSome (option_copied h.rest) (EndsWith text.now)) }
     ensures small { IfOk result (λ h. h.next + rest_size (option_copied h.rest) ≤ most_bytes + 2) }
     ensures sure { IfErr result (λ fault. fault ≢ Memory) }
@@ -219,13 +219,12 @@ fn read_body(
 
 /// Reads a text as a mailing: its faction, its orders and its faulty lines, or why it is none. The
 /// text may have any bytes; it is kept as it is. TooLong comes for more than `MOST_BYTES` bytes,
-/// else NoHeader if no line begins with `#ATLANTIS`, else BadHeader if the first that does names
-/// no faction from 1 to `LAST_FACTION`, and Memory at any point. A faulty line gives no order, and
-/// the other lines count.
-/// See docs/RULES.md, "Reading a mailing".
+/// else NoHeader if no line begins with `#ATLANTIS`. Else BadHeader comes if the first line that
+/// does names no faction from 1 to `LAST_FACTION`. Memory may come at any point. A faulty line
+/// gives no order, and the other lines count. See docs/RULES.md, "Reading a mailing".
 #[tactic(auto, unfolding(crate::specs::Mailing::reading))]
 pub fn read_mailing(alloc: Global, world: &World, text: &[u8]) -> Result<Mailing, MailFault>
-    ensures reading { Reads reading_of result (reading world.now text.now) }
+    ensures reading { AgreesOrMemory reading_of result (reading world.now text.now) }
     ensures kept { IfOk result (λ m. m.text ≡ text.now) }
     ensures read { IfOk result (IsReadWith world.now) }
 {

@@ -3,7 +3,7 @@
 ghost use Rattle.std.specs.Prelude.{◌≡◌, ◌≤◌, IfOk};
 ghost use Rattle.atl_orders.specs.Limits.{most_number, last_alias};
 ghost use Rattle.atl_orders.specs.Words.{words};
-ghost use Rattle.atl_orders.specs.Views.{word_text, Gives};
+ghost use Rattle.atl_orders.specs.Views.{word_text, Agrees};
 ghost use Rattle.atl_orders.specs.Positions.{IsPartOf, EndsWith};
 ghost use Rattle.atl_orders.specs.Operands.{word_at, count_at, number_at, alias_at, unit_at, item_at, amount_of_item_at, skill_at, kind_at, direction_of, direction_at, units_of};
 
@@ -16,7 +16,7 @@ use std::alloc::{AllocError, Global};
 
 /// The next word of a line, and the rest of the line after it; else MissingWord.
 pub fn word_at(line: &[u8]) -> Result<(Word<'_>, &[u8]), LineFault>
-    ensures word { Gives (λ x. (word_text x.0, words x.1.now)) result (word_at (words line.now)) }
+    ensures word { Agrees (λ x. (word_text x.0, words x.1.now)) result (word_at (words line.now)) }
     ensures part { IfOk result (λ x. IsPartOf line.now x.0.bytes.now x.0.to_end) }
     ensures rest { IfOk result (λ x. EndsWith line.now x.1.now) }
 {
@@ -28,7 +28,7 @@ pub fn word_at(line: &[u8]) -> Result<(Word<'_>, &[u8]), LineFault>
 #[tactic(auto, unfolding(crate::specs::Operands::count_at))]
 fn count_at(line: &[u8], most: u32, fault: LineFault) -> Result<(u32, &[u8]), LineFault>
     requires { most ≤ most_number }
-    ensures count { Gives (λ x. (x.0, words x.1.now)) result
+    ensures count { Agrees (λ x. (x.0, words x.1.now)) result
         (count_at most fault (words line.now)) }
     ensures within { IfOk result (λ x. x.0 ≤ most) }
 {
@@ -42,7 +42,7 @@ fn count_at(line: &[u8], most: u32, fault: LineFault) -> Result<(u32, &[u8]), Li
 /// The next word as a number from 1 to 999,999,999, and the rest of the line; else MissingWord or
 /// BadNumber.
 pub fn number_at(line: &[u8]) -> Result<(u32, &[u8]), LineFault>
-    ensures { Gives (λ x. (x.0, words x.1.now)) result (number_at (words line.now)) }
+    ensures { Agrees (λ x. (x.0, words x.1.now)) result (number_at (words line.now)) }
 {
     count_at(line, MOST_NUMBER, LineFault::BadNumber)
 }
@@ -50,7 +50,7 @@ pub fn number_at(line: &[u8]) -> Result<(u32, &[u8]), LineFault>
 /// The next word as an alias from 1 to 9,999, and the rest of the line; else MissingWord or
 /// BadAlias.
 pub fn alias_at(line: &[u8]) -> Result<(u32, &[u8]), LineFault>
-    ensures alias { Gives (λ x. (x.0, words x.1.now)) result (alias_at (words line.now)) }
+    ensures alias { Agrees (λ x. (x.0, words x.1.now)) result (alias_at (words line.now)) }
     ensures within { IfOk result (λ x. x.0 ≤ last_alias) }
 {
     count_at(line, LAST_ALIAS, LineFault::BadAlias)
@@ -60,7 +60,7 @@ pub fn alias_at(line: &[u8]) -> Result<(u32, &[u8]), LineFault>
 /// MissingWord, BadNumber or BadAlias.
 #[tactic(auto, unfolding(crate::specs::Operands::unit_at))]
 pub fn unit_at(line: &[u8]) -> Result<(UnitRef, &[u8]), LineFault>
-    ensures { Gives (λ x. (x.0, words x.1.now)) result (unit_at (words line.now)) }
+    ensures { Agrees (λ x. (x.0, words x.1.now)) result (unit_at (words line.now)) }
 {
     let (word, rest) = word_at(line)?;
     if word.bytes.eq_ignore_ascii_case(b"NEW") {
@@ -73,7 +73,7 @@ pub fn unit_at(line: &[u8]) -> Result<(UnitRef, &[u8]), LineFault>
 
 /// The number of the item that the next word names, else MissingWord or UnknownThing.
 pub fn item_at(world: &World, line: &[u8]) -> Result<u16, LineFault>
-    ensures { Gives (λ x. x) result (item_at world.now (words line.now)) }
+    ensures { Agrees (λ x. x) result (item_at world.now (words line.now)) }
 {
     let (word, _) = word_at(line)?;
     let item = world.item_named(word.bytes, word.quoted);
@@ -83,7 +83,7 @@ pub fn item_at(world: &World, line: &[u8]) -> Result<u16, LineFault>
 /// The next words as an amount from 1 to 999,999,999 and the number of an item; else MissingWord,
 /// BadNumber or UnknownThing.
 pub fn amount_of_item_at(world: &World, line: &[u8]) -> Result<(u32, u16), LineFault>
-    ensures { Gives (λ x. x) result (amount_of_item_at world.now (words line.now)) }
+    ensures { Agrees (λ x. x) result (amount_of_item_at world.now (words line.now)) }
 {
     let (amount, rest) = number_at(line)?;
     let item = item_at(world, rest)?;
@@ -92,7 +92,7 @@ pub fn amount_of_item_at(world: &World, line: &[u8]) -> Result<(u32, u16), LineF
 
 /// The number of the skill that the next word names, else MissingWord or UnknownThing.
 pub fn skill_at(world: &World, line: &[u8]) -> Result<u16, LineFault>
-    ensures { Gives (λ x. x) result (skill_at world.now (words line.now)) }
+    ensures { Agrees (λ x. x) result (skill_at world.now (words line.now)) }
 {
     let (word, _) = word_at(line)?;
     let skill = world.skill_named(word.bytes, word.quoted);
@@ -101,7 +101,7 @@ pub fn skill_at(world: &World, line: &[u8]) -> Result<u16, LineFault>
 
 /// The number of the kind of structure that the next word names, else MissingWord or UnknownThing.
 pub fn kind_at(world: &World, line: &[u8]) -> Result<u16, LineFault>
-    ensures { Gives (λ x. x) result (kind_at world.now (words line.now)) }
+    ensures { Agrees (λ x. x) result (kind_at world.now (words line.now)) }
 {
     let (word, _) = word_at(line)?;
     let kind = world.kind_named(word.bytes, word.quoted);
@@ -127,7 +127,7 @@ fn direction_of(word: Word) -> Option<Direction>
 
 /// The direction that the next word names, else MissingWord or BadDirection.
 pub fn direction_at(line: &[u8]) -> Result<Direction, LineFault>
-    ensures { Gives (λ x. x) result (direction_at (words line.now)) }
+    ensures { Agrees (λ x. x) result (direction_at (words line.now)) }
 {
     let (word, _) = word_at(line)?;
     direction_of(word).ok_or(LineFault::BadDirection)
@@ -139,7 +139,7 @@ pub fn units_of(
     alloc: Global,
     line: &[u8],
 ) -> Result<Result<Sequence<UnitRef>, LineFault>, AllocError>
-    ensures { IfOk result (λ read. Gives (λ units. units) read (units_of (words line.now))) }
+    ensures { IfOk result (λ read. Agrees (λ units. units) read (units_of (words line.now))) }
 {
     let mut units = Sequence::new(alloc);
     let mut rest = line;

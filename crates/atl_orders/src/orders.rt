@@ -2,9 +2,9 @@
 //! See docs/RULES.md, "Orders".
 ghost use Rattle.std.specs.Prelude.{◌≡◌, IfOk};
 ghost use Rattle.atl_orders.specs.Words.{words};
-ghost use Rattle.atl_orders.specs.Views.{word_text, Gives};
+ghost use Rattle.atl_orders.specs.Views.{word_text, Agrees};
 ghost use Rattle.atl_orders.specs.Positions.{IsCursor};
-ghost use Rattle.atl_orders.specs.Orders.{kind_of_name, named, order_value, said_by, read_flag, read_units, read_unit_and_number, read_unit_and_goods, read_name, read_kind, read_operands};
+ghost use Rattle.atl_orders.specs.Orders.{kind_of_name, named, order_value, read_order, read_flag, read_units, read_unit_and_number, read_unit_and_goods, read_name, read_kind, read_operands};
 
 use crate::fault::LineFault;
 use crate::operands::{
@@ -19,7 +19,8 @@ use std::alloc::{AllocError, Global};
 
 /// Reads the operands of a verb that takes a flag, 0 or 1, else MissingWord or BadNumber.
 fn read_flag(cursor: Cursor) -> Result<Operands, LineFault>
-    ensures { Gives (named cursor.entry.text.now) result (read_flag (words cursor.entry.rest.now)) }
+    ensures { Agrees (named cursor.entry.text.now) result
+        (read_flag (words cursor.entry.rest.now)) }
 {
     let (word, _) = word_at(cursor.rest)?;
     let flag = number(word.bytes, 1).ok_or(LineFault::BadNumber)?;
@@ -30,7 +31,7 @@ fn read_flag(cursor: Cursor) -> Result<Operands, LineFault>
 /// else MissingWord, BadNumber or BadAlias.
 fn read_units(alloc: Global, cursor: Cursor) -> Result<Result<Operands, LineFault>, AllocError>
     ensures { IfOk result (λ read.
-        Gives (named cursor.entry.text.now) read (read_units (words cursor.entry.rest.now))) }
+        Agrees (named cursor.entry.text.now) read (read_units (words cursor.entry.rest.now))) }
 {
     if next_word(cursor.rest).is_none() {
         return Ok(Err(LineFault::MissingWord));
@@ -41,7 +42,7 @@ fn read_units(alloc: Global, cursor: Cursor) -> Result<Result<Operands, LineFaul
 /// Reads the operands of a verb that takes a unit and a number; else MissingWord, BadNumber or
 /// BadAlias.
 fn read_unit_and_number(cursor: Cursor) -> Result<Operands, LineFault>
-    ensures { Gives (named cursor.entry.text.now) result
+    ensures { Agrees (named cursor.entry.text.now) result
         (read_unit_and_number (words cursor.entry.rest.now)) }
 {
     let (to, rest) = unit_at(cursor.rest)?;
@@ -52,7 +53,7 @@ fn read_unit_and_number(cursor: Cursor) -> Result<Operands, LineFault>
 /// Reads the operands of a verb that takes a unit, an amount and an item; else MissingWord,
 /// BadNumber, BadAlias or UnknownThing.
 fn read_unit_and_goods(world: &World, cursor: Cursor) -> Result<Operands, LineFault>
-    ensures { Gives (named cursor.entry.text.now) result
+    ensures { Agrees (named cursor.entry.text.now) result
         (read_unit_and_goods world.now (words cursor.entry.rest.now)) }
 {
     let (to, rest) = unit_at(cursor.rest)?;
@@ -83,7 +84,8 @@ fn kind_of_name(word: Word) -> Option<NameKind>
 #[tactic(auto, using(crate::proofs::WordLaws::ends_at_fits, crate::proofs::WordLaws::ends_at_further, crate::proofs::WordLaws::part_shorter, crate::proofs::WordLaws::ends_shorter))]
 fn read_name(cursor: Cursor) -> Result<Operands, LineFault>
     requires { IsCursor cursor }
-    ensures { Gives (named cursor.entry.text.now) result (read_name (words cursor.entry.rest.now)) }
+    ensures { Agrees (named cursor.entry.text.now) result
+        (read_name (words cursor.entry.rest.now)) }
 {
     let (kind, rest) = word_at(cursor.rest)?;
     let what = kind_of_name(kind).ok_or(LineFault::UnknownThing)?;
@@ -102,7 +104,7 @@ fn read_name(cursor: Cursor) -> Result<Operands, LineFault>
 
 /// Reads the operands of a verb that takes a kind of structure or nothing, else UnknownThing.
 fn read_kind(world: &World, cursor: Cursor) -> Result<Operands, LineFault>
-    ensures { Gives (named cursor.entry.text.now) result
+    ensures { Agrees (named cursor.entry.text.now) result
         (read_kind world.now (words cursor.entry.rest.now)) }
 {
     if next_word(cursor.rest).is_none() {
@@ -121,7 +123,7 @@ fn read_operands(
     cursor: Cursor,
 ) -> Result<Result<Operands, LineFault>, AllocError>
     requires { IsCursor cursor }
-    ensures { IfOk result (λ read. Gives (named cursor.entry.text.now) read
+    ensures { IfOk result (λ read. Agrees (named cursor.entry.text.now) read
         (read_operands world.now shape (words cursor.entry.rest.now))) }
 {
     match shape {
@@ -147,7 +149,7 @@ fn read_operands(
 
 /// The order that a verb and the words after it give, or the first fault of these words. After
 /// AllocError nothing is known of them.
-#[tactic(auto, unfolding(crate::specs::Orders::said_by))]
+#[tactic(auto, unfolding(crate::specs::Orders::read_order))]
 pub fn order_at(
     alloc: Global,
     world: &World,
@@ -155,8 +157,8 @@ pub fn order_at(
     cursor: Cursor,
 ) -> Result<Result<Order, LineFault>, AllocError>
     requires { IsCursor cursor }
-    ensures { IfOk result (λ read. Gives (order_value cursor.entry.text.now) read
-        (said_by world.now verb (words cursor.entry.rest.now))) }
+    ensures { IfOk result (λ read. Agrees (order_value cursor.entry.text.now) read
+        (read_order world.now verb (words cursor.entry.rest.now))) }
 {
     let operands = read_operands(alloc, world, verb.row().shape, cursor)?;
     Ok(operands.map(|operands| Order { verb, operands }))

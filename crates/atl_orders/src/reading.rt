@@ -5,7 +5,7 @@ ghost use Rattle.atl_orders.specs.Views.{alias_set, word_text, effect_of, step_o
 ghost use Rattle.atl_orders.specs.Words.{words};
 ghost use Rattle.atl_orders.specs.Positions.{IsCursor};
 ghost use Rattle.atl_orders.specs.Operands.{number_at};
-ghost use Rattle.atl_orders.specs.Orders.{said_by};
+ghost use Rattle.atl_orders.specs.Orders.{read_order};
 ghost use Rattle.atl_orders.specs.Reading.{is_plain, keyword_of, unit_step, end_step, form_step, target, order_effect, line_step};
 
 use crate::aliases::Aliases;
@@ -152,7 +152,7 @@ fn order_line(
 ) -> Result<LineResult, AllocError>
     requires { IsCursor cursor }
     ensures { IfOk result (λ outcome. effect_of cursor.entry.text.now outcome
-        ≡ order_effect (target state) (said_by world.now verb (words cursor.entry.rest.now))) }
+        ≡ order_effect (target state) (read_order world.now verb (words cursor.entry.rest.now))) }
 {
     let Some(unit) = target(state) else {
         return Ok(Faulty(LineFault::NoUnit));

@@ -113,7 +113,7 @@ const LISTED: [Verb; 20] = variants!(
 
 /// A verb's row of the order table and its keyword, and the verb that a word is.
 impl Verb {
-    ghost use Rattle.atl_orders.specs.Verbs.{keyword, listed, row_of, row_value, verb_of};
+    ghost use Rattle.atl_orders.specs.Verbs.{keyword, listed_verbs, row_of, row_value, verb_of};
 
     /// The verb's row of the order table.
     pub fn row(self) -> Row
@@ -152,8 +152,9 @@ impl Verb {
     }
 
     /// The verb other than FORM whose keyword a word is, in any case; `None` for any other word.
-    fn listed(word: Word) -> Option<Verb>
-        ensures { result ≡ find (λ verb. is_word (keyword verb) (word_text word.entry)) listed }
+    fn of_keyword(word: Word) -> Option<Verb>
+        ensures { result ≡ find (λ verb. is_word (keyword verb) (word_text word.entry))
+            listed_verbs }
     {
         let bytes = word.bytes;
         LISTED.iter().copied().find(|verb| bytes.eq_ignore_ascii_case(verb.keyword().as_bytes()))
@@ -167,6 +168,6 @@ impl Verb {
         if word.bytes.eq_ignore_ascii_case(b"BOARD") {
             return Some(Verb::Enter);
         }
-        Verb::listed(word)
+        Verb::of_keyword(word)
     }
 }

@@ -9,7 +9,7 @@ use Rattle.atl_records.specs.declared.books.BooksEntry.{BooksEntry}
 use Rattle.atl_records.specs.declared.books.Thing.{Thing}
 use Rattle.atl_records.specs.Books.{BooksValue, IsWithin, amount_in, after_booking, amount_number}
 use Rattle.atl_records.proofs.BookLaws.{amount-after_booking}
-use Rattle.atl_campaign.proofs.RegionLaws.{amount-other}
+use Rattle.atl_campaign.proofs.RegionLaws.{booking-other_amount}
 use Rattle.atl_phase.specs.Meaning.{BookBound, IsNear, moves_only}
 use Rattle.atl_phase.specs.Bounds.{HasRoom, amount_limit}
 use Rattle.atl_phase.proofs.MeaningLaws.{near_room}
@@ -22,8 +22,8 @@ near_by x y z n small h = elim h [
 ]
 
 -- for `booked-near`: an amount of the books that a booking leaves as it is moves by at most 0 (`IsNear`)
-near_same : (x y : ℤ) → y ≡ x → IsNear 0 x y
-near_same x y is = record { above = omega (arith, ints, is); below = omega (arith, ints, is) }
+near_if_equal : (x y : ℤ) → y ≡ x → IsNear 0 x y
+near_if_equal x y is = record { above = omega (arith, ints, is); below = omega (arith, ints, is) }
 
 module _ (books : BooksValue) (e : BooksEntry) (t : Thing) (z : ℤ) (n : ℕ) (small : IsWithin n z) where
   -- a booking of at most n in size moves the amount of entry e and thing t by at most n, and no other amount
@@ -34,7 +34,7 @@ module _ (books : BooksValue) (e : BooksEntry) (t : Thing) (z : ℤ) (n : ℕ) (
       -- by 0
       by_number : (b : Bool) → (amount_number f u == amount_number e t) ≡ b → IsNear (if b then n else 0) (amount_in books f u) (amount_in (after_booking books e t z) f u)
       by_number true is = near_by _ _ z n small (amount-after_booking books e t z f u)
-      by_number false is = near_same _ _ (amount-other books f e u t z (is_unequal _ _ is))
+      by_number false is = near_if_equal _ _ (booking-other_amount books f e u t z (is_unequal _ _ is))
 
   -- after a booking of at most n in size the books have room for the bound `next`, if before they had room for this
   -- bound, and for n besides on the booked amount

@@ -3,7 +3,7 @@
 use Rattle.std.proofs.Common.{◌≡◌, ◌≢◌, ℕ, Option, Some, None, refl, sym, ap, ◌∙◌}
 use Rattle.std.specs.Ordering.{nat_cmp}
 use Rattle.std.specs.FinMap.{FinMap, get, insert}
-use Rattle.atl_world.specs.Sums.{changed_at}
+use Rattle.atl_world.specs.Sums.{with_changed_option}
 use Rattle.atl_world.proofs.Maps.{insert_over}
 use Rattle.atl_world.proofs.SumLaws.{put_same}
 use Rattle.atl_records.specs.declared.records.Unit.{Unit}
@@ -24,40 +24,40 @@ pub changed_twice : (f g : Unit → Unit) (c : CampaignValue) (n : ℕ) → unit
 changed_twice f g c n = by_unit (get c.units n) refl
   where
     -- to change unit n by f and then by g is to change it once, by g after f, whether the unit is there or not
-    by_unit : (o : Option Unit) → get c.units n ≡ o → unit_changed g (record c { units = changed_at f c.units n o }) n ≡ record c { units = changed_at (λ u. g (f u)) c.units n o }
-    by_unit None is = ap (λ o. record c { units = changed_at g c.units n o }) is
+    by_unit : (o : Option Unit) → get c.units n ≡ o → unit_changed g (record c { units = with_changed_option f c.units n o }) n ≡ record c { units = with_changed_option (λ u. g (f u)) c.units n o }
+    by_unit None is = ap (λ o. record c { units = with_changed_option g c.units n o }) is
     by_unit (Some u) is =
-        ap (λ o. record c { units = changed_at g (insert c.units n (f u)) n o }) (get-insert_same c.units n (f u)) ∙ ap (λ m. record c { units = m }) (insert_over c.units n (f u) (g (f u)))
+        ap (λ o. record c { units = with_changed_option g (insert c.units n (f u)) n o }) (get-insert_same c.units n (f u)) ∙ ap (λ m. record c { units = m }) (insert_over c.units n (f u) (g (f u)))
 
 -- a change that leaves the unit as it is leaves the campaign as it is
-pub same_held : (c : CampaignValue) (n : ℕ) → unit_changed (λ u. u) c n ≡ c
-same_held c n = by_unit (get c.units n) refl
+pub identity_changes_nothing : (c : CampaignValue) (n : ℕ) → unit_changed (λ u. u) c n ≡ c
+identity_changes_nothing c n = by_unit (get c.units n) refl
   where
     -- a change that leaves unit n as it is leaves the campaign as it is, whether the unit is there or not
-    by_unit : (o : Option Unit) → get c.units n ≡ o → record c { units = changed_at (λ u. u) c.units n o } ≡ c
+    by_unit : (o : Option Unit) → get c.units n ≡ o → record c { units = with_changed_option (λ u. u) c.units n o } ≡ c
     by_unit None is = refl
     by_unit (Some u) is = ap (λ m. record c { units = m }) (put_same c.units n u u is refl)
 
 -- to change by f what unit n holds, if the unit is there, is to give it f of its holding (`with_holding_at`)
 pub changed_held : (f : HoldingValue → HoldingValue) (c d : CampaignValue) (n : ℕ) → d ≡ unit_changed (λ u. record u { holding = f u.holding }) c n → (u : Unit) → get c.units n ≡ Some u → d ≡ with_holding_at c n (f u.holding) (Some u)
-changed_held f c d n what u is = what ∙ ap (λ o. record c { units = changed_at (λ (v : Unit). record v { holding = f v.holding }) c.units n o }) is
+changed_held f c d n what u is = what ∙ ap (λ o. record c { units = with_changed_option (λ (v : Unit). record v { holding = f v.holding }) c.units n o }) is
 
 -- a change of unit n leaves every other unit as it is
-pub others_held : (f : Unit → Unit) (c : CampaignValue) (n k : ℕ) → k ≢ n → get (unit_changed f c n).units k ≡ get c.units k
-others_held f c n k apart = by_unit (get c.units n)
+pub change_keeps_others : (f : Unit → Unit) (c : CampaignValue) (n k : ℕ) → k ≢ n → get (unit_changed f c n).units k ≡ get c.units k
+change_keeps_others f c n k apart = by_unit (get c.units n)
   where
     -- a change of unit n leaves the other unit k as it is, whether unit n is there (`o`) or not
-    by_unit : (o : Option Unit) → get (changed_at f c.units n o) k ≡ get c.units k
+    by_unit : (o : Option Unit) → get (with_changed_option f c.units n o) k ≡ get c.units k
     by_unit None = refl
     by_unit (Some u) = get-insert_other c.units n k (f u) apart
 
 -- ---- what calls leave
 
--- if there is no unit n, a campaign that stays as it is counts as one in which the holding of unit n was changed by f
--- (`ChangesHolding`)
+-- an unchanged campaign counts as one in which the holding of unit n was changed by f (`ChangesHolding`), if it has no
+-- unit n
 pub nobody_changes : (c : MarkedCampaign) (n : ℕ) (f : HoldingValue → HoldingValue) → get c.value.units n ≡ None → ChangesHolding c c n f
 nobody_changes c n f none = record {
-  value = sym (ap (λ o. record c.value { units = changed_at (λ (u : Unit). record u { holding = f u.holding }) c.value.units n o }) none);
+  value = sym (ap (λ o. record c.value { units = with_changed_option (λ (u : Unit). record u { holding = f u.holding }) c.value.units n o }) none);
   marks = marks-refl c;
   goods = refl;
 }
@@ -82,12 +82,12 @@ then_changes a b d n f g one two = record {
   goods = two.goods ∙ one.goods;
 }
 
--- of what a unit holds, the items and the days, which changes of other fields leave as they are
-abbrev goods_of : HoldingValue → FinMap nat_cmp ℕ × FinMap nat_cmp ℕ
-goods_of h = (h.items, h.days)
+-- the items and the days of a holding, which changes of its other fields leave as they are
+abbrev items_and_days_of : HoldingValue → FinMap nat_cmp ℕ × FinMap nat_cmp ℕ
+items_and_days_of h = (h.items, h.days)
 
 -- a setter that changes neither items nor days, and marks the unit's row, marks all that it changes (`ChangesHolding`)
-row_changes : (f : HoldingValue → HoldingValue) → ((h : HoldingValue) → goods_of (f h) ≡ goods_of h) → (c d : MarkedCampaign) (n : ℕ)
+row_changes : (f : HoldingValue → HoldingValue) → ((h : HoldingValue) → items_and_days_of (f h) ≡ items_and_days_of h) → (c d : MarkedCampaign) (n : ℕ)
     → d.value ≡ unit_changed (λ u. record u { holding = f u.holding }) c.value n → d.marks ≡ mark_unit_row c n → ChangesHolding c d n f
 row_changes f same c d n what marks =
     let with_other : Unit → Unit = λ u. record u { holding = f u.holding } in

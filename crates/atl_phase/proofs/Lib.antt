@@ -1,12 +1,12 @@
 pub mod MapOfListLaws
 pub mod MonthLaws
-pub mod StandingLaws
+pub mod LastLineLaws
 pub mod MappedLaws
 pub mod OrderKeyLaws
 pub mod PickedLaws
 pub mod OrderIndexLaws
 pub mod PhaseOrderLaws
-pub mod StandOnceLaws
+pub mod OneOrderLaws
 pub mod FoldLaws
 pub mod MeaningLaws
 pub mod RoomLaws

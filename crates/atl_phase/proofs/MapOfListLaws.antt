@@ -20,7 +20,7 @@ use Rattle.atl_world.proofs.MappedLaws.{is_less}
 use Rattle.atl_campaign.proofs.KeyLaws.{IsDistinct-map}
 use Rattle.atl_phase.proofs.MappedLaws.{no_entries}
 
--- for `from_entries-permutation`: two look-ups are equal if each value that one finds the other finds too
+-- for `from_entries-permutation`: two look-ups are equal, if each finds every value that the other finds
 alike : {X : Type 0} (a b : Option X) → ((v : X) → a ≡ Some v → b ≡ Some v) → ((v : X) → b ≡ Some v → a ≡ Some v) → a ≡ b
 alike None None f g = refl
 alike None (Some w) f g = g w refl

@@ -37,8 +37,8 @@ pub near_room : (j k : ℕ) (a b : ℤ) → IsNear j a b → HasRoom (j + k) a �
 near_room j k a b near room = record { above = omega (arith, ints, near.above, room.above); below = omega (arith, ints, near.below, room.below) }
 
 -- an amount of the books with room for k has room for each j that is at most k
-pub less_room : (j k : ℕ) (a : ℤ) → j ≤ k → HasRoom k a → HasRoom j a
-less_room j k a l room = record { above = omega (arith, ints, room.above); below = omega (arith, ints, room.below) }
+pub amount_room_for_less : (j k : ℕ) (a : ℤ) → j ≤ k → HasRoom k a → HasRoom j a
+amount_room_for_less j k a l room = record { above = omega (arith, ints, room.above); below = omega (arith, ints, room.below) }
 
 -- the first bound is at most the second for each amount
 abbrev pub IsBoundWithin : BookBound → BookBound → Type 0
@@ -46,25 +46,25 @@ IsBoundWithin less more = (e : BooksEntry) (t : Thing) → less e t ≤ more e t
 
 -- books with room for a bound have room for another, if that is at most as great for each amount
 pub room_less : (j k : BookBound) (c : CampaignValue) → IsBoundWithin j k → HaveRoom k c → HaveRoom j c
-room_less j k c l room e t = less_room (j e t) (k e t) (amount_in c.books e t) (l e t) (room e t)
+room_less j k c l room e t = amount_room_for_less (j e t) (k e t) (amount_in c.books e t) (l e t) (room e t)
 
 -- the books of a sound campaign have room for any bound of at most 5*10^18
-pub room_when_sound : (w : WorldValue) (c : CampaignValue) (moving : BookBound) → IsBoundWithin moving (λ e t. 5000000000000000000) → IsSound w c → HaveRoom moving c
-room_when_sound w c moving l sound e t =
+pub room_when_sound : (w : WorldValue) (c : CampaignValue) (book_bound : BookBound) → IsBoundWithin book_bound (λ e t. 5000000000000000000) → IsSound w c → HaveRoom book_bound c
+room_when_sound w c book_bound l sound e t =
     let few : amount_bound c ≤ 3000000000000000000 = omega (arith, sound.steady.numbers.month, sound.steady.numbers.few_factions) in
-    within (amount_in c.books e t) (amount_bound c) (moving e t) few (l e t) (sound.amounts e t)
+    within (amount_in c.books e t) (amount_bound c) (book_bound e t) few (l e t) (sound.amounts e t)
   where
     -- for `room_when_sound`: an amount of at most 3*10^18 in size has room for a move of at most 5*10^18
     within : (a : ℤ) (bound change : ℕ) → bound ≤ 3000000000000000000 → change ≤ 5000000000000000000 → IsWithin bound a → HasRoom change a
     within a bound change few little h = record { above = omega (arith, ints, h.most); below = omega (arith, ints, h.least) }
 
 -- books with room for two phases have room for the second after the first, if that keeps its bound (`LeavesWell`)
-pub room_behind : {leaves : Condition} (j k : BookBound) (w : WorldValue) (c d : CampaignValue) → LeavesWell leaves j w c d → HaveRoom (both_move j k) c → HaveRoom k d
-room_behind j k w c d well room e t = near_room (j e t) (k e t) (amount_in c.books e t) (amount_in d.books e t) (well.near e t) (room e t)
+pub room_for_second : {leaves : Condition} (j k : BookBound) (w : WorldValue) (c d : CampaignValue) → LeavesWell leaves j w c d → HaveRoom (both_move j k) c → HaveRoom k d
+room_for_second j k w c d well room e t = near_room (j e t) (k e t) (amount_in c.books e t) (amount_in d.books e t) (well.near e t) (room e t)
 
 -- ---- the same month
 
--- of a campaign, the number of the month last closed, and the reports
+-- the number of the month last closed and the reports of a campaign
 abbrev pub counted_month : CampaignValue → ℕ × FinMap nat_cmp (List ℕ)
 counted_month c = (c.month, c.reports)
 
@@ -119,30 +119,31 @@ both_keep_well first early late w m n a b c is one two = rw (sym is) (one, two)
 pub well_within : {leaves : Condition} (j k : BookBound) (w : WorldValue) (a b : CampaignValue) → IsBoundWithin j k → LeavesWell leaves j w a b → LeavesWell leaves k w a b
 well_within j k w a b l h = record { leaves_it = h.leaves_it; same_month = h.same_month; balances = h.balances; near = λ e t. near_more (j e t) (k e t) (amount_in a.books e t) (amount_in b.books e t) (l e t) (h.near e t) }
 
--- a phase that changes nothing keeps the books in balance and within any bound (`LeavesWell`), if `leaves` holds of c
-pub well_unchanged : {leaves : Condition} (moving : BookBound) (w : WorldValue) (c : CampaignValue) → leaves w c → LeavesWell leaves moving w c c
-well_unchanged moving w c h = record { leaves_it = h; same_month = same_month c; balances = λ b. b; near = λ e t. near_same (moving e t) (amount_in c.books e t) }
+-- a phase that changes nothing keeps the books in balance and within any bound (`LeavesWell`), if `leaves` holds of the
+-- campaign
+pub well_unchanged : {leaves : Condition} (book_bound : BookBound) (w : WorldValue) (c : CampaignValue) → leaves w c → LeavesWell leaves book_bound w c c
+well_unchanged book_bound w c h = record { leaves_it = h; same_month = same_month c; balances = λ b. b; near = λ e t. near_same (book_bound e t) (amount_in c.books e t) }
 
 -- steps of one kind in turn, each of which keeps the books in balance and within one bound (`LeavesWell`)
-module _ {A : Type 0} {leaves : Condition} (moving : BookBound) (w : WorldValue) (step : CampaignValue → A → CampaignValue) (each : (c : CampaignValue) (x : A) → leaves w c → LeavesWell leaves moving w c (step c x)) where
+module _ {A : Type 0} {leaves : Condition} (book_bound : BookBound) (w : WorldValue) (step : CampaignValue → A → CampaignValue) (each : (c : CampaignValue) (x : A) → leaves w c → LeavesWell leaves book_bound w c (step c x)) where
   -- the bound of one step, added to that of the steps `xs`, is at most the bound of x and these steps together
-  more : {B : Type 0} (x : B) (xs : List B) → IsBoundWithin (both_move moving (moved_times (length xs) moving)) (moved_times (length (x ∷ xs)) moving)
-  more x xs e t = let one : length (x ∷ xs) * moving e t ≡ length xs * moving e t + moving e t = suc-mul (length xs) (moving e t) in omega arith
+  more : {B : Type 0} (x : B) (xs : List B) → IsBoundWithin (both_move book_bound (moved_times (length xs) book_bound)) (moved_times (length (x ∷ xs)) book_bound)
+  more x xs e t = let one : length (x ∷ xs) * book_bound e t ≡ length xs * book_bound e t + book_bound e t = suc-mul (length xs) (book_bound e t) in omega arith
 
   -- steps in turn keep books balanced and within their number times one step's bound, if each does so (`LeavesWell`)
-  pub fold_leaves_well : (c : CampaignValue) (xs : List A) → leaves w c → LeavesWell leaves (moved_times (length xs) moving) w c (fold step c xs)
-  fold_leaves_well c [] h = well_unchanged (moved_times 0 moving) w c h
+  pub fold_leaves_well : (c : CampaignValue) (xs : List A) → leaves w c → LeavesWell leaves (moved_times (length xs) book_bound) w c (fold step c xs)
+  fold_leaves_well c [] h = well_unchanged (moved_times 0 book_bound) w c h
   fold_leaves_well c (x ∷ xs) h =
       let one = each c x h in
-      well_within (both_move moving (moved_times (length xs) moving)) (moved_times (length (x ∷ xs)) moving) w c (fold step (step c x) xs) (more x xs)
-      (both_leave_well moving (moved_times (length xs) moving) w c (step c x) (fold step (step c x) xs) one (fold_leaves_well (step c x) xs one.leaves_it))
+      well_within (both_move book_bound (moved_times (length xs) book_bound)) (moved_times (length (x ∷ xs)) book_bound) w c (fold step (step c x) xs) (more x xs)
+      (both_leave_well book_bound (moved_times (length xs) book_bound) w c (step c x) (fold step (step c x) xs) one (fold_leaves_well (step c x) xs one.leaves_it))
 
   -- books with room for one or more steps together have room for the first of them
-  pub room_for_one : {B : Type 0} (c : CampaignValue) (y : B) (ys : List B) → HaveRoom (moved_times (length (y ∷ ys)) moving) c → HaveRoom moving c
-  room_for_one c y ys room = room_less moving (moved_times (length (y ∷ ys)) moving) c (λ e t. omega (arith, more y ys e t)) room
+  pub room_for_one : {B : Type 0} (c : CampaignValue) (y : B) (ys : List B) → HaveRoom (moved_times (length (y ∷ ys)) book_bound) c → HaveRoom book_bound c
+  room_for_one c y ys room = room_less book_bound (moved_times (length (y ∷ ys)) book_bound) c (λ e t. omega (arith, more y ys e t)) room
 
   -- after the first of some steps, the books have room for the other steps, if they had room for all before
-  pub room_behind_one : {B : Type 0} (c : CampaignValue) (x : A) (y : B) (ys : List B) → leaves w c → HaveRoom (moved_times (length (y ∷ ys)) moving) c → HaveRoom (moved_times (length ys) moving) (step c x)
-  room_behind_one c x y ys h room =
-      room_behind moving (moved_times (length ys) moving) w c (step c x) (each c x h)
-      (room_less (both_move moving (moved_times (length ys) moving)) (moved_times (length (y ∷ ys)) moving) c (more y ys) room)
+  pub room_after_one : {B : Type 0} (c : CampaignValue) (x : A) (y : B) (ys : List B) → leaves w c → HaveRoom (moved_times (length (y ∷ ys)) book_bound) c → HaveRoom (moved_times (length ys) book_bound) (step c x)
+  room_after_one c x y ys h room =
+      room_for_second book_bound (moved_times (length ys) book_bound) w c (step c x) (each c x h)
+      (room_less (both_move book_bound (moved_times (length ys) book_bound)) (moved_times (length (y ∷ ys)) book_bound) c (more y ys) room)

@@ -55,16 +55,16 @@ found_at ms f i d rise h tie =
     ∙ ap (λ k. lookup (eq_by_cmp nat_cmp k) es) (sym (nat_cmp-IsAntisymmetric m.faction f tie))
     ∙ lookup-from_Contains (eq_by_cmp_equiv nat_cmp_total) m.faction (reading_of m) es (IsDistinct-map (λ (e : ℕ × Reading). e.0) (eq_by_cmp nat_cmp) es apart) there
 
--- if the search ends between mailings of lesser and of greater factions, the map has no reading of the faction
-pub missing : (ms : List Mailing) (f i : ℕ) → IsPartitionPoint (λ m. nat_cmp m.faction f ≡ Less) (λ m. nat_cmp m.faction f ≡ Greater) ms i → get (by_faction (map reading_of ms)) f ≡ None
-missing ms f i h =
+-- the map has no reading of a faction, if the search for it ends between mailings of lesser and of greater factions
+pub no_reading_found : (ms : List Mailing) (f i : ℕ) → IsPartitionPoint (λ m. nat_cmp m.faction f ≡ Less) (λ m. nat_cmp m.faction f ≡ Greater) ms i → get (by_faction (map reading_of ms)) f ≡ None
+no_reading_found ms f i h =
     ap (λ (c : FinMap nat_cmp Reading). get c f) (by_faction_is ms) ∙ get-from_entries nat_cmp_total (map under_faction ms) f
     ∙ found_nowhere (λ ns. find nat_cmp f (map under_faction ns)) (λ m. eq_by_cmp nat_cmp f m.faction) (λ m. Some (reading_of m)) None refl (λ m ns. refl) ms no_mailing (λ k l.
     (eq_by_cmp_equiv nat_cmp_total).symm f (get_or ms k no_mailing).faction
     ∙ ⊎_elim (λ b. ap is_eq (h.0 k no_mailing (omega arith) b)) (λ b. ap is_eq (h.1 k no_mailing b l)) (cases_lt k i))
 
--- mailings sorted by faction can be searched by halves for a faction
-pub searchable : (ms : List Mailing) (f : ℕ) → AreByFaction ms → IsNonDecreasingBy (λ m. ordering_index (nat_cmp m.faction f)) ms
-searchable ms f rise = searchable_from_sorted nat_cmp_total (λ m. m.faction) ms f (λ k d low h.
+-- mailings sorted by faction can be searched for a faction by binary search
+pub mailings_are_searchable : (ms : List Mailing) (f : ℕ) → AreByFaction ms → IsNonDecreasingBy (λ m. ordering_index (nat_cmp m.faction f)) ms
+mailings_are_searchable ms f rise = searchable_from_sorted nat_cmp_total (λ m. m.faction) ms f (λ k d low h.
     ap is_lt (nat_cmp_total.antisymm (get_or ms (k + 1) d).faction (get_or ms k d).faction)
     ∙ ap (λ r. is_lt (ordering_reverse r)) (Less-from_sorted (λ (a b : Mailing). nat_cmp a.faction b.faction) ms k (k + 1) d rise (omega arith) h))

@@ -1,5 +1,5 @@
--- Laws of being no worse off (`IsNoWorse`: in the same place, with the same name and guard flag, and nothing lost):
--- it is reflexive and transitive, for a unit and for all units of a campaign.
+-- Laws of being no worse off (`IsNoWorse`: in the same place, with the same name and guard flag, and nothing lost). It
+-- is reflexive and transitive, for a unit and for all units of a campaign.
 use Rattle.std.proofs.Common.{refl, ◌∙◌, arith}
 use Rattle.atl_records.specs.declared.records.Unit.{Unit}
 use Rattle.atl_campaign.specs.Campaign.{CampaignValue}
@@ -31,5 +31,5 @@ are_no_worse c n u there = (u, there, no_worse u)
 pub are_no_worse_twice : (a b c : CampaignValue) → AreNoWorse a b → AreNoWorse b c → AreNoWorse a c
 are_no_worse_twice a b c one two n u there =
     let (v, between, first) = one n u there in
-    let (x, behind, second) = two n v between in
-    (x, behind, no_worse_twice u v x first second)
+    let (x, after, second) = two n v between in
+    (x, after, no_worse_twice u v x first second)

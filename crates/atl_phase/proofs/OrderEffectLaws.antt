@@ -1,7 +1,7 @@
--- Laws of a phase that carries out its orders one by one: what holds after it, and which units it spares. The remaining
--- bound of an amount of the books is how far the amount may still move. In an orderly phase (`IsOrderly`) each order
--- keeps `holds` true, the month and the books' balance, and moves no amount further than its remaining bound falls.
--- Each order leaves the units that it doesn't concern as `spares` says.
+-- Laws of a phase that carries out its orders one by one: what holds after it, and which units it leaves alone. The
+-- remaining bound of an amount of the books is how far the amount may still move. In an orderly phase (`IsOrderly`)
+-- each order keeps `holds` true, the month and the books' balance, and moves no amount further than its remaining bound
+-- falls. Each order leaves the units that it doesn't affect as `unaffected` says.
 use Rattle.std.proofs.Common.{suc, zero, ◌≡◌, ◌==◌, ◌+◌, ℕ, ◌≤◌, Bool, true, false, List, [], ◌∷◌, Option, Some, None, refl, sym, ap, subst, arith}
 use Rattle.std.proofs.lemmas.Option.{same_Some}
 use Rattle.std.specs.Prelude.{ℤ, fold, IfSome, if◌then◌else◌}
@@ -49,8 +49,8 @@ pub bound_used_twice : (r s t : ℕ) (a b c : ℤ) → UsesBound r s a b → Use
 bound_used_twice r s t a b c one two = record { above = omega (arith, ints, one.above, two.above); below = omega (arith, ints, one.below, two.below) }
 
 -- an amount that moves by at most x moves by no more than its remaining bound falls (`UsesBound`), if that falls by x
-pub bound_used_near : (x reserve left : ℕ) (a b : ℤ) → left + x ≡ reserve → IsNear x a b → UsesBound reserve left a b
-bound_used_near x reserve left a b e near = record { above = omega (arith, ints, e, near.above); below = omega (arith, ints, e, near.below) }
+pub bound_used_near : (x remaining left : ℕ) (a b : ℤ) → left + x ≡ remaining → IsNear x a b → UsesBound remaining left a b
+bound_used_near x remaining left a b e near = record { above = omega (arith, ints, e, near.above); below = omega (arith, ints, e, near.below) }
 
 -- an amount that moves by at most what its remaining bound r falls moves by at most `most`, if r is at most `most`
 near_by_bound : (r s most : ℕ) (a b : ℤ) → r ≤ most → UsesBound r s a b → IsNear most a b
@@ -64,61 +64,61 @@ room_after_use r s a b h room = record { above = omega (arith, ints, h.above, ro
 
 -- a step that changes nothing keeps `holds` true, the month and the books' balance, and uses nothing of the remaining
 -- bound (`StepsWell`)
-pub well_same : {holds : Condition} {reserve : RemainingBound} (w : WorldValue) (c : CampaignValue) → holds w c → StepsWell holds reserve w c c
-well_same {holds} {reserve} w c h = record { holds_still = h; same_month = same_month c; balances = λ b. b; uses_bound = λ e t. bound_unused (reserve c e t) (amount_in c.books e t) }
+pub well_same : {holds : Condition} {remaining : RemainingBound} (w : WorldValue) (c : CampaignValue) → holds w c → StepsWell holds remaining w c c
+well_same {holds} {remaining} w c h = record { holds_still = h; same_month = same_month c; balances = λ b. b; uses_bound = λ e t. bound_unused (remaining c e t) (amount_in c.books e t) }
 
 -- two steps in turn, which each keep `holds`, month and balance and move the books within their bound, do so together
 -- (`StepsWell`)
-pub well_twice : {holds : Condition} {reserve : RemainingBound} (w : WorldValue) (a b c : CampaignValue) → StepsWell holds reserve w a b → StepsWell holds reserve w b c → StepsWell holds reserve w a c
-well_twice {holds} {reserve} w a b c one two = record {
+pub well_twice : {holds : Condition} {remaining : RemainingBound} (w : WorldValue) (a b c : CampaignValue) → StepsWell holds remaining w a b → StepsWell holds remaining w b c → StepsWell holds remaining w a c
+well_twice {holds} {remaining} w a b c one two = record {
   holds_still = two.holds_still;
   same_month = same_month_twice a b c one.same_month two.same_month;
   balances = λ h. two.balances (one.balances h);
-  uses_bound = λ e t. bound_used_twice (reserve a e t) (reserve b e t) (reserve c e t) (amount_in a.books e t) (amount_in b.books e t) (amount_in c.books e t) (one.uses_bound e t) (two.uses_bound e t);
+  uses_bound = λ e t. bound_used_twice (remaining a e t) (remaining b e t) (remaining c e t) (amount_in a.books e t) (amount_in b.books e t) (amount_in c.books e t) (one.uses_bound e t) (two.uses_bound e t);
 }
 
 -- books with room for the remaining bound have room, after a step within it (`StepsWell`), for what remains of it
-pub room_left : {holds : Condition} {reserve : RemainingBound} (w : WorldValue) (a b : CampaignValue) → StepsWell holds reserve w a b → HaveRoom (reserve a) a → HaveRoom (reserve b) b
-room_left {holds} {reserve} w a b well room e t = room_after_use (reserve a e t) (reserve b e t) (amount_in a.books e t) (amount_in b.books e t) (well.uses_bound e t) (room e t)
+pub room_left : {holds : Condition} {remaining : RemainingBound} (w : WorldValue) (a b : CampaignValue) → StepsWell holds remaining w a b → HaveRoom (remaining a) a → HaveRoom (remaining b) b
+room_left {holds} {remaining} w a b well room e t = room_after_use (remaining a e t) (remaining b e t) (amount_in a.books e t) (amount_in b.books e t) (well.uses_bound e t) (room e t)
 
 -- a step that keeps `holds`, month and balance, and moves amounts within their remaining bounds (`StepsWell`), moves
 -- them within the phase's bounds (`LeavesWell`), if these are at least as large
-pub leaves_well : {holds : Condition} {reserve : RemainingBound} {moving : BookBound} (w : WorldValue) (a b : CampaignValue) → ((e : BooksEntry) (t : Thing) → reserve a e t ≤ moving e t) → StepsWell holds reserve w a b → LeavesWell holds moving w a b
-leaves_well {holds} {reserve} {moving} w a b l h = record {
+pub leaves_well : {holds : Condition} {remaining : RemainingBound} {book_bound : BookBound} (w : WorldValue) (a b : CampaignValue) → ((e : BooksEntry) (t : Thing) → remaining a e t ≤ book_bound e t) → StepsWell holds remaining w a b → LeavesWell holds book_bound w a b
+leaves_well {holds} {remaining} {book_bound} w a b l h = record {
   leaves_it = h.holds_still;
   same_month = h.same_month;
   balances = h.balances;
-  near = λ e t. near_by_bound (reserve a e t) (reserve b e t) (moving e t) (amount_in a.books e t) (amount_in b.books e t) (l e t) (h.uses_bound e t);
+  near = λ e t. near_by_bound (remaining a e t) (remaining b e t) (book_bound e t) (amount_in a.books e t) (amount_in b.books e t) (l e t) (h.uses_bound e t);
 }
 
 -- ---- what stays
 
 -- to be no worse off (`IsNoWorse`) is reflexive and transitive, and keeps the faction
-pub no_worse_spares : IsUnaffectedRelation IsNoWorse
-no_worse_spares = record { same = no_worse; transitive = no_worse_twice; faction = λ u v h. h.faction }
+pub no_worse_is_relation : IsUnaffectedRelation IsNoWorse
+no_worse_is_relation = record { same = no_worse; transitive = no_worse_twice; faction = λ u v h. h.faction }
 
 -- ---- orders
 
 -- P holds of the result of a faction's order, if it holds of NotYours with the campaign as it was, and of the order's
 -- effect on a unit of the faction
-pub carried_cases : (P : CampaignValue × Outcome → Type 0) (deed : OrderEffect) (c : CampaignValue) (faction n : ℕ) → P (c, Fault 1) → ((u : Unit) → get c.units n ≡ Some u → u.faction ≡ faction → P (deed c u)) → P (faction_effect deed c faction n)
-carried_cases P deed c faction n other own = by_unit (get c.units n) refl
+pub carried_cases : (P : CampaignValue × Outcome → Type 0) (effect : OrderEffect) (c : CampaignValue) (faction n : ℕ) → P (c, Fault 1) → ((u : Unit) → get c.units n ≡ Some u → u.faction ≡ faction → P (effect c u)) → P (faction_effect effect c faction n)
+carried_cases P effect c faction n other own = by_unit (get c.units n) refl
   where
     -- for `carried_cases`: P holds of the result of an order for unit u, whether u is of the faction (`b`) or not
-    by_faction : (u : Unit) → get c.units n ≡ Some u → (b : Bool) → (u.faction == faction) ≡ b → P (effect_on deed c (if b then Some u else None))
+    by_faction : (u : Unit) → get c.units n ≡ Some u → (b : Bool) → (u.faction == faction) ≡ b → P (effect_on effect c (if b then Some u else None))
     by_faction u there true is = own u there (is_equal u.faction faction is)
     by_faction u there false is = other
 
     -- for `carried_cases`: P holds of the result of an order for unit n, whether unit n is there (`o`) or not
-    by_unit : (o : Option Unit) → get c.units n ≡ o → P (effect_on deed c (of_faction faction o))
+    by_unit : (o : Option Unit) → get c.units n ≡ o → P (effect_on effect c (of_faction faction o))
     by_unit None there = other
     by_unit (Some u) there = by_faction u there (u.faction == faction) refl
 
 -- P holds of the campaign after an order, if P holds of the campaign before the order, and of the campaign that the
 -- order's effect on a unit of its writer's faction makes
-pub ordered_cases : (P : CampaignValue → Type 0) (step : Option OrderEffect) (c : CampaignValue) (t : Task) → P c → ((x : Unit) → IsUnitOf c t x → IfSome step (λ deed. P (deed c x).0)) → P (order_result step c t.faction t.unit).0
+pub ordered_cases : (P : CampaignValue → Type 0) (step : Option OrderEffect) (c : CampaignValue) (t : Task) → P c → ((x : Unit) → IsUnitOf c t x → IfSome step (λ effect. P (effect c x).0)) → P (order_result step c t.faction t.unit).0
 ordered_cases P None c t same done = same
-ordered_cases P (Some deed) c t same done = carried_cases (λ p. P p.0) deed c t.faction t.unit same (λ x there faction. done x (record { there = there; faction = faction }))
+ordered_cases P (Some effect) c t same done = carried_cases (λ p. P p.0) effect c t.faction t.unit same (λ x there faction. done x (record { there = there; faction = faction }))
 
 -- the result of an order that isn't passed over, given as a campaign and an outcome: the outcome is put in `Some`
 abbrev with_some : CampaignValue × Outcome → CampaignValue × Option Outcome
@@ -126,38 +126,38 @@ with_some p = (p.0, Some p.1)
 
 -- the campaign and the outcome that an order's effect makes are the order's result, with the outcome in `Some`, if the
 -- phase doesn't pass the order over
-pub result_of_effect : (deed : OrderEffect) (c d : CampaignValue) (faction n : ℕ) (o : Outcome) → (d, o) ≡ faction_effect deed c faction n → (d, Some o) ≡ order_result (Some deed) c faction n
-result_of_effect deed c d faction n o is = ap with_some is
+pub result_of_effect : (effect : OrderEffect) (c d : CampaignValue) (faction n : ℕ) (o : Outcome) → (d, o) ≡ faction_effect effect c faction n → (d, Some o) ≡ order_result (Some effect) c faction n
+result_of_effect effect c d faction n o is = ap with_some is
 
-module _ (step : OrderMeaning) {holds : Condition} {reserve : RemainingBound} {moving : BookBound} {concerns : Affects} {spares : Unaffected} (orderly : IsOrderly step holds reserve moving concerns spares) (w : WorldValue) where
+module _ (step : OrderMeaning) {holds : Condition} {remaining : RemainingBound} {book_bound : BookBound} {affects : Affects} {unaffected : Unaffected} (orderly : IsOrderly step holds remaining book_bound affects unaffected) (w : WorldValue) where
   -- an order of a phase that is `IsOrderly` keeps `holds` true, the month and the books' balance, and moves no amount
   -- further than its remaining bound falls (`StepsWell`)
-  pub order_well : (a : Aliases) (c : CampaignValue) (t : Task) → holds w c → IsOrderOf w t.order_value → StepsWell holds reserve w c (order_result (step w a t) c t.faction t.unit).0
-  order_well a c t h fit = ordered_cases (StepsWell holds reserve w c) (step w a t) c t (well_same w c h) (λ x own. orderly.well w a c t x h fit own)
+  pub order_well : (a : Aliases) (c : CampaignValue) (t : Task) → holds w c → IsOrderOf w t.order_value → StepsWell holds remaining w c (order_result (step w a t) c t.faction t.unit).0
+  order_well a c t h fit = ordered_cases (StepsWell holds remaining w c) (step w a t) c t (well_same w c h) (λ x own. orderly.well w a c t x h fit own)
 
-  -- each unit that an order doesn't concern is there after it, and `spares` relates what it was to what it is then, if
-  -- `holds` is true before the order, and its phase is `IsOrderly`
-  order_spares : (a : Aliases) (c : CampaignValue) (t : Task) → holds w c → (n : ℕ) (u : Unit) → get c.units n ≡ Some u → (concerns t n u.faction → ⊥) → IsUnaffected spares (order_result (step w a t) c t.faction t.unit).0 n u
-  order_spares a c t h n u there other =
-      ordered_cases (λ d. IsUnaffected spares d n u) (step w a t) c t (record { unit = u; there = there; spared = orderly.spares_is_relation.same u }) (λ x own. orderly.spared w a c t x h own n u there other)
+  -- each unit that an order doesn't affect is there after it, and `unaffected` relates what it was to what it is then,
+  -- if `holds` is true before the order, and its phase is `IsOrderly`
+  order_leaves_others : (a : Aliases) (c : CampaignValue) (t : Task) → holds w c → (n : ℕ) (u : Unit) → get c.units n ≡ Some u → (affects t n u.faction → ⊥) → IsUnaffected unaffected (order_result (step w a t) c t.faction t.unit).0 n u
+  order_leaves_others a c t h n u there other =
+      ordered_cases (λ d. IsUnaffected unaffected d n u) (step w a t) c t (record { unit = u; there = there; is_unaffected = orderly.unaffected_is_relation.same u }) (λ x own. orderly.is_unaffected w a c t x h own n u there other)
 
-  -- a unit that none of some orders concerns is there after them, and `spares` relates what it was to what it is then,
-  -- if `holds` is true before, the orders can be read with the world, and their phase is `IsOrderly`
-  orders_spare_one : (c : CampaignValue) (m : MonthValue) (ts : List Task) → holds w c → AllByRecursion (λ t. IsOrderOf w t.order_value) ts → (n : ℕ) (u : Unit) → get c.units n ≡ Some u → AllByRecursion (λ t. concerns t n u.faction → ⊥) ts
-      → IsUnaffected spares (fold (one_order step w) (c, m) ts).0 n u
-  orders_spare_one c m [] h fit n u there others = record { unit = u; there = there; spared = orderly.spares_is_relation.same u }
-  orders_spare_one c m (t ∷ ts) h fit n u there others =
+  -- A unit that none of some orders affects is there after them, and `unaffected` relates what it was to what it is
+  -- then. For this `holds` is true before, the orders can be read with the world, and their phase is `IsOrderly`.
+  orders_leave_other : (c : CampaignValue) (m : MonthValue) (ts : List Task) → holds w c → AllByRecursion (λ t. IsOrderOf w t.order_value) ts → (n : ℕ) (u : Unit) → get c.units n ≡ Some u → AllByRecursion (λ t. affects t n u.faction → ⊥) ts
+      → IsUnaffected unaffected (fold (one_order step w) (c, m) ts).0 n u
+  orders_leave_other c m [] h fit n u there others = record { unit = u; there = there; is_unaffected = orderly.unaffected_is_relation.same u }
+  orders_leave_other c m (t ∷ ts) h fit n u there others =
       let next = one_order step w (c, m) t in
-      let one = order_spares m.aliases c t h n u there others.0 in
-      let same_faction = orderly.spares_is_relation.faction u one.unit one.spared in
-      let rest = orders_spare_one next.0 next.1 ts (order_well m.aliases c t h fit.0).holds_still fit.1 n one.unit one.there (subst (λ f. AllByRecursion (λ t. concerns t n f → ⊥) ts) (sym same_faction) others.1) in
-      record { unit = rest.unit; there = rest.there; spared = orderly.spares_is_relation.transitive u one.unit rest.unit one.spared rest.spared }
+      let one = order_leaves_others m.aliases c t h n u there others.0 in
+      let same_faction = orderly.unaffected_is_relation.faction u one.unit one.is_unaffected in
+      let rest = orders_leave_other next.0 next.1 ts (order_well m.aliases c t h fit.0).holds_still fit.1 n one.unit one.there (subst (λ f. AllByRecursion (λ t. affects t n f → ⊥) ts) (sym same_faction) others.1) in
+      record { unit = rest.unit; there = rest.there; is_unaffected = orderly.unaffected_is_relation.transitive u one.unit rest.unit one.is_unaffected rest.is_unaffected }
 
-  -- each unit that none of some orders concerns is there after them, and `spares` relates what it was to what it is
-  -- then, if `holds` is true before, the orders can be read with the world, and their phase is `IsOrderly`
-  pub orders_spare : (c : CampaignValue) (m : MonthValue) (ts : List Task) → holds w c → All (λ t. IsOrderOf w t.order_value) ts → AreUnaffected concerns spares ts c (fold (one_order step w) (c, m) ts).0
-  orders_spare c m ts h fit n u there others =
-      orders_spare_one c m ts h (recursion_from_All (λ t. IsOrderOf w t.order_value) ts fit) n u there (recursion_from_All (λ t. concerns t n u.faction → ⊥) ts others)
+  -- Each unit that none of some orders affects is there after them, and `unaffected` relates what it was to what it is
+  -- then. For this `holds` is true before, the orders can be read with the world, and their phase is `IsOrderly`.
+  pub orders_leave_others : (c : CampaignValue) (m : MonthValue) (ts : List Task) → holds w c → All (λ t. IsOrderOf w t.order_value) ts → AreUnaffected affects unaffected ts c (fold (one_order step w) (c, m) ts).0
+  orders_leave_others c m ts h fit n u there others =
+      orders_leave_other c m ts h (recursion_from_All (λ t. IsOrderOf w t.order_value) ts fit) n u there (recursion_from_All (λ t. affects t n u.faction → ⊥) ts others)
 
 -- ---- the orders of a phase
 
@@ -175,7 +175,7 @@ module _ (w : WorldValue) where
   module _ (aliases : Aliases) (readings : FinMap nat_cmp Reading) (fit : AreFit w readings) where
     -- an order in a mailing is in bounds for the world (`IsOrderOf`), if each faction's reading is (`AreFit`)
     in_mailing_in_bounds : (t : Task) → IsInMailing aliases readings t → IsOrderOf w t.order_value
-    in_mailing_in_bounds t h = subst (IsOrderOf w) h.says (entry_fit h.reading t.place h.entry (fit t.faction h.reading h.of_faction) h.at_place)
+    in_mailing_in_bounds t h = subst (IsOrderOf w) h.says (entry_fit h.reading t.index h.entry (fit t.faction h.reading h.of_faction) h.at_index)
 
     -- each order of a phase can be read with the world, if the mailings can
     pub orders_fit : (is_of : Verb → Bool) → All (λ t. IsOrderOf w t.order_value) (values (orders_of is_of ByUnit aliases readings))

@@ -10,11 +10,11 @@ use Rattle.atl_orders.specs.Mailing.{entry_value, reading_of}
 use Rattle.atl_orders.specs.Verbs.{row_of}
 use Rattle.atl_phase.specs.declared.order_indices.OrderIndex.{OrderIndex}
 use Rattle.atl_phase.specs.Month.{Aliases}
-use Rattle.atl_phase.specs.PhaseOrders.{Task, stands, stands_in, tasks_for, tasks_from, tasks_of, unit_of}
-use Rattle.atl_phase.specs.OrderIndices.{AddsMailing, AreLastLines, IsThere, Lines, all_tasks, every_verb, mailing_at, no_entry, no_mailing, stands_by, task_at, tasks_at}
+use Rattle.atl_phase.specs.PhaseOrders.{Task, order_counts, counts_in_slot, tasks_for, tasks_from, tasks_of, unit_of}
+use Rattle.atl_phase.specs.OrderIndices.{AddsMailing, AreLastLines, IsThere, LastLineMap, all_tasks, every_verb, mailing_at, no_entry, no_mailing, counts_by_lines, task_at, tasks_at}
 
 -- an order counts by the greatest lines noted of its mailing exactly if it counts among the mailing's orders
-by_lines : (ts : List Task) (lines : Lines) (t : Task) → AreLastLines ts lines → (o : Option Slot) → stands_by lines t.unit t.line o ≡ stands_in ts t o
+by_lines : (ts : List Task) (lines : LastLineMap) (t : Task) → AreLastLines ts lines → (o : Option Slot) → counts_by_lines lines t.unit t.line o ≡ counts_in_slot ts t o
 by_lines ts lines t last None = refl
 by_lines ts lines t last (Some slot) = ap (λ n. t.line == n) (last slot t.unit)
 
@@ -29,19 +29,19 @@ module _ (aliases : Aliases) (ms : List Mailing) (at : ℕ) where
 
   -- the orders of the mailing that count, from index i on
   abbrev pub rest_from : ℕ → List Task
-  rest_from i = filter (stands (tasks_at aliases ms at)) (tasks_from aliases read.faction i (map (entry_value read.text) (drop i read.entries)))
+  rest_from i = filter (order_counts (tasks_at aliases ms at)) (tasks_from aliases read.faction i (map (entry_value read.text) (drop i read.entries)))
 
   -- the `OrderIndex` of the order at an index of the mailing
   abbrev place_of : ℕ → OrderIndex
-  place_of i = record { unit = unit_of aliases read.faction (entry_at i).target; line = (entry_at i).line; faction = read.faction; mailing = at; place = i }
+  place_of i = record { unit = unit_of aliases read.faction (entry_at i).target; line = (entry_at i).line; faction = read.faction; mailing = at; index = i }
 
   -- whether the order at index i of the mailing counts
   abbrev counts : ℕ → Bool
-  counts i = stands (tasks_at aliases ms at) (task_at ms (place_of i))
+  counts i = order_counts (tasks_at aliases ms at) (task_at ms (place_of i))
 
   -- the orders that count from index i on are the one at i, if it counts, and those from i + 1 on
   opened : (i : ℕ) → i < length read.entries → rest_from i ≡ cond (counts i) (task_at ms (place_of i) ∷ rest_from (i + 1)) (rest_from (i + 1))
-  opened i h = ap (λ es. filter (stands (tasks_at aliases ms at)) (tasks_from aliases read.faction i (map (entry_value read.text) es))) (drop_more read.entries i no_entry h)
+  opened i h = ap (λ es. filter (order_counts (tasks_at aliases ms at)) (tasks_from aliases read.faction i (map (entry_value read.text) es))) (drop_more read.entries i no_entry h)
 
   -- the list has the indices of the orders that count before index i of the mailing, after those of `old`
   pub record Added (old : List OrderIndex) (i : ℕ) (list : List OrderIndex) : Type 0 where
@@ -73,7 +73,7 @@ module _ (aliases : Aliases) (ms : List Mailing) (at : ℕ) where
   module _ (i : ℕ) (m : Mailing) (e : Entry) (unit : ℕ) (here : m ≡ read) (entry : e ≡ entry_at i) (for_unit : unit ≡ unit_of aliases m.faction e.target) where
     -- the `OrderIndex` that the code makes of the mailing, the entry and the unit that it reads
     abbrev found : OrderIndex
-    found = record { unit = unit; line = e.line; faction = m.faction; mailing = at; place = i }
+    found = record { unit = unit; line = e.line; faction = m.faction; mailing = at; index = i }
 
     -- the `OrderIndex` that the code makes is that of the order at index i
     found_is : found ≡ place_of i
@@ -82,14 +82,14 @@ module _ (aliases : Aliases) (ms : List Mailing) (at : ℕ) where
       line = (entry k).line;
       faction = (here k).faction;
       mailing = at;
-      place = i;
+      index = i;
     }
 
     -- what the code's test by the noted lines says of the order at i is whether that order counts
-    pub counts_by : (lines : Lines) (b : Bool) → AreLastLines (tasks_at aliases ms at) lines → b ≡ stands_by lines unit e.line (row_of e.order.verb).slot → counts i ≡ b
+    pub counts_by : (lines : LastLineMap) (b : Bool) → AreLastLines (tasks_at aliases ms at) lines → b ≡ counts_by_lines lines unit e.line (row_of e.order.verb).slot → counts i ≡ b
     counts_by lines b last is =
         let t = task_at ms (place_of i) in
-        sym (is ∙ (λ k. stands_by lines (found_is k).unit (found_is k).line (row_of (entry k).order.verb).slot) ∙ by_lines (tasks_at aliases ms at) lines t last (row_of t.order_value.verb).slot)
+        sym (is ∙ (λ k. counts_by_lines lines (found_is k).unit (found_is k).line (row_of (entry k).order.verb).slot) ∙ by_lines (tasks_at aliases ms at) lines t last (row_of t.order_value.verb).slot)
 
     -- if the order at i counts, the list with the index that the code makes has the indices of those that count
     -- before i + 1 (`Added`)
@@ -103,14 +103,14 @@ module _ (aliases : Aliases) (ms : List Mailing) (at : ℕ) where
     there = before.there;
     tasks =
         sym (append-nil (map (task_at ms) list))
-        ∙ ap (λ es. map (task_at ms) list ++ filter (stands (tasks_at aliases ms at)) (tasks_from aliases read.faction i (map (entry_value read.text) es))) (sym (drop_all i read.entries h))
+        ∙ ap (λ es. map (task_at ms) list ++ filter (order_counts (tasks_at aliases ms at)) (tasks_from aliases read.faction i (map (entry_value read.text) es))) (sym (drop_all i read.entries h))
         ∙ before.tasks;
   }
 
 -- ---- the orders that count, mailing by mailing
 
--- if indices name the orders that count of the mailings before index i, they name those of the mailings before i + 1
--- once the indices of the mailing at i are added
+-- the indices name the orders that count of the mailings up to and with index i, once those of the mailing at i are
+-- added (`AddsMailing`), if they named those of the mailings before i
 pub next_mailing : (aliases : Aliases) (ms : List Mailing) (i : ℕ) (old new : List OrderIndex) → i < length ms → AddsMailing aliases ms i old new → map (task_at ms) old ≡ all_tasks aliases (take i ms) → map (task_at ms) new ≡ all_tasks aliases (take (i + 1) ms)
 next_mailing aliases ms i old new h adds before =
     adds.tasks ∙ ap₂ (λ us vs. us ++ vs) before (sym (append-nil (tasks_for every_verb (tasks_at aliases ms i))))

@@ -16,7 +16,7 @@ use Rattle.atl_orders.specs.declared.verb.Verb.{Verb}
 use Rattle.atl_orders.specs.Mailing.{EntryValue, Reading, reading_of}
 use Rattle.atl_campaign.proofs.GroupLaws.{filter_apart, filter_each}
 use Rattle.atl_campaign.proofs.KeyLaws.{IsDistinct-of_map}
-use Rattle.atl_campaign.proofs.MapOfRowsLaws.{each_so}
+use Rattle.atl_campaign.proofs.MapOfRowsLaws.{each_follows}
 use Rattle.atl_campaign.proofs.ReadBackLaws.{entries_rise, flat_apart}
 use Rattle.atl_phase.specs.declared.order_indices.OrderIndex.{OrderIndex}
 use Rattle.atl_phase.specs.declared.phase_order.Arrangement.{Arrangement}
@@ -35,32 +35,32 @@ abbrev pub same_key : Arrangement → Task → Task → Bool
 same_key a t u = eq_by_cmp (slice_cmp nat_cmp) (key_of a t) (key_of a u)
 
 -- two orders with the same key are of one faction, and have the same index in their mailings
-ties : (a : Arrangement) (t u : Task) → key_of a t ≡ key_of a u → (t.faction ≡ u.faction) × (t.place ≡ u.place)
-ties ByUnit t u e = (ap (λ key. get_or key 2 0) e, ap (λ key. get_or key 3 0) e)
-ties ByFaction t u e = (ap (λ key. get_or key 0 0) e, ap (λ key. get_or key 3 0) e)
+same_key_same_index : (a : Arrangement) (t u : Task) → key_of a t ≡ key_of a u → (t.faction ≡ u.faction) × (t.index ≡ u.index)
+same_key_same_index ByUnit t u e = (ap (λ key. get_or key 2 0) e, ap (λ key. get_or key 3 0) e)
+same_key_same_index ByFaction t u e = (ap (λ key. get_or key 0 0) e, ap (λ key. get_or key 3 0) e)
 
 -- two orders have different keys, if they aren't both of one faction and at one index of their mailings
-other_key : (a : Arrangement) (t u : Task) → (t.faction ≡ u.faction → t.place ≡ u.place → ⊥) → same_key a t u ≡ false
+other_key : (a : Arrangement) (t u : Task) → (t.faction ≡ u.faction → t.index ≡ u.index → ⊥) → same_key a t u ≡ false
 other_key a t u other = false_from_ne_true (same_key a t u) (λ h.
-    let same = ties a t u (tells_apart (slice_cmp-IsAntisymmetric nat_cmp-IsAntisymmetric) (key_of a t) (key_of a u) h) in
+    let same = same_key_same_index a t u (tells_apart (slice_cmp-IsAntisymmetric nat_cmp-IsAntisymmetric) (key_of a t) (key_of a u) h) in
     other same.0 same.1)
 
 module _ (a : Arrangement) (aliases : Aliases) where
   -- the orders of a faction's entries from an index on are of this faction, and have an index of at least `low`, if the
   -- first index is at least `low`
-  from_low : (faction low place : ℕ) (es : List EntryValue) → low ≤ place → AllByRecursion (λ t. (t.faction ≡ faction) × (low ≤ t.place)) (tasks_from aliases faction place es)
-  from_low faction low place [] le = tt
-  from_low faction low place (e ∷ es) le = ((refl, le), from_low faction low (place + 1) es (omega arith))
+  from_low : (faction low index : ℕ) (es : List EntryValue) → low ≤ index → AllByRecursion (λ t. (t.faction ≡ faction) × (low ≤ t.index)) (tasks_from aliases faction index es)
+  from_low faction low index [] le = tt
+  from_low faction low index (e ∷ es) le = ((refl, le), from_low faction low (index + 1) es (omega arith))
 
   -- no two orders of one mailing have the same key
-  apart_within : (faction place : ℕ) (es : List EntryValue) → IsDistinct (same_key a) (tasks_from aliases faction place es)
+  apart_within : (faction index : ℕ) (es : List EntryValue) → IsDistinct (same_key a) (tasks_from aliases faction index es)
   unfolding IsDistinct
-  apart_within faction place [] = tt
-  apart_within faction place (e ∷ es) =
-      let first : Task = record { faction = faction; unit = unit_of aliases faction e.target; line = e.line; place = place; order_value = e.order_value } in
-      let rest = tasks_from aliases faction (place + 1) es in (
-        each_so (λ t. (t.faction ≡ faction) × (place + 1 ≤ t.place)) (λ t. same_key a first t ≡ false) (λ t h. other_key a first t (λ _ same. omega (arith, h.1, same))) rest (from_low faction (place + 1) (place + 1) es (omega arith)),
-        apart_within faction (place + 1) es,
+  apart_within faction index [] = tt
+  apart_within faction index (e ∷ es) =
+      let first : Task = record { faction = faction; unit = unit_of aliases faction e.target; line = e.line; index = index; order_value = e.order_value } in
+      let rest = tasks_from aliases faction (index + 1) es in (
+        each_follows (λ t. (t.faction ≡ faction) × (index + 1 ≤ t.index)) (λ t. same_key a first t ≡ false) (λ t h. other_key a first t (λ _ same. omega (arith, h.1, same))) rest (from_low faction (index + 1) (index + 1) es (omega arith)),
+        apart_within faction (index + 1) es,
       )
 
   -- no two orders of a phase have the same key
@@ -68,7 +68,7 @@ module _ (a : Arrangement) (aliases : Aliases) where
   all_apart is_of readings =
       flat_apart (same_key a) (λ e. tasks_for is_of (tasks_of aliases e.0 e.1)) (λ (e f : ℕ × Reading). e.0 < f.0) (λ e t. t.faction ≡ e.0)
       (λ e f t u less own other. other_key a t u (λ same _. omega (arith, less, own, other, same)))
-      (λ e. filter_each _ (λ t. t.faction ≡ e.0) (tasks_of aliases e.0 e.1) (each_so (λ t. (t.faction ≡ e.0) × (0 ≤ t.place)) (λ t. t.faction ≡ e.0) (λ t h. h.0) (tasks_of aliases e.0 e.1) (from_low e.0 0 0 e.1.entries (omega arith))))
+      (λ e. filter_each _ (λ t. t.faction ≡ e.0) (tasks_of aliases e.0 e.1) (each_follows (λ t. (t.faction ≡ e.0) × (0 ≤ t.index)) (λ t. t.faction ≡ e.0) (λ t h. h.0) (tasks_of aliases e.0 e.1) (from_low e.0 0 0 e.1.entries (omega arith))))
       (λ e. filter_apart _ (same_key a) (tasks_of aliases e.0 e.1) (apart_within e.0 0 e.1.entries))
       (entries readings) (entries_rise readings)
 
@@ -76,9 +76,9 @@ module _ (a : Arrangement) (aliases : Aliases) where
 
 -- elements sorted by the keys of their orders give the orders that the map from key to order lists, if no two keys are
 -- equal
-listed : {X : Type 0} (as_task : X → Task) (key : Task → List ℕ) (os list : List X) (ts : List Task) → map as_task os ≡ ts → IsDistinct (λ t u. eq_by_cmp (slice_cmp nat_cmp) (key t) (key u)) ts → IsPermutation os list
+sorted_are_map_values : {X : Type 0} (as_task : X → Task) (key : Task → List ℕ) (os list : List X) (ts : List Task) → map as_task os ≡ ts → IsDistinct (λ t u. eq_by_cmp (slice_cmp nat_cmp) (key t) (key u)) ts → IsPermutation os list
     → IsSortedByKey (λ o. key (as_task o)) (slice_cmp nat_cmp) list → map as_task list ≡ values (from_entries {R = slice_cmp nat_cmp} (map (λ t. (key t, t)) ts))
-listed {X = X} as_task key os list ts are apart p up =
+sorted_are_map_values {X = X} as_task key os list ts are apart p up =
     let entry : X → List ℕ × Task = λ o. (key (as_task o), as_task o) in
     let same : Task → Task → Bool = λ t u. eq_by_cmp (slice_cmp nat_cmp) (key t) (key u) in
     let paired : Task → List ℕ × Task = λ t. (key t, t) in
@@ -89,7 +89,7 @@ listed {X = X} as_task key os list ts are apart p up =
 -- orders sorted by a key, no two with the same key, are what the map from key to order lists
 pub listed_tasks : (key : Task → List ℕ) (os list : List PhaseOrder) (ts : List Task) → map task_of os ≡ ts → IsDistinct (λ t u. eq_by_cmp (slice_cmp nat_cmp) (key t) (key u)) ts → IsPermutation os list
     → IsSortedByKey (λ o. key (task_of o)) (slice_cmp nat_cmp) list → map task_of list ≡ values (from_entries {R = slice_cmp nat_cmp} (map (λ t. (key t, t)) ts))
-listed_tasks = listed task_of
+listed_tasks = sorted_are_map_values task_of
 
 -- the orders that count of all mailings, mailing by mailing, are those of the readings in the map by faction, if the
 -- mailings are sorted by faction
@@ -101,9 +101,9 @@ all_tasks_are aliases ms h =
 -- ---- the indices of all orders
 
 -- indices of orders that are sorted by their own keys are sorted by the keys of the orders that they name
-by_key : (a : Arrangement) (ms : List Mailing) (list : List OrderIndex) → IsSortedByKey (key_by a) (slice_cmp nat_cmp) list → IsSortedByKey (λ p. key_of a (task_at ms p)) (slice_cmp nat_cmp) list
-by_key ByUnit ms list up = up
-by_key ByFaction ms list up = up
+sorted_by_order_keys : (a : Arrangement) (ms : List Mailing) (list : List OrderIndex) → IsSortedByKey (key_by a) (slice_cmp nat_cmp) list → IsSortedByKey (λ p. key_of a (task_at ms p)) (slice_cmp nat_cmp) list
+sorted_by_order_keys ByUnit ms list up = up
+sorted_by_order_keys ByFaction ms list up = up
 
 -- the indices of all orders that count, once sorted by their own keys, name these orders as the arrangement sorts them
 -- (`AreOrderIndices`)
@@ -111,5 +111,5 @@ pub sorted_places : (a : Arrangement) (aliases : Aliases) (ms : List Mailing) (o
     → AreOrderIndices a aliases ms list
 sorted_places a aliases ms os list h are p up = record {
   there = All-permutation (IsThere ms) os list p are.there;
-  tasks = listed (task_at ms) (key_of a) os list _ (are.tasks ∙ all_tasks_are aliases ms h) (all_apart a aliases every_verb (by_faction (map reading_of ms))) p (by_key a ms list up);
+  tasks = sorted_are_map_values (task_at ms) (key_of a) os list _ (are.tasks ∙ all_tasks_are aliases ms h) (all_apart a aliases every_verb (by_faction (map reading_of ms))) p (sorted_by_order_keys a ms list up);
 }

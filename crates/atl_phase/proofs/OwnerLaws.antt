@@ -34,19 +34,19 @@ module _ (c d : CampaignValue) (n : ℕ) (away : (k : ℕ) → k ≢ n → get d
 
   -- A structure that unit n has left is rightly owned by the structure's heir: the lowest of the other units inside, or
   -- nobody (0) where no other unit is inside. For this all units have numbers of at least 1.
-  pub heir_owns : (place : ℕ) → place ≢ 0 → Every (λ k v. 1 ≤ k) c.units → ((v : Unit) → get d.units n ≡ Some v → v.structure ≢ place) → (y : Structure) → IsOwned d place (owned_by (heir c place n) y)
-  heir_owns place some low outside y =
-      let next = heir c place n in
-      let first = first_of (λ k. not (k == n)) (numbers_inside place c.units) listed_low in
+  pub heir_owns : (location : ℕ) → location ≢ 0 → Every (λ k v. 1 ≤ k) c.units → ((v : Unit) → get d.units n ≡ Some v → v.structure ≢ location) → (y : Structure) → IsOwned d location (owned_by (heir c location n) y)
+  heir_owns location some low outside y =
+      let next = heir c location n in
+      let first = first_of (λ k. not (k == n)) (numbers_inside location c.units) listed_low in
       record {
         owned = λ is_one.
             let (listed, other) = first.0 is_one in
-            let (v, there, inside) = listed_is_inside place c.units next listed in
+            let (v, there, inside) = listed_is_inside location c.units next listed in
             (v, away next (is_unequal next n (not-true (next == n) other)) ∙ there, inside);
-        ownerless = λ none. every_away (λ k v. v.structure ≢ place) outside
-            (λ k v apart there inside. apart (is_equal k n (not-false (k == n) (first.1 none k (inside_is_listed place c.units some k v there inside)))));
+        ownerless = λ none. every_away (λ k v. v.structure ≢ location) outside
+            (λ k v apart there inside. apart (is_equal k n (not-false (k == n) (first.1 none k (inside_is_listed location c.units some k v there inside)))));
       }
     where
-      -- for `heir_owns`: the numbers of the units inside structure `place` are at least 1
-      listed_low : (k : ℕ) → IsListed k (numbers_inside place c.units) → 1 ≤ k
-      listed_low k h = let (v, there, inside) = listed_is_inside place c.units k h in low k v there
+      -- for `heir_owns`: the numbers of the units inside structure `location` are at least 1
+      listed_low : (k : ℕ) → IsListed k (numbers_inside location c.units) → 1 ≤ k
+      listed_low k h = let (v, there, inside) = listed_is_inside location c.units k h in low k v there

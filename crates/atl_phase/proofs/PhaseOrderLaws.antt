@@ -15,11 +15,11 @@ use Rattle.atl_orders.specs.Mailing.{EntryValue, Reading}
 use Rattle.atl_records.specs.Every.{EachEntry}
 use Rattle.atl_records.proofs.EveryLaws.{each-from_every}
 use Rattle.atl_campaign.proofs.GroupLaws.{kept}
-use Rattle.atl_campaign.proofs.MapOfRowsLaws.{each_so}
+use Rattle.atl_campaign.proofs.MapOfRowsLaws.{each_follows}
 use Rattle.atl_campaign.proofs.ReadBackLaws.{append_each}
 use Rattle.atl_phase.specs.declared.phase_order.Arrangement.{Arrangement}
 use Rattle.atl_phase.specs.Month.{Aliases}
-use Rattle.atl_phase.specs.PhaseOrders.{IsInMailing, OrdersAreInMailings, Task, key_of, orders_of, stands, tasks_for, tasks_from, tasks_of}
+use Rattle.atl_phase.specs.PhaseOrders.{IsInMailing, OrdersAreInMailings, Task, key_of, orders_of, order_counts, tasks_for, tasks_from, tasks_of}
 use Rattle.atl_phase.proofs.MappedLaws.{no_entries}
 
 -- ---- what is so of each entry is so of each that a map lists
@@ -54,20 +54,20 @@ module _ (is_of : Verb → Bool) (aliases : Aliases) (readings : FinMap nat_cmp 
     -- the order is an entry of the mailing of its faction
     pub there : IsInMailing aliases readings t
     -- the order has a verb of the phase, and counts among the orders of the mailing
-    pub passes : (is_of t.order_value.verb && stands (tasks_of aliases t.faction there.reading) t) ≡ true
+    pub passes : (is_of t.order_value.verb && order_counts (tasks_of aliases t.faction there.reading) t) ≡ true
 
   -- of a faction's entries from an index on, each order that counts and has a verb of the phase is such an order of the
   -- faction's mailing (`Counts`)
-  counted : (f : ℕ) (r : Reading) → get readings f ≡ Some r → (place : ℕ) (es : List EntryValue) → ((j : ℕ) (e : EntryValue) → slice_get es j ≡ Some e → slice_get r.entries (place + j) ≡ Some e) →
-      AllByRecursion (λ t. (is_of t.order_value.verb && stands (tasks_of aliases f r) t) ≡ true → Counts t) (tasks_from aliases f place es)
-  counted f r h place [] whole = tt
-  counted f r h place (e ∷ es) whole =
-      let first : place + 0 ≡ place = omega arith in (
+  counted : (f : ℕ) (r : Reading) → get readings f ≡ Some r → (index : ℕ) (es : List EntryValue) → ((j : ℕ) (e : EntryValue) → slice_get es j ≡ Some e → slice_get r.entries (index + j) ≡ Some e) →
+      AllByRecursion (λ t. (is_of t.order_value.verb && order_counts (tasks_of aliases f r) t) ≡ true → Counts t) (tasks_from aliases f index es)
+  counted f r h index [] whole = tt
+  counted f r h index (e ∷ es) whole =
+      let first : index + 0 ≡ index = omega arith in (
         λ passes. record {
-          there = record { reading = r; entry = e; of_faction = h; at_place = subst (λ n. slice_get r.entries n ≡ Some e) first (whole 0 e refl); for_unit = refl; on_line = refl; says = refl };
+          there = record { reading = r; entry = e; of_faction = h; at_index = subst (λ n. slice_get r.entries n ≡ Some e) first (whole 0 e refl); for_unit = refl; on_line = refl; says = refl };
           passes = passes;
         },
-        counted f r h (place + 1) es (λ j x is. let next : place + suc j ≡ (place + 1) + j = omega arith in subst (λ n. slice_get r.entries n ≡ Some x) next (whole (suc j) x is)),
+        counted f r h (index + 1) es (λ j x is. let next : index + suc j ≡ (index + 1) + j = omega arith in subst (λ n. slice_get r.entries n ≡ Some x) next (whole (suc j) x is)),
       )
 
   -- of some factions' readings in the map `readings`, each order that the phase takes is in its faction's mailing,
@@ -85,14 +85,14 @@ module _ (is_of : Verb → Bool) (aliases : Aliases) (readings : FinMap nat_cmp 
   orders_count a =
       let ts = flat_map (λ e. tasks_for is_of (tasks_of aliases e.0 e.1)) (entries readings) in
       entries-listed (slice_cmp nat_cmp) (λ k t. (k ≡ key_of a t) × Counts t) nat_list_cmp_total (slice_cmp-IsAntisymmetric nat_cmp-IsAntisymmetric) (key_of a) ts
-      (each_so Counts (λ t. (key_of a t ≡ key_of a t) × Counts t) (λ t h. (refl, h)) ts (all_count (entries readings) (each-from_every (λ f r. get readings f ≡ Some r) readings (λ f r is. is))))
+      (each_follows Counts (λ t. (key_of a t ≡ key_of a t) × Counts t) (λ t h. (refl, h)) ts (all_count (entries readings) (each-from_every (λ f r. get readings f ≡ Some r) readings (λ f r is. is))))
 
   -- P holds of each order of a phase, if it holds of each order that is in its faction's mailing, counts there, and has
   -- a verb of the phase (`Counts`)
   of_each : (P : Task → Type 0) → ((t : Task) → Counts t → P t) → (a : Arrangement) → All P (values (orders_of is_of a aliases readings))
   of_each P so a =
       let es = entries (orders_of is_of a aliases readings) in
-      All-map P (λ (e : List ℕ × Task). e.1) es (All-from_recursion (λ e. P e.1) es (each_so (λ e. (e.0 ≡ key_of a e.1) × Counts e.1) (λ e. P e.1) (λ e h. so e.1 h.1) es (orders_count a)))
+      All-map P (λ (e : List ℕ × Task). e.1) es (All-from_recursion (λ e. P e.1) es (each_follows (λ e. (e.0 ≡ key_of a e.1) × Counts e.1) (λ e. P e.1) (λ e h. so e.1 h.1) es (orders_count a)))
 
 -- each order of a phase is an entry of the mailing of its faction
 pub orders_are_in_mailings : OrdersAreInMailings

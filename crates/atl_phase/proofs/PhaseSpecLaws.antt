@@ -4,7 +4,7 @@ use Rattle.std.specs.Prelude.{if◌then◌else◌}
 use Rattle.atl_records.specs.declared.books.BooksEntry.{BooksEntry}
 use Rattle.atl_records.specs.declared.books.Thing.{Thing}
 use Rattle.atl_phase.specs.Meaning.{most_moved}
-use Rattle.atl_phase.specs.PhaseSpecs.{EachPhase, MovesItsOwn, PhaseSpec, keeps_of, may_move, meaning_of, moving_of, moving_phases_of}
+use Rattle.atl_phase.specs.PhaseSpecs.{EachPhase, MovesItsOwn, PhaseSpec, keeps_of, may_move, meaning_of, book_bound_of, moving_phase_count_of}
 use Rattle.atl_phase.specs.Unmailed.{starved_in}
 use Rattle.atl_phase.proofs.UnmailedLaws.{ClosesUnmailed, LeavesUnmailed, both_leave, then_closes}
 
@@ -15,23 +15,24 @@ each_also also (phase ∷ rest) each = (also phase each.0, each_also also rest e
 
 -- ---- the books
 
--- what one phase and the others move of an amount is together at most `most_moved` times the number of phases that may
--- move it, if this is so of the one phase and of the others
-counted : (b : Bool) (rest moved most : ℕ) → moved ≤ (if b then most_moved else 0) → rest ≤ most * most_moved → moved + rest ≤ ((if b then 1 else 0) + most) * most_moved
-counted true rest moved most one others = omega (arith, one, others)
-counted false rest moved most one others = omega (arith, one, others)
+-- For `moved_within`: one phase and the others together move an amount by at most `most_moved` for each phase that may
+-- move it. The one phase, which may move it if `b` is true, moves it by `moved`. The others move it by `rest`, and
+-- `most` of them may move it.
+moves_add_up : (b : Bool) (rest moved most : ℕ) → moved ≤ (if b then most_moved else 0) → rest ≤ most * most_moved → moved + rest ≤ ((if b then 1 else 0) + most) * most_moved
+moves_add_up true rest moved most one others = omega (arith, one, others)
+moves_add_up false rest moved most one others = omega (arith, one, others)
 
 -- phases in turn move an amount by at most `most_moved` times the number of them that may move it
-pub moved_within : (phases : List PhaseSpec) → EachPhase MovesItsOwn phases → (e : BooksEntry) (t : Thing) → moving_of phases e t ≤ moving_phases_of phases e t * most_moved
+pub moved_within : (phases : List PhaseSpec) → EachPhase MovesItsOwn phases → (e : BooksEntry) (t : Thing) → book_bound_of phases e t ≤ moving_phase_count_of phases e t * most_moved
 moved_within [] each e t = omega arith
 moved_within (phase ∷ []) each e t = alone (may_move phase.moved e t) (each.0 e t)
   where
     -- what one phase alone moves of an amount is at most `most_moved` times the number of phases that may move it,
     -- which is 1 if the phase may (`b`), and else 0
-    alone : (b : Bool) → phase.moving e t ≤ (if b then most_moved else 0) → phase.moving e t ≤ ((if b then 1 else 0) + 0) * most_moved
+    alone : (b : Bool) → phase.book_bound e t ≤ (if b then most_moved else 0) → phase.book_bound e t ≤ ((if b then 1 else 0) + 0) * most_moved
     alone true one = omega (arith, one)
     alone false one = omega (arith, one)
-moved_within (phase ∷ next ∷ rest) each e t = counted (may_move phase.moved e t) (moving_of (next ∷ rest) e t) (phase.moving e t) (moving_phases_of (next ∷ rest) e t) (each.0 e t) (moved_within (next ∷ rest) each.1 e t)
+moved_within (phase ∷ next ∷ rest) each e t = moves_add_up (may_move phase.moved e t) (book_bound_of (next ∷ rest) e t) (phase.book_bound e t) (moving_phase_count_of (next ∷ rest) e t) (each.0 e t) (moved_within (next ∷ rest) each.1 e t)
 
 -- ---- a faction without a mailing
 
@@ -39,15 +40,15 @@ moved_within (phase ∷ next ∷ rest) each e t = counted (may_move phase.moved 
 abbrev pub PhaseLeavesUnmailed : PhaseSpec → Type 0
 PhaseLeavesUnmailed phase = LeavesUnmailed phase.meaning phase.keeps
 
--- all phases leave units of factions without a mailing their items, and their men less the starved; after the last, a
--- unit may have starved out
+-- all phases leave units of factions without a mailing their items, and their men less the starved; after the last
+-- phase, a unit all of whose men starved may be gone
 abbrev pub CloseTogether : List PhaseSpec → Type 0
 CloseTogether [] = ⊥
 CloseTogether (phase ∷ []) = ClosesUnmailed phase.meaning phase.keeps
 CloseTogether (phase ∷ next ∷ rest) = PhaseLeavesUnmailed phase × CloseTogether (next ∷ rest)
 
--- phases in turn, after the last of which a unit may have starved out, leave units of factions without a mailing their
--- items, and their men less the starved (`ClosesUnmailed`), if each does (`CloseTogether`)
+-- Phases in turn leave units of factions without a mailing their items, and their men less the starved, if each phase
+-- does (`CloseTogether`). After the last phase, a unit all of whose men starved may be gone (`ClosesUnmailed`).
 pub closed_together : (phases : List PhaseSpec) → CloseTogether phases → ClosesUnmailed (meaning_of phases) (keeps_of phases)
 closed_together [] none = absurd none
 closed_together (phase ∷ []) closes = closes
@@ -59,7 +60,7 @@ pub leave_together : (phases : List PhaseSpec) → EachPhase PhaseLeavesUnmailed
 leave_together [] each = record {
   readings = λ w c m. refl;
   starved_reported = λ w c m n. omega arith;
-  left = λ w c m keeps n u there none. record { unit = u; there = there; spared = record { faction = refl; name = refl; men = nobody (starved_in m.events n) u.holding.men; items = λ i. omega arith } };
+  left = λ w c m keeps n u there none. record { unit = u; there = there; is_unaffected = record { faction = refl; name = refl; men = nobody (starved_in m.events n) u.holding.men; items = λ i. omega arith } };
 }
   where
     -- for `leave_together`: if nobody starved (x - x is 0), a unit has its men a less that number

@@ -17,7 +17,7 @@ use Rattle.atl_phase.specs.declared.order_indices.OrderIndex.{OrderIndex}
 use Rattle.atl_phase.specs.declared.phase_order.Arrangement.{Arrangement}
 use Rattle.atl_phase.specs.declared.phase_order.PhaseOrder.{PhaseOrder}
 use Rattle.atl_phase.specs.Month.{Aliases, by_faction}
-use Rattle.atl_phase.specs.PhaseOrders.{Task, key_of, orders_of, stands, task_of, tasks_for, tasks_of}
+use Rattle.atl_phase.specs.PhaseOrders.{Task, key_of, orders_of, order_counts, task_of, tasks_for, tasks_of}
 use Rattle.atl_phase.specs.OrderIndices.{AreOrderIndices, every_verb, has_verb, task_at, tasks_picked}
 use Rattle.atl_phase.proofs.MapOfListLaws.{entries-passing}
 use Rattle.atl_phase.proofs.OrderKeyLaws.{all_apart, same_key}
@@ -33,15 +33,15 @@ filter-map p f (x ∷ xs) =
     ]
 
 -- the pair of an order's key and the order
-abbrev paired : Arrangement → Task → List ℕ × Task
-paired a t = (key_of a t, t)
+abbrev key_and_order : Arrangement → Task → List ℕ × Task
+key_and_order a t = (key_of a t, t)
 
 -- the map of the orders that pass a test lists the orders of the whole map that pass, if no two keys are equal
-values-passing : (a : Arrangement) (p : Task → Bool) (ts : List Task) → IsDistinct (same_key a) ts → values (from_entries {R = slice_cmp nat_cmp} (map (paired a) (filter p ts))) ≡ filter p (values (from_entries {R = slice_cmp nat_cmp} (map (paired a) ts)))
+values-passing : (a : Arrangement) (p : Task → Bool) (ts : List Task) → IsDistinct (same_key a) ts → values (from_entries {R = slice_cmp nat_cmp} (map (key_and_order a) (filter p ts))) ≡ filter p (values (from_entries {R = slice_cmp nat_cmp} (map (key_and_order a) ts)))
 values-passing a p ts apart =
-    let es = map (paired a) ts in
-    ap (λ fs. values (from_entries {R = slice_cmp nat_cmp} fs)) (sym (filter-map (λ (e : List ℕ × Task). p e.1) (paired a) ts))
-    ∙ ap (map (λ e. e.1)) (entries-passing nat_list_cmp_total (slice_cmp-IsAntisymmetric nat_cmp-IsAntisymmetric) p es (IsDistinct-map (paired a) (λ e f. eq_by_cmp (slice_cmp nat_cmp) e.0 f.0) ts apart))
+    let es = map (key_and_order a) ts in
+    ap (λ fs. values (from_entries {R = slice_cmp nat_cmp} fs)) (sym (filter-map (λ (e : List ℕ × Task). p e.1) (key_and_order a) ts))
+    ∙ ap (map (λ e. e.1)) (entries-passing nat_list_cmp_total (slice_cmp-IsAntisymmetric nat_cmp-IsAntisymmetric) p es (IsDistinct-map (key_and_order a) (λ e f. eq_by_cmp (slice_cmp nat_cmp) e.0 f.0) ts apart))
     ∙ sym (filter-map p (λ e. e.1) (entries (from_entries {R = slice_cmp nat_cmp} es)))
 
 module _ (is_of : Verb → Bool) (aliases : Aliases) where
@@ -50,25 +50,26 @@ module _ (is_of : Verb → Bool) (aliases : Aliases) where
   tasks_of_phase [] = refl
   tasks_of_phase (e ∷ es) =
       let ts = tasks_of aliases e.0 e.1 in
-      ap₂ (λ us vs. us ++ vs) (filter_agree (λ t. has_verb is_of t && stands ts t) (λ t. stands ts t && has_verb is_of t) (λ t. and_comm (has_verb is_of t) (stands ts t)) ts ∙ sym (filter_both (stands ts) (has_verb is_of) ts)) (tasks_of_phase es)
+      ap₂ (λ us vs. us ++ vs) (filter_agree (λ t. has_verb is_of t && order_counts ts t) (λ t. order_counts ts t && has_verb is_of t) (λ t. and_comm (has_verb is_of t) (order_counts ts t)) ts ∙ sym (filter_both (order_counts ts) (has_verb is_of) ts)) (tasks_of_phase es)
       ∙ sym (filter-append (has_verb is_of) (tasks_for every_verb ts) (flat_map (λ e. tasks_for every_verb (tasks_of aliases e.0 e.1)) es))
 
   -- the orders picked by the phase's verbs from all orders that count are those that the phase carries out
   picked_orders : (a : Arrangement) (readings : FinMap nat_cmp Reading) (ts : List Task) → ts ≡ values (orders_of every_verb a aliases readings) → filter (has_verb is_of) ts ≡ values (orders_of is_of a aliases readings)
   picked_orders a readings ts all =
       ap (filter (has_verb is_of)) all ∙ sym (values-passing a (has_verb is_of) _ (all_apart a aliases every_verb readings))
-      ∙ ap (λ us. values (from_entries {R = slice_cmp nat_cmp} (map (paired a) us))) (sym (tasks_of_phase (entries readings)))
+      ∙ ap (λ us. values (from_entries {R = slice_cmp nat_cmp} (map (key_and_order a) us))) (sym (tasks_of_phase (entries readings)))
 
-  -- the list that the code returns has the orders of the phase, if it has those that are picked from the indices of all
-  -- orders that count; the code reads the mailings `ms` as `ns`, and the indices `places` as `qs`
+  -- The list that the code returns has the orders of the phase, if it has those that are picked from the indices of all
+  -- orders that count. The code reads the mailings `ms` as `ns`, and the indices `places` as `qs`.
   pub picked_list : {Z E : Type 0} (a : Arrangement) (ms ns : List Mailing) (places qs : List OrderIndex) (r : Result (Vec PhaseOrder Z) E) → ns ≡ ms → qs ≡ places → AreOrderIndices a aliases ms places
       → IfOk r (λ list. map task_of list.items ≡ tasks_picked is_of ns qs) → IfOk r (λ list. map task_of list.items ≡ values (orders_of is_of a aliases (by_faction (map reading_of ms))))
   picked_list a ms ns places qs r same_mailings same_places all =
       IfOk-weaker r (λ list. map task_of list.items ≡ tasks_picked is_of ns qs) (λ list. map task_of list.items ≡ values (orders_of is_of a aliases (by_faction (map reading_of ms))))
       (λ list is. is ∙ (λ i. tasks_picked is_of (same_mailings i) (same_places i)) ∙ picked_orders a (by_faction (map reading_of ms)) _ all.tasks)
 
--- if the list has the orders that are picked from the indices before index i, it has those from the indices before
--- i + 1 once the order at i is added, if its verb is the phase's (`b`)
+-- The new list has the orders that are picked from the indices up to and with index i, if the old list has those picked
+-- from the indices before i. The new list is the old one and the order at i, if its verb is the phase's (`b`), and else
+-- the old one.
 pub picked_more : (is_of : Verb → Bool) (ms : List Mailing) (places : List OrderIndex) (i : ℕ) (p : OrderIndex) (o : PhaseOrder) (list new : List PhaseOrder) (b : Bool) → i < length places → p ≡ get_or places i p → task_of o ≡ task_at ms p
     → map task_of list ≡ tasks_picked is_of ms (take i places) → is_of o.order.now.verb ≡ b → new ≡ cond b (list ++ o ∷ []) list → map task_of new ≡ tasks_picked is_of ms (take (i + 1) places)
 picked_more is_of ms places i p o list new b h at task before verb is =

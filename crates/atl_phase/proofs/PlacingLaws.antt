@@ -15,7 +15,7 @@ use Rattle.atl_records.specs.declared.records.Unit.{Unit}
 use Rattle.atl_records.specs.Every.{Every}
 use Rattle.atl_campaign.specs.Good.{IsEarly, IsOwned, IsSteady, is_ship}
 use Rattle.atl_records.specs.declared.books.Thing.{Thing}
-use Rattle.atl_campaign.specs.Owners.{after_handover, heir, placed, with_place, with_place_at}
+use Rattle.atl_campaign.specs.Owners.{after_handover, heir, with_position, with_place, with_place_at}
 use Rattle.atl_campaign.specs.Campaign.{CampaignValue}
 use Rattle.atl_campaign.specs.Totals.{total}
 use Rattle.atl_records.proofs.EveryLaws.{get-insert_other, other_number}
@@ -67,7 +67,7 @@ module _ (w : WorldValue) (c : CampaignValue) (n : ℕ) (u : Unit) (s : ℕ) (is
 
   -- the campaign with unit n inside structure s, before structures change owners
   abbrev begun : CampaignValue
-  begun = placed c n u.region s
+  begun = with_position c n u.region s
 
   -- the campaign with unit n inside structure s, after a handover of the structure that the unit left to its next owner
   abbrev after_leaving : CampaignValue
@@ -80,12 +80,12 @@ module _ (w : WorldValue) (c : CampaignValue) (n : ℕ) (u : Unit) (s : ℕ) (is
 
   -- structure q after unit n went, with its owner after both handovers: of the structure that it left, and of the one
   -- that it entered
-  abbrev owner_behind : ℕ → Structure → Structure
-  owner_behind q y = handed_on s 0 n q (handed_on old_place n next_owner q y)
+  abbrev owner_after : ℕ → Structure → Structure
+  owner_after q y = handed_on s 0 n q (handed_on old_place n next_owner q y)
 
   -- the campaign after unit n went, given as a refit: unit n inside structure s, and each structure with its new owner
-  abbrev pub behind : CampaignValue
-  behind = refitted w c n u s is after_entering.structures owner_behind
+  abbrev pub placed_campaign : CampaignValue
+  placed_campaign = refitted w c n u s is after_entering.structures owner_after
 
   -- putting unit n inside structure s (`with_place`) makes the campaign in which both structures have their owners
   -- (`after_entering`)
@@ -93,15 +93,16 @@ module _ (w : WorldValue) (c : CampaignValue) (n : ℕ) (u : Unit) (s : ℕ) (is
   unfolding with_place
   placed_is = ap (with_place_at c n u.region s) is ∙ ap (λ b. if b then begun else after_entering) (other_number old_place s apart)
 
-  -- the campaign that the two handovers make (`after_entering`) is `behind`, the same campaign given as a refit
-  behind_is : after_entering ≡ behind
-  behind_is =
+  -- the campaign that the two handovers make (`after_entering`) is `placed_campaign`, the same campaign given as a
+  -- refit
+  placed_campaign_is : after_entering ≡ placed_campaign
+  placed_campaign_is =
       handed_is after_leaving s 0 n ∙ ap (λ (d : CampaignValue). record d { structures = after_entering.structures }) (handed_is begun old_place n next_owner)
       ∙ ap (λ m. record c { units = m; structures = after_entering.structures }) (changed-known (λ (x : Unit). record x { region = u.region; structure = s }) c.units n u is)
 
-  -- putting unit n inside structure s (`with_place`) makes the campaign `behind`, which is given as a refit
-  pub place_is : with_place c n u.region s ≡ behind
-  place_is = placed_is ∙ behind_is
+  -- putting unit n inside structure s (`with_place`) makes the campaign `placed_campaign`, which is given as a refit
+  pub place_is : with_place c n u.region s ≡ placed_campaign
+  place_is = placed_is ∙ placed_campaign_is
 
   -- a look-up of a structure after both handovers finds what was there before, with its owner after both
   at : (q : ℕ) → get after_entering.structures q ≡ option_map (λ y. handed_on s 0 n q (handed_on old_place n next_owner q y)) (get c.structures q)
@@ -122,21 +123,21 @@ module _ (w : WorldValue) (c : CampaignValue) (n : ℕ) (u : Unit) (s : ℕ) (is
   numbered_from_one k v there = (steady.numbers.units k v there).0
 
   -- after unit n went, every other unit is as it was before
-  away : (k : ℕ) → k ≢ n → get behind.units k ≡ get c.units k
+  away : (k : ℕ) → k ≢ n → get placed_campaign.units k ≡ get c.units k
   away k other = get-insert_other c.units n k moved other
 
   -- unit n, after it went, is inside structure s
-  stands : (v : Unit) → get behind.units n ≡ Some v → v.structure ≡ s
-  stands v there = sym (ap (λ (x : Unit). x.structure) (same_Some moved v (sym (get-insert_same c.units n moved) ∙ there)))
+  inside_it : (v : Unit) → get placed_campaign.units n ≡ Some v → v.structure ≡ s
+  inside_it v there = sym (ap (λ (x : Unit). x.structure) (same_Some moved v (sym (get-insert_same c.units n moved) ∙ there)))
 
   -- after unit n went, a structure q that it didn't own still has its right owner, unless nobody owned q and unit n
   -- entered it
-  still_owned : (q : ℕ) (y : Structure) → get c.structures q ≡ Some y → y.owner ≢ n → (y.owner ≡ 0 → s ≢ q) → IsOwned behind q y
-  still_owned q y there other free = owner_stays c behind n away q y (steady.owners q y there) other (λ none v here inside. free none (sym (stands v here) ∙ inside))
+  still_owned : (q : ℕ) (y : Structure) → get c.structures q ≡ Some y → y.owner ≢ n → (y.owner ≡ 0 → s ≢ q) → IsOwned placed_campaign q y
+  still_owned q y there other free = owner_stays c placed_campaign n away q y (steady.owners q y there) other (λ none v here inside. free none (sym (inside_it v here) ∙ inside))
 
   -- after unit n went, structure q, which it entered and didn't leave, has its right owner: unit n if nobody owned q
   -- (`z`), and else the old owner
-  entered_owned : (q : ℕ) (y : Structure) → get c.structures q ≡ Some y → q ≢ old_place → q ≡ s → (z : Bool) → (y.owner == 0) ≡ z → IsOwned behind q (if z then owned_by n y else y)
+  entered_owned : (q : ℕ) (y : Structure) → get c.structures q ≡ Some y → q ≢ old_place → q ≡ s → (z : Bool) → (y.owner == 0) ≡ z → IsOwned placed_campaign q (if z then owned_by n y else y)
   entered_owned q y there other here true t = record {
     owned = λ some. (moved, get-insert_same c.units n moved, sym here);
     ownerless = λ none. let least = numbered_from_one n u is in absurd (omega (arith, none, least));
@@ -150,9 +151,9 @@ module _ (w : WorldValue) (c : CampaignValue) (n : ℕ) (u : Unit) (s : ℕ) (is
 
   -- each structure q has its right owner after both handovers, whether or not it is the one left (`a`), was unit n's
   -- own (`e`), and is the one entered (`b`)
-  by_tests : (q : ℕ) (y : Structure) → get c.structures q ≡ Some y → (a e b : Bool) → (q == old_place) ≡ a → (y.owner == n) ≡ e → (q == s) ≡ b → IsOwned behind q (after_handovers a e b y)
+  by_tests : (q : ℕ) (y : Structure) → get c.structures q ≡ Some y → (a e b : Bool) → (q == old_place) ≡ a → (y.owner == n) ≡ e → (q == s) ≡ b → IsOwned placed_campaign q (after_handovers a e b y)
   by_tests q y there true e true p r t = absurd (apart (sym (is_equal q old_place p) ∙ is_equal q s t))
-  by_tests q y there true true false p r t = subst (λ k. IsOwned behind k (owned_by next_owner y)) (sym (is_equal q old_place p)) (heir_owns c behind n away old_place (λ zero. is_no_zero c.structures c.next_structure steady.next.structures q y there (is_equal q old_place p ∙ zero)) numbered_from_one (λ v here inside. apart (sym inside ∙ stands v here)) y)
+  by_tests q y there true true false p r t = subst (λ k. IsOwned placed_campaign k (owned_by next_owner y)) (sym (is_equal q old_place p)) (heir_owns c placed_campaign n away old_place (λ zero. is_no_zero c.structures c.next_structure steady.next.structures q y there (is_equal q old_place p ∙ zero)) numbered_from_one (λ v here inside. apart (sym inside ∙ inside_it v here)) y)
   by_tests q y there true false false p r t = still_owned q y there (is_unequal y.owner n r) (λ none here. is_unequal q s t (sym here))
   by_tests q y there false e true p r t = entered_owned q y there (is_unequal q old_place p) (is_equal q s t) (y.owner == 0) refl
   by_tests q y there false e false p r t = still_owned q y there (owns_no_other w c n u is steady q y there (is_unequal q old_place p)) (λ none here. is_unequal q s t (sym here))
@@ -160,8 +161,8 @@ module _ (w : WorldValue) (c : CampaignValue) (n : ℕ) (u : Unit) (s : ℕ) (is
   -- ---- the campaign
 
   module _ (inside : s ≢ 0 → (x : Structure) × (get c.structures s ≡ Some x) × (x.region ≡ u.region)) (afloat : is_land_at w u.region ≡ false → (x : Structure) × (get c.structures s ≡ Some x) × (is_ship w x ≡ true)) where
-    -- the campaign `behind`, in which unit n went to structure s, is a refit (`IsRefit`) of c
-    refit : IsRefit w c n u s is after_entering.structures owner_behind
+    -- the campaign `placed_campaign`, in which unit n went to structure s, is a refit (`IsRefit`) of c
+    refit : IsRefit w c n u s is after_entering.structures owner_after
     refit = record {
       at = at;
       count = len-after_handover after_leaving s 0 n ∙ len-after_handover begun old_place n next_owner;
@@ -173,17 +174,17 @@ module _ (w : WorldValue) (c : CampaignValue) (n : ℕ) (u : Unit) (s : ℕ) (is
 
     -- a steady campaign is steady after unit n went inside structure s, if s is none (0) or a structure of the unit's
     -- region, and a ship where the region is water
-    pub placed_steady : IsSteady w behind
-    placed_steady = steady-refitted w c n u s is after_entering.structures owner_behind refit steady
+    pub placed_steady : IsSteady w placed_campaign
+    placed_steady = steady-refitted w c n u s is after_entering.structures owner_after refit steady
 
     -- an early campaign is early after unit n went inside structure s, if s is none (0) or a structure of the unit's
     -- region, and a ship where the region is water
-    pub placed_early : IsEarly w c → IsEarly w behind
-    placed_early early = early-refitted w c n u s is after_entering.structures owner_behind refit early
+    pub placed_early : IsEarly w c → IsEarly w placed_campaign
+    placed_early early = early-refitted w c n u s is after_entering.structures owner_after refit early
 
     -- the campaign's total of each thing stays the same when the unit goes to another structure
-    pub placed_total : (t : Thing) → total behind t ≡ total c t
-    placed_total = total-refitted w c n u s is after_entering.structures owner_behind
+    pub placed_total : (t : Thing) → total placed_campaign t ≡ total c t
+    placed_total = total-refitted w c n u s is after_entering.structures owner_after
 
 module _ (w : WorldValue) (c : CampaignValue) (n : ℕ) (u : Unit) (s : ℕ) (is : get c.units n ≡ Some u) (early : IsEarly w c) (apart : u.structure ≢ s) where
   -- A move to another structure of the region, or on land to none, keeps an early campaign early and in balance
@@ -192,7 +193,7 @@ module _ (w : WorldValue) (c : CampaignValue) (n : ℕ) (u : Unit) (s : ℕ) (is
   place_well inside afloat =
       let steady = early.steady in
       subst (StepsWell IsEarly nothing_remaining w c) (sym (place_is w c n u s is steady apart))
-      (unbooked_well w c (behind w c n u s is steady apart) (placed_early w c n u s is steady apart inside afloat early)
+      (unbooked_well w c (placed_campaign w c n u s is steady apart) (placed_early w c n u s is steady apart inside afloat early)
       (same_month_by refl) refl (placed_total w c n u s is steady apart inside afloat))
 
 -- ---- other units stay

@@ -35,10 +35,10 @@ pub record IsRelabelled (before after : Structure) : Type 0 where
   -- the name of a relabelled structure follows the name rule if the old one did
   pub name : IsTrue (name_ok before.name) → IsTrue (name_ok after.name)
 
--- if what a look-up o found, mapped by f, is x, then o found a value v of which f makes x
-pub under : {A B : Type 0} (f : A → B) (o : Option A) (x : B) → option_map f o ≡ Some x → (v : A) × (o ≡ Some v) × (f v ≡ x)
-under f None x is = none_some x is
-under f (Some v) x is = let same : f v ≡ x = cc in (v, refl, same)
+-- a look-up o found a value v of which f makes x, if what it found, mapped by f, is x
+pub mapped_from : {A B : Type 0} (f : A → B) (o : Option A) (x : B) → option_map f o ≡ Some x → (v : A) × (o ≡ Some v) × (f v ≡ x)
+mapped_from f None x is = none_some x is
+mapped_from f (Some v) x is = let same : f v ≡ x = cc in (v, refl, same)
 
 -- a campaign with other units and structures
 module _ (c : CampaignValue) (units : FinMap nat_cmp Unit) (structures : FinMap nat_cmp Structure) where
@@ -93,8 +93,8 @@ module _ (w : WorldValue) (c : CampaignValue) (n : ℕ) (u : Unit) (s : ℕ) (is
   abbrev pub refitted : CampaignValue
   refitted = record c { units = units; structures = structures }
 
-  -- A refit: unit n is inside structure s of its region, which on water is a ship, or inside none (0), and g gives the
-  -- structures, each changed in owner and name at most, and with its right owner.
+  -- A refit: unit n is inside structure s of its region, which on water is a ship, or inside none (0). The function g
+  -- gives the structures, each changed in owner and name at most, and with its right owner.
   pub record IsRefit : Type 0 where
     -- each structure of the refitted campaign is what g makes of the one before, and no structure is added
     pub at : (k : ℕ) → get structures k ≡ option_map (g k) (get c.structures k)
@@ -113,7 +113,7 @@ module _ (w : WorldValue) (c : CampaignValue) (n : ℕ) (u : Unit) (s : ℕ) (is
     -- P holds of each structure after the refit, if it holds of g of each structure before
     every_structure : (P : ℕ → Structure → Type 0) → Every (λ k y. P k (g k y)) c.structures → Every P structures
     every_structure P h k x there =
-        let (y, was, same) = under (g k) (get c.structures k) x (sym (refit.at k) ∙ there) in
+        let (y, was, same) = mapped_from (g k) (get c.structures k) x (sym (refit.at k) ∙ there) in
         subst (P k) same (h k y was)
 
     -- each structure that was there before is there after the refit, as g makes it

@@ -5,10 +5,10 @@ use Rattle.std.specs.Ordering.{nat_cmp}
 use Rattle.std.specs.FinMap.{FinMap, get, len}
 use Rattle.std.proofs.lemmas.Bool.{cases_eq}
 use Rattle.std.proofs.lemmas.Bool.Decides.{nat_tests}
-use Rattle.atl_world.specs.Sums.{changed, changed_at}
+use Rattle.atl_world.specs.Sums.{with_changed_value, with_changed_option}
 use Rattle.atl_records.specs.declared.records.Structure.{Structure}
 use Rattle.atl_records.specs.declared.records.Unit.{Unit}
-use Rattle.atl_campaign.specs.Owners.{after_handover, heir, is_owned_by, placed, with_place, with_place_at}
+use Rattle.atl_campaign.specs.Owners.{after_handover, heir, is_owned_by, with_position, with_place, with_place_at}
 use Rattle.atl_campaign.specs.Campaign.{CampaignValue, with_owner}
 use Rattle.atl_records.proofs.EveryLaws.{get-insert_other, other_number}
 use Rattle.atl_campaign.proofs.LeavingLaws.{owned_by}
@@ -36,36 +36,37 @@ module _ {V : Type 0} (f : V → V) (m : FinMap nat_cmp V) (k : ℕ) where
   mapped_else q t (Some v) = ap (λ b. Some (if b then f v else v)) (sym t)
 
   -- a look-up of number k finds f of the old value, after the value under k was changed by f
-  changed_here : (o : Option V) → get m k ≡ o → get (changed_at f m k o) k ≡ option_map f o
+  changed_here : (o : Option V) → get m k ≡ o → get (with_changed_option f m k o) k ≡ option_map f o
   changed_here None is = is
   changed_here (Some v) is = get-insert_same m k (f v)
 
   -- a change of the value under k leaves the value under every other number
-  pub changed_else : (q : ℕ) → q ≢ k → (o : Option V) → get (changed_at f m k o) q ≡ get m q
+  pub changed_else : (q : ℕ) → q ≢ k → (o : Option V) → get (with_changed_option f m k o) q ≡ get m q
   changed_else q apart None = refl
   changed_else q apart (Some v) = get-insert_other m k q (f v) apart
 
   -- after the value under k was changed by f, a look-up finds f of the old value under k, and the old value elsewhere
-  pub get-changed : (q : ℕ) → get (changed f m k) q ≡ option_map (at_number q) (get m q)
+  pub get-changed : (q : ℕ) → get (with_changed_value f m k) q ≡ option_map (at_number q) (get m q)
   get-changed q = elim (cases_eq q k) [
     | inl same ↦
-        ap (get (changed f m k)) same ∙ changed_here (get m k) refl ∙ ap (λ j. option_map f (get m j)) (sym same)
+        ap (get (with_changed_value f m k)) same ∙ changed_here (get m k) refl ∙ ap (λ j. option_map f (get m j)) (sym same)
         ∙ mapped_here q (equal_passes q k same) (get m q)
     | inr apart ↦ changed_else q apart (get m k) ∙ mapped_else q (other_number q k apart) (get m q)
   ]
 
   -- a change of the value under k leaves the number of values as it is, whether there is a value or not
-  len_by : (o : Option V) → get m k ≡ o → len (changed_at f m k o) ≡ len m
+  len_by : (o : Option V) → get m k ≡ o → len (with_changed_option f m k o) ≡ len m
   len_by None is = refl
   len_by (Some v) is = same_len m k v (f v) is
 
   -- a change of the value under k leaves the size of the map as it is
-  pub len-changed : len (changed f m k) ≡ len m
+  pub len-changed : len (with_changed_value f m k) ≡ len m
   len-changed = len_by (get m k) refl
 
 -- ---- a structure that goes from one owner to another
 
--- structure q, with the owner `to` if q is k and the owner was `from`
+-- structure q after a handover of structure k: with the owner `to` if q is k and `from` owned it, and as it was
+-- otherwise
 abbrev pub handed_on : (k from to q : ℕ) → Structure → Structure
 handed_on k from to q y = if q == k && y.owner == from then owned_by to y else y
 
@@ -118,9 +119,9 @@ module _ (c : CampaignValue) (k from to : ℕ) where
   pub handed_is : after_handover c k from to ≡ record c { structures = (after_handover c k from to).structures }
   handed_is = handed_cases (λ d. d ≡ record c { structures = d.structures }) refl refl
 
--- P holds of the campaign after unit n is put in region r and structure s, if it holds of the campaign as it was and of
--- that with the unit there, and if each handover of a structure keeps it
-pub placed_cases : (P : CampaignValue → Type 0) (c : CampaignValue) (n r s : ℕ) → P c → P (placed c n r s) → ((d : CampaignValue) (k from to : ℕ) → P d → P (after_handover d k from to)) → P (with_place c n r s)
+-- P holds of the campaign after unit n is put in region r and structure s, if P holds of the campaign as it was, and of
+-- the one with the unit put there. Each handover of a structure must keep P.
+pub placed_cases : (P : CampaignValue → Type 0) (c : CampaignValue) (n r s : ℕ) → P c → P (with_position c n r s) → ((d : CampaignValue) (k from to : ℕ) → P d → P (after_handover d k from to)) → P (with_place c n r s)
 unfolding with_place
 placed_cases P c n r s same put handed = by_unit (get c.units n)
   where
@@ -129,8 +130,8 @@ placed_cases P c n r s same put handed = by_unit (get c.units n)
     by_unit : (o : Option Unit) → P (with_place_at c n r s o)
     by_unit None = same
     by_unit (Some u) =
-        let out = after_handover (placed c n r s) u.structure n (heir c u.structure n) in
-        elim (u.structure == s) as (λ b. P (if b then placed c n r s else after_handover out s 0 n)) [
+        let out = after_handover (with_position c n r s) u.structure n (heir c u.structure n) in
+        elim (u.structure == s) as (λ b. P (if b then with_position c n r s else after_handover out s 0 n)) [
           | true ↦ put
-          | false ↦ handed out s 0 n (handed (placed c n r s) u.structure n (heir c u.structure n) put)
+          | false ↦ handed out s 0 n (handed (with_position c n r s) u.structure n (heir c u.structure n) put)
         ]

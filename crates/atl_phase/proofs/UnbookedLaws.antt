@@ -46,8 +46,8 @@ same_total_of c d units regions t =
 
 -- ---- the unit of an order
 
--- if an order is for a unit of its writer's faction, each unit for which its own faction didn't write the order is
--- another unit than that of the order
+-- a unit isn't the one that an order is for, if its own faction didn't write the order for it (`IsOwnOrder`), and the
+-- order is for a unit of its writer's faction
 pub other_unit : (c : CampaignValue) (t : Task) (x : Unit) (k : ℕ) (v : Unit) → IsUnitOf c t x → get c.units k ≡ Some v → (IsOwnOrder t k v.faction → ⊥) → k ≢ t.unit
 other_unit c t x k v own there apart same =
     let unit : x ≡ v = same_Some _ _ (sym own.there ∙ ap (get c.units) (sym same) ∙ there) in
@@ -56,13 +56,13 @@ other_unit c t x k v own there apart same =
 -- A unit for which its own faction didn't write an order is there after it, in its place with its name and guard flag,
 -- and has lost nothing (`IsNoWorse`). For this the order is for a unit of its writer's faction, and no other unit
 -- changes.
-pub other_spared : (c d : CampaignValue) (t : Task) (x : Unit) → ((k : ℕ) → k ≢ t.unit → get d.units k ≡ get c.units k) → IsUnitOf c t x → (k : ℕ) (v : Unit) → get c.units k ≡ Some v → (IsOwnOrder t k v.faction → ⊥) → IsUnaffected IsNoWorse d k v
-other_spared c d t x stay own k v there apart = record { unit = v; there = stay k (other_unit c t x k v own there apart) ∙ there; spared = no_worse v }
+pub other_is_no_worse : (c d : CampaignValue) (t : Task) (x : Unit) → ((k : ℕ) → k ≢ t.unit → get d.units k ≡ get c.units k) → IsUnitOf c t x → (k : ℕ) (v : Unit) → get c.units k ≡ Some v → (IsOwnOrder t k v.faction → ⊥) → IsUnaffected IsNoWorse d k v
+other_is_no_worse c d t x stay own k v there apart = record { unit = v; there = stay k (other_unit c t x k v own there apart) ∙ there; is_unaffected = no_worse v }
 
 -- A unit for which its own faction didn't write an order is there after it, in its place with its name and guard flag,
 -- and has lost nothing (`IsNoWorse`). For this the order is for a unit of its writer's faction, and the order's effect
 -- changes no other unit.
-pub stays_spared : (step : Option OrderEffect) (c : CampaignValue) (t : Task) (x : Unit) → IsUnitOf c t x → (k : ℕ) (v : Unit) → get c.units k ≡ Some v → (IsOwnOrder t k v.faction → ⊥)
-    → ((j : ℕ) → j ≢ t.unit → IfSome step (λ deed. get (deed c x).0.units j ≡ get c.units j)) → IfSome step (λ deed. IsUnaffected IsNoWorse (deed c x).0 k v)
-stays_spared None c t x own k v there apart stay = tt
-stays_spared (Some deed) c t x own k v there apart stay = other_spared c (deed c x).0 t x stay own k v there apart
+pub unchanged_is_no_worse : (step : Option OrderEffect) (c : CampaignValue) (t : Task) (x : Unit) → IsUnitOf c t x → (k : ℕ) (v : Unit) → get c.units k ≡ Some v → (IsOwnOrder t k v.faction → ⊥)
+    → ((j : ℕ) → j ≢ t.unit → IfSome step (λ effect. get (effect c x).0.units j ≡ get c.units j)) → IfSome step (λ effect. IsUnaffected IsNoWorse (effect c x).0 k v)
+unchanged_is_no_worse None c t x own k v there apart stay = tt
+unchanged_is_no_worse (Some effect) c t x own k v there apart stay = other_is_no_worse c (effect c x).0 t x stay own k v there apart

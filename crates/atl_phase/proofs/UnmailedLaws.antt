@@ -10,7 +10,7 @@ use Rattle.std.proofs.lemmas.Bool.{cases_eq}
 use Rattle.std.proofs.lemmas.List.Elements.{recursion_from_All}
 use Rattle.std.proofs.lemmas.List.Sums.{sum_by_push}
 use Rattle.atl_world.specs.Worlds.{WorldValue}
-use Rattle.atl_world.specs.Sums.{changed}
+use Rattle.atl_world.specs.Sums.{with_changed_value}
 use Rattle.atl_orders.specs.declared.verb.Verb.{Verb}
 use Rattle.atl_orders.specs.Mailing.{Reading}
 use Rattle.atl_records.specs.declared.event.Event.{Event}
@@ -20,7 +20,7 @@ use Rattle.atl_records.specs.declared.records.Unit.{Unit}
 use Rattle.atl_records.specs.Every.{Every}
 use Rattle.atl_records.specs.Holdings.{amount_of}
 use Rattle.atl_campaign.specs.Campaign.{CampaignValue, with_guard}
-use Rattle.atl_campaign.specs.Owners.{after_handover, placed, with_place}
+use Rattle.atl_campaign.specs.Owners.{after_handover, with_position, with_place}
 use Rattle.atl_records.proofs.EveryLaws.{get-insert_other, none_some}
 use Rattle.atl_campaign.proofs.RegionLaws.{get-insert_same}
 use Rattle.atl_phase.specs.Month.{Aliases, MonthValue}
@@ -28,7 +28,7 @@ use Rattle.atl_phase.specs.Meaning.{Frame, Meaning, both_keep, then_also}
 use Rattle.atl_phase.specs.Outcomes.{unless}
 use Rattle.atl_phase.specs.PhaseOrders.{Task, orders_of}
 use Rattle.atl_phase.specs.NoWorse.{IsNoWorse}
-use Rattle.atl_phase.specs.OrderEffects.{Affects, IsOwnOrder, IsUnaffected, OrderMeaning, Unaffected, event_for, meaning_by_orders, one_order, order_result, spares_others, with_event_of}
+use Rattle.atl_phase.specs.OrderEffects.{Affects, IsOwnOrder, IsUnaffected, OrderMeaning, Unaffected, event_for, meaning_by_orders, one_order, order_result, others_unaffected, with_event_of}
 use Rattle.atl_phase.specs.Bounds.{IsUnitOf}
 use Rattle.atl_phase.specs.Unmailed.{IsLeft, IsLessBy, men_starved_by, starved_in}
 use Rattle.atl_phase.specs.declared.phase_order.Arrangement.{Arrangement}
@@ -51,7 +51,7 @@ pub record LeavesUnmailed (meaning : Meaning) (keeps : Frame) : Type 0 where
   pub left : (w : WorldValue) (c : CampaignValue) (m : MonthValue) → keeps w m c (meaning w c m).0 →
       Every (λ n u. get m.readings u.faction ≡ None → IsUnaffected (IsLessBy (starved_in (meaning w c m).1.events n - starved_in m.events n)) (meaning w c m).0 n u) c.units
 
--- After the phase each unit of a faction without a mailing, unless all its men starve, is there, with its faction and
+-- After the phase each unit of a faction without a mailing is there, unless all its men starve. It has its faction and
 -- name, no less of any item, and its men less exactly those who starve. The phase takes back no Starved event, and may
 -- change the mailings.
 pub record ClosesUnmailed (meaning : Meaning) (keeps : Frame) : Type 0 where
@@ -62,8 +62,8 @@ pub record ClosesUnmailed (meaning : Meaning) (keeps : Frame) : Type 0 where
   pub left : (w : WorldValue) (c : CampaignValue) (m : MonthValue) → keeps w m c (meaning w c m).0 →
       Every (λ n u. get m.readings u.faction ≡ None → IsLeft (starved_in (meaning w c m).1.events n - starved_in m.events n) (meaning w c m).0 n u) c.units
 
--- if a unit has y - x men less after one phase and then z - y less after the next, it has z - x less (`IsLessBy`):
--- of its men x had starved before the two phases, y by their middle and z by their end
+-- A unit that has y - x men less after one phase, and then z - y less after the next, has z - x less (`IsLessBy`). Of
+-- its men x had starved before both phases, y by the end of the first, and z by the end of the second.
 less_twice : (x y z : ℕ) (u v t : Unit) → x ≤ y → y ≤ z → IsLessBy (y - x) u v → IsLessBy (z - y) v t → IsLessBy (z - x) u t
 less_twice x y z u v t l k one two = record {
   faction = two.faction ∙ one.faction;
@@ -72,8 +72,8 @@ less_twice x y z u v t l k one two = record {
   items = λ i. omega (arith, one.items i, two.items i);
 }
   where
-    -- for `less_twice`: if b is a less y - x, and d is b less z - y, then d is a less z - x, where x, y and z count the
-    -- men who starved in turn
+    -- For `less_twice`: if b is a less y - x, and d is b less z - y, d is a less z - x. The numbers x, y and z count
+    -- the men who starved in turn.
     less : (a b d : ℕ) → b ≡ a - (y - x) → d ≡ b - (z - y) → d ≡ a - (z - x)
     less a b d e f = omega (arith, l, k)
 
@@ -96,13 +96,12 @@ module _ {first second : Meaning} {early late : Frame} where
     left = λ w c m keeps n u there none.
         let between = first w c m in
         let a = one.left w c m keeps.0 n u there none in
-        let b = two.left w between.0 between.1 keeps.1 n a.unit a.there (still_none one w c m u.faction a.unit.faction a.spared.faction none) in
-        record { unit = b.unit; there = b.there; spared = less_twice _ _ _ u a.unit b.unit (one.starved_reported w c m n) (two.starved_reported w between.0 between.1 n) a.spared b.spared };
+        let b = two.left w between.0 between.1 keeps.1 n a.unit a.there (still_none one w c m u.faction a.unit.faction a.is_unaffected.faction none) in
+        record { unit = b.unit; there = b.there; is_unaffected = less_twice _ _ _ u a.unit b.unit (one.starved_reported w c m n) (two.starved_reported w between.0 between.1 n) a.is_unaffected b.is_unaffected };
   }
 
-  -- a phase that leaves units of factions without a mailing their items, and their men less the starved
-  -- (`LeavesUnmailed`), and then one that may also let a unit starve out (`ClosesUnmailed`), together do as
-  -- `ClosesUnmailed` says
+  -- A phase of `LeavesUnmailed` and then one of `ClosesUnmailed` together do as `ClosesUnmailed` says. They leave units
+  -- of factions without a mailing their items, and their men less the starved.
   pub then_closes : LeavesUnmailed first early → ClosesUnmailed second late → ClosesUnmailed (then_also first second) (both_keep first early late)
   then_closes one two = record {
     starved_reported = λ w c m n. omega (arith, one.starved_reported w c m n, two.starved_reported w (first w c m).0 (first w c m).1 n);
@@ -111,9 +110,9 @@ module _ {first second : Meaning} {early late : Frame} where
         let a = one.left w c m keeps.0 n u there none in
         let early = one.starved_reported w c m n in
         let late = two.starved_reported w between.0 between.1 n in
-        let b = two.left w between.0 between.1 keeps.1 n a.unit a.there (still_none one w c m u.faction a.unit.faction a.spared.faction none)
-        (some_left _ _ _ u.holding.men a.unit.holding.men early late a.spared.men some) in
-        record { unit = b.unit; there = b.there; spared = less_twice _ _ _ u a.unit b.unit early late a.spared b.spared };
+        let b = two.left w between.0 between.1 keeps.1 n a.unit a.there (still_none one w c m u.faction a.unit.faction a.is_unaffected.faction none)
+        (some_left _ _ _ u.holding.men a.unit.holding.men early late a.is_unaffected.men some) in
+        record { unit = b.unit; there = b.there; is_unaffected = less_twice _ _ _ u a.unit b.unit early late a.is_unaffected b.is_unaffected };
   }
 
 -- ---- a phase in which nobody starves: men and items
@@ -131,23 +130,23 @@ HaveTheirMen before after = Every (λ n u. IsUnaffected HasItsMen after n u) bef
 
 -- all units have their men (`HaveTheirMen`) in an unchanged campaign
 pub men_stay : (c : CampaignValue) → HaveTheirMen c c
-men_stay c n u there = record { unit = u; there = there; spared = record { faction = refl; men = refl } }
+men_stay c n u there = record { unit = u; there = there; is_unaffected = record { faction = refl; men = refl } }
 
 -- units that have their men after each of two changes have them after both
 pub men_twice : (a b c : CampaignValue) → HaveTheirMen a b → HaveTheirMen b c → HaveTheirMen a c
 men_twice a b c one two n u there =
     let x = one n u there in
     let y = two n x.unit x.there in
-    record { unit = y.unit; there = y.there; spared = record { faction = y.spared.faction ∙ x.spared.faction; men = y.spared.men ∙ x.spared.men } }
+    record { unit = y.unit; there = y.there; is_unaffected = record { faction = y.is_unaffected.faction ∙ x.is_unaffected.faction; men = y.is_unaffected.men ∙ x.is_unaffected.men } }
 
 -- all units have their men (`HaveTheirMen`) if no unit changes
 pub men_same : (c d : CampaignValue) → d.units ≡ c.units → HaveTheirMen c d
-men_same c d same n u there = record { unit = u; there = ap (λ (m : FinMap nat_cmp Unit). get m n) same ∙ there; spared = record { faction = refl; men = refl } }
+men_same c d same n u there = record { unit = u; there = ap (λ (m : FinMap nat_cmp Unit). get m n) same ∙ there; is_unaffected = record { faction = refl; men = refl } }
 
 -- all units have their men (`HaveTheirMen`) after a change of unit k by f, if f keeps the men of each unit
-pub men_changed : (f : Unit → Unit) → ((u : Unit) → HasItsMen u (f u)) → (c d : CampaignValue) (k : ℕ) → d.units ≡ changed f c.units k → HaveTheirMen c d
+pub men_changed : (f : Unit → Unit) → ((u : Unit) → HasItsMen u (f u)) → (c d : CampaignValue) (k : ℕ) → d.units ≡ with_changed_value f c.units k → HaveTheirMen c d
 men_changed f stay c d k same n u there =
-    record { unit = at_number f c.units k n u; there = ap (λ (m : FinMap nat_cmp Unit). get m n) same ∙ get-changed f c.units k n ∙ ap (option_map (at_number f c.units k n)) there; spared = by_number (n == k) }
+    record { unit = at_number f c.units k n u; there = ap (λ (m : FinMap nat_cmp Unit). get m n) same ∙ get-changed f c.units k n ∙ ap (option_map (at_number f c.units k n)) there; is_unaffected = by_number (n == k) }
   where
     -- for `men_changed`: unit u has its men after the change, whether it is unit k, which f changes (`b`), or another
     by_number : (b : Bool) → HasItsMen u (if b then f u else u)
@@ -159,9 +158,9 @@ pub men_put : (c d : CampaignValue) (k : ℕ) (v x : Unit) → get c.units k ≡
 men_put c d k v x here stay same n u there = elim (cases_eq n k) [
   | inl own ↦
       let unit : v ≡ u = same_Some _ _ (sym here ∙ ap (get c.units) (sym own) ∙ there) in
-      record { unit = x; there = ap (λ (m : FinMap nat_cmp Unit). get m n) same ∙ ap (get (insert c.units k x)) own ∙ get-insert_same c.units k x; spared = subst (λ y. HasItsMen y x) unit stay }
+      record { unit = x; there = ap (λ (m : FinMap nat_cmp Unit). get m n) same ∙ ap (get (insert c.units k x)) own ∙ get-insert_same c.units k x; is_unaffected = subst (λ y. HasItsMen y x) unit stay }
   | inr apart ↦
-      record { unit = u; there = ap (λ (m : FinMap nat_cmp Unit). get m n) same ∙ get-insert_other c.units k n x apart ∙ there; spared = record { faction = refl; men = refl } }
+      record { unit = u; there = ap (λ (m : FinMap nat_cmp Unit). get m n) same ∙ get-insert_other c.units k n x apart ∙ there; is_unaffected = record { faction = refl; men = refl } }
 ]
 
 -- all units have their men after steps each of which keeps them
@@ -187,7 +186,7 @@ guard_men c n flag = men_changed (λ u. record u { holding = record u.holding { 
 pub place_men : (c : CampaignValue) (n r s : ℕ) → HaveTheirMen c (with_place c n r s)
 place_men c n r s =
     let there : Unit → Unit = λ u. record u { region = r; structure = s } in
-    placed_cases (HaveTheirMen c) c n r s (men_stay c) (men_changed there (λ u. record { faction = refl; men = refl }) c (placed c n r s) n refl)
+    placed_cases (HaveTheirMen c) c n r s (men_stay c) (men_changed there (λ u. record { faction = refl; men = refl }) c (with_position c n r s) n refl)
     (λ d k from to h. men_twice c d (after_handover d k from to) h (men_same d (after_handover d k from to) (ap (λ (e : CampaignValue). e.units) (handed_is d k from to))))
 
 -- The unit has after a change the same name, and no less of any item than before.
@@ -201,12 +200,13 @@ pub record HasItsItems (before after : Unit) : Type 0 where
 pub items_of_no_worse : (u v : Unit) → IsNoWorse u v → HasItsItems u v
 items_of_no_worse u v h = record { name = h.name; items = h.items }
 
--- each unit whose faction sent no mailing is in the campaign after, and `spares` relates what it was to what it is then
+-- each unit whose faction sent no mailing is in the campaign after, and `unaffected` relates what it was to what it is
+-- then
 abbrev pub UnmailedAre : Unaffected → MonthValue → CampaignValue → CampaignValue → Type 0
-UnmailedAre spares m before after = Every (λ n u. get m.readings u.faction ≡ None → IsUnaffected spares after n u) before.units
+UnmailedAre unaffected m before after = Every (λ n u. get m.readings u.faction ≡ None → IsUnaffected unaffected after n u) before.units
 
--- if a phase leaves the number x of starved men as it is (y), a unit that keeps its faction, men and name, and no less
--- of any item, has y - x men less (`IsLessBy`), which is 0
+-- a unit that keeps its faction, men and name, and no less of any item, has y - x men less (`IsLessBy`), which is 0, if
+-- a phase leaves the number x of starved men as it is (y)
 none_less : (x y : ℕ) (u v : Unit) → y ≡ x → HasItsMen u v → HasItsItems u v → IsLessBy (y - x) u v
 none_less x y u v same men items = record { faction = men.faction; name = items.name; men = nobody u.holding.men v.holding.men men.men; items = items.items }
   where
@@ -228,7 +228,7 @@ module _ {meaning : Meaning} {keeps : Frame} (readings : (w : WorldValue) (c : C
         let one = men w c m h n u there none in
         let two = items w c m h n u there none in
         let unit : two.unit ≡ one.unit = same_Some _ _ (sym two.there ∙ one.there) in
-        record { unit = one.unit; there = one.there; spared = none_less _ _ u one.unit (nobody w c m n) one.spared (subst (HasItsItems u) unit two.spared) };
+        record { unit = one.unit; there = one.there; is_unaffected = none_less _ _ u one.unit (nobody w c m n) one.is_unaffected (subst (HasItsItems u) unit two.is_unaffected) };
   }
 
 -- ---- a phase whose orders are carried out one by one
@@ -260,24 +260,24 @@ pub others_men : (f : ℕ) (c d : CampaignValue) → HaveTheirMen c d → Others
 others_men f c d men n u there other = men n u there
 
 -- the effect of each order leaves every unit of another faction than the order's writer its men (`OthersHaveMen`)
-abbrev pub SparesMen : OrderMeaning → Type 0
-SparesMen step = (w : WorldValue) (a : Aliases) (c : CampaignValue) (t : Task) (x : Unit) → IsUnitOf c t x → IfSome (step w a t) (λ deed. OthersHaveMen t.faction c (deed c x).0)
+abbrev pub LeavesOthersMen : OrderMeaning → Type 0
+LeavesOthersMen step = (w : WorldValue) (a : Aliases) (c : CampaignValue) (t : Task) (x : Unit) → IsUnitOf c t x → IfSome (step w a t) (λ effect. OthersHaveMen t.faction c (effect c x).0)
 
 module _ (step : OrderMeaning) where
   -- an order leaves units of other factions than the one that wrote it their men, also if it is passed over or has a
-  -- fault, if its effect does (`SparesMen`)
-  order_spares : SparesMen step → (w : WorldValue) (a : Aliases) (c : CampaignValue) (t : Task) → OthersHaveMen t.faction c (order_result (step w a t) c t.faction t.unit).0
-  order_spares spares w a c t = ordered_cases (OthersHaveMen t.faction c) (step w a t) c t (others_men t.faction c c (men_stay c)) (λ x own. spares w a c t x own)
+  -- fault, if its effect does (`LeavesOthersMen`)
+  order_leaves_men : LeavesOthersMen step → (w : WorldValue) (a : Aliases) (c : CampaignValue) (t : Task) → OthersHaveMen t.faction c (order_result (step w a t) c t.faction t.unit).0
+  order_leaves_men unaffected w a c t = ordered_cases (OthersHaveMen t.faction c) (step w a t) c t (others_men t.faction c c (men_stay c)) (λ x own. unaffected w a c t x own)
 
   -- orders of other factions than a unit's, one after another, leave the unit its men, if each order's effect leaves
-  -- units of other factions theirs (`SparesMen`)
-  orders_spare : SparesMen step → (w : WorldValue) (c : CampaignValue) (m : MonthValue) (ts : List Task) → (n : ℕ) (u : Unit) → get c.units n ≡ Some u → AllByRecursion (λ t. t.faction ≢ u.faction) ts → IsUnaffected HasItsMen (fold (one_order step w) (c, m) ts).0 n u
-  orders_spare spares w c m [] n u there others = men_stay c n u there
-  orders_spare spares w c m (t ∷ ts) n u there others =
+  -- units of other factions theirs (`LeavesOthersMen`)
+  orders_leave_men : LeavesOthersMen step → (w : WorldValue) (c : CampaignValue) (m : MonthValue) (ts : List Task) → (n : ℕ) (u : Unit) → get c.units n ≡ Some u → AllByRecursion (λ t. t.faction ≢ u.faction) ts → IsUnaffected HasItsMen (fold (one_order step w) (c, m) ts).0 n u
+  orders_leave_men unaffected w c m [] n u there others = men_stay c n u there
+  orders_leave_men unaffected w c m (t ∷ ts) n u there others =
       let next = one_order step w (c, m) t in
-      let one = order_spares spares w m.aliases c t n u there others.0 in
-      let two = orders_spare spares w next.0 next.1 ts n one.unit one.there (subst (λ f. AllByRecursion (λ t. t.faction ≢ f) ts) (sym one.spared.faction) others.1) in
-      record { unit = two.unit; there = two.there; spared = record { faction = two.spared.faction ∙ one.spared.faction; men = two.spared.men ∙ one.spared.men } }
+      let one = order_leaves_men unaffected w m.aliases c t n u there others.0 in
+      let two = orders_leave_men unaffected w next.0 next.1 ts n one.unit one.there (subst (λ f. AllByRecursion (λ t. t.faction ≢ f) ts) (sym one.is_unaffected.faction) others.1) in
+      record { unit = two.unit; there = two.there; is_unaffected = record { faction = two.is_unaffected.faction ∙ one.is_unaffected.faction; men = two.is_unaffected.men ∙ one.is_unaffected.men } }
 
   -- orders carried out one by one leave the readings of the month as they are
   orders_readings : (w : WorldValue) (p : CampaignValue × MonthValue) (ts : List Task) → (fold (one_order step w) p ts).1.readings ≡ p.1.readings
@@ -310,30 +310,30 @@ module _ (step : OrderMeaning) where
     carried_starve_none w c m n = orders_starve_none w (c, m) (values (orders_of is_of ByUnit m.aliases m.readings)) n
 
     -- a phase that carries out its orders one by one leaves units of factions without a mailing their men, if each
-    -- order leaves the units of other factions theirs (`SparesMen`)
-    pub carried_men : SparesMen step → (w : WorldValue) (c : CampaignValue) (m : MonthValue) → UnmailedAre HasItsMen m c (meaning_by_orders step is_of w c m).0
+    -- order leaves the units of other factions theirs (`LeavesOthersMen`)
+    pub carried_men : LeavesOthersMen step → (w : WorldValue) (c : CampaignValue) (m : MonthValue) → UnmailedAre HasItsMen m c (meaning_by_orders step is_of w c m).0
     unfolding meaning_by_orders
-    carried_men spares w c m n u there none =
+    carried_men unaffected w c m n u there none =
         let ts = values (orders_of is_of ByUnit m.aliases m.readings) in
-        orders_spare spares w c m ts n u there (recursion_from_All (λ t. t.faction ≢ u.faction) ts (none_ordered is_of ByUnit m u.faction none))
+        orders_leave_men unaffected w c m ts n u there (recursion_from_All (λ t. t.faction ≢ u.faction) ts (none_ordered is_of ByUnit m u.faction none))
 
     -- A phase that carries out its orders one by one leaves units of factions without a mailing their items, and their
     -- men less the starved (`LeavesUnmailed`). For this each order must leave units of other factions their men
-    -- (`SparesMen`), and units of factions without a mailing must keep their items.
-    pub carried_leaves : {keeps : Frame} → SparesMen step → ((w : WorldValue) (c d : CampaignValue) (m : MonthValue) → keeps w m c d → UnmailedAre HasItsItems m c d) → LeavesUnmailed (meaning_by_orders step is_of) keeps
-    carried_leaves {keeps} spares items =
+    -- (`LeavesOthersMen`), and units of factions without a mailing must keep their items.
+    pub carried_leaves : {keeps : Frame} → LeavesOthersMen step → ((w : WorldValue) (c d : CampaignValue) (m : MonthValue) → keeps w m c d → UnmailedAre HasItsItems m c d) → LeavesUnmailed (meaning_by_orders step is_of) keeps
+    carried_leaves {keeps} unaffected items =
         whole_leaves {meaning = meaning_by_orders step is_of} {keeps = keeps} carried_readings carried_starve_none
-        (λ w c m h. carried_men spares w c m) (λ w c m h. items w c (meaning_by_orders step is_of w c m).0 m h)
+        (λ w c m h. carried_men unaffected w c m) (λ w c m h. items w c (meaning_by_orders step is_of w c m).0 m h)
 
 -- an order that is a unit's own (`IsOwnOrder`) was written by the faction of that unit
 pub own_faction : (t : Task) (n f : ℕ) → IsOwnOrder t n f → t.faction ≡ f
 own_faction t n f h = h.faction
 
--- A phase that spares units which no order concerns leaves units of factions without a mailing their items.
--- For this only orders of a unit's own faction may concern the unit, and a unit that is spared must keep its items.
-pub unmailed_spared : {concerns : Affects} {spares : Unaffected} (is_of : Verb → Bool) → ((t : Task) (n f : ℕ) → concerns t n f → t.faction ≡ f) → ((u v : Unit) → spares u v → HasItsItems u v)
-    → (w : WorldValue) (c d : CampaignValue) (m : MonthValue) → spares_others concerns spares is_of w m c d → UnmailedAre HasItsItems m c d
-unmailed_spared {concerns} {spares} is_of own items w c d m h n u there none =
+-- A phase that leaves alone the units which no order affects leaves units of factions without a mailing their items.
+-- For this only orders of a unit's own faction may affect the unit, and an unaffected unit must keep its items.
+pub unmailed_keep_items : {affects : Affects} {unaffected : Unaffected} (is_of : Verb → Bool) → ((t : Task) (n f : ℕ) → affects t n f → t.faction ≡ f) → ((u v : Unit) → unaffected u v → HasItsItems u v)
+    → (w : WorldValue) (c d : CampaignValue) (m : MonthValue) → others_unaffected affects unaffected is_of w m c d → UnmailedAre HasItsItems m c d
+unmailed_keep_items {affects} {unaffected} is_of own items w c d m h n u there none =
     let others = none_ordered is_of ByUnit m u.faction none in
     let one = h n u there (λ k e l concerned. others k e l (own _ n u.faction concerned)) in
-    record { unit = one.unit; there = one.there; spared = items u one.unit one.spared }
+    record { unit = one.unit; there = one.there; is_unaffected = items u one.unit one.is_unaffected }

@@ -22,7 +22,7 @@ use Rattle.atl_phase.specs.Unbooked.{moves_nothing}
 
 -- the bound on the books of a number of steps together, if each step moves the amounts by at most the given bound
 abbrev pub moved_times : ℕ → BookBound → BookBound
-moved_times steps moving e t = steps * moving e t
+moved_times steps book_bound e t = steps * book_bound e t
 
 -- the greatest size of an amount of the books, above or below 0: 9*10^18 + 99999999999999
 abbrev pub amount_limit : ℕ
@@ -37,24 +37,24 @@ pub record HasRoom (most : ℕ) (amount : ℤ) : Type 0 where
 
 -- each amount of the books can move as far as its bound says without passing `amount_limit` in size
 abbrev pub HaveRoom : BookBound → CampaignValue → Type 0
-HaveRoom moving c = (e : BooksEntry) (t : Thing) → HasRoom (moving e t) (amount_in c.books e t)
+HaveRoom book_bound c = (e : BooksEntry) (t : Thing) → HasRoom (book_bound e t) (amount_in c.books e t)
 
 -- by how much each amount of the books may still be moved, as a function of the campaign so far
 abbrev pub RemainingBound : Type 0
 RemainingBound = CampaignValue → BookBound
 
--- an amount moves, up or down, by at most what its remaining bound falls: from `reserve` to `left`
-pub record UsesBound (reserve left : ℕ) (before after : ℤ) : Type 0 where
-  -- the amount rises by at most what its remaining bound falls, from `reserve` to `left`
-  pub above : (after +ℤ pos left) ≤ℤ (before +ℤ pos reserve)
-  -- the amount falls by at most what its remaining bound falls, from `reserve` to `left`
-  pub below : (before +ℤ pos left) ≤ℤ (after +ℤ pos reserve)
+-- an amount moves, up or down, by at most what its remaining bound falls: from `remaining` to `left`
+pub record UsesBound (remaining left : ℕ) (before after : ℤ) : Type 0 where
+  -- the amount rises by at most what its remaining bound falls, from `remaining` to `left`
+  pub above : (after +ℤ pos left) ≤ℤ (before +ℤ pos remaining)
+  -- the amount falls by at most what its remaining bound falls, from `remaining` to `left`
+  pub below : (before +ℤ pos left) ≤ℤ (after +ℤ pos remaining)
 
 -- ---- the step of one order
 
 -- After a step `holds` is true of the campaign, which is of the same month, and whose books balance if they did before.
 -- No amount of the books moves further than its remaining bound falls.
-pub record StepsWell (holds : Condition) (reserve : RemainingBound) (w : WorldValue) (before after : CampaignValue) : Type 0 where
+pub record StepsWell (holds : Condition) (remaining : RemainingBound) (w : WorldValue) (before after : CampaignValue) : Type 0 where
   -- the condition `holds` is true of the campaign after the step
   pub holds_still : holds w after
   -- the step keeps the number of the month last closed, the reports and the set of factions
@@ -62,16 +62,19 @@ pub record StepsWell (holds : Condition) (reserve : RemainingBound) (w : WorldVa
   -- the books balance after the step if they did before
   pub balances : Balances before → Balances after
   -- each amount of the books moves by at most what its remaining bound falls
-  pub uses_bound : (e : BooksEntry) (t : Thing) → UsesBound (reserve before e t) (reserve after e t) (amount_in before.books e t) (amount_in after.books e t)
+  pub uses_bound : (e : BooksEntry) (t : Thing) →
+      UsesBound (remaining before e t) (remaining after e t) (amount_in before.books e t) (amount_in after.books e t)
 
--- `spares` is reflexive and transitive, and relates only units of the same faction
-pub record IsUnaffectedRelation (spares : Unaffected) : Type 0 where
-  -- `spares` relates each unit to itself, so a unit that doesn't change is spared
-  pub same : (u : Unit) → spares u u
-  -- `spares` is transitive: a unit that is spared by each of two changes in turn is spared by both together
-  pub transitive : (u v x : Unit) → spares u v → spares v x → spares u x
-  -- `spares` relates only units of the same faction, so a unit that is spared keeps its faction
-  pub faction : (u v : Unit) → spares u v → v.faction ≡ u.faction
+-- the relation `unaffected`, of a unit before to the unit after, is reflexive and transitive, and relates only units of
+-- the same faction
+pub record IsUnaffectedRelation (unaffected : Unaffected) : Type 0 where
+  -- `unaffected` relates each unit to itself, so a unit that doesn't change is unaffected
+  pub same : (u : Unit) → unaffected u u
+  -- `unaffected` is transitive: a unit that each of two changes in turn leaves unaffected is unaffected by both
+  -- together
+  pub transitive : (u v x : Unit) → unaffected u v → unaffected v x → unaffected u x
+  -- `unaffected` relates only units of the same faction, so an unaffected unit keeps its faction
+  pub faction : (u v : Unit) → unaffected u v → v.faction ≡ u.faction
 
 -- unit u is there under the number that an order is for, and is of the faction that wrote the order
 pub record IsUnitOf (c : CampaignValue) (t : Task) (u : Unit) : Type 0 where
@@ -81,21 +84,24 @@ pub record IsUnitOf (c : CampaignValue) (t : Task) (u : Unit) : Type 0 where
   pub faction : u.faction ≡ t.faction
 
 -- The conditions on a phase that carries its orders out one by one. Each order keeps `holds`, month and balance, and
--- moves no amount further than its remaining bound falls (`StepsWell`). `spares` relates each unit that an order
--- doesn't concern to the unit as it is after the order. No remaining bound is above the bound of the phase.
-pub record IsOrderly (step : OrderMeaning) (holds : Condition) (reserve : RemainingBound) (moving : BookBound) (concerns : Affects) (spares : Unaffected) : Type 0 where
-  -- each order that can be read with the world, for a unit of its writer's faction, keeps `holds` true, the month, and
-  -- the books' balance, and moves no amount further than its remaining bound falls (`StepsWell`)
-  pub well : (w : WorldValue) (a : Aliases) (c : CampaignValue) (t : Task) (x : Unit) → holds w c → IsOrderOf w t.order_value → IsUnitOf c t x →
-      IfSome (step w a t) (λ deed. StepsWell holds reserve w c (deed c x).0)
-  -- `spares` can be used over several orders: it is reflexive, transitive, and keeps the faction
-  pub spares_is_relation : IsUnaffectedRelation spares
-  -- if `holds` is true before, each unit that an order for a unit of its writer's faction doesn't concern is there
-  -- after the order, and `spares` relates what it was to what it is then
-  pub spared : (w : WorldValue) (a : Aliases) (c : CampaignValue) (t : Task) (x : Unit) → holds w c → IsUnitOf c t x →
-      (n : ℕ) (u : Unit) → get c.units n ≡ Some u → (concerns t n u.faction → ⊥) → IfSome (step w a t) (λ deed. IsUnaffected spares (deed c x).0 n u)
+-- moves no amount further than its remaining bound falls (`StepsWell`). `unaffected` relates each unit that an order
+-- doesn't affect to the unit as it is after the order. No remaining bound is above the bound of the phase.
+pub record IsOrderly (step : OrderMeaning) (holds : Condition) (remaining : RemainingBound) (book_bound : BookBound)
+    (affects : Affects) (unaffected : Unaffected) : Type 0 where
+  -- Each order that can be read with the world, for a unit of its writer's faction, keeps `holds` true, the month and
+  -- the books' balance. It moves no amount further than its remaining bound falls (`StepsWell`).
+  pub well : (w : WorldValue) (a : Aliases) (c : CampaignValue) (t : Task) (x : Unit) →
+      holds w c → IsOrderOf w t.order_value → IsUnitOf c t x →
+      IfSome (step w a t) (λ effect. StepsWell holds remaining w c (effect c x).0)
+  -- `unaffected` can be used over several orders: it is reflexive, transitive, and keeps the faction
+  pub unaffected_is_relation : IsUnaffectedRelation unaffected
+  -- if `holds` is true before, each unit that an order for a unit of its writer's faction doesn't affect is there
+  -- after the order, and `unaffected` relates what it was to what it is then
+  pub is_unaffected : (w : WorldValue) (a : Aliases) (c : CampaignValue) (t : Task) (x : Unit) → holds w c → IsUnitOf c t x →
+      (n : ℕ) (u : Unit) → get c.units n ≡ Some u → (affects t n u.faction → ⊥) →
+      IfSome (step w a t) (λ effect. IsUnaffected unaffected (effect c x).0 n u)
   -- for no amount of the books is the remaining bound above the bound of the phase
-  pub bounded : (w : WorldValue) (c : CampaignValue) → holds w c → (e : BooksEntry) (t : Thing) → reserve c e t ≤ moving e t
+  pub bounded : (w : WorldValue) (c : CampaignValue) → holds w c → (e : BooksEntry) (t : Thing) → remaining c e t ≤ book_bound e t
 
 -- ---- what is left of the bounds of single phases
 
@@ -104,6 +110,6 @@ abbrev pub nothing_remaining : RemainingBound
 nothing_remaining c = moves_nothing
 
 -- the bound on the books for a list of items with their amounts, each booked as lost
-abbrev pub moving_items : List (ℕ × ℕ) → BookBound
-moving_items [] e t = 0
-moving_items (x ∷ xs) e t = moves_only x.1 Lost (Item x.0) e t + moving_items xs e t
+abbrev pub items_bound : List (ℕ × ℕ) → BookBound
+items_bound [] e t = 0
+items_bound (x ∷ xs) e t = moves_only x.1 Lost (Item x.0) e t + items_bound xs e t

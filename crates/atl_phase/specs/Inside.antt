@@ -5,8 +5,8 @@ use Rattle.std.specs.FinMap.{get}
 use Rattle.atl_campaign.specs.Campaign.{CampaignValue}
 
 -- the number of the structure that a unit is inside; 0 where it is inside none, or isn't there
-abbrev pub inside : CampaignValue → ℕ → ℕ
-inside c n = option_map_or (λ u. u.structure) (get c.units n) 0
+abbrev pub structure_of_unit : CampaignValue → ℕ → ℕ
+structure_of_unit c n = option_map_or (λ u. u.structure) (get c.units n) 0
 
 -- the number of the region that a unit is in; 0 where there is no such unit
 abbrev pub region_of : CampaignValue → ℕ → ℕ

@@ -7,7 +7,7 @@ pub mod PhaseOrders
 pub mod OrderIndices
 pub mod NoWorse
 pub mod Fit
-pub mod StandOnce
+pub mod OneOrder
 pub mod OrderEffects
 pub mod Outcomes
 pub mod InTurn

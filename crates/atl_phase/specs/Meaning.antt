@@ -29,8 +29,8 @@ Condition = WorldValue → CampaignValue → Type 0
 abbrev pub Follows : Condition → Condition → Type 0
 Follows leaves needs = (w : WorldValue) (c : CampaignValue) → leaves w c → needs w c
 
--- what two phases in turn need: the first condition, which the first phase needs, and that the second, which that phase
--- leaves, implies the third, which the second phase needs
+-- What two phases in turn need: the condition `needs` of the first phase. The condition `between`, which the first
+-- phase leaves, must also imply `follows`, which the second one needs.
 abbrev pub both_need : Condition → Condition → Condition → Condition
 both_need needs between follows w c = needs w c × Follows between follows
 
@@ -39,8 +39,8 @@ both_need needs between follows w c = needs w c × Follows between follows
 abbrev pub Frame : Type 1
 Frame = WorldValue → MonthValue → CampaignValue → CampaignValue → Type 0
 
--- what two phases in turn keep, by the effect of the first one: each keeps its own, and the second does from the
--- campaign and the month that the first one makes
+-- What two phases in turn keep: the first one what `early` says, and the second one what `late` says. The second one
+-- gets the campaign and the month that the effect of the first one makes.
 abbrev pub both_keep : Meaning → Frame → Frame → Frame
 both_keep first early late w m before after =
     let between = first w before m in
@@ -85,7 +85,7 @@ pub record IsSameMonth (before after : CampaignValue) : Type 0 where
 -- After a phase `leaves` is true of the campaign, which is of the same month,
 -- and whose books balance if they did before.
 -- No amount of the books moves further than its bound.
-pub record LeavesWell (leaves : Condition) (moving : BookBound) (w : WorldValue) (before after : CampaignValue) : Type 0 where
+pub record LeavesWell (leaves : Condition) (book_bound : BookBound) (w : WorldValue) (before after : CampaignValue) : Type 0 where
   -- the condition `leaves` is true of the campaign after the phase
   pub leaves_it : leaves w after
   -- the phase keeps the number of the month last closed, the reports and the set of factions
@@ -93,4 +93,4 @@ pub record LeavesWell (leaves : Condition) (moving : BookBound) (w : WorldValue)
   -- the books balance after the phase if they did before
   pub balances : Balances before → Balances after
   -- no amount of the books moves further than its bound
-  pub near : (e : BooksEntry) (t : Thing) → IsNear (moving e t) (amount_in before.books e t) (amount_in after.books e t)
+  pub near : (e : BooksEntry) (t : Thing) → IsNear (book_bound e t) (amount_in before.books e t) (amount_in after.books e t)

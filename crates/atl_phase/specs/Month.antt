@@ -52,7 +52,8 @@ entry_code =
 -- the encoding, which the kit requires of each type, of what was read of a mailing: its faction, entries, faulty lines
 abbrev pub reading_code : Coded Reading
 reading_code =
-    code_by (ℕ × (List EntryValue × List FaultyLine)) (coded× coded_ℕ (coded× (coded_list entry_code) (coded_list faulty.the_row.coded)))
+    code_by (ℕ × (List EntryValue × List FaultyLine))
+    (coded× coded_ℕ (coded× (coded_list entry_code) (coded_list faulty.the_row.coded)))
     (λ r. (r.faction, (r.entries, r.faults)))
     (λ p. record { faction = p.0; entries = p.1.0; faults = p.1.1 })
     (λ _. refl)
@@ -61,7 +62,8 @@ reading_code =
 abbrev pub month_code : Coded MonthValue
 month_code =
     code_by (FinMap nat_cmp Reading × (Aliases × (List ℕ × List Event)))
-    (coded× (code coded_ℕ reading_code) (coded× (code coded_ℕ (code coded_ℕ coded_ℕ)) (coded× (coded_list coded_ℕ) (coded_list event.the_row.coded))))
+    (coded× (code coded_ℕ reading_code)
+    (coded× (code coded_ℕ (code coded_ℕ coded_ℕ)) (coded× (coded_list coded_ℕ) (coded_list event.the_row.coded))))
     (λ c. (c.readings, (c.aliases, (c.words, c.events))))
     (λ p. record { readings = p.0; aliases = p.1.0; words = p.1.1.0; events = p.1.1.1 })
     (λ _. refl)
@@ -72,8 +74,8 @@ month_code =
 abbrev pub alias_unit : Aliases → ℕ → ℕ → Option ℕ
 alias_unit aliases faction alias = get (group_of aliases faction) alias
 
--- the aliases with one set, new or in place of an old one; the numbers are the faction's, the alias, and that of the
--- unit that FORM made under it
+-- The aliases with one more, or with another unit for an alias that is there. The numbers are the faction's, the alias,
+-- and that of the unit that FORM made under it.
 abbrev pub with_alias : Aliases → ℕ → ℕ → ℕ → Aliases
 with_alias aliases faction alias unit = insert aliases faction (insert (group_of aliases faction) alias unit)
 

@@ -38,5 +38,5 @@ abbrev pub AreNoWorse : CampaignValue → CampaignValue → Type 0
 AreNoWorse before after = Every (λ n u. (v : Unit) × (get after.units n ≡ Some v) × IsNoWorse u v) before.units
 
 -- what a phase keeps that takes nothing from any unit: each unit is still there, and no worse off
-abbrev pub spares_all : Frame
-spares_all w m before after = AreNoWorse before after
+abbrev pub all_no_worse : Frame
+all_no_worse w m before after = AreNoWorse before after

@@ -44,22 +44,23 @@ of_faction faction (Some u) = if u.faction == faction then Some u else None
 
 -- the effect of an order on a unit, if it is there; otherwise nothing changes, and the outcome is NotYours
 abbrev pub effect_on : OrderEffect → CampaignValue → Option Unit → CampaignValue × Outcome
-effect_on deed c None = (c, Fault (event_fault_number NotYours))
-effect_on deed c (Some u) = deed c u
+effect_on effect c None = (c, Fault (event_fault_number NotYours))
+effect_on effect c (Some u) = effect c u
 
 -- the effect of a faction's order for unit n.
 -- Where the unit isn't there or isn't the faction's own, nothing changes, and the outcome is NotYours.
 abbrev pub faction_effect : OrderEffect → CampaignValue → (faction n : ℕ) → CampaignValue × Outcome
-faction_effect deed c faction n = effect_on deed c (of_faction faction (get c.units n))
+faction_effect effect c faction n = effect_on effect c (of_faction faction (get c.units n))
 
 -- the campaign after an order, and its outcome; an order that is passed over changes nothing and has none
 abbrev pub order_result : Option OrderEffect → CampaignValue → (faction n : ℕ) → CampaignValue × Option Outcome
 order_result None c faction n = (c, None)
-order_result (Some deed) c faction n = let after = faction_effect deed c faction n in (after.0, Some after.1)
+order_result (Some effect) c faction n = let after = faction_effect effect c faction n in (after.0, Some after.1)
 
 -- the event that reports an order with a given outcome
 abbrev pub event_for : Task → Outcome → Event
-event_for t outcome = record { faction = t.faction; unit = t.unit; line = t.line; verb = Order t.order_value.verb; outcome = outcome }
+event_for t outcome =
+    record { faction = t.faction; unit = t.unit; line = t.line; verb = Order t.order_value.verb; outcome = outcome }
 
 -- the month with the event of an order; an order that the phase passes over has none
 abbrev pub with_event_of : MonthValue → Task → Option Outcome → MonthValue
@@ -68,7 +69,9 @@ with_event_of m t (Some outcome) = record m { events = m.events ++ event_for t o
 
 -- the campaign and the month after one order of a phase
 abbrev pub one_order : OrderMeaning → WorldValue → CampaignValue × MonthValue → Task → CampaignValue × MonthValue
-one_order step w (c, m) t = let after = order_result (step w m.aliases t) c t.faction t.unit in (after.0, with_event_of m t after.1)
+one_order step w (c, m) t =
+    let after = order_result (step w m.aliases t) c t.faction t.unit in
+    (after.0, with_event_of m t after.1)
 
 -- the effect of a phase that carries out its orders one by one, by unit, line and faction
 unfoldable pub meaning_by_orders : OrderMeaning → (Verb → Bool) → Meaning
@@ -76,7 +79,7 @@ meaning_by_orders step is_of w c m = fold (one_order step w) (c, m) (orders_by_u
 
 -- ---- what stays
 
--- whether an order concerns a unit, as a statement about the order, the unit's number and the unit's faction
+-- whether an order affects a unit, as a statement about the order, the unit's number and the unit's faction
 abbrev pub Affects : Type 1
 Affects = Task → ℕ → ℕ → Type 0
 
@@ -91,21 +94,22 @@ pub record IsOwnOrder (t : Task) (n f : ℕ) : Type 0 where
 abbrev pub Unaffected : Type 1
 Unaffected = Unit → Unit → Type 0
 
--- the unit of a number, which was u before, is there after, and `spares` relates u to what it is then
-pub record IsUnaffected (spares : Unaffected) (after : CampaignValue) (number : ℕ) (u : Unit) : Type 0 where
+-- the unit of a number, which was u before, is there after, and `unaffected` relates u to what it is then
+pub record IsUnaffected (unaffected : Unaffected) (after : CampaignValue) (number : ℕ) (u : Unit) : Type 0 where
   -- the unit of this number as it is in the campaign after
   pub unit : Unit
   -- the campaign after has the unit under this number
   pub there : get after.units number ≡ Some unit
-  -- `spares` relates u, which the unit was before, to the unit as it is after
-  pub spared : spares u unit
+  -- `unaffected` relates u, which the unit was before, to the unit as it is after
+  pub is_unaffected : unaffected u unit
 
--- each unit that none of the listed orders concerns is there after, and `spares` relates what it was to what it is then
+-- each unit that none of the listed orders affects is there after, and `unaffected` relates what it was to what it is
+-- then
 abbrev pub AreUnaffected : Affects → Unaffected → List Task → CampaignValue → CampaignValue → Type 0
-AreUnaffected concerns spares ts before after =
-    (n : ℕ) (u : Unit) → get before.units n ≡ Some u → All (λ t. concerns t n u.faction → ⊥) ts → IsUnaffected spares after n u
+AreUnaffected affects unaffected ts before after =
+    (n : ℕ) (u : Unit) → get before.units n ≡ Some u → All (λ t. affects t n u.faction → ⊥) ts → IsUnaffected unaffected after n u
 
--- what a phase keeps: each unit that none of its orders concerns is there after,
--- and `spares` relates what it was before to what it is then
-abbrev pub spares_others : Affects → Unaffected → (Verb → Bool) → Frame
-spares_others concerns spares is_of w m before after = AreUnaffected concerns spares (orders_by_unit is_of m) before after
+-- what a phase keeps: each unit that none of its orders affects is there after,
+-- and `unaffected` relates what it was before to what it is then
+abbrev pub others_unaffected : Affects → Unaffected → (Verb → Bool) → Frame
+others_unaffected affects unaffected is_of w m before after = AreUnaffected affects unaffected (orders_by_unit is_of m) before after

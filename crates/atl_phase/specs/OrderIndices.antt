@@ -26,25 +26,25 @@ abbrev pub AreByFaction : List Mailing → Type 0
 AreByFaction mailings = IsStrictlySortedBy (λ m n. nat_cmp m.faction n.faction) mailings
 
 -- the greatest line of a mailing's orders in each slot for each unit, by the number of the slot and then by unit
-abbrev pub Lines : Type 0
-Lines = FinMap nat_cmp (FinMap nat_cmp ℕ)
+abbrev pub LastLineMap : Type 0
+LastLineMap = FinMap nat_cmp (FinMap nat_cmp ℕ)
 
 -- the greatest line noted for a unit in a slot; 0 where none is noted
-abbrev pub line_in : Lines → (slot unit : ℕ) → ℕ
+abbrev pub line_in : LastLineMap → (slot unit : ℕ) → ℕ
 line_in lines slot unit = unwrap_or (get (group_of lines slot) unit) 0
 
 -- the noted lines with a line noted for a slot and a unit: the greater of it and the one that was noted for them before
-abbrev pub with_line : Lines → (slot unit line : ℕ) → Lines
+abbrev pub with_line : LastLineMap → (slot unit line : ℕ) → LastLineMap
 with_line lines slot unit line = insert lines slot (insert (group_of lines slot) unit (max (line_in lines slot unit) line))
 
 -- the noted lines are the greatest lines of the orders of a list, in each slot and for each unit (`last_line`)
-abbrev pub AreLastLines : List Task → Lines → Type 0
+abbrev pub AreLastLines : List Task → LastLineMap → Type 0
 AreLastLines ts lines = (slot : Slot) (unit : ℕ) → line_in lines (slot_number slot) unit ≡ last_line slot unit ts
 
 -- whether an order counts by the noted lines: it has no slot, or its line is the one noted for its slot and unit
-abbrev pub stands_by : Lines → (unit line : ℕ) → Option Slot → Bool
-stands_by lines unit line None = true
-stands_by lines unit line (Some slot) = line == line_in lines (slot_number slot) unit
+abbrev pub counts_by_lines : LastLineMap → (unit line : ℕ) → Option Slot → Bool
+counts_by_lines lines unit line None = true
+counts_by_lines lines unit line (Some slot) = line == line_in lines (slot_number slot) unit
 
 -- ---- all verbs, and those of a phase
 
@@ -64,8 +64,8 @@ has_verb is_of t = is_of t.order_value.verb
 
 -- the numbers that the index of an order is sorted by: those of `key_of` for the order itself
 abbrev pub key_by : Arrangement → OrderIndex → List ℕ
-key_by ByUnit p = p.unit ∷ p.line ∷ p.faction ∷ p.place ∷ []
-key_by ByFaction p = p.faction ∷ p.line ∷ p.unit ∷ p.place ∷ []
+key_by ByUnit p = p.unit ∷ p.line ∷ p.faction ∷ p.index ∷ []
+key_by ByFaction p = p.faction ∷ p.line ∷ p.unit ∷ p.index ∷ []
 
 -- an empty mailing, for an index past the last mailing
 abbrev pub no_mailing : Mailing
@@ -77,11 +77,11 @@ no_entry = record { line = 0; target = Number 0; order = record { verb = Work; o
 
 -- the mailing at an index of a list, from 0 on; an empty one past the last
 abbrev pub mailing_at : List Mailing → ℕ → Mailing
-mailing_at mailings place = slice_index_or mailings place no_mailing
+mailing_at mailings index = slice_index_or mailings index no_mailing
 
 -- all orders of the mailing at an index of a list
 abbrev pub tasks_at : Aliases → List Mailing → ℕ → List Task
-tasks_at aliases mailings place = tasks_of aliases (mailing_at mailings place).faction (reading_of (mailing_at mailings place))
+tasks_at aliases mailings index = tasks_of aliases (mailing_at mailings index).faction (reading_of (mailing_at mailings index))
 
 -- the order that an index names: by the index of its mailing, and its own index in the mailing
 abbrev pub task_at : List Mailing → OrderIndex → Task
@@ -89,8 +89,10 @@ task_at mailings p = record {
   faction = p.faction;
   unit = p.unit;
   line = p.line;
-  place = p.place;
-  order_value = order_value (mailing_at mailings p.mailing).text (slice_index_or (mailing_at mailings p.mailing).entries p.place no_entry).order;
+  index = p.index;
+  order_value =
+      order_value (mailing_at mailings p.mailing).text
+      (slice_index_or (mailing_at mailings p.mailing).entries p.index no_entry).order;
 }
 
 -- the mailing that an index names is there, and so is the order that it names in this mailing
@@ -98,17 +100,17 @@ pub record IsThere (mailings : List Mailing) (p : OrderIndex) : Type 0 where
   -- the index of the mailing is less than the number of mailings
   pub mailing : p.mailing < length mailings
   -- the index of the order is less than the number of orders in this mailing
-  pub entry : p.place < length (mailing_at mailings p.mailing).entries
+  pub entry : p.index < length (mailing_at mailings p.mailing).entries
 
 -- each index names an order that is there, and the orders that they name are ts, in this order
-pub record AreAt (mailings : List Mailing) (ts : List Task) (places : List OrderIndex) : Type 0 where
+pub record AreIndicesOf (mailings : List Mailing) (ts : List Task) (places : List OrderIndex) : Type 0 where
   -- each index names an order that the mailings have (`IsThere`)
   pub there : All (IsThere mailings) places
   -- the orders that the indices name are ts
   pub tasks : map (task_at mailings) places ≡ ts
 
 -- the new indices name the orders that the old ones name, and after them the orders ts
-pub record Adds (mailings : List Mailing) (ts : List Task) (old new : List OrderIndex) : Type 0 where
+pub record AddsIndicesOf (mailings : List Mailing) (ts : List Task) (old new : List OrderIndex) : Type 0 where
   -- each new index names an order that the mailings have (`IsThere`), if each old index does
   pub there : All (IsThere mailings) old → All (IsThere mailings) new
   -- the new indices name the orders of the old ones, and then ts
@@ -117,23 +119,25 @@ pub record Adds (mailings : List Mailing) (ts : List Task) (old new : List Order
 -- the new indices name the orders that the old ones name, and after them the orders that count of the mailing at an
 -- index of the list
 abbrev pub AddsMailing : Aliases → List Mailing → ℕ → List OrderIndex → List OrderIndex → Type 0
-AddsMailing aliases mailings place = Adds mailings (tasks_for every_verb (tasks_at aliases mailings place))
+AddsMailing aliases mailings index = AddsIndicesOf mailings (tasks_for every_verb (tasks_at aliases mailings index))
 
 -- the indices name the orders that count of all mailings, mailing by mailing
 abbrev pub AreIndicesByMailing : Aliases → List Mailing → List OrderIndex → Type 0
-AreIndicesByMailing aliases mailings = AreAt mailings (all_tasks aliases mailings)
+AreIndicesByMailing aliases mailings = AreIndicesOf mailings (all_tasks aliases mailings)
 
 -- the indices name the orders that count of all mailings, sorted as the arrangement says
 abbrev pub AreOrderIndices : Arrangement → Aliases → List Mailing → List OrderIndex → Type 0
-AreOrderIndices arrangement aliases mailings = AreAt mailings (values (orders_of every_verb arrangement aliases (by_faction (map reading_of mailings))))
+AreOrderIndices arrangement aliases mailings =
+    AreIndicesOf mailings (values (orders_of every_verb arrangement aliases (by_faction (map reading_of mailings))))
 
--- of the orders that some indices name, those that have a verb of the phase, in the order of the indices
+-- the orders that some indices name and that have a verb of the phase, in the order of the indices
 abbrev pub tasks_picked : (Verb → Bool) → List Mailing → List OrderIndex → List Task
 tasks_picked is_of mailings places = filter (has_verb is_of) (map (task_at mailings) places)
 
 -- The invariant of a month: its mailings, no two of one faction, are sorted by faction, and its gathered indices by
 -- unit. The gathered indices, if there are any, name all orders that count.
-pub record IsSortedMonth {Z : Type 0} (aliases : Aliases) (mailings : List Mailing) (gathered_indices : Option (Vec OrderIndex Z)) : Type 0 where
+pub record IsSortedMonth {Z : Type 0} (aliases : Aliases) (mailings : List Mailing)
+    (gathered_indices : Option (Vec OrderIndex Z)) : Type 0 where
   -- the month's mailings are sorted by faction, and no two are of one faction
   pub sorted : AreByFaction mailings
   -- the gathered indices, if there are any, name all orders that count, sorted by unit

@@ -27,13 +27,19 @@ pub record Task : Type 0 where
   -- the line of the order in its mailing
   pub line : ℕ
   -- the index of the order among those of its mailing, from 0 on
-  pub place : ℕ
+  pub index : ℕ
   -- what the order says
   pub order_value : OrderValue
 
 -- the order that a `PhaseOrder` of the code is, with the names from the text of its mailing
 abbrev pub task_of : PhaseOrder → Task
-task_of o = record { faction = o.faction; unit = o.unit; line = o.line; place = o.place; order_value = order_value o.mailing.now.text o.order.now }
+task_of o = record {
+  faction = o.faction;
+  unit = o.unit;
+  line = o.line;
+  index = o.index;
+  order_value = order_value o.mailing.now.text o.order.now;
+}
 
 -- ---- the orders of a mailing
 
@@ -44,10 +50,16 @@ unit_of aliases faction (Alias alias) = unwrap_or (alias_unit aliases faction al
 
 -- the orders in some entries of a mailing; the numbers are the faction, and the index of the first entry in the mailing
 abbrev pub tasks_from : Aliases → ℕ → ℕ → List EntryValue → List Task
-tasks_from aliases faction place [] = []
-tasks_from aliases faction place (e ∷ es) =
-    record { faction = faction; unit = unit_of aliases faction e.target; line = e.line; place = place; order_value = e.order_value }
-    ∷ tasks_from aliases faction (place + 1) es
+tasks_from aliases faction index [] = []
+tasks_from aliases faction index (e ∷ es) =
+    record {
+      faction = faction;
+      unit = unit_of aliases faction e.target;
+      line = e.line;
+      index = index;
+      order_value = e.order_value;
+    }
+    ∷ tasks_from aliases faction (index + 1) es
 
 -- all orders of a faction's mailing
 abbrev pub tasks_of : Aliases → ℕ → Reading → List Task
@@ -80,30 +92,32 @@ last_line slot unit (t ∷ ts) =
 
 -- whether an order in a slot counts among the orders of a list: its line is the greatest in the slot for its unit; an
 -- order without a slot always counts
-abbrev pub stands_in : List Task → Task → Option Slot → Bool
-stands_in ts t None = true
-stands_in ts t (Some slot) = t.line == last_line slot t.unit ts
+abbrev pub counts_in_slot : List Task → Task → Option Slot → Bool
+counts_in_slot ts t None = true
+counts_in_slot ts t (Some slot) = t.line == last_line slot t.unit ts
 
 -- whether an order counts among the orders of a list, which are all of its mailing
-abbrev pub stands : List Task → Task → Bool
-stands ts t = stands_in ts t (row_of t.order_value.verb).slot
+abbrev pub order_counts : List Task → Task → Bool
+order_counts ts t = counts_in_slot ts t (row_of t.order_value.verb).slot
 
 -- ---- the orders of a phase
 
 -- the orders of a mailing that count and have the verbs of a phase
 abbrev pub tasks_for : (Verb → Bool) → List Task → List Task
-tasks_for is_of ts = filter (λ t. is_of t.order_value.verb && stands ts t) ts
+tasks_for is_of ts = filter (λ t. is_of t.order_value.verb && order_counts ts t) ts
 
 -- The numbers that an order is sorted by: unit, line and faction, or faction, line and unit.
 -- The last number is its index, which no mailing has twice.
 abbrev pub key_of : Arrangement → Task → List ℕ
-key_of ByUnit t = t.unit ∷ t.line ∷ t.faction ∷ t.place ∷ []
-key_of ByFaction t = t.faction ∷ t.line ∷ t.unit ∷ t.place ∷ []
+key_of ByUnit t = t.unit ∷ t.line ∷ t.faction ∷ t.index ∷ []
+key_of ByFaction t = t.faction ∷ t.line ∷ t.unit ∷ t.index ∷ []
 
--- The map from the key (`key_of`) of each order that counts and has a verb of the phase to the order, of all mailings.
+-- The orders that count and have a verb of the phase, of all mailings. They are a map from the key (`key_of`) of each
+-- order to the order.
 abbrev pub orders_of : (Verb → Bool) → Arrangement → Aliases → FinMap nat_cmp Reading → FinMap (slice_cmp nat_cmp) Task
 orders_of is_of arrangement aliases readings =
-    from_entries (map (λ t. (key_of arrangement t, t)) (flat_map (λ e. tasks_for is_of (tasks_of aliases e.0 e.1)) (entries readings)))
+    from_entries (map (λ t. (key_of arrangement t, t))
+    (flat_map (λ e. tasks_for is_of (tasks_of aliases e.0 e.1)) (entries readings)))
 
 -- the orders of a month that count and have the verbs of a phase, by unit, line and faction
 abbrev pub orders_by_unit : (Verb → Bool) → MonthValue → List Task
@@ -120,7 +134,7 @@ pub record IsInMailing (aliases : Aliases) (readings : FinMap nat_cmp Reading) (
   -- the reading is that of the faction that wrote the order
   pub of_faction : get readings t.faction ≡ Some reading
   -- the entry has the order's index in the mailing
-  pub at_place : slice_get reading.entries t.place ≡ Some entry
+  pub at_index : slice_get reading.entries t.index ≡ Some entry
   -- the entry is for the order's unit
   pub for_unit : unit_of aliases t.faction entry.target ≡ t.unit
   -- the entry is on the order's line

@@ -7,7 +7,7 @@ use Rattle.atl_records.specs.declared.books.Thing.{Thing}
 use Rattle.atl_records.specs.declared.books.Thing.TheVariants.{Item, Money, People}
 use Rattle.atl_records.specs.Books.{entry_index}
 use Rattle.atl_phase.specs.Meaning.{BookBound, Frame, Meaning, both_keep, both_move, most_moved, moves_only, then_also}
-use Rattle.atl_phase.specs.OrderEffects.{Affects, OrderMeaning, Unaffected, meaning_by_orders, spares_others}
+use Rattle.atl_phase.specs.OrderEffects.{Affects, OrderMeaning, Unaffected, meaning_by_orders, others_unaffected}
 use Rattle.atl_phase.specs.Unbooked.{moves_nothing}
 
 -- ---- the books
@@ -47,7 +47,7 @@ pub record PhaseSpec : Type 1 where
   -- the effect of the phase on campaign and month
   pub meaning : Meaning
   -- by how much the phase may move each amount of the books
-  pub moving : BookBound
+  pub book_bound : BookBound
   -- the entries of the books under which the phase may move amounts
   pub moved : MovedEntries
   -- what the phase leaves unchanged
@@ -55,23 +55,24 @@ pub record PhaseSpec : Type 1 where
 
 -- A phase moves the amounts of its own entries alone, and each by less than 10^14.
 abbrev pub MovesItsOwn : PhaseSpec → Type 0
-MovesItsOwn phase = (e : BooksEntry) (t : Thing) → phase.moving e t ≤ (if may_move phase.moved e t then most_moved else 0)
+MovesItsOwn phase = (e : BooksEntry) (t : Thing) → phase.book_bound e t ≤ (if may_move phase.moved e t then most_moved else 0)
 
 -- the specification of a phase that has a given effect, moves no amount of the books, and keeps what the given frame
 -- says
 abbrev pub spec_without_books : Meaning → Frame → PhaseSpec
-spec_without_books meaning keeps = record { meaning = meaning; moving = moves_nothing; moved = no_moved_entries; keeps = keeps }
+spec_without_books meaning keeps = record { meaning = meaning; book_bound = moves_nothing; moved = no_moved_entries; keeps = keeps }
 
 -- the specification of a phase that moves no amount of the books and carries its orders out one by one.
--- It spares the units that none of its orders concerns.
+-- It leaves the units that none of its orders affects as `unaffected` says.
 abbrev pub goes_by_orders : OrderMeaning → (Verb → Bool) → Affects → Unaffected → PhaseSpec
-goes_by_orders step is_of concerns spares = spec_without_books (meaning_by_orders step is_of) (spares_others concerns spares is_of)
+goes_by_orders step is_of affects unaffected =
+    spec_without_books (meaning_by_orders step is_of) (others_unaffected affects unaffected is_of)
 
 -- the specification of a phase that moves the money of one entry of the books, and no other amount
 abbrev pub books_money : BooksEntry → Meaning → Frame → PhaseSpec
 books_money entry meaning keeps = record {
   meaning = meaning;
-  moving = moves_only most_moved entry Money;
+  book_bound = moves_only most_moved entry Money;
   moved = record { money = entry ∷ []; people = []; items = [] };
   keeps = keeps;
 }
@@ -81,7 +82,7 @@ books_money entry meaning keeps = record {
 abbrev pub books_money_and_people : (money people : BooksEntry) → Meaning → Frame → PhaseSpec
 books_money_and_people money people meaning keeps = record {
   meaning = meaning;
-  moving = both_move (moves_only most_moved money Money) (moves_only most_moved people People);
+  book_bound = both_move (moves_only most_moved money Money) (moves_only most_moved people People);
   moved = record { money = money ∷ []; people = people ∷ []; items = [] };
   keeps = keeps;
 }
@@ -95,10 +96,10 @@ meaning_of (phase ∷ []) = phase.meaning
 meaning_of (phase ∷ next ∷ rest) = then_also phase.meaning (meaning_of (next ∷ rest))
 
 -- the bound on the books of the phases of a list together: the sum of their bounds
-abbrev pub moving_of : List PhaseSpec → BookBound
-moving_of [] = λ e t. 0
-moving_of (phase ∷ []) = phase.moving
-moving_of (phase ∷ next ∷ rest) = both_move phase.moving (moving_of (next ∷ rest))
+abbrev pub book_bound_of : List PhaseSpec → BookBound
+book_bound_of [] = λ e t. 0
+book_bound_of (phase ∷ []) = phase.book_bound
+book_bound_of (phase ∷ next ∷ rest) = both_move phase.book_bound (book_bound_of (next ∷ rest))
 
 -- what phases in turn leave unchanged together: each keeps what its own specification says, from the campaign and the
 -- month that the phases before it made
@@ -108,9 +109,9 @@ keeps_of (phase ∷ []) = phase.keeps
 keeps_of (phase ∷ next ∷ rest) = both_keep phase.meaning phase.keeps (keeps_of (next ∷ rest))
 
 -- how many phases of a list may move the amount of a given entry and thing
-abbrev pub moving_phases_of : List PhaseSpec → BooksEntry → Thing → ℕ
-moving_phases_of [] e t = 0
-moving_phases_of (phase ∷ rest) e t = (if may_move phase.moved e t then 1 else 0) + moving_phases_of rest e t
+abbrev pub moving_phase_count_of : List PhaseSpec → BooksEntry → Thing → ℕ
+moving_phase_count_of [] e t = 0
+moving_phase_count_of (phase ∷ rest) e t = (if may_move phase.moved e t then 1 else 0) + moving_phase_count_of rest e t
 
 -- P holds of each phase of a list
 abbrev pub EachPhase : (PhaseSpec → Type 0) → List PhaseSpec → Type 0

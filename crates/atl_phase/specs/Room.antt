@@ -18,4 +18,6 @@ AreRoomy c = (e : BooksEntry) (t : Thing) → IsWithin roomy_amount (amount_in c
 -- A law: where no amount passes 9*10^18, the books have room for one phase that moves each by less than 10^14.
 -- Two phases may move an amount further.
 abbrev pub OnePhaseHasRoom : Type 0
-OnePhaseHasRoom = (moving : BookBound) (c : CampaignValue) → ((e : BooksEntry) (t : Thing) → moving e t ≤ most_moved) → AreRoomy c → HaveRoom moving c
+OnePhaseHasRoom =
+    (book_bound : BookBound) (c : CampaignValue) → ((e : BooksEntry) (t : Thing) → book_bound e t ≤ most_moved) →
+    AreRoomy c → HaveRoom book_bound c

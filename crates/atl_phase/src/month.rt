@@ -5,10 +5,10 @@ ghost use Rattle.atl_orders.specs.Mailing.{reading_of};
 ghost use Rattle.atl_phase.specs.Month.{HaveOwnFactions, HaveNoOrder, alias_unit, by_faction, with_alias, with_events};
 ghost use Rattle.atl_phase.specs.PhaseOrders.{orders_of, task_of, unit_of};
 
+use crate::last_lines::unit_of;
 use crate::order_indices::{OrderIndex, order_indices};
 use crate::orders::{PhaseVerbs, phase_orders_at};
 use crate::phase_order::{Arrangement, PhaseOrder};
-use crate::standing::unit_of;
 use atl_campaign::Event;
 use atl_orders::{Mailing, UnitRef};
 use atl_world::{Numbered, let_go};
@@ -59,7 +59,8 @@ impl Model for Month {
     ghost invariant = { λ a. IsSortedMonth a.aliases a.mailings.items a.gathered_indices };
 }
 
-/// Makes a month of its mailings, and reads its orders, aliases, dice words and events.
+/// Makes a month of its mailings, notes aliases and events in it, and gives its orders and its
+/// other parts.
 impl Month {
     /// A month before its first phase, with the given mailings, no two of one faction, and the
     /// given words of the dice. It takes no memory.
@@ -179,7 +180,7 @@ impl Month {
     {
         let mailings = self.mailings.as_slice();
         match mailings.binary_search_by_key(&faction, |mailing| mailing.faction) {
-            Ok(place) => Some(&mailings[place]),
+            Ok(index) => Some(&mailings[index]),
             Err(_) => None,
         }
     }

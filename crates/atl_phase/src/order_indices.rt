@@ -6,8 +6,8 @@ ghost use Rattle.std.specs.Cmp.Lexicographic.{slice_cmp};
 ghost use Rattle.std.specs.Ordering.{nat_cmp};
 ghost use Rattle.atl_phase.specs.OrderIndices.{AddsMailing, AreByFaction, AreIndicesByMailing, AreLastLines, AreOrderIndices, key_by, tasks_at};
 
+use crate::last_lines::{LastLines, last_lines, order_counts, unit_of};
 use crate::phase_order::Arrangement;
-use crate::standing::{LastLines, last_lines, stands, unit_of};
 use atl_orders::Mailing;
 use atl_world::Numbered;
 use std::alloc::{AllocError, Global};
@@ -25,7 +25,7 @@ pub(crate) struct OrderIndex {
     /// The index of the mailing among those of the month, from 0 on.
     pub mailing: usize,
     /// The index of the order among those of its mailing, from 0 on.
-    pub place: usize,
+    pub index: usize,
 }
 
 /// Gives the key that an order is sorted by.
@@ -39,15 +39,15 @@ impl OrderIndex {
         let line = self.line as usize;
         let faction = self.faction as usize;
         match arrangement {
-            Arrangement::ByUnit => [unit, line, faction, self.place],
-            Arrangement::ByFaction => [faction, line, unit, self.place],
+            Arrangement::ByUnit => [unit, line, faction, self.index],
+            Arrangement::ByFaction => [faction, line, unit, self.index],
         }
     }
 }
 
 /// Adds to the list the indices of a mailing's orders that count. `lines` has the greatest line of
 /// each slot and unit in that mailing.
-fn add_standing(
+fn add_counting(
     aliases: &Numbered<Numbered<u32>>,
     mailings: &[Mailing],
     at: usize,
@@ -60,16 +60,16 @@ fn add_standing(
 {
     let mailing = &mailings[at];
     let entries = mailing.entries.as_slice();
-    for place in 0..entries.len() {
-        let entry = &entries[place];
+    for index in 0..entries.len() {
+        let entry = &entries[index];
         let unit = unit_of(aliases, mailing.faction, entry.target);
-        if stands(lines, unit, entry.line, entry.order.verb.row().slot) {
+        if order_counts(lines, unit, entry.line, entry.order.verb.row().slot) {
             list.push(OrderIndex {
                 unit,
                 line: entry.line,
                 faction: mailing.faction,
                 mailing: at,
-                place,
+                index,
             })?;
         }
     }
@@ -87,7 +87,7 @@ fn indices_by_mailing(
     let mut list = Vec::new(alloc);
     for at in 0..mailings.len() {
         let lines = last_lines(alloc, aliases, &mailings[at])?;
-        add_standing(aliases, mailings, at, &lines, &mut list)?;
+        add_counting(aliases, mailings, at, &lines, &mut list)?;
     }
     Ok(list)
 }

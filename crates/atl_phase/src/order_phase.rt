@@ -10,7 +10,7 @@ ghost use Rattle.atl_phase.specs.Meaning.{BookBound, Condition, LeavesWell};
 ghost use Rattle.atl_phase.specs.Bounds.{HaveRoom, IsOrderly, RemainingBound, nothing_remaining};
 ghost use Rattle.atl_phase.specs.NoWorse.{IsNoWorse};
 ghost use Rattle.atl_phase.specs.Unbooked.{moves_nothing};
-ghost use Rattle.atl_phase.specs.OrderEffects.{Affects, IsOwnOrder, OrderMeaning, Unaffected, is_of_faction, meaning_by_orders, of_faction, one_order, order_result, spares_others};
+ghost use Rattle.atl_phase.specs.OrderEffects.{Affects, IsOwnOrder, OrderMeaning, Unaffected, is_of_faction, meaning_by_orders, of_faction, one_order, order_result, others_unaffected};
 ghost use Rattle.atl_phase.specs.Month.{with_events};
 ghost use Rattle.atl_phase.specs.PhaseOrders.{task_of};
 
@@ -32,21 +32,21 @@ pub trait OrderPhase: PhaseVerbs {
     ghost holds: { Condition };
 
     // By how much each amount of the books may still be moved, from a campaign on: by default 0.
-    ghost reserve: { RemainingBound } = { nothing_remaining };
+    ghost remaining: { RemainingBound } = { nothing_remaining };
 
     // By how much the whole phase may move each amount of the books, up or down: by default 0.
-    ghost moving: { BookBound } = { moves_nothing };
+    ghost book_bound: { BookBound } = { moves_nothing };
 
-    // Which units an order concerns; `spares` says what stays of the others. By default an order
-    // concerns the unit that it is for, if that is of the faction that wrote the order.
-    ghost concerns: { Affects } = { IsOwnOrder };
+    // Which units an order affects; `unaffected` says what stays of the others. By default an order
+    // affects the unit that it is for, if that is of the faction that wrote the order.
+    ghost affects: { Affects } = { IsOwnOrder };
 
-    // What stays of the units that no order concerns. By default they are no worse off.
-    ghost spares: { Unaffected } = { IsNoWorse };
+    // What stays of the units that no order affects. By default they are no worse off.
+    ghost unaffected: { Unaffected } = { IsNoWorse };
 
     /// Carries out an order of the phase's verbs, and returns its outcome, or None where the phase
     /// passes it over. Before it `holds` is true, the books have room for what may still be booked
-    /// (`reserve`), and the order is such as can be read with the world. An order for a unit that
+    /// (`remaining`), and the order is such as can be read with the world. An order for a unit that
     /// isn't there, or is another faction's, changes nothing, and is NotYours unless it is passed
     /// over. AllocError without memory; the campaign may then be changed in part. See
     /// docs/RULES.md, "Orders of a month".
@@ -59,7 +59,7 @@ pub trait OrderPhase: PhaseVerbs {
         order: PhaseOrder<'_>,
     ) -> Result<Option<Outcome>, AllocError>
         requires holds { holds world.now campaign.old.value }
-        requires room { HaveRoom (reserve campaign.old.value) campaign.old.value }
+        requires room { HaveRoom (remaining campaign.old.value) campaign.old.value }
         requires fit { IsOrderOf world.now (task_of order).order_value }
         ensures step { IfOk result
             (λ outcome. (campaign.new.value, outcome)
@@ -68,9 +68,9 @@ pub trait OrderPhase: PhaseVerbs {
         ensures marks { OnOk result (MarksChanges campaign.old campaign.new) };
 
     /// The law of what each order of the phase keeps, how far it moves the books, and that each
-    /// unit which it doesn't concern is left as `spares` says (`IsOrderly`). Does nothing.
+    /// unit which it doesn't affect is left as `unaffected` says (`IsOrderly`). Does nothing.
     fn is_orderly(&self)
-        ensures { IsOrderly (step self.now) holds reserve moving concerns spares };
+        ensures { IsOrderly (step self.now) holds remaining book_bound affects unaffected };
 }
 
 /// Whether a unit is there, and of a given faction.
@@ -107,7 +107,7 @@ fn carry_one<P: OrderPhase>(
     events: &mut Vec<Event>,
 ) -> Result<(), AllocError>
     requires holds { P.holds world.now campaign.old.value }
-    requires room { HaveRoom (P.reserve campaign.old.value) campaign.old.value }
+    requires room { HaveRoom (P.remaining campaign.old.value) campaign.old.value }
     requires fit { IsOrderOf world.now (task_of order).order_value }
     ensures step { OnOk result
         ((campaign.new.value, with_events month.now events.new.items)
@@ -133,16 +133,16 @@ pub fn carry_out_orders<P: OrderPhase>(
     month: &mut Month,
 ) -> Result<(), AllocError>
     requires holds { P.holds world.now campaign.old.value }
-    requires room { HaveRoom P.moving campaign.old.value }
+    requires room { HaveRoom P.book_bound campaign.old.value }
     requires read { AreFit world.now month.old.readings }
     ensures meaning { OnOk result
         ((campaign.new.value, month.new)
         ≡ meaning_by_orders (P.step phase.now) P.is_of world.now campaign.old.value month.old) }
     ensures leaves { OnOk result
-        (LeavesWell P.holds P.moving world.now campaign.old.value campaign.new.value) }
+        (LeavesWell P.holds P.book_bound world.now campaign.old.value campaign.new.value) }
     ensures readings { OnOk result (month.new.readings ≡ month.old.readings) }
     ensures keeps { OnOk result
-        (spares_others P.concerns P.spares P.is_of world.now month.old campaign.old.value
+        (others_unaffected P.affects P.unaffected P.is_of world.now month.old campaign.old.value
         campaign.new.value) }
     ensures marks { OnOk result (MarksChanges campaign.old campaign.new) }
 {
@@ -177,9 +177,9 @@ impl<P: PlainPhase> Phase for P {
 
     ghost leaves = { P.holds };
 
-    ghost moving = { P.moving };
+    ghost book_bound = { P.book_bound };
 
-    ghost keeps = { spares_others P.concerns P.spares P.is_of };
+    ghost keeps = { others_unaffected P.affects P.unaffected P.is_of };
 
     /// Returns the campaign as the orders leave it, and the month with their events.
     fn run(

@@ -3,12 +3,12 @@ ghost use Rattle.std.specs.Prelude.{◌≡◌, map, IfOk, Bool};
 ghost use Rattle.std.specs.List.{All};
 ghost use Rattle.atl_orders.specs.declared.verb.Verb.{Verb};
 ghost use Rattle.atl_phase.specs.PhaseOrders.{OrdersAreInMailings, is_month_long, task_of};
-ghost use Rattle.atl_phase.specs.StandOnce.{OneOrderStands};
+ghost use Rattle.atl_phase.specs.OneOrder.{OneOrderCounts};
 ghost use Rattle.atl_phase.specs.OrderIndices.{IsThere, task_at, tasks_picked};
 
+use crate::last_lines::is_same_slot;
 use crate::order_indices::OrderIndex;
 use crate::phase_order::PhaseOrder;
-use crate::standing::is_same_slot;
 use atl_orders::{Mailing, Slot, Verb};
 use std::alloc::{AllocError, Global};
 
@@ -42,12 +42,12 @@ fn order_at<'m>(mailings: &'m [Mailing], placed: &OrderIndex) -> PhaseOrder<'m>
     ensures { task_of result ≡ task_at mailings.now placed.now }
 {
     let mailing = &mailings[placed.mailing];
-    let entry = &mailing.entries.as_slice()[placed.place];
+    let entry = &mailing.entries.as_slice()[placed.index];
     PhaseOrder {
         unit: placed.unit,
         line: placed.line,
         faction: placed.faction,
-        place: placed.place,
+        index: placed.index,
         mailing,
         order: &entry.order,
     }
@@ -83,6 +83,6 @@ pub fn orders_are_in_mailings()
 
 /// The law that no two orders that a phase carries out are of one faction, for one unit and of
 /// verbs in one slot. Does nothing. See docs/RULES.md, "Orders of a month".
-pub fn one_order_stands()
-    ensures { OneOrderStands }
+pub fn one_order_counts()
+    ensures { OneOrderCounts }
 {}

@@ -28,7 +28,7 @@ pub trait Phase {
 
     // By how much the phase may move each amount of the books, up or down: by less than 10^14 for
     // one phase, and by the sum of their bounds for several. By default it moves none.
-    ghost moving: { BookBound } = { moves_nothing };
+    ghost book_bound: { BookBound } = { moves_nothing };
 
     // What the phase keeps: what is left to the units whose own faction wrote no order of it.
     ghost keeps: { Frame };
@@ -38,12 +38,12 @@ pub trait Phase {
     /// the world. AllocError without memory; campaign and month are then given up.
     fn run(&self, alloc: Global, world: &World, campaign: Campaign, month: Month) -> PhaseResult
         requires needs { needs world.now campaign.value }
-        requires room { HaveRoom moving campaign.value }
+        requires room { HaveRoom book_bound campaign.value }
         requires read { AreFit world.now month.readings }
         ensures meaning { IfOk result
             (λ r. (r.0.value, r.1) ≡ meaning world.now campaign.value month) }
         ensures leaves { IfOk result
-            (λ r. LeavesWell leaves moving world.now campaign.value r.0.value) }
+            (λ r. LeavesWell leaves book_bound world.now campaign.value r.0.value) }
         ensures keeps { IfOk result (λ r. keeps world.now month campaign.value r.0.value) }
         ensures readings { IfOk result (λ r. r.1.readings ≡ month.readings) }
         ensures marks { IfOk result (λ r. MarksChanges campaign r.0) };
@@ -57,7 +57,7 @@ impl<P: Phase, Q: Phase> Phase for (P, Q) {
 
     ghost leaves = { Q.leaves };
 
-    ghost moving = { both_move P.moving Q.moving };
+    ghost book_bound = { both_move P.book_bound Q.book_bound };
 
     ghost keeps = { both_keep P.meaning P.keeps Q.keeps };
 

@@ -25,7 +25,7 @@ pub struct PhaseOrder<'m> {
     /// The faction that sent the mailing.
     pub faction: u32,
     /// The index of the order among those of its mailing, from 0 on.
-    pub place: usize,
+    pub index: usize,
     /// The mailing that has the order; its text has the name that the order gives, if the order
     /// gives one.
     pub mailing: &'m Mailing,

@@ -3,7 +3,7 @@
 ghost use Rattle.std.specs.Prelude.{◌≡◌};
 ghost use Rattle.atl_records.specs.Books.{thing_index};
 
-use crate::lines::number;
+use crate::lines::append_number;
 use atl_campaign::{BooksEntry, Campaign, ENTRY_COUNT, Thing};
 use atl_world::World;
 use std::alloc::{AllocError, Global};
@@ -37,12 +37,12 @@ static ENTRIES: [(&str, BooksEntry); ENTRY_COUNT] = [
     ("stocked", BooksEntry::Stocked),
 ];
 
-/// The amount booked of a thing under an entry, or 0 if the books have no such thing. `place` is
+/// The amount booked of a thing under an entry, or 0 if the books have no such thing. `index` is
 /// the thing's index.
-fn booked(campaign: &Campaign, entry: BooksEntry, place: usize, thing: Thing) -> i64
-    requires { thing_index thing ≡ place }
+fn booked(campaign: &Campaign, entry: BooksEntry, index: usize, thing: Thing) -> i64
+    requires { thing_index thing ≡ index }
 {
-    if place < campaign.things() {
+    if index < campaign.things() {
         campaign.booked(entry, thing)
     } else {
         0
@@ -51,48 +51,56 @@ fn booked(campaign: &Campaign, entry: BooksEntry, place: usize, thing: Thing) ->
 
 /// Appends a line for each entry of the books under which the amount of a thing changed: by how
 /// much it rose, negative where it fell.
-fn tell_thing(
+fn write_thing(
     alloc: Global,
     of: &str,
-    place: usize,
+    index: usize,
     thing: Thing,
     before: &Campaign,
     after: &Campaign,
-    told: &mut String,
+    output: &mut String,
 ) -> Result<(), AllocError>
-    requires { thing_index thing ≡ place }
+    requires { thing_index thing ≡ index }
 {
     for (what, entry) in ENTRIES.iter() {
-        let old = booked(before, *entry, place, thing);
-        let new = booked(after, *entry, place, thing);
+        let old = booked(before, *entry, index, thing);
+        let new = booked(after, *entry, index, thing);
         let more = new.wrapping_sub(old);
-        number(alloc, of, what, 0, more, told)?;
+        append_number(alloc, of, what, 0, more, output)?;
     }
     Ok(())
 }
 
 /// Appends a line for each entry and thing whose booked amount changed.
-pub(crate) fn tell_books(
+pub(crate) fn write_books(
     alloc: Global,
     world: &World,
     before: &Campaign,
     after: &Campaign,
-    told: &mut String,
+    output: &mut String,
 ) -> Result<(), AllocError> {
     let money = Thing::Money;
-    tell_thing(alloc, "booked money", MONEY, money, before, after, told)?;
+    write_thing(alloc, "booked money", MONEY, money, before, after, output)?;
     let people = Thing::People;
-    tell_thing(alloc, "booked people", PEOPLE, people, before, after, told)?;
-    for (place, item) in world.items().iter().enumerate() {
+    write_thing(
+        alloc,
+        "booked people",
+        PEOPLE,
+        people,
+        before,
+        after,
+        output,
+    )?;
+    for (index, item) in world.items().iter().enumerate() {
         let of = format!(in alloc; "booked {}", item.name.as_str())?;
-        tell_thing(
+        write_thing(
             alloc,
             of.as_str(),
-            FIRST_ITEM + place,
-            Thing::Item(place as u16),
+            FIRST_ITEM + index,
+            Thing::Item(index as u16),
             before,
             after,
-            told,
+            output,
         )?;
     }
     Ok(())

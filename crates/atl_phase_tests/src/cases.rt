@@ -1,8 +1,8 @@
 //! Plays the cases of a file, one after the other, and compares the result of each with the lines
 //! that the file expects.
-use crate::changes::tell_changes;
+use crate::changes::write_changes;
 use crate::failed::Failed;
-use crate::months::read_all;
+use crate::months::read_mailings;
 use crate::runs::{Run, played};
 use crate::script::{Case, take_case, take_setting};
 use crate::settings::{Setting, campaign_of};
@@ -13,8 +13,8 @@ use std::alloc::{AllocError, Global};
 use std::fs;
 use std::str::Lines;
 
-/// Appends a line with the outcome of an order.
-fn tell_event(alloc: Global, event: &Event, told: &mut String) -> Result<(), AllocError> {
+/// Appends a line for an event: its unit, line, faction and keyword, and its outcome.
+fn write_event(alloc: Global, event: &Event, report: &mut String) -> Result<(), AllocError> {
     let (word, number) = match event.outcome {
         Outcome::Done(number) => ("done", number),
         Outcome::Fault(fault) => ("fault", u64::from(fault)),
@@ -25,27 +25,27 @@ fn tell_event(alloc: Global, event: &Event, told: &mut String) -> Result<(), All
         event.unit, event.line, event.faction
     )?;
     let line = format!(in alloc; "{order}, {}: {word} {number}\n", event.verb.keyword())?;
-    told.push_str(line.as_str())
+    report.push_str(line.as_str())
 }
 
 /// The differences between two campaigns and the outcomes of the orders, as lines.
-fn told_between(
+fn result_between(
     alloc: Global,
     world: &World,
     before: &Campaign,
     after: &Campaign,
     events: &[Event],
 ) -> Result<String, AllocError> {
-    let mut told = String::new(alloc);
-    tell_changes(alloc, world, before, after, &mut told)?;
+    let mut report = String::new(alloc);
+    write_changes(alloc, world, before, after, &mut report)?;
     for event in events {
-        tell_event(alloc, event, &mut told)?;
+        write_event(alloc, event, &mut report)?;
     }
-    Ok(told)
+    Ok(report)
 }
 
 /// The result of a case, as lines: the changes of the campaign, and the outcomes of its orders.
-fn told_of(
+fn result_of(
     alloc: Global,
     world: &World,
     setting: &Setting,
@@ -53,53 +53,53 @@ fn told_of(
     case: &Case,
 ) -> Result<String, Failed> {
     let before = campaign_of(alloc, world, setting)?;
-    let mailings = read_all(alloc, world, &case.mailings)?;
+    let mailings = read_mailings(alloc, world, &case.mailings)?;
     let (after, events) = played(alloc, world, run, setting, mailings, &case.words)?;
-    Ok(told_between(alloc, world, &before, &after, &events)?)
+    Ok(result_between(alloc, world, &before, &after, &events)?)
 }
 
 /// The state of playing a file of cases, line by line. It has the world, the campaign and the
 /// phases for the next case, the case that is being read, the count of the cases played, and a
 /// report.
-struct Player {
+struct FilePlayer {
     world: World,
     setting: Setting,
     run: Run,
     case: Option<Case>,
     played: u32,
-    told: String,
+    report: String,
 }
 
 /// Drops the world, the setting, the current case and the report.
-impl Drop for Player {
+impl Drop for FilePlayer {
     fn drop(self) {
-        let_go!(self: Player { world, setting, run, case, played, told });
+        let_go!(self: FilePlayer { world, setting, run, case, played, report });
     }
 }
 
 /// Reads a file of cases line by line, and plays each case once it is read.
-impl Player {
+impl FilePlayer {
     /// The state in which a file of cases begins: a campaign of two factions without units, the run
     /// `orders`, and no case yet.
-    fn new(alloc: Global, world: World) -> Player {
-        Player {
+    fn new(alloc: Global, world: World) -> FilePlayer {
+        FilePlayer {
             world,
             setting: Setting::new(alloc),
             run: Run::Orders,
             case: None,
             played: 0,
-            told: String::new(alloc),
+            report: String::new(alloc),
         }
     }
 
     /// Plays a case, and appends its result to the report if it differs from the lines that the
     /// file expects.
     fn play(&mut self, alloc: Global, case: &Case) -> Result<(), Failed> {
-        let told = told_of(alloc, &self.world, &self.setting, self.run, case)?;
+        let report = result_of(alloc, &self.world, &self.setting, self.run, case)?;
         self.played = self.played.wrapping_add(1);
-        if told.as_str() != case.wanted.as_str() {
-            let lines = format!(in alloc; "{}:\n{}", case.title.as_str(), told.as_str())?;
-            self.told.push_str(lines.as_str())?;
+        if report.as_str() != case.wanted.as_str() {
+            let lines = format!(in alloc; "{}:\n{}", case.title.as_str(), report.as_str())?;
+            self.report.push_str(lines.as_str())?;
         }
         Ok(())
     }
@@ -113,7 +113,7 @@ impl Player {
     }
 
     /// Adds what a line says, such as a unit, to the campaign of the next cases, `count` times.
-    fn set(&mut self, count: u32, line: &str) -> Option<()> {
+    fn add_to_campaign(&mut self, count: u32, line: &str) -> Option<()> {
         let (word, rest) = line.split_once(' ')?;
         for _ in 0..count {
             take_setting(&self.world, &mut self.setting, word, rest)?;
@@ -124,16 +124,16 @@ impl Player {
     /// Adds what a `times` line says to the campaign of the next cases, as often as its count says.
     fn set_times(&mut self, text: &str) -> Option<()> {
         let (count, line) = text.split_once(' ')?;
-        self.set(count.parse::<u32>().ok()?, line)
+        self.add_to_campaign(count.parse::<u32>().ok()?, line)
     }
 
     /// Adds a line to the current case, or to the campaign if no case has begun.
-    fn take(&mut self, alloc: Global, line: &str) -> Option<()> {
+    fn add_line(&mut self, alloc: Global, line: &str) -> Option<()> {
         let (word, rest) = line.split_once(' ').unwrap_or((line, ""));
         match &mut self.case {
             Some(case) => take_case(alloc, case, word, rest),
             None if word == "times" => self.set_times(rest),
-            None => self.set(1, line),
+            None => self.add_to_campaign(1, line),
         }
     }
 
@@ -170,27 +170,27 @@ impl Player {
         } else if let Some(title) = line.strip_prefix("case ") {
             self.begin_case(alloc, title)
         } else {
-            self.take(alloc, line).ok_or(Failed("what is that?"))
+            self.add_line(alloc, line).ok_or(Failed("what is that?"))
         }
     }
 
-    /// Appends to the report that a line can't be read, or its case not be played; `place` is its
+    /// Appends to the report that a line can't be read, or its case not be played; `index` is its
     /// index after the first line.
-    fn tell_failed(
+    fn report_failed(
         &mut self,
         alloc: Global,
-        place: usize,
+        index: usize,
         failed: Failed,
     ) -> Result<(), AllocError> {
-        let line = format!(in alloc; "{place} lines behind the first: {}\n", failed.0)?;
-        self.told.push_str(line.as_str())
+        let line = format!(in alloc; "{index} lines after the first: {}\n", failed.0)?;
+        self.report.push_str(line.as_str())
     }
 
     /// Carries out all lines of a file after the first, and plays the last case.
-    fn read_all(&mut self, alloc: Global, lines: Lines<'_>) -> Result<(), Failed> {
-        for (place, line) in lines.enumerate() {
+    fn read_lines(&mut self, alloc: Global, lines: Lines<'_>) -> Result<(), Failed> {
+        for (index, line) in lines.enumerate() {
             if let Err(failed) = self.read(alloc, line) {
-                self.tell_failed(alloc, place, failed)?;
+                self.report_failed(alloc, index, failed)?;
             }
         }
         self.finish(alloc)
@@ -216,13 +216,17 @@ fn world_at(rt: &HostRuntime, path: &str) -> Result<World, Failed> {
 
 /// The report on a file: how many cases it has, which of them differ, and which lines can't be read
 /// or played. The first line of the file names its world.
-pub(crate) fn told_of_file(rt: &HostRuntime, path: &str) -> Result<String, Failed> {
+pub(crate) fn report_on_file(rt: &HostRuntime, path: &str) -> Result<String, Failed> {
     let alloc = rt.alloc();
     let text = text_at(rt, path)?;
     let mut lines = text.lines();
     let first = lines.next().and_then(|line| line.strip_prefix("world "));
     let world = world_at(rt, first.ok_or(Failed("no world"))?)?;
-    let mut player = Player::new(alloc, world);
-    player.read_all(alloc, lines)?;
-    Ok(format!(in alloc; "{}{path}: {} cases\n", player.told.as_str(), player.played)?)
+    let mut player = FilePlayer::new(alloc, world);
+    player.read_lines(alloc, lines)?;
+    Ok(format!(in alloc;
+        "{}{path}: {} cases\n",
+        player.report.as_str(),
+        player.played
+    )?)
 }

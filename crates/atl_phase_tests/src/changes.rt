@@ -1,7 +1,7 @@
 //! Appends the differences between two campaigns to a text, a line for each number or text that
 //! changed.
-use crate::bookings::tell_books;
-use crate::lines::{number, text};
+use crate::bookings::write_books;
+use crate::lines::{append_number, append_text};
 use atl_campaign::{Campaign, Faction, Region, Structure, Unit};
 use atl_world::World;
 use std::alloc::{AllocError, Global};
@@ -51,76 +51,83 @@ fn days_of(unit: Option<&Unit>, skill: u32) -> i64 {
 }
 
 /// Appends a line for each item of which a unit has more or less than before.
-fn tell_goods(
+fn write_goods(
     alloc: Global,
     world: &World,
     of: &str,
     before: Option<&Unit>,
     after: Option<&Unit>,
-    told: &mut String,
+    output: &mut String,
 ) -> Result<(), AllocError> {
     let mut thing: u32 = 0;
     for item in world.items() {
         let (had, has) = (amount_of(before, thing), amount_of(after, thing));
-        number(alloc, of, item.name.as_str(), had, has, told)?;
+        append_number(alloc, of, item.name.as_str(), had, has, output)?;
         thing = thing.wrapping_add(1);
     }
     Ok(())
 }
 
 /// Appends a line for each skill of which a unit has more or fewer days than before.
-fn tell_skills(
+fn write_skills(
     alloc: Global,
     world: &World,
     of: &str,
     before: Option<&Unit>,
     after: Option<&Unit>,
-    told: &mut String,
+    output: &mut String,
 ) -> Result<(), AllocError> {
     let mut thing: u32 = 0;
     for skill in world.skills() {
         let (had, has) = (days_of(before, thing), days_of(after, thing));
-        number(alloc, of, skill.name.as_str(), had, has, told)?;
+        append_number(alloc, of, skill.name.as_str(), had, has, output)?;
         thing = thing.wrapping_add(1);
     }
     Ok(())
 }
 
 /// Appends the changes of a unit: its name, its numbers, its items and its skills.
-fn tell_unit(
+fn write_unit(
     alloc: Global,
     world: &World,
     of: &str,
     before: Option<&Unit>,
     after: Option<&Unit>,
-    told: &mut String,
+    output: &mut String,
 ) -> Result<(), AllocError> {
-    text(alloc, of, "name", unit_name(before), unit_name(after), told)?;
+    append_text(
+        alloc,
+        of,
+        "name",
+        unit_name(before),
+        unit_name(after),
+        output,
+    )?;
     let (old, new) = (numbers_of(before), numbers_of(after));
     for (what, (was, is)) in NUMBERS.iter().zip(old.iter().zip(new.iter())) {
-        number(alloc, of, what, *was, *is, told)?;
+        append_number(alloc, of, what, *was, *is, output)?;
     }
-    tell_goods(alloc, world, of, before, after, told)?;
-    tell_skills(alloc, world, of, before, after, told)
+    write_goods(alloc, world, of, before, after, output)?;
+    write_skills(alloc, world, of, before, after, output)
 }
 
 /// Appends the changes of the units that were there before; of one that isn't there now, only that
 /// it is gone.
-fn tell_units(
+fn write_units(
     alloc: Global,
     world: &World,
     before: &Campaign,
     after: &Campaign,
-    told: &mut String,
+    output: &mut String,
 ) -> Result<(), AllocError> {
     for (number, old) in before.units() {
         let of = format!(in alloc; "unit {number}")?;
         let new = after.unit(number);
         if new.is_none() {
-            told.push_str(of.as_str())?;
-            told.push_str(" gone\n")?;
+            output.push_str(of.as_str())?;
+            output.push_str(" gone\n")?;
         } else {
-            tell_unit(alloc, world, of.as_str(), Some(old), new, told)?;
+            write_unit(alloc, world, of.as_str(), Some(old), new, output)?;
         }
     }
     Ok(())
@@ -128,17 +135,17 @@ fn tell_units(
 
 /// Appends, for each unit that wasn't there before, its name and each of its numbers, items and
 /// skills that isn't 0.
-fn tell_new_units(
+fn write_new_units(
     alloc: Global,
     world: &World,
     before: &Campaign,
     after: &Campaign,
-    told: &mut String,
+    output: &mut String,
 ) -> Result<(), AllocError> {
     for (number, new) in after.units() {
         if before.unit(number).is_none() {
             let of = format!(in alloc; "unit {number}")?;
-            tell_unit(alloc, world, of.as_str(), None, Some(new), told)?;
+            write_unit(alloc, world, of.as_str(), None, Some(new), output)?;
         }
     }
     Ok(())
@@ -173,41 +180,41 @@ fn names_of<'a>(world: &'a World, structure: Option<&'a Structure>) -> (&'a str,
 }
 
 /// Appends the changes of a structure: its names and its numbers.
-fn tell_structure(
+fn write_structure(
     alloc: Global,
     world: &World,
     of: &str,
     before: Option<&Structure>,
     after: Option<&Structure>,
-    told: &mut String,
+    output: &mut String,
 ) -> Result<(), AllocError> {
     let ((old_name, old_kind), (name, kind)) = (names_of(world, before), names_of(world, after));
-    text(alloc, of, "name", old_name, name, told)?;
-    text(alloc, of, "kind", old_kind, kind, told)?;
+    append_text(alloc, of, "name", old_name, name, output)?;
+    append_text(alloc, of, "kind", old_kind, kind, output)?;
     let (old, new) = (structure_numbers(before), structure_numbers(after));
     for (what, (was, is)) in STRUCTURE_NUMBERS.iter().zip(old.iter().zip(new.iter())) {
-        number(alloc, of, what, *was, *is, told)?;
+        append_number(alloc, of, what, *was, *is, output)?;
     }
     Ok(())
 }
 
 /// Appends the changes of all structures, new ones too.
-fn tell_structures(
+fn write_structures(
     alloc: Global,
     world: &World,
     before: &Campaign,
     after: &Campaign,
-    told: &mut String,
+    output: &mut String,
 ) -> Result<(), AllocError> {
-    for (place, new) in after.structures() {
-        let of = format!(in alloc; "structure {place}")?;
-        tell_structure(
+    for (number, new) in after.structures() {
+        let of = format!(in alloc; "structure {number}")?;
+        write_structure(
             alloc,
             world,
             of.as_str(),
-            before.structure(place),
+            before.structure(number),
             Some(new),
-            told,
+            output,
         )?;
     }
     Ok(())
@@ -216,94 +223,95 @@ fn tell_structures(
 // ---- regions and factions
 
 /// Appends a line for each item of which a region has more or less in stock than before.
-fn tell_stocks(
+fn write_stocks(
     alloc: Global,
     world: &World,
     of: &str,
     old: &Region,
     new: &Region,
-    told: &mut String,
+    output: &mut String,
 ) -> Result<(), AllocError> {
     let of = format!(in alloc; "{of} stock")?;
     let mut thing: u32 = 0;
     for item in world.items() {
         let (had, has) = (i64::from(old.stock(thing)), i64::from(new.stock(thing)));
-        number(alloc, of.as_str(), item.name.as_str(), had, has, told)?;
+        append_number(alloc, of.as_str(), item.name.as_str(), had, has, output)?;
         thing = thing.wrapping_add(1);
     }
     Ok(())
 }
 
-/// Appends the changes of a region: peasants, money and stocks; `place` is its number.
-fn tell_region(
+/// Appends the changes of a region: peasants, money and stocks; `append_number` is its number.
+fn write_region(
     alloc: Global,
     world: &World,
-    place: u32,
+    number: u32,
     old: &Region,
     new: &Region,
-    told: &mut String,
+    output: &mut String,
 ) -> Result<(), AllocError> {
-    let of = format!(in alloc; "region {place}")?;
+    let of = format!(in alloc; "region {number}")?;
     let (peasants, now) = (i64::from(old.peasants), i64::from(new.peasants));
-    number(alloc, of.as_str(), "peasants", peasants, now, told)?;
+    append_number(alloc, of.as_str(), "peasants", peasants, now, output)?;
     let (money, now) = (i64::from(old.money), i64::from(new.money));
-    number(alloc, of.as_str(), "money", money, now, told)?;
-    tell_stocks(alloc, world, of.as_str(), old, new, told)
+    append_number(alloc, of.as_str(), "money", money, now, output)?;
+    write_stocks(alloc, world, of.as_str(), old, new, output)
 }
 
 /// Appends the changes of all regions.
-fn tell_regions(
+fn write_regions(
     alloc: Global,
     world: &World,
     before: &Campaign,
     after: &Campaign,
-    told: &mut String,
+    output: &mut String,
 ) -> Result<(), AllocError> {
-    for (place, new) in after.regions() {
-        if let Some(old) = before.region(place) {
-            tell_region(alloc, world, place, old, new, told)?;
+    for (number, new) in after.regions() {
+        if let Some(old) = before.region(number) {
+            write_region(alloc, world, number, old, new, output)?;
         }
     }
     Ok(())
 }
 
-/// Appends the changes of a faction: its name, and whether it is gone; `place` is its number.
-fn tell_faction(
+/// Appends the changes of a faction: its name, and whether it is gone; `append_number` is its
+/// number.
+fn write_faction(
     alloc: Global,
-    place: u32,
+    number: u32,
     old: &Faction,
     new: &Faction,
-    told: &mut String,
+    output: &mut String,
 ) -> Result<(), AllocError> {
-    let of = format!(in alloc; "faction {place}")?;
-    text(
+    let of = format!(in alloc; "faction {number}")?;
+    append_text(
         alloc,
         of.as_str(),
         "name",
         old.name.as_str(),
         new.name.as_str(),
-        told,
+        output,
     )?;
-    number(
+    append_number(
         alloc,
         of.as_str(),
         "gone",
         i64::from(old.gone),
         i64::from(new.gone),
-        told,
+        output,
     )
 }
 
 /// Appends the changes of all factions.
-fn tell_factions(
+fn write_factions(
     alloc: Global,
     before: &Campaign,
     after: &Campaign,
-    told: &mut String,
+    output: &mut String,
 ) -> Result<(), AllocError> {
-    for (place, new) in after.factions() {
-        if let Some(old) = before.faction(place) {
-            tell_faction(alloc, place, old, new, told)?;
+    for (number, new) in after.factions() {
+        if let Some(old) = before.faction(number) {
+            write_faction(alloc, number, old, new, output)?;
         }
     }
     Ok(())
@@ -312,38 +320,45 @@ fn tell_factions(
 // ---- the numbers that come next
 
 /// Appends the numbers that the next unit and the next structure get, if they changed.
-fn tell_nexts(
+fn write_nexts(
     alloc: Global,
     before: &Campaign,
     after: &Campaign,
-    told: &mut String,
+    output: &mut String,
 ) -> Result<(), AllocError> {
     let (old, new) = (before.next_unit(), after.next_unit());
-    number(alloc, "next", "unit", i64::from(old), i64::from(new), told)?;
+    append_number(
+        alloc,
+        "next",
+        "unit",
+        i64::from(old),
+        i64::from(new),
+        output,
+    )?;
     let (old, new) = (before.next_structure(), after.next_structure());
-    number(
+    append_number(
         alloc,
         "next",
         "structure",
         i64::from(old),
         i64::from(new),
-        told,
+        output,
     )
 }
 
 /// Appends all differences between two campaigns of a world, a line each.
-pub(crate) fn tell_changes(
+pub(crate) fn write_changes(
     alloc: Global,
     world: &World,
     before: &Campaign,
     after: &Campaign,
-    told: &mut String,
+    output: &mut String,
 ) -> Result<(), AllocError> {
-    tell_units(alloc, world, before, after, told)?;
-    tell_new_units(alloc, world, before, after, told)?;
-    tell_structures(alloc, world, before, after, told)?;
-    tell_regions(alloc, world, before, after, told)?;
-    tell_factions(alloc, before, after, told)?;
-    tell_nexts(alloc, before, after, told)?;
-    tell_books(alloc, world, before, after, told)
+    write_units(alloc, world, before, after, output)?;
+    write_new_units(alloc, world, before, after, output)?;
+    write_structures(alloc, world, before, after, output)?;
+    write_regions(alloc, world, before, after, output)?;
+    write_factions(alloc, before, after, output)?;
+    write_nexts(alloc, before, after, output)?;
+    write_books(alloc, world, before, after, output)
 }

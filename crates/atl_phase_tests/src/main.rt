@@ -20,8 +20,8 @@ use std::{env, io};
 fn run(rt: &HostRuntime) -> io::Result<()> {
     let words: Vec<String> = env::args(rt)?.collect(rt.alloc())?;
     for path in words.iter().skip(1) {
-        match cases::told_of_file(rt, path.as_str()) {
-            Ok(told) => rt.print(told)?,
+        match cases::report_on_file(rt, path.as_str()) {
+            Ok(output) => rt.print(output)?,
             Err(Failed(why)) => println!(rt; "{}: {why}", path.as_str())?,
         }
     }

@@ -38,7 +38,7 @@ fn factions_of(alloc: Global, mailings: &[Mailing]) -> Result<Vec<u32>, AllocErr
 
 /// The mailings that `texts` are read as, in the same order; a refused text, and two mailings of
 /// one faction, are a failure.
-pub(crate) fn read_all(
+pub(crate) fn read_mailings(
     alloc: Global,
     world: &World,
     texts: &[String],

@@ -99,7 +99,7 @@ fn pay_upkeep(
 }
 
 /// Plays the season.
-fn grow(
+fn play_season(
     alloc: Global,
     world: &World,
     campaign: Campaign,
@@ -113,7 +113,7 @@ fn grow(
 }
 
 /// Plays the season twice, with the same words of the dice.
-fn grow_twice(
+fn play_seasons(
     alloc: Global,
     world: &World,
     campaign: Campaign,
@@ -140,9 +140,9 @@ fn sweep(
     SweepPhase.run(alloc, world, campaign, month)
 }
 
-/// The campaign and the month after the phases of `run`; a whole month is left to `close`, and does
-/// nothing here.
-fn run_on(
+/// Plays the phases of `run`; the result is the campaign and the month after them. A whole month is
+/// left to `close`: here it changes nothing.
+fn run_phases(
     alloc: Global,
     world: &World,
     run: Run,
@@ -157,14 +157,14 @@ fn run_on(
         Run::Orders => carry_out(alloc, world, campaign, month),
         Run::Work => work(alloc, world, campaign, month),
         Run::Upkeep => pay_upkeep(alloc, world, campaign, month),
-        Run::Season => grow(alloc, world, campaign, month),
-        Run::Seasons => grow_twice(alloc, world, campaign, month),
+        Run::Season => play_season(alloc, world, campaign, month),
+        Run::Seasons => play_seasons(alloc, world, campaign, month),
         Run::Sweep => sweep(alloc, world, campaign, month),
         Run::Month => Ok((campaign, month)),
     }
 }
 
-/// The campaign and the events after closing a whole month over the campaign of a setting.
+/// Closes a whole month of the campaign of a setting; the result is the campaign and the events.
 fn close(
     alloc: Global,
     world: &World,
@@ -182,7 +182,8 @@ fn close(
     Ok(close_month(alloc, world, campaign, mailings, words)?)
 }
 
-/// The campaign and the events after the phases of `run`, over the campaign of a setting.
+/// Plays the phases of `run` on the campaign of a setting; the result is the campaign and the
+/// events.
 pub(crate) fn played(
     alloc: Global,
     world: &World,
@@ -199,6 +200,6 @@ pub(crate) fn played(
     }
     let campaign = campaign_of(alloc, world, setting)?;
     let month = month_of(alloc, world, mailings, words)?;
-    let (campaign, month) = run_on(alloc, world, run, campaign, month)?;
+    let (campaign, month) = run_phases(alloc, world, run, campaign, month)?;
     Ok((campaign, month.into_events()))
 }

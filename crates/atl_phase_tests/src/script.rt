@@ -108,7 +108,7 @@ fn structure(world: &World, text: &str) -> Option<StructureSetting> {
 }
 
 /// Reads the stock of a region from `REGION ITEM AMOUNT`; the item is one of the world.
-fn stocked(world: &World, text: &str) -> Option<StockSetting> {
+fn read_stock(world: &World, text: &str) -> Option<StockSetting> {
     let (region, rest) = text.split_once(' ')?;
     let (name, amount) = rest.split_once(' ')?;
     Some(StockSetting {
@@ -130,7 +130,7 @@ fn add_goods(world: &World, setting: &mut Setting, text: &str) -> Option<()> {
 
 /// Adds the stock of a `stock` line to a setting.
 fn add_stock(world: &World, setting: &mut Setting, text: &str) -> Option<()> {
-    setting.stocks.push(stocked(world, text)?).ok()
+    setting.stocks.push(read_stock(world, text)?).ok()
 }
 
 /// Adds the structure of a `structure` line to a setting.
@@ -143,8 +143,8 @@ fn add_menless(setting: &mut Setting, text: &str) -> Option<()> {
     setting.menless.push(text.parse::<u32>().ok()?).ok()
 }
 
-/// Adds what a line says (its first word is `word`, `rest` follows) to a setting; None if the line
-/// can't be read, or memory is short.
+/// Adds to a setting what a line of the file says. The line is given as its first word (`word`) and
+/// what follows that (`rest`). None if it can't be read, or memory is short.
 pub(crate) fn take_setting(
     world: &World,
     setting: &mut Setting,
@@ -169,8 +169,8 @@ pub(crate) fn take_setting(
     }
 }
 
-/// Adds what a line says (its first word is `word`, `rest` follows) to a case; None if the line
-/// can't be read, or memory is short.
+/// Adds to a case what a line of the file says. The line is given as its first word (`word`) and
+/// what follows that (`rest`). None if it can't be read, or memory is short.
 pub(crate) fn take_case(alloc: Global, case: &mut Case, word: &str, rest: &str) -> Option<()> {
     if word == "mail" {
         case.mailings.push(String::new(alloc)).ok()

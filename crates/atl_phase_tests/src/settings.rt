@@ -107,10 +107,10 @@ const CAMPAIGN_FORMAT: i64 = 2;
 /// The number of the entry Joining in the books.
 const JOINING: i64 = 2;
 
-/// The number of money among the things of the books.
+/// The number of the thing money in the books.
 const MONEY: i64 = 0;
 
-/// The number of people among the things of the books.
+/// The number of the thing people in the books.
 const PEOPLE: i64 = 1;
 
 /// The number of the first item among the things of the books.
@@ -171,7 +171,7 @@ fn reports(alloc: Global) -> Result<Sequence<StoredReport>, AllocError> {
     Ok(all)
 }
 
-/// The row of the unit `number`, as `stood` sets it.
+/// The row of the unit `append_number`, with the values that its setting gives.
 fn unit(alloc: Global, number: i64, stood: &UnitSetting) -> Result<StoredUnit, AllocError> {
     Ok(StoredUnit {
         number,
@@ -226,7 +226,7 @@ fn markets_of(
     Ok(all)
 }
 
-/// The row of the structure `number`, as `built` sets it.
+/// The row of the structure `append_number`, with the values that its setting gives.
 fn structure(
     alloc: Global,
     number: i64,
@@ -363,7 +363,7 @@ pub(crate) fn good_campaign(
 }
 
 /// Takes all men and all days of study from a unit.
-fn loses_men(alloc: Global, world: &World, campaign: &mut Campaign, number: u32)
+fn empty_unit(alloc: Global, world: &World, campaign: &mut Campaign, number: u32)
     requires early { IsEarly world.now campaign.old.value }
     ensures early { IsEarly world.now campaign.new.value }
     ensures books { campaign.new.value.books ≡ campaign.old.value.books }
@@ -375,13 +375,13 @@ fn loses_men(alloc: Global, world: &World, campaign: &mut Campaign, number: u32)
 }
 
 /// Takes all men and all days of study from each unit in `units`.
-fn lose_men(alloc: Global, world: &World, campaign: &mut Campaign, units: &[u32])
+fn empty_units(alloc: Global, world: &World, campaign: &mut Campaign, units: &[u32])
     requires early { IsEarly world.now campaign.old.value }
     ensures early { IsEarly world.now campaign.new.value }
     ensures books { campaign.new.value.books ≡ campaign.old.value.books }
 {
     for number in units {
-        loses_men(alloc, world, campaign, *number);
+        empty_unit(alloc, world, campaign, *number);
     }
 }
 
@@ -395,6 +395,6 @@ pub(crate) fn campaign_of(
     ensures room { IfOk result (λ c. IsRoomy c.value) }
 {
     let mut campaign = good_campaign(alloc, world, setting)?;
-    lose_men(alloc, world, &mut campaign, &setting.menless);
+    empty_units(alloc, world, &mut campaign, &setting.menless);
     Ok(campaign)
 }

@@ -33,13 +33,13 @@ thing_at_index (Item i) = item_at (2 + i) i (omega arith)
 pub same_thing : (t u : Thing) → thing_index t ≡ thing_index u → t ≡ u
 same_thing t u h = sym (thing_at_index t) ∙ ap thing_at h ∙ thing_at_index u
 
--- if Some d is Some e, the entries d and e are equal
-inside : (d e : BooksEntry) → Some d ≡ Some e → d ≡ e
-inside d e h = cc
+-- the entries d and e are equal, if Some d and Some e are
+same_some_entry : (d e : BooksEntry) → Some d ≡ Some e → d ≡ e
+same_some_entry d e h = cc
 
 -- entries with the same index are equal
 pub same_entry : (d e : BooksEntry) → entry_index d ≡ entry_index e → d ≡ e
-same_entry d e h = inside d e (sym (entry_there d) ∙ ap (slice_get all_entries) h ∙ entry_there e)
+same_entry d e h = same_some_entry d e (sym (entry_there d) ∙ ap (slice_get all_entries) h ∙ entry_there e)
 
 -- accounts whose entries have the same index, and whose things the same number, are equal
 pub same_account : (e f : BooksEntry) (t u : Thing) → entry_index e ≡ entry_index f → thing_index t ≡ thing_index u → ◌≡◌ {A = Account} (e, t) (f, u)
@@ -51,21 +51,21 @@ same_account e f t u entries things i = (same_entry e f entries i, same_thing t 
 pub account_total : IsTotalOrder account_cmp
 account_total = then_total (on_total (λ (a : Account). entry_index a.0) nat_cmp_total) (on_total (λ (a : Account). thing_index a.1) nat_cmp_total)
 
--- Less is not Equal: if they were equal, any P would hold
-less_equal : {P : Type 0} → Less ≡ Equal → P
-less_equal e = cc
+-- Less is not Equal: if they were equal, any statement P would hold
+less_is_not_equal : {P : Type 0} → Less ≡ Equal → P
+less_is_not_equal e = cc
 
--- Greater is not Equal: if they were equal, any P would hold
-greater_equal : {P : Type 0} → Greater ≡ Equal → P
-greater_equal e = cc
+-- Greater is not Equal: if they were equal, any statement P would hold
+greater_is_not_equal : {P : Type 0} → Greater ≡ Equal → P
+greater_is_not_equal e = cc
 
 -- accounts (entries with things) that account_cmp calls equal are equal
 pub account_same : IsAntisymmetric account_cmp
 account_same a b is =
     elim (nat_cmp (entry_index a.0) (entry_index b.0)) as (λ o. nat_cmp (entry_index a.0) (entry_index b.0) ≡ o → ordering_then o (nat_cmp (thing_index a.1) (thing_index b.1)) ≡ Equal → a ≡ b) [
-      | Less ↦ λ _ e. less_equal e
+      | Less ↦ λ _ e. less_is_not_equal e
       | Equal ↦ λ o e. same_account a.0 b.0 a.1 b.1 (nat_cmp-IsAntisymmetric (entry_index a.0) (entry_index b.0) o) (nat_cmp-IsAntisymmetric (thing_index a.1) (thing_index b.1) e)
-      | Greater ↦ λ _ e. greater_equal e
+      | Greater ↦ λ _ e. greater_is_not_equal e
     ] refl is
 
 -- two accounts (entries with things) are equal, or account_cmp doesn't call them equal

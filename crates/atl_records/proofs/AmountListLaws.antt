@@ -14,20 +14,20 @@ use Rattle.atl_records.specs.declared.books.BooksEntry.{BooksEntry}
 use Rattle.atl_records.specs.Books.{Account, BooksValue, account_cmp, all_entries, amount_in, AreBooks, entry_index, is_zero, thing_at, thing_index}
 use Rattle.atl_records.specs.Grids.{accounts, accounts_under, listed_of}
 use Rattle.atl_records.proofs.AccountLaws.{account_itself, account_same, account_total, cases_account, index_of_thing_at}
-use Rattle.atl_records.proofs.BookLaws.{get-listed, listed, none_past, zero_is}
+use Rattle.atl_records.proofs.BookLaws.{get-listed, listing_of, none_past, zero_is}
 use Rattle.atl_records.proofs.EveryLaws.{is_true, none_some}
 use Rattle.atl_records.proofs.GridLaws.{any_accounts}
 
 -- ---- sorted accounts
 
 -- account a (an entry with a thing) is less than each account of a list, by account_cmp
-abbrev pub Behind : Account → List Account → Type 0
-Behind a chosen = AllByRecursion (λ c. account_cmp a c ≡ Less) chosen
+abbrev pub IsLessThanAll : Account → List Account → Type 0
+IsLessThanAll a chosen = AllByRecursion (λ c. account_cmp a c ≡ Less) chosen
 
 -- a list of accounts (entries with things) is strictly sorted by account_cmp
-abbrev pub Rise : List Account → Type 0
-Rise [] = ⊤
-Rise (a ∷ others) = Behind a others × Rise others
+abbrev pub AreSortedAccounts : List Account → Type 0
+AreSortedAccounts [] = ⊤
+AreSortedAccounts (a ∷ others) = IsLessThanAll a others × AreSortedAccounts others
 
 -- an account whose entry has a lower index is less by account_cmp
 less_entry : (a b : Account) → entry_index a.0 < entry_index b.0 → account_cmp a b ≡ Less
@@ -38,58 +38,60 @@ less_thing : (e : BooksEntry) (i k : ℕ) → i < k → account_cmp (e, thing_at
 less_thing e i k h =
     ap (λ o. ordering_then o (nat_cmp (thing_index (thing_at i)) (thing_index (thing_at k)))) (tied_itself nat_cmp_total (entry_index e)) ∙ (λ j. nat_cmp (index_of_thing_at i j) (index_of_thing_at k j)) ∙ sym (nat_cmp_is i k Less h)
 
--- if P holds of the elements of two lists, it holds of those of both together
+-- a condition P holds of all elements of two lists joined, if it holds of the elements of each
 all_append : {A : Type 0} (P : A → Type 0) (xs ys : List A) → AllByRecursion P xs → AllByRecursion P ys → AllByRecursion P (xs ++ ys)
 all_append P [] ys h k = k
 all_append P (x ∷ xs) ys h k = (h.0, all_append P xs ys h.1 k)
 
--- two sorted lists of accounts, each account of the first less than all of the second, are one sorted list together
-rise_append : (xs ys : List Account) → Rise xs → Rise ys → AllByRecursion (λ x. Behind x ys) xs → Rise (xs ++ ys)
-rise_append [] ys h k all = k
-rise_append (x ∷ xs) ys h k all = (all_append (λ c. account_cmp x c ≡ Less) xs ys h.0 all.0, rise_append xs ys h.1 k all.1)
+-- two sorted lists of accounts are one sorted list when joined, if each account of the first is less than all of the
+-- second
+sorted_append : (xs ys : List Account) → AreSortedAccounts xs → AreSortedAccounts ys → AllByRecursion (λ x. IsLessThanAll x ys) xs → AreSortedAccounts (xs ++ ys)
+sorted_append [] ys h k all = k
+sorted_append (x ∷ xs) ys h k all = (all_append (λ c. account_cmp x c ≡ Less) xs ys h.0 all.0, sorted_append xs ys h.1 k all.1)
 
--- if P holds of an entry's account with every thing, it holds of all accounts of this entry with the things of a list
+-- a condition P holds of all accounts of an entry with the things of a list, if it holds of the entry's account with
+-- every thing
 all_under : (P : Account → Type 0) (e : BooksEntry) (numbers : List ℕ) → ((i : ℕ) → P (e, thing_at i)) → AllByRecursion P (map (λ i. (e, thing_at i)) numbers)
 all_under P e [] h = tt
 all_under P e (i ∷ numbers) h = (h i, all_under P e numbers h)
 
 -- an entry's account with thing i is less than its accounts with the n things from number a on, if i is below a
-behind_under : (e : BooksEntry) (i a n : ℕ) → i < a → Behind (e, thing_at i) (map (λ k. (e, thing_at k)) (range_with_len a n))
-behind_under e i a zero h = tt
-behind_under e i a (suc n) h = (less_thing e i a h, behind_under e i (a + 1) n (omega arith))
+account_is_less_than_later : (e : BooksEntry) (i a n : ℕ) → i < a → IsLessThanAll (e, thing_at i) (map (λ k. (e, thing_at k)) (range_with_len a n))
+account_is_less_than_later e i a zero h = tt
+account_is_less_than_later e i a (suc n) h = (less_thing e i a h, account_is_less_than_later e i (a + 1) n (omega arith))
 
 -- the accounts of an entry with the n things from number a on are sorted
-under_rise : (e : BooksEntry) (a n : ℕ) → Rise (map (λ i. (e, thing_at i)) (range_with_len a n))
-under_rise e a zero = tt
-under_rise e a (suc n) = (behind_under e a (a + 1) n (omega arith), under_rise e (a + 1) n)
+accounts_of_entry_are_sorted : (e : BooksEntry) (a n : ℕ) → AreSortedAccounts (map (λ i. (e, thing_at i)) (range_with_len a n))
+accounts_of_entry_are_sorted e a zero = tt
+accounts_of_entry_are_sorted e a (suc n) = (account_is_less_than_later e a (a + 1) n (omega arith), accounts_of_entry_are_sorted e (a + 1) n)
 
 -- whether the entries of a list are strictly sorted by index
-are_rising : List BooksEntry → Bool
-are_rising [] = true
-are_rising (e ∷ es) = list_all (λ d. nat_lt (entry_index e) (entry_index d)) es && are_rising es
+are_ascending : List BooksEntry → Bool
+are_ascending [] = true
+are_ascending (e ∷ es) = list_all (λ d. nat_lt (entry_index e) (entry_index d)) es && are_ascending es
 
 module _ (things : ℕ) where
   -- an account is less than all accounts of entries with higher indices than its own
-  behind_flat : (a : Account) (es : List BooksEntry) → list_all (λ d. nat_lt (entry_index a.0) (entry_index d)) es ≡ true → Behind a (flat_map (accounts_under things) es)
-  behind_flat a [] h = tt
-  behind_flat a (d ∷ es) h =
+  after_flat : (a : Account) (es : List BooksEntry) → list_all (λ d. nat_lt (entry_index a.0) (entry_index d)) es ≡ true → IsLessThanAll a (flat_map (accounts_under things) es)
+  after_flat a [] h = tt
+  after_flat a (d ∷ es) h =
       let parts = and_parts (nat_lt (entry_index a.0) (entry_index d)) (list_all (λ d. nat_lt (entry_index a.0) (entry_index d)) es) h in
       let before : entry_index a.0 < entry_index d = grind (arith, nat_tests, parts.0) in
       all_append (λ c. account_cmp a c ≡ Less) (accounts_under things d) (flat_map (accounts_under things) es) (all_under (λ c. account_cmp a c ≡ Less) d (range_with_len 0 things) (λ i. less_entry a (d, thing_at i) before))
-      (behind_flat a es parts.1)
+      (after_flat a es parts.1)
 
   -- the accounts of entries in ascending order, one entry after the other, are sorted
-  flat_rise : (es : List BooksEntry) → are_rising es ≡ true → Rise (flat_map (accounts_under things) es)
-  unfolding are_rising
+  flat_rise : (es : List BooksEntry) → are_ascending es ≡ true → AreSortedAccounts (flat_map (accounts_under things) es)
+  unfolding are_ascending
   flat_rise [] h = tt
   flat_rise (e ∷ es) h =
-      let parts = and_parts (list_all (λ d. nat_lt (entry_index e) (entry_index d)) es) (are_rising es) h in
-      rise_append (accounts_under things e) (flat_map (accounts_under things) es) (under_rise e 0 things) (flat_rise es parts.1)
-      (all_under (λ x. Behind x (flat_map (accounts_under things) es)) e (range_with_len 0 things) (λ i. behind_flat (e, thing_at i) es parts.0))
+      let parts = and_parts (list_all (λ d. nat_lt (entry_index e) (entry_index d)) es) (are_ascending es) h in
+      sorted_append (accounts_under things e) (flat_map (accounts_under things) es) (accounts_of_entry_are_sorted e 0 things) (flat_rise es parts.1)
+      (all_under (λ x. IsLessThanAll x (flat_map (accounts_under things) es)) e (range_with_len 0 things) (λ i. after_flat (e, thing_at i) es parts.0))
 
   -- the accounts of all entries with the things whose numbers are below `things` are sorted by account_cmp
-  accounts_rise : Rise (accounts things)
-  unfolding are_rising
+  accounts_rise : AreSortedAccounts (accounts things)
+  unfolding are_ascending
   accounts_rise = flat_rise all_entries refl
 
 -- the list of a map from accounts to amounts (`entries`) is sorted by account_cmp
@@ -98,35 +100,36 @@ amounts_sorted m = is_true _ (entries_sorted m)
 
 -- ---- amounts that are listed
 
--- if o is None, the choice by b between o and None is None: for an amount that is 0, and so isn't listed
+-- `cond b o None` is None, whether b is true or not, if the option o is None: for an amount that is 0, and so isn't
+-- listed
 none_either : (b : Bool) (o : Option ℤ) → o ≡ None → cond b o None ≡ None
 none_either true o h = h
 none_either false o h = refl
 
 module _ (amount : Account → ℤ) where
-  -- an account less than all accounts of a list (`Behind`) is less than all those of them that `listed_of` keeps
-  behind_listed : (a : Account) (chosen : List Account) → Behind a chosen → below_all account_cmp a (listed_of amount chosen) ≡ true
-  behind_listed a [] h = refl
-  behind_listed a (c ∷ others) h =
+  -- an account less than all accounts of a list (`IsLessThanAll`) is less than all those of them that `listed_of` keeps
+  after_listed : (a : Account) (chosen : List Account) → IsLessThanAll a chosen → below_all account_cmp a (listed_of amount chosen) ≡ true
+  after_listed a [] h = refl
+  after_listed a (c ∷ others) h =
       let rest = listed_of amount others in
       elim (is_zero (amount c)) as (λ b. below_all account_cmp a (cond (not b) ((c, amount c) ∷ rest) rest) ≡ true) [
-        | true ↦ behind_listed a others h.1
-        | false ↦ ap (λ o. is_lt o && below_all account_cmp a rest) h.0 ∙ behind_listed a others h.1
+        | true ↦ after_listed a others h.1
+        | false ↦ ap (λ o. is_lt o && below_all account_cmp a rest) h.0 ∙ after_listed a others h.1
       ]
 
   -- what `listed_of` keeps of a sorted list of accounts is sorted by account_cmp
-  sorted_listed : (chosen : List Account) → Rise chosen → is_sorted account_cmp (listed_of amount chosen) ≡ true
+  sorted_listed : (chosen : List Account) → AreSortedAccounts chosen → is_sorted account_cmp (listed_of amount chosen) ≡ true
   sorted_listed [] h = refl
   sorted_listed (c ∷ others) h =
       let rest = listed_of amount others in
       elim (is_zero (amount c)) as (λ b. is_sorted account_cmp (cond (not b) ((c, amount c) ∷ rest) rest) ≡ true) [
         | true ↦ sorted_listed others h.1
-        | false ↦ ap (λ b. b && is_sorted account_cmp rest) (behind_listed c others h.0) ∙ sorted_listed others h.1
+        | false ↦ ap (λ b. b && is_sorted account_cmp rest) (after_listed c others h.0) ∙ sorted_listed others h.1
       ]
 
   -- in what `listed_of` keeps, each account of the list is found with its amount if this isn't 0, and no other account
   -- is
-  find-listed : (a : Account) (chosen : List Account) → find account_cmp a (listed_of amount chosen) ≡ cond (list_any (eq_by_cmp account_cmp a) chosen) (listed (amount a)) None
+  find-listed : (a : Account) (chosen : List Account) → find account_cmp a (listed_of amount chosen) ≡ cond (list_any (eq_by_cmp account_cmp a) chosen) (listing_of (amount a)) None
   find-listed a [] = refl
   find-listed a (c ∷ others) =
       let rest = listed_of amount others in
@@ -136,15 +139,15 @@ module _ (amount : Account → ℤ) where
         | inl same ↦
             let yes : eq_by_cmp account_cmp a c ≡ true = ap (eq_by_cmp account_cmp a) (sym same) ∙ account_itself a in
             let one : amount c ≡ amount a = ap amount (sym same) in
-            elim (is_zero (amount c)) as (λ b. is_zero (amount c) ≡ b → find account_cmp a (cond (not b) ((c, amount c) ∷ rest) rest) ≡ listed (amount a)) [
-              | true ↦ λ zero. let none : listed (amount a) ≡ None = ap listed (sym one ∙ zero_is (amount c) zero) in found ∙ none_either later (listed (amount a)) none ∙ sym none
+            elim (is_zero (amount c)) as (λ b. is_zero (amount c) ≡ b → find account_cmp a (cond (not b) ((c, amount c) ∷ rest) rest) ≡ listing_of (amount a)) [
+              | true ↦ λ zero. let none : listing_of (amount a) ≡ None = ap listing_of (sym one ∙ zero_is (amount c) zero) in found ∙ none_either later (listing_of (amount a)) none ∙ sym none
               | false ↦ λ some. ap (λ b. cond b (Some (amount c)) (find account_cmp a rest)) yes ∙ ap Some one ∙ ap (λ b. cond b None (Some (amount a))) (sym (ap is_zero (sym one) ∙ some))
-            ] refl ∙ sym (ap (λ b. cond (b || later) (listed (amount a)) None) yes)
+            ] refl ∙ sym (ap (λ b. cond (b || later) (listing_of (amount a)) None) yes)
         | inr apart ↦
-            elim (is_zero (amount c)) as (λ b. find account_cmp a (cond (not b) ((c, amount c) ∷ rest) rest) ≡ cond later (listed (amount a)) None) [
+            elim (is_zero (amount c)) as (λ b. find account_cmp a (cond (not b) ((c, amount c) ∷ rest) rest) ≡ cond later (listing_of (amount a)) None) [
               | true ↦ found
               | false ↦ ap (λ b. cond b (Some (amount c)) (find account_cmp a rest)) apart ∙ found
-            ] ∙ sym (ap (λ b. cond (b || later) (listed (amount a)) None) apart)
+            ] ∙ sym (ap (λ b. cond (b || later) (listing_of (amount a)) None) apart)
       ]
 
 -- the list of the books' amounts (`entries`) has those of all accounts in order, without the amounts that are 0
@@ -154,10 +157,10 @@ entries-amounts things books are =
     let sorted = subst T (sym (sorted_listed amount (accounts things) (accounts_rise things))) tt in
     same_entries account_cmp account_total account_same (entries books.amounts) (listed_of amount (accounts things)) (entries_sorted books.amounts) sorted (λ a.
     sym (get-entries books.amounts a) ∙ get-listed things books are a.0 a.1 ∙ elim (cases_lt (thing_index a.1) things) [
-      | inl there ↦ sym (ap (λ b. cond b (listed (amount a)) None) (any_accounts things a.0 a.1 there))
+      | inl there ↦ sym (ap (λ b. cond b (listing_of (amount a)) None) (any_accounts things a.0 a.1 there))
       | inr past ↦
-          let none : listed (amount a) ≡ None = ap listed (none_past things books are a.0 a.1 past) in
-          none ∙ sym (none_either (list_any (eq_by_cmp account_cmp a) (accounts things)) (listed (amount a)) none)
+          let none : listing_of (amount a) ≡ None = ap listing_of (none_past things books are a.0 a.1 past) in
+          none ∙ sym (none_either (list_any (eq_by_cmp account_cmp a) (accounts things)) (listing_of (amount a)) none)
     ] ∙ sym (find-listed amount a (accounts things)))
 
 -- ---- what is so of each amount

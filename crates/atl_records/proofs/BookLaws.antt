@@ -22,34 +22,34 @@ zero_is (pos (suc n)) h = let none : (suc n == 0) ≡ false = grind (arith, nat_
 zero_is (negsuc n) h = absurd (false≢true h)
 
 -- is_zero is false for an amount other than 0
-pub zero_not : (z : ℤ) → z ≢ pos 0 → is_zero z ≡ false
-zero_not z h = elim (is_zero z) as (λ b. is_zero z ≡ b → b ≡ false) [ true ↦ λ is. absurd (h (zero_is z is)) | false ↦ λ _. refl ] refl
+pub nonzero_fails_is_zero : (z : ℤ) → z ≢ pos 0 → is_zero z ≡ false
+nonzero_fails_is_zero z h = elim (is_zero z) as (λ b. is_zero z ≡ b → b ≡ false) [ true ↦ λ is. absurd (h (zero_is z is)) | false ↦ λ _. refl ] refl
 
 -- an amount for which is_zero is false is not 0
-pub not_zero : (z : ℤ) → is_zero z ≡ false → z ≢ pos 0
-not_zero z h is = false≢true (sym h ∙ ap is_zero is)
+pub failing_is_nonzero : (z : ℤ) → is_zero z ≡ false → z ≢ pos 0
+failing_is_nonzero z h is = false≢true (sym h ∙ ap is_zero is)
 
 -- how the books list an amount: Some of it, or None where it is 0
-abbrev pub listed : ℤ → Option ℤ
-listed z = cond (is_zero z) None (Some z)
+abbrev pub listing_of : ℤ → Option ℤ
+listing_of z = cond (is_zero z) None (Some z)
 
--- from how the books list an amount (`listed`), the amount is read back, with 0 for None
-pub amount_listed : (z : ℤ) → unwrap_or (listed z) (pos 0) ≡ z
+-- from how the books list an amount (`listing_of`), the amount is read back, with 0 for None
+pub amount_listed : (z : ℤ) → unwrap_or (listing_of z) (pos 0) ≡ z
 amount_listed z = elim (is_zero z) as (λ b. is_zero z ≡ b → unwrap_or (cond b None (Some z)) (pos 0) ≡ z) [ true ↦ λ is. sym (zero_is z is) | false ↦ λ _. refl ] refl
 
 -- an amount that is listed as x is x, and x is not 0
-pub listed_some : (z x : ℤ) → listed z ≡ Some x → (z ≡ x) × (x ≢ pos 0)
+pub listed_some : (z x : ℤ) → listing_of z ≡ Some x → (z ≡ x) × (x ≢ pos 0)
 listed_some z x is =
     elim (is_zero z) as (λ b. is_zero z ≡ b → cond b None (Some z) ≡ Some x → (z ≡ x) × (x ≢ pos 0)) [
       | true ↦ λ _ e. none_some x e
-      | false ↦ λ some e. let same : z ≡ x = cc in (same, λ none. not_zero z some (same ∙ none))
+      | false ↦ λ some e. let same : z ≡ x = cc in (same, λ none. failing_is_nonzero z some (same ∙ none))
     ] refl is
 
 -- ---- an amount set
 
 module _ (books : BooksValue) (e : BooksEntry) (t : Thing) (z : ℤ) where
   -- once an amount is set, the books list it under its entry and thing, if it isn't 0, and all other accounts as before
-  pub get-with_amount : (a : Account) → get (with_amount books e t z).amounts a ≡ cond (eq_by_cmp account_cmp a (e, t)) (listed z) (get books.amounts a)
+  pub get-with_amount : (a : Account) → get (with_amount books e t z).amounts a ≡ cond (eq_by_cmp account_cmp a (e, t)) (listing_of z) (get books.amounts a)
   get-with_amount a =
       elim (is_zero z) as (λ b. get (cond b (remove books.amounts (e, t)) (insert books.amounts (e, t) z)) a ≡ cond (eq_by_cmp account_cmp a (e, t)) (cond b None (Some z)) (get books.amounts a)) [
         | true ↦ get-remove account_total books.amounts (e, t) a
@@ -59,7 +59,7 @@ module _ (books : BooksValue) (e : BooksEntry) (t : Thing) (z : ℤ) where
   -- once an amount is set under an entry and a thing, it is read there, and each other amount is as before
   pub amount-with_amount : (f : BooksEntry) (u : Thing) → amount_in (with_amount books e t z) f u ≡ cond (eq_by_cmp account_cmp (f, u) (e, t)) z (amount_in books f u)
   amount-with_amount f u =
-      ap (λ o. unwrap_or o (pos 0)) (get-with_amount (f, u)) ∙ elim (eq_by_cmp account_cmp (f, u) (e, t)) as (λ b. unwrap_or (cond b (listed z) (get books.amounts (f, u))) (pos 0) ≡ cond b z (amount_in books f u)) [
+      ap (λ o. unwrap_or o (pos 0)) (get-with_amount (f, u)) ∙ elim (eq_by_cmp account_cmp (f, u) (e, t)) as (λ b. unwrap_or (cond b (listing_of z) (get books.amounts (f, u))) (pos 0) ≡ cond b z (amount_in books f u)) [
         | true ↦ amount_listed z
         | false ↦ refl
       ]
@@ -79,10 +79,10 @@ module _ (books : BooksValue) (e : BooksEntry) (t : Thing) (z : ℤ) where
         count = old.count;
         listed = λ f u x is. elim (cases_account (f, u) (e, t)) [
           | inl same ↦
-              let new = sym (ap (λ b. cond b (listed z) (get books.amounts (f, u))) (ap (λ a. eq_by_cmp account_cmp a (e, t)) same ∙ account_itself (e, t))) ∙ sym (get-with_amount (f, u)) ∙ is in
+              let new = sym (ap (λ b. cond b (listing_of z) (get books.amounts (f, u))) (ap (λ a. eq_by_cmp account_cmp a (e, t)) same ∙ account_itself (e, t))) ∙ sym (get-with_amount (f, u)) ∙ is in
               let its : thing_index u ≡ thing_index t = ap (λ (a : Account). thing_index a.1) same in
               (omega (arith, there, its), (listed_some z x new).1)
-          | inr apart ↦ old.listed f u x (sym (ap (λ b. cond b (listed z) (get books.amounts (f, u))) apart) ∙ sym (get-with_amount (f, u)) ∙ is)
+          | inr apart ↦ old.listed f u x (sym (ap (λ b. cond b (listing_of z) (get books.amounts (f, u))) apart) ∙ sym (get-with_amount (f, u)) ∙ is)
         ];
       }
 
@@ -108,7 +108,8 @@ plus_zero z = omega (arith, ints)
 regroup : (x y z w : ℤ) → (x +ℤ y) +ℤ (z +ℤ w) ≡ (x +ℤ z) +ℤ (y +ℤ w)
 regroup x y z w = omega (arith, ints)
 
--- the sum of a e + b e over a list of entries e is the sum of a e plus the sum of b e
+-- for two functions a and b from entries to amounts, the sum of a e + b e over a list of entries e is the sum of a e
+-- plus that of b e
 sum_of-raised : (a b : BooksEntry → ℤ) (es : List BooksEntry) → sum_of (map (λ e. a e +ℤ b e) es) ≡ sum_of (map a es) +ℤ sum_of (map b es)
 sum_of-raised a b [] = plus_zero (pos 0)
 sum_of-raised a b (e ∷ es) = ap (λ z. (a e +ℤ b e) +ℤ z) (sum_of-raised a b es) ∙ regroup (a e) (b e) (sum_of (map a es)) (sum_of (map b es))
@@ -188,11 +189,11 @@ AreBooks-no_amounts things = record { count = refl; listed = λ e t amount is. n
 
 module _ (things : ℕ) (books : BooksValue) (are : AreBooks things books) where
   -- the books list each amount that is not 0, and no other
-  pub get-listed : (e : BooksEntry) (t : Thing) → get books.amounts (e, t) ≡ listed (amount_in books e t)
+  pub get-listed : (e : BooksEntry) (t : Thing) → get books.amounts (e, t) ≡ listing_of (amount_in books e t)
   get-listed e t =
-      elim (get books.amounts (e, t)) as (λ o. get books.amounts (e, t) ≡ o → o ≡ listed (unwrap_or o (pos 0))) [
+      elim (get books.amounts (e, t)) as (λ o. get books.amounts (e, t) ≡ o → o ≡ listing_of (unwrap_or o (pos 0))) [
         | None ↦ λ _. refl
-        | Some z ↦ λ is. ap (λ b. cond b None (Some z)) (sym (zero_not z (are.listed e t z is).1))
+        | Some z ↦ λ is. ap (λ b. cond b None (Some z)) (sym (nonzero_fails_is_zero z (are.listed e t z is).1))
       ] refl
 
   -- books of `things` things have an amount of 0 under each entry for a thing whose number is `things` or more
@@ -215,27 +216,27 @@ same_value a b things amounts i = record { things = things i; amounts = amounts 
 pub same_books : (things : ℕ) (a b : BooksValue) → AreBooks things a → AreBooks things b → ((e : BooksEntry) (t : Thing) → amount_in a e t ≡ amount_in b e t) → a ≡ b
 same_books things a b are also same =
     same_value a b (are.count ∙ sym also.count) (same_map account_total account_same a.amounts b.amounts (λ c.
-    get-listed things a are c.0 c.1 ∙ ap listed (same c.0 c.1) ∙ sym (get-listed things b also c.0 c.1)))
+    get-listed things a are c.0 c.1 ∙ ap listing_of (same c.0 c.1) ∙ sym (get-listed things b also c.0 c.1)))
 
 -- ---- how great the amounts are
 
--- if z is from -bound to bound (`IsWithin`), y, which is z + n, is within each bound `more` from bound + n on: for
--- `IsWithin-after_booking`, an amount that a booking raises
-grows : (z y : ℤ) (bound n more : ℕ) → y ≡ z +ℤ pos n → IsWithin bound z → bound + n ≤ more → IsWithin more y
-grows z y bound n more e h l = record { most = omega (arith, ints, h.most); least = omega (arith, ints, h.least) }
+-- An amount y that is z + n is from -more to more (`IsWithin`), if z is from -bound to bound, and bound + n is at most
+-- `more`. `IsWithin-after_booking` uses it for an amount that a booking raises.
+raised_amount_is_within : (z y : ℤ) (bound n more : ℕ) → y ≡ z +ℤ pos n → IsWithin bound z → bound + n ≤ more → IsWithin more y
+raised_amount_is_within z y bound n more e h l = record { most = omega (arith, ints, h.most); least = omega (arith, ints, h.least) }
 
--- if z is from -bound to bound (`IsWithin`), y, which is z, is within each bound `more` from bound + n on: for
--- `IsWithin-after_booking`, an amount that a booking leaves as it is
-stays : (z y : ℤ) (bound n more : ℕ) → y ≡ z → IsWithin bound z → bound + n ≤ more → IsWithin more y
-stays z y bound n more e h l = record { most = omega (arith, ints, h.most); least = omega (arith, ints, h.least) }
+-- An amount y that is equal to z is from -more to more (`IsWithin`), if z is from -bound to bound, and bound + n is at
+-- most `more`. `IsWithin-after_booking` uses it for an amount that a booking leaves as it is.
+unchanged_amount_is_within : (z y : ℤ) (bound n more : ℕ) → y ≡ z → IsWithin bound z → bound + n ≤ more → IsWithin more y
+unchanged_amount_is_within z y bound n more e h l = record { most = omega (arith, ints, h.most); least = omega (arith, ints, h.least) }
 
 -- if all amounts are from -bound to bound (`IsWithin`), all are within each bound from bound + n on once n is booked
 pub IsWithin-after_booking : (books : BooksValue) (e : BooksEntry) (u : Thing) (n bound more : ℕ) → ((f : BooksEntry) (t : Thing) → IsWithin bound (amount_in books f t)) → bound + n ≤ more → (f : BooksEntry) (t : Thing)
     → IsWithin more (amount_in (after_booking books e u (pos n)) f t)
 IsWithin-after_booking books e u n bound more old l f t =
     elim (amount-after_booking books e u (pos n) f t) [
-      | inl is ↦ grows _ _ bound n more is (old f t) l
-      | inr is ↦ stays _ _ bound n more is (old f t) l
+      | inl is ↦ raised_amount_is_within _ _ bound n more is (old f t) l
+      | inr is ↦ unchanged_amount_is_within _ _ bound n more is (old f t) l
     ]
 
 -- an amount from -bound to bound, with a bound of at most 4 * 10^18, is from -2^62 - 1 to 2^62 (`LeavesRoomForJoining`)

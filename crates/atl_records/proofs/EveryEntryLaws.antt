@@ -29,8 +29,8 @@ entry_small e = slice_get_within all_entries (entry_index e) e (entry_there e)
 -- the entry at index n of all_entries has index n
 pub entry_in_place : (n : ℕ) → n < entry_count → entry_index (get_or all_entries n Founding) ≡ n
 entry_in_place n l =
-    let place : entry_index (get_or all_entries n Founding) ≡ 0 + n = sym (get_or-map entry_index all_entries n Founding 0 l) ∙ get_or-range_with_len 0 entry_count n 0 l in
-    omega (arith, place)
+    let index : entry_index (get_or all_entries n Founding) ≡ 0 + n = sym (get_or-map entry_index all_entries n Founding 0 l) ∙ get_or-range_with_len 0 entry_count n 0 l in
+    omega (arith, index)
 
 -- each index below entry_count is that of an entry
 pub entry_at : (n : ℕ) → n < entry_count → (e : BooksEntry) × (entry_index e ≡ n)

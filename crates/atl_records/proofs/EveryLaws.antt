@@ -1,5 +1,6 @@
 -- Laws of what holds of each value of a map (`Every`) or entry of a list (`EachEntry`), and of which numbers have a
--- value (`HasValue`): after an insertion, by the list of a map's entries, and with a function applied to each value.
+-- value (`HasValue`). They say so after an insertion, by the list of a map's entries, and with a function applied to
+-- each value.
 use Rattle.std.proofs.Common.{◌≡◌, ◌≢◌, ◌==◌, ◌↔◌, ℕ, zero, suc, ◌<◌, T, Bool, true, false, ◌||◌, cond, List, [], ◌∷◌, length, get_or, map, filter, Option, Some, None, option_map, refl, sym, ap, ◌∙◌, subst, arith}
 use Rattle.std.specs.declared.cmp.Ordering.TheVariants.{Less, Equal, Greater}
 use Rattle.std.specs.List.{list_any}
@@ -8,7 +9,7 @@ use Rattle.std.specs.Cmp.{nat_cmp_total, ranked}
 use Rattle.std.specs.FinMap.{FinMap, get, insert, find, entries, entries_sorted, is_sorted, get-entries, get-insert, get-empty, empty, nat_cmp-IsAntisymmetric}
 use Rattle.std.specs.FinMap.Entries.{below_all}
 use Rattle.std.proofs.lemmas.Bool.{and_parts, false≢true}
-use Rattle.atl_world.specs.Sums.{numbers_where, mapped}
+use Rattle.atl_world.specs.Sums.{numbers_where, map_values}
 use Rattle.atl_world.proofs.MappedLaws.{get-mapped}
 use Rattle.atl_world.proofs.SumLaws.{chosen-cons}
 use Rattle.atl_records.specs.Every.{EachEntry, Every, HasValue}
@@ -19,7 +20,7 @@ pub is_true : (b : Bool) → T b → b ≡ true
 is_true true h = refl
 is_true false h = absurd h
 
--- None is not Some x: if they were equal, any P would hold
+-- None is not Some x: if they were equal, any statement P would hold
 pub none_some : {A P : Type 0} (x : A) → None ≡ Some x → P
 none_some x e = cc
 
@@ -160,16 +161,16 @@ module _ {V : Type 0} where
     Passing es n = (v : V) × (find nat_cmp n es ≡ Some v) × (p v ≡ true)
 
     -- if a sorted list without its first entry has under n a value that passes the test p, so has the whole list
-    behind : (e : ℕ × V) (es : List (ℕ × V)) (n : ℕ) → is_sorted nat_cmp (e ∷ es) ≡ true → Passing es n → Passing (e ∷ es) n
-    behind e es n s (v, is, h) = (v, later e es n v s is, h)
+    after : (e : ℕ × V) (es : List (ℕ × V)) (n : ℕ) → is_sorted nat_cmp (e ∷ es) ≡ true → Passing es n → Passing (e ∷ es) n
+    after e es n s (v, is, h) = (v, later e es n v s is, h)
 
     -- if each number chosen from the list without its first entry e has a value that passes the test p, so has each
     -- number chosen from the whole sorted list (b says whether e passes)
     listed_in : (b : Bool) (e : ℕ × V) (es : List (ℕ × V)) → p e.1 ≡ b → is_sorted nat_cmp (e ∷ es) ≡ true → (d : ℕ) → ((i : ℕ) → i < length (chosen es) → Passing es (get_or (chosen es) i d))
         → (i : ℕ) → i < length (cond b (e.0 ∷ chosen es) (chosen es)) → Passing (e ∷ es) (get_or (cond b (e.0 ∷ chosen es) (chosen es)) i d)
     listed_in true e es t s d rest zero h = (e.1, first e es, t)
-    listed_in true e es t s d rest (suc i) h = behind e es (get_or (chosen es) i d) s (rest i (omega arith))
-    listed_in false e es t s d rest i h = behind e es (get_or (chosen es) i d) s (rest i h)
+    listed_in true e es t s d rest (suc i) h = after e es (get_or (chosen es) i d) s (rest i (omega arith))
+    listed_in false e es t s d rest i h = after e es (get_or (chosen es) i d) s (rest i h)
 
     -- each number chosen from a sorted list has a value in the list that passes the test p
     listed : (es : List (ℕ × V)) → is_sorted nat_cmp es ≡ true → (d i : ℕ) → i < length (chosen es) → Passing es (get_or (chosen es) i d)
@@ -189,19 +190,19 @@ module _ {V W : Type 0} (f : V → W) where
   under (Some v) x is = let same : f v ≡ x = cc in (v, refl, same)
 
   -- if P holds of f v for every value v of a map, it holds of every value of the map with f applied to each value
-  pub every-mapped : (P : ℕ → W → Type 0) (m : FinMap nat_cmp V) → Every (λ n v. P n (f v)) m → Every P (mapped f m)
+  pub every-mapped : (P : ℕ → W → Type 0) (m : FinMap nat_cmp V) → Every (λ n v. P n (f v)) m → Every P (map_values f m)
   every-mapped P m h n x is = let (v, there, same) = under (get m n) x (sym (get-mapped f m n) ∙ is) in subst (P n) same (h n v there)
 
   -- a map with f applied to each value has values under the same numbers as the map itself
-  pub there-mapped : (m : FinMap nat_cmp V) (n : ℕ) → HasValue (mapped f m) n ↔ HasValue m n
+  pub there-mapped : (m : FinMap nat_cmp V) (n : ℕ) → HasValue (map_values f m) n ↔ HasValue m n
   there-mapped m n = (back, forth)
     where
       -- a number that has a value in the map with f applied to each value has one in the map itself
-      back : HasValue (mapped f m) n → HasValue m n
+      back : HasValue (map_values f m) n → HasValue m n
       back (x, is) = let (v, there, same) = under (get m n) x (sym (get-mapped f m n) ∙ is) in (v, there)
 
       -- a number that has a value in the map itself has one in the map with f applied to each value
-      forth : HasValue m n → HasValue (mapped f m) n
+      forth : HasValue m n → HasValue (map_values f m) n
       forth (v, is) = (f v, get-mapped f m n ∙ ap (option_map f) is)
 
 -- ---- numbers compared

@@ -12,9 +12,9 @@ use Rattle.atl_records.specs.declared.books.BooksEntry.{BooksEntry}
 use Rattle.atl_records.specs.declared.books.BooksEntry.TheVariants.{Founding}
 use Rattle.atl_records.specs.declared.books.Thing.{Thing}
 use Rattle.atl_records.specs.Books.{Account, BooksValue, account_cmp, all_entries, amount_in, AreBooks, booked, entry_index, no_amounts, sum_of, thing_at, thing_index, with_amount}
-use Rattle.atl_records.specs.Grids.{IsGrid, row_of, cell, with_cell, accounts_under, accounts, filled, as_books}
+use Rattle.atl_records.specs.Grids.{IsGrid, row_of, cell, with_cell, accounts_under, accounts, with_amounts, as_books}
 use Rattle.atl_records.proofs.AccountLaws.{account_total, account_same, account_itself, apart_entries, apart_things, thing_at_index, cases_account, same_account, same_entry}
-use Rattle.atl_records.proofs.BookLaws.{amount_listed, get-with_amount, listed, listed_some, same_value}
+use Rattle.atl_records.proofs.BookLaws.{amount_listed, get-with_amount, listing_of, listed_some, same_value}
 use Rattle.atl_records.proofs.EveryEntryLaws.{entry_in_place, entry_small}
 
 -- ---- accounts among those of the first things
@@ -69,19 +69,19 @@ any_accounts things e t h = any_flat (eq_by_cmp account_cmp (e, t)) (accounts_un
 
 -- ---- the books that rows stand for
 
--- `filled` books list each account (entry and thing) of a list with the amount that is given, if it isn't 0, and all
--- other accounts as `books` do
-get-filled : (amount : Account → ℤ) (chosen : List Account) (books : BooksValue) (a : Account) → get (filled amount chosen books).amounts a ≡ cond (list_any (eq_by_cmp account_cmp a) chosen) (listed (amount a)) (get books.amounts a)
+-- `with_amounts` books list each account (entry and thing) of a list with the amount that is given, if it isn't 0, and
+-- all other accounts as `books` do
+get-filled : (amount : Account → ℤ) (chosen : List Account) (books : BooksValue) (a : Account) → get (with_amounts amount chosen books).amounts a ≡ cond (list_any (eq_by_cmp account_cmp a) chosen) (listing_of (amount a)) (get books.amounts a)
 get-filled amount [] books a = refl
 get-filled amount (c ∷ others) books a =
-    let old = get (filled amount others books).amounts a in
+    let old = get (with_amounts amount others books).amounts a in
     let later = list_any (eq_by_cmp account_cmp a) others in
-    get-with_amount (filled amount others books) c.0 c.1 (amount c) a ∙ elim (cases_account a c) [
+    get-with_amount (with_amounts amount others books) c.0 c.1 (amount c) a ∙ elim (cases_account a c) [
       | inl same ↦
           let yes : eq_by_cmp account_cmp a c ≡ true = ap (eq_by_cmp account_cmp a) (sym same) ∙ account_itself a in
-          ap (λ b. cond b (listed (amount c)) old) yes ∙ ap (λ d. listed (amount d)) (sym same) ∙ sym (ap (λ b. cond (b || later) (listed (amount a)) (get books.amounts a)) yes)
+          ap (λ b. cond b (listing_of (amount c)) old) yes ∙ ap (λ d. listing_of (amount d)) (sym same) ∙ sym (ap (λ b. cond (b || later) (listing_of (amount a)) (get books.amounts a)) yes)
       | inr apart ↦
-          ap (λ b. cond b (listed (amount c)) old) apart ∙ get-filled amount others books a ∙ sym (ap (λ b. cond (b || later) (listed (amount a)) (get books.amounts a)) apart)
+          ap (λ b. cond b (listing_of (amount c)) old) apart ∙ get-filled amount others books a ∙ sym (ap (λ b. cond (b || later) (listing_of (amount a)) (get books.amounts a)) apart)
     ]
 
 -- each cell of a thing without a row is 0
@@ -94,16 +94,16 @@ unfolding as_books
 things-as_books rows = refl
 
 -- the books that the code's rows stand for (`as_books`) list each cell that is not 0, and no other
-get-as_books : (rows : List (List ℤ)) (a : Account) → get (as_books rows).amounts a ≡ listed (cell rows a)
+get-as_books : (rows : List (List ℤ)) (a : Account) → get (as_books rows).amounts a ≡ listing_of (cell rows a)
 unfolding as_books
 get-as_books rows a =
     let things = length rows in
     get-filled (cell rows) (accounts things) (no_amounts things) a ∙ elim (cases_lt (thing_index a.1) things) [
-      | inl there ↦ ap (λ b. cond b (listed (cell rows a)) (get (no_amounts things).amounts a)) (any_accounts things a.0 a.1 there)
+      | inl there ↦ ap (λ b. cond b (listing_of (cell rows a)) (get (no_amounts things).amounts a)) (any_accounts things a.0 a.1 there)
       | inr past ↦
-          elim (list_any (eq_by_cmp account_cmp a) (accounts things)) as (λ b. cond b (listed (cell rows a)) (get (no_amounts things).amounts a) ≡ listed (cell rows a)) [
+          elim (list_any (eq_by_cmp account_cmp a) (accounts things)) as (λ b. cond b (listing_of (cell rows a)) (get (no_amounts things).amounts a) ≡ listing_of (cell rows a)) [
             | true ↦ refl
-            | false ↦ get-empty {X = ℤ} account_cmp a ∙ sym (ap listed (cell_past rows a past))
+            | false ↦ get-empty {X = ℤ} account_cmp a ∙ sym (ap listing_of (cell_past rows a past))
           ]
     ]
 
@@ -126,28 +126,28 @@ AreBooks-as_books rows =
 
 -- ---- rows with nothing in them
 
--- a list of copies of a, read with default a, gives a at each index
+-- a list of n copies of a value, read with this value as the default, gives it at each index
 get_or-replicate_same : {A : Type 0} (n i : ℕ) (a : A) → get_or (replicate n a) i a ≡ a
 get_or-replicate_same n i a = elim (cases_lt i n) [ inl h ↦ get_or-replicate n i a a h | inr h ↦ get_or_past (replicate n a) i a (rw length-replicate h) ]
 
 -- a row of amounts that are all 0
-abbrev no_row : List ℤ
-no_row = replicate entry_count (pos 0)
+abbrev zero_row : List ℤ
+zero_row = replicate entry_count (pos 0)
 
 -- each cell of rows in which each amount is 0 is 0, also of a thing without a row
-cell-replicate : (things : ℕ) (a : Account) → cell (replicate things no_row) a ≡ pos 0
+cell-replicate : (things : ℕ) (a : Account) → cell (replicate things zero_row) a ≡ pos 0
 cell-replicate things a =
     elim (cases_lt (thing_index a.1) things) [
-      | inl h ↦ ap (λ row. get_or row (entry_index a.0) (pos 0)) (get_or-replicate things (thing_index a.1) no_row [] h) ∙ get_or-replicate_same entry_count (entry_index a.0) (pos 0)
-      | inr h ↦ let past : things ≤ thing_index a.1 = h in cell_past (replicate things no_row) a (rw length-replicate past)
+      | inl h ↦ ap (λ row. get_or row (entry_index a.0) (pos 0)) (get_or-replicate things (thing_index a.1) zero_row [] h) ∙ get_or-replicate_same entry_count (entry_index a.0) (pos 0)
+      | inr h ↦ let past : things ≤ thing_index a.1 = h in cell_past (replicate things zero_row) a (rw length-replicate past)
     ]
 
 -- rows in which each amount is 0 stand for books in which each amount is 0 (`no_amounts`)
 pub as_books-replicate : (things : ℕ) → as_books (replicate things (replicate entry_count (pos 0))) ≡ no_amounts things
 as_books-replicate things =
-    let rows = replicate things no_row in
-    same_value (as_books rows) (no_amounts things) (things-as_books rows ∙ length-replicate things no_row)
-    (same_map account_total account_same (as_books rows).amounts (no_amounts things).amounts (λ a. get-as_books rows a ∙ ap listed (cell-replicate things a) ∙ sym (get-empty {X = ℤ} account_cmp a)))
+    let rows = replicate things zero_row in
+    same_value (as_books rows) (no_amounts things) (things-as_books rows ∙ length-replicate things zero_row)
+    (same_map account_total account_same (as_books rows).amounts (no_amounts things).amounts (λ a. get-as_books rows a ∙ ap listing_of (cell-replicate things a) ∙ sym (get-empty {X = ℤ} account_cmp a)))
 
 -- ---- another amount in a cell
 
@@ -197,8 +197,8 @@ module _ (rows : List (List ℤ)) (grid : IsGrid rows) (e : BooksEntry) (t : Thi
   as_books-with_cell =
       same_value (as_books (with_cell rows e t z)) (with_amount (as_books rows) e t z) (things-as_books (with_cell rows e t z) ∙ length-set rows (thing_index t) row_with_amount ∙ sym (things-as_books rows))
       (same_map account_total account_same (as_books (with_cell rows e t z)).amounts (with_amount (as_books rows) e t z).amounts (λ a.
-      get-as_books (with_cell rows e t z) a ∙ ap listed (cell-with_cell a) ∙ elim (eq_by_cmp account_cmp a (e, t)) as (λ b. listed (cond b z (cell rows a)) ≡ cond b (listed z) (listed (cell rows a))) [ true ↦ refl | false ↦ refl ]
-      ∙ sym (get-with_amount (as_books rows) e t z a ∙ ap (cond (eq_by_cmp account_cmp a (e, t)) (listed z)) (get-as_books rows a))))
+      get-as_books (with_cell rows e t z) a ∙ ap listing_of (cell-with_cell a) ∙ elim (eq_by_cmp account_cmp a (e, t)) as (λ b. listing_of (cond b z (cell rows a)) ≡ cond b (listing_of z) (listing_of (cell rows a))) [ true ↦ refl | false ↦ refl ]
+      ∙ sym (get-with_amount (as_books rows) e t z a ∙ ap (cond (eq_by_cmp account_cmp a (e, t)) (listing_of z)) (get-as_books rows a))))
 
 -- ---- the sum of a row
 
@@ -223,17 +223,17 @@ pub grid_there : (rows : List (List ℤ)) (books : BooksValue) (t : Thing) → a
 grid_there rows books t is there = let size = ap (λ (b : BooksValue). b.things) (sym is) ∙ things-as_books rows in omega (arith, size, there)
 
 -- the row that is read at the index of a thing is the thing's row (`row_of`)
-row_read : (rows : List (List ℤ)) (t : Thing) (place : ℕ) (row : List ℤ) → row ≡ get_or rows place row → place ≡ thing_index t → thing_index t < length rows → row ≡ row_of rows t
-row_read rows t place row is at there = is ∙ ap (λ k. get_or rows k row) at ∙ get_or_default rows (thing_index t) row [] there
+row_read : (rows : List (List ℤ)) (t : Thing) (index : ℕ) (row : List ℤ) → row ≡ get_or rows index row → index ≡ thing_index t → thing_index t < length rows → row ≡ row_of rows t
+row_read rows t index row is at there = is ∙ ap (λ k. get_or rows k row) at ∙ get_or_default rows (thing_index t) row [] there
 
 -- the amount read at the indices of an account's row and column is the account's cell
-pub cell_read : (rows : List (List ℤ)) (e : BooksEntry) (t : Thing) (place k : ℕ) (row : List ℤ) → row ≡ get_or rows place row → place ≡ thing_index t → k ≡ entry_index e → thing_index t < length rows → get_or row k (pos 0) ≡ cell rows (e, t)
-cell_read rows e t place k row is at entry there = let its = row_read rows t place row is at there in λ i. get_or (its i) (entry i) (pos 0)
+pub cell_read : (rows : List (List ℤ)) (e : BooksEntry) (t : Thing) (index k : ℕ) (row : List ℤ) → row ≡ get_or rows index row → index ≡ thing_index t → k ≡ entry_index e → thing_index t < length rows → get_or row k (pos 0) ≡ cell rows (e, t)
+cell_read rows e t index k row is at entry there = let its = row_read rows t index row is at there in λ i. get_or (its i) (entry i) (pos 0)
 
 -- rows in which z is written at the indices of an account's row and column are those with z in its cell (`with_cell`)
-pub cell_written : (rows : List (List ℤ)) (e : BooksEntry) (t : Thing) (place k : ℕ) (row : List ℤ) (x z : ℤ) → row ≡ get_or rows place row → place ≡ thing_index t → k ≡ entry_index e → x ≡ z → thing_index t < length rows → set rows place (set row k x) ≡ with_cell rows e t z
-cell_written rows e t place k row x z is at entry value there = let its = row_read rows t place row is at there in λ i. set rows (at i) (set (its i) (entry i) (value i))
+pub cell_written : (rows : List (List ℤ)) (e : BooksEntry) (t : Thing) (index k : ℕ) (row : List ℤ) (x z : ℤ) → row ≡ get_or rows index row → index ≡ thing_index t → k ≡ entry_index e → x ≡ z → thing_index t < length rows → set rows index (set row k x) ≡ with_cell rows e t z
+cell_written rows e t index k row x z is at entry value there = let its = row_read rows t index row is at there in λ i. set rows (at i) (set (its i) (entry i) (value i))
 
 -- the sum of the row read at the index of a thing's row is the sum booked of the thing
-pub row_summed : (rows : List (List ℤ)) (t : Thing) (place : ℕ) (row : List ℤ) → row ≡ get_or rows place row → place ≡ thing_index t → IsGrid rows → thing_index t < length rows → sum_of row ≡ booked (as_books rows) t
-row_summed rows t place row is at grid there = ap sum_of (row_read rows t place row is at there) ∙ sym (booked-as_books rows t grid there)
+pub row_summed : (rows : List (List ℤ)) (t : Thing) (index : ℕ) (row : List ℤ) → row ≡ get_or rows index row → index ≡ thing_index t → IsGrid rows → thing_index t < length rows → sum_of row ≡ booked (as_books rows) t
+row_summed rows t index row is at grid there = ap sum_of (row_read rows t index row is at there) ∙ sym (booked-as_books rows t grid there)

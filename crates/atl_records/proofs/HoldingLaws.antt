@@ -14,7 +14,8 @@ use Rattle.atl_records.specs.Limits.{holding_limit}
 use Rattle.atl_records.proofs.EveryLaws.{every-insert, get-insert_other}
 use Rattle.atl_records.proofs.RemovedLaws.{every-remove, get-remove_other}
 
--- if P holds of every amount of a map, and of an amount not 0 that is set, it holds of every amount after that
+-- a condition P holds of every amount of a map after one is set, if it held of all before, and holds of the new one
+-- where this isn't 0
 pub every_amount : (P : ℕ → ℕ → Type 0) (items : FinMap nat_cmp ℕ) (i amount : ℕ) → (1 ≤ amount → P i amount) → Every P items → Every P (with_amount_of items i amount)
 every_amount P items i amount here old = by_zero (amount == 0) refl
   where
@@ -24,8 +25,8 @@ every_amount P items i amount here old = by_zero (amount == 0) refl
     by_zero false is = let some : 1 ≤ amount = grind (arith, nat_tests) in every-insert P items i amount (here some) old
 
 -- once the amount under i is set, it is read under i, and under each other number the amount is as before
-pub set_amount : (items : FinMap nat_cmp ℕ) (i amount j : ℕ) → amount_of (with_amount_of items i amount) j ≡ cond (eq_by_cmp nat_cmp j i) amount (amount_of items j)
-set_amount items i amount j = by_zero (amount == 0) refl
+pub amount_after_setting : (items : FinMap nat_cmp ℕ) (i amount j : ℕ) → amount_of (with_amount_of items i amount) j ≡ cond (eq_by_cmp nat_cmp j i) amount (amount_of items j)
+amount_after_setting items i amount j = by_zero (amount == 0) refl
   where
     -- with the amount put in under i, the amount read under j is this one if b (j is i), else what it was before
     put : (b : Bool) → unwrap_or (cond b (Some amount) (get items j)) 0 ≡ cond b amount (amount_of items j)
@@ -37,8 +38,8 @@ set_amount items i amount j = by_zero (amount == 0) refl
     taken true e = e
     taken false e = refl
 
-    -- the amount under j is read as `set_amount` says once the one under i is set: if this is 0 (b), i is removed, else
-    -- it is put in
+    -- the amount under j is read as `amount_after_setting` says once the one under i is set: if this is 0 (b), i is
+    -- removed, else it is put in
     by_zero : (b : Bool) → (amount == 0) ≡ b → amount_of (if b then remove items i else insert items i amount) j ≡ cond (eq_by_cmp nat_cmp j i) amount (amount_of items j)
     by_zero true is =
         let none : 0 ≡ amount = grind (arith, nat_tests) in
@@ -55,21 +56,21 @@ amount_within h i is = by_option (get h.items i) refl
     by_option (Some amount) e = (is.items i amount e).1
 
 -- if nat_cmp calls two numbers equal, they are equal
-pub alike : (i j : ℕ) → eq_by_cmp nat_cmp j i ≡ true → j ≡ i
-alike i j is = let same : (j == i) ≡ true = unsigned_ties j i ∙ is in grind (arith, nat_tests)
+pub compared_equal_is_equal : (i j : ℕ) → eq_by_cmp nat_cmp j i ≡ true → j ≡ i
+compared_equal_is_equal i j is = let same : (j == i) ≡ true = unsigned_ties j i ∙ is in grind (arith, nat_tests)
 
 -- ---- the amount that was set, and each other one
 
 module _ (items : FinMap nat_cmp ℕ) (i amount : ℕ) where
   -- the amount that is set under i is the amount that is read under i
   pub set_same : amount_of (with_amount_of items i amount) i ≡ amount
-  set_same = let same : (i == i) ≡ true = grind (arith, nat_tests) in set_amount items i amount i ∙ ap (λ b. cond b amount (amount_of items i)) (sym (unsigned_ties i i) ∙ same)
+  set_same = let same : (i == i) ≡ true = grind (arith, nat_tests) in amount_after_setting items i amount i ∙ ap (λ b. cond b amount (amount_of items i)) (sym (unsigned_ties i i) ∙ same)
 
   -- once the amount under i is set, each other number has its amount as before
   pub set_other : (j : ℕ) → j ≢ i → amount_of (with_amount_of items i amount) j ≡ amount_of items j
   set_other j apart = elim (cases_Bool (eq_by_cmp nat_cmp j i)) [
-    | inl same ↦ absurd (apart (alike i j same))
-    | inr other ↦ set_amount items i amount j ∙ ap (λ b. cond b amount (amount_of items j)) other
+    | inl same ↦ absurd (apart (compared_equal_is_equal i j same))
+    | inr other ↦ amount_after_setting items i amount j ∙ ap (λ b. cond b amount (amount_of items j)) other
   ]
 
   -- once the amount under i is set, each other number is listed as before

@@ -27,14 +27,15 @@ unreached_level_is_above_0 (suc n) men days h = omega arith
 
 -- ---- sums
 
--- if the terms added so far (`sum`) and those left (`whole`: x and then `rest`) are `all` together, so are `sum` with x
--- added, and `rest`
-pub added : (sum x rest whole all : ℕ) → whole ≡ x + rest → sum + whole ≡ all → (sum + x) + rest ≡ all
-added sum x rest whole all h e = omega (arith, h, e)
+-- the total `all` of a sum so far (`sum`) and of the terms left (`whole`, which is x + rest) stays as it is when the
+-- term x moves to the sum so far
+pub total_stays : (sum x rest whole all : ℕ) → whole ≡ x + rest → sum + whole ≡ all → (sum + x) + rest ≡ all
+total_stays sum x rest whole all h e = omega (arith, h, e)
 
--- Let B be most_u32 * most_weight. If a sorted list of items begins from `low`, and `sum` is at most B * low, then
--- `sum` plus x, what the first item e adds, is at most B * next. Here x is at most B, and 0 if e's number is most_items
--- or more; the items after e begin from `next`, at most most_items.
+-- After one more item, a sum over the items of a unit is still within its bound: B, which is most_u32 * most_weight,
+-- for each item number passed. Before, the items left are sorted and have numbers from `low` on, and `sum` is at most B
+-- * low. The first of them, e, adds x, which is at most B, and 0 if its number is most_items or more. Then the items
+-- after e have numbers from `next` on, which is at most most_items, and sum + x is at most B * next.
 pub fits_next : (low sum x : ℕ) (e : ℕ × ℕ) (es : List (ℕ × ℕ)) → is_sorted nat_cmp (e ∷ es) ≡ true → low ≤ most_items → sum ≤ (most_u32 * most_weight) * low → low ≤ e.0 → x ≤ (most_u32 * most_weight) → (most_items ≤ e.0 → x ≡ 0)
     → (next : ℕ) × (next ≤ most_items) × (sum + x ≤ (most_u32 * most_weight) * next) × BeginsFrom next es
 fits_next low sum x e es sorted few fits from small far =
@@ -43,6 +44,6 @@ fits_next low sum x e es sorted few fits from small far =
       | inr h ↦ (low, few, let none : x ≡ 0 = far h in omega (arith, fits, none), begins_same low e es sorted from)
     ]
 
--- an amount of pieces, each of which weighs (or carries) 0, weighs (or carries) 0 together
-pub no_more : (amount each : ℕ) → each ≡ 0 → amount * each ≡ 0
-no_more amount each h = grind arith
+-- if one piece weighs (or carries) 0, any number of such pieces weighs (or carries) 0
+pub weightless_pieces : (amount each : ℕ) → each ≡ 0 → amount * each ≡ 0
+weightless_pieces amount each h = grind arith

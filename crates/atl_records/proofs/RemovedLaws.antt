@@ -5,7 +5,7 @@ use Rattle.std.specs.Ordering.{nat_cmp, is_eq}
 use Rattle.std.specs.Cmp.{nat_cmp_total, ranked}
 use Rattle.std.specs.FinMap.{FinMap, contains_key, get, get-insert, get-remove, insert, len, len-remove, nat_cmp-IsAntisymmetric, remove}
 use Rattle.atl_world.specs.Sums.{sum_over}
-use Rattle.atl_world.proofs.SumLaws.{put_back, sum_over-insert_new}
+use Rattle.atl_world.proofs.SumLaws.{put_back_keeps_map, sum_over-insert_new}
 use Rattle.atl_records.specs.Every.{Every}
 use Rattle.atl_records.proofs.EveryLaws.{none_some}
 
@@ -55,9 +55,10 @@ module _ {V : Type 0} (m : FinMap nat_cmp V) (k : ℕ) where
 
   -- the sum of f over a map without number k, plus f of k's value, is the sum of f over the map
   pub sum_over-remove : (f : V → ℕ) (v : V) → get m k ≡ Some v → sum_over f (remove m k) + f v ≡ sum_over f m
-  sum_over-remove f v is = sym (sum_over-insert_new f (remove m k) k v get-remove_same) ∙ ap (sum_over f) (sym (put_back m k v is))
+  sum_over-remove f v is = sym (sum_over-insert_new f (remove m k) k v get-remove_same) ∙ ap (sum_over f) (sym (put_back_keeps_map m k v is))
 
--- if P holds of the value put under k, and of each value under another number, it holds of every value of the new map
+-- a condition P holds of every value of a map with v put under k, if it holds of v there, and of each value under
+-- another number
 pub every-insert_other : {V : Type 0} (P : ℕ → V → Type 0) (m : FinMap nat_cmp V) (k : ℕ) (v : V) → P k v → ((n : ℕ) (x : V) → n ≢ k → get m n ≡ Some x → P n x) → Every P (insert m k v)
 every-insert_other P m k v here others n x is =
     elim (nat_cmp n k) as (λ o. nat_cmp n k ≡ o → cond (is_eq o) (Some v) (get m n) ≡ Some x → P n x) [

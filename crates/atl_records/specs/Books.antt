@@ -33,7 +33,9 @@ entry_index Stocked = 15
 
 -- all 16 entries, in the order of their indices
 abbrev pub all_entries : List BooksEntry
-all_entries = Founding ∷ Joining ∷ Income ∷ Wages ∷ Recruiting ∷ Study ∷ Upkeep ∷ Lost ∷ Births ∷ Starved ∷ Left ∷ Made ∷ Used ∷ Bought ∷ Sold ∷ Stocked ∷ []
+all_entries =
+    Founding ∷ Joining ∷ Income ∷ Wages ∷ Recruiting ∷ Study ∷ Upkeep ∷ Lost
+    ∷ Births ∷ Starved ∷ Left ∷ Made ∷ Used ∷ Bought ∷ Sold ∷ Stocked ∷ []
 
 -- the entry with a number from 1 to 16, None for any other number
 abbrev pub entry_numbered : ℕ → Option BooksEntry
@@ -87,7 +89,8 @@ is_zero (negsuc n) = false
 
 -- the books with another amount of a thing under an entry; an amount of 0 is not listed
 abbrev pub with_amount : BooksValue → BooksEntry → Thing → ℤ → BooksValue
-with_amount books e t amount = record books { amounts = if is_zero amount then remove books.amounts (e, t) else insert books.amounts (e, t) amount }
+with_amount books e t amount =
+    record books { amounts = if is_zero amount then remove books.amounts (e, t) else insert books.amounts (e, t) amount }
 
 -- the books after n, of either sign, is added to the amount of a thing under an entry
 abbrev pub after_booking : BooksValue → BooksEntry → Thing → ℤ → BooksValue
@@ -111,7 +114,9 @@ pub record AreBooks (things : ℕ) (books : BooksValue) : Type 0 where
   -- the books have as many things as `things`
   pub count : books.things ≡ things
   -- each listed amount is of a thing whose number is below `things`, and is not 0
-  pub listed : (e : BooksEntry) (t : Thing) (amount : ℤ) → get books.amounts (e, t) ≡ Some amount → (thing_index t < things) × (amount ≢ pos 0)
+  pub listed :
+      (e : BooksEntry) (t : Thing) (amount : ℤ) → get books.amounts (e, t) ≡ Some amount
+      → (thing_index t < things) × (amount ≢ pos 0)
 
 -- an amount from -2^62 - 1 to 2^62, to which the money or people of a joining can be added within 64 bits
 abbrev pub LeavesRoomForJoining : ℤ → Type 0

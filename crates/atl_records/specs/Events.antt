@@ -49,4 +49,6 @@ event_fault_name fault = (event_fault fault).1
 -- all 24 event faults, in the order of their numbers
 abbrev pub event_faults : List EventFault
 event_faults =
-    NotYours ∷ NotHere ∷ NotEnough ∷ NoRoom ∷ Guarded ∷ NotOwner ∷ NotInside ∷ UnitLimit ∷ AtSea ∷ NoMen ∷ WrongNumber ∷ NotGuarding ∷ NoSkill ∷ NoMaterial ∷ Complete ∷ StructureLimit ∷ NoWay ∷ TooHeavy ∷ NotComplete ∷ NoCrew ∷ NotLearning ∷ CannotTeach ∷ NoFee ∷ NoMarket ∷ []
+    NotYours ∷ NotHere ∷ NotEnough ∷ NoRoom ∷ Guarded ∷ NotOwner ∷ NotInside ∷ UnitLimit
+    ∷ AtSea ∷ NoMen ∷ WrongNumber ∷ NotGuarding ∷ NoSkill ∷ NoMaterial ∷ Complete ∷ StructureLimit
+    ∷ NoWay ∷ TooHeavy ∷ NotComplete ∷ NoCrew ∷ NotLearning ∷ CannotTeach ∷ NoFee ∷ NoMarket ∷ []

@@ -34,13 +34,14 @@ abbrev pub accounts : ℕ → List Account
 accounts things = flat_map (accounts_under things) all_entries
 
 -- the books with the amount of each account (an entry with a thing) of a list set to what a function of accounts gives
-abbrev pub filled : (Account → ℤ) → List Account → BooksValue → BooksValue
-filled amount [] books = books
-filled amount (a ∷ others) books = with_amount (filled amount others books) a.0 a.1 (amount a)
+abbrev pub with_amounts : (Account → ℤ) → List Account → BooksValue → BooksValue
+with_amounts amount [] books = books
+with_amounts amount (a ∷ others) books = with_amount (with_amounts amount others books) a.0 a.1 (amount a)
 
 -- the books that the code's rows mean: a thing for each row, and the amount of each account in its cell
 unfoldable pub as_books : List (List ℤ) → BooksValue
-as_books rows = record { things = length rows; amounts = (filled (cell rows) (accounts (length rows)) (no_amounts (length rows))).amounts }
+as_books rows =
+    record { things = length rows; amounts = (with_amounts (cell rows) (accounts (length rows)) (no_amounts (length rows))).amounts }
 
 -- the accounts of a list (each an entry with a thing) with their amounts, without those whose amount is 0
 abbrev pub listed_of : (Account → ℤ) → List Account → List (Account × ℤ)

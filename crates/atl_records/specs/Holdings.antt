@@ -24,7 +24,8 @@ pub record HoldingValue : Type 0 where
 abbrev pub holding_code : Coded HoldingValue
 holding_code =
     code_by (List ℕ × (ℕ × (ℕ × (Bool × (FinMap nat_cmp ℕ × FinMap nat_cmp ℕ)))))
-    (coded× (coded_list coded_ℕ) (coded× coded_ℕ (coded× coded_ℕ (coded× coded_bool (coded× (code coded_ℕ coded_ℕ) (code coded_ℕ coded_ℕ))))))
+    (coded× (coded_list coded_ℕ) (coded× coded_ℕ (coded× coded_ℕ
+    (coded× coded_bool (coded× (code coded_ℕ coded_ℕ) (code coded_ℕ coded_ℕ))))))
     (λ h. (h.name, (h.men, (h.money, (h.guard, (h.items, h.days))))))
     (λ p. record { name = p.0; men = p.1.0; money = p.1.1.0; guard = p.1.1.1.0; items = p.1.1.1.1.0; days = p.1.1.1.1.1 })
     (λ _. refl)
@@ -33,17 +34,17 @@ holding_code =
 abbrev pub amount_of : FinMap nat_cmp ℕ → ℕ → ℕ
 amount_of items item = unwrap_or (get items item) 0
 
--- whether an amount is the listed one and not 0, or is 0 where none is listed
+-- whether an option lists an amount: it is Some of the amount, which isn't 0, or None where the amount is 0
 abbrev pub is_listed : Option ℕ → ℕ → Bool
 is_listed None amount = amount == 0
 is_listed (Some listed) amount = not (amount == 0) && listed == amount
 
--- whether the amount under a number (the first ℕ) is the given one (the second); it is 0 where none is listed
+-- `has_amount items item amount`: whether the amount under the number `item` is `amount`; it is 0 where none is listed
 abbrev pub has_amount : FinMap nat_cmp ℕ → ℕ → ℕ → Bool
 has_amount items item amount = is_listed (get items item) amount
 
--- the amounts with the one under a number (the first ℕ) set to another amount (the second); an amount of 0 is not
--- listed
+-- `with_amount_of items item amount`: the amounts with the one under the number `item` set to `amount`; an amount of 0
+-- is not listed
 abbrev pub with_amount_of : FinMap nat_cmp ℕ → ℕ → ℕ → FinMap nat_cmp ℕ
 with_amount_of items item amount = if amount == 0 then remove items item else insert items item amount
 

@@ -55,8 +55,8 @@ abbrev pub goods_measure : Measure → WorldValue → HoldingValue → ℕ
 goods_measure m w h = sum_by (λ e. e.1 * measure_of m w e.0) (entries h.items)
 
 -- the weight of a unit's goods: the sum of amount times weight over the items that it holds
-abbrev pub goods_of : WorldValue → HoldingValue → ℕ
-goods_of w h = sum_by (λ e. e.1 * weight_of w e.0) (entries h.items)
+abbrev pub goods_weight : WorldValue → HoldingValue → ℕ
+goods_weight w h = sum_by (λ e. e.1 * weight_of w e.0) (entries h.items)
 
 -- the weight that a unit's goods carry: the sum of amount times carry over the items that it holds
 abbrev pub carried_by_goods : WorldValue → HoldingValue → ℕ
@@ -64,7 +64,7 @@ carried_by_goods w h = sum_by (λ e. e.1 * carry_of w e.0) (entries h.items)
 
 -- the weight of a unit: its men, at man_weight each, and its goods
 abbrev pub load_of : WorldValue → HoldingValue → ℕ
-load_of w h = h.men * w.rules.man_weight + goods_of w h
+load_of w h = h.men * w.rules.man_weight + goods_weight w h
 
 -- the weight that a unit can carry: its men, at man_carry each, and its goods that carry
 abbrev pub carried_by : WorldValue → HoldingValue → ℕ

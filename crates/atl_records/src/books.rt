@@ -69,7 +69,7 @@ impl BooksEntry {
 
     /// The entry's number, from 1.
     pub fn number(self) -> u32
-        ensures place { result ≡ entry_index self + 1 }
+        ensures value { result ≡ entry_index self + 1 }
         ensures small { result ≤ entry_count }
     {
         self as u32
@@ -98,7 +98,7 @@ impl BooksEntry {
 impl Thing {
     /// The number of a thing: 0 for money, 1 for people, 2 + i for the world's item with index i.
     pub fn number(self) -> u32
-        ensures place { result ≡ thing_index self }
+        ensures value { result ≡ thing_index self }
         ensures small { result < possible_things }
     {
         match self {

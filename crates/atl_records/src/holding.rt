@@ -38,9 +38,23 @@ impl Model for Holding {
 
     ghost coded = { holding_code };
 
-    ghost view = { λ a. record { name = a.name; men = a.men; money = a.money; guard = a.guard; items = a.items; days = a.days } };
+    ghost view = { λ a. record {
+      name = a.name;
+      men = a.men;
+      money = a.money;
+      guard = a.guard;
+      items = a.items;
+      days = a.days;
+    } };
 
-    ghost invariant = { λ a. IsHolding (record { name = a.name; men = a.men; money = a.money; guard = a.guard; items = a.items; days = a.days }) };
+    ghost invariant = { λ a. IsHolding (record {
+      name = a.name;
+      men = a.men;
+      money = a.money;
+      guard = a.guard;
+      items = a.items;
+      days = a.days;
+    }) };
 }
 
 /// The amount that a map has under a number (pieces of an item, days of a skill), 0 where it has

@@ -2,7 +2,7 @@
 ghost use Rattle.std.specs.Prelude.{◌≡◌, ◌≤◌, ◌*◌, nat_le};
 ghost use Rattle.atl_world.specs.Limits.{last_level, most_items, most_weight};
 ghost use Rattle.atl_records.specs.Limits.{most_u32};
-ghost use Rattle.atl_records.specs.Levels.{days_for, level_in, level_in_any, level_of, weight_of, carry_of, goods_of, carried_by_goods, load_of, carried_by, measure_of, goods_measure};
+ghost use Rattle.atl_records.specs.Levels.{days_for, level_in, level_in_any, level_of, weight_of, carry_of, goods_weight, carried_by_goods, load_of, carried_by, measure_of, goods_measure};
 
 use crate::holding::Holding;
 use crate::limits::LEVEL_DAYS;
@@ -126,7 +126,7 @@ fn goods_measure(world: &World, holding: &Holding, of: Measure) -> u64
 /// The weight of a unit's goods: the sum of amount times weight over the items that it holds. Money
 /// weighs nothing. It takes no memory. See docs/RULES.md, "Levels and loads".
 pub fn goods(world: &World, holding: &Holding) -> u64
-    ensures value { result ≡ goods_of world.now holding.now }
+    ensures value { result ≡ goods_weight world.now holding.now }
     ensures small { result ≤ most_u32 * most_weight * most_items }
 {
     goods_measure(world, holding, Measure::Weight)

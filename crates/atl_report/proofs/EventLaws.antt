@@ -10,7 +10,7 @@ use Rattle.atl_report.specs.Events.{faulty_lines, event_lines, own_events, resul
 use Rattle.atl_report.specs.Sight.{view_of}
 use Rattle.atl_report.specs.Report.{header_line, region_parts, report_of, OthersEventsAreNotReported, OnlyWhatIsSeenIsReported}
 
--- a report's text for no faulty lines and for those events of a list that pass the test p is `None.`, if none passes
+-- without faulty lines, a report's text for the events of a list that pass the test p is `None.`, if none passes
 none_passes : (p : Event → Bool) (es : List Event) → list_any p es ≡ false → results_text [] (filter p es) ≡ codes "None.\n"
 none_passes p [] h = refl
 none_passes p (e ∷ es) h = by_test (p e) h (none_passes p es)
@@ -21,8 +21,8 @@ none_passes p (e ∷ es) h = by_test (p e) h (none_passes p es)
     by_test true h rest = absurd (false≢true (sym h))
     by_test false h rest = rest h
 
--- a report's text for no faulty lines and for those events of a list that pass the test p is the lines of these events,
--- if one passes
+-- without faulty lines, a report's text for the events of a list that pass the test p is the lines of these events, if
+-- one passes
 some_passes : (p : Event → Bool) (es : List Event) → list_any p es ≡ true → results_text [] (filter p es) ≡ event_lines (filter p es)
 some_passes p [] h = absurd (false≢true h)
 some_passes p (e ∷ es) h = by_test (p e) h (some_passes p es)
@@ -66,7 +66,7 @@ pub others_events_are_not_reported : OthersEventsAreNotReported
 unfolding report_of orders_part
 others_events_are_not_reported w v faults events others h = ap (λ own. header_line v ++ ((codes "Orders:\n" ++ results_text faults own) ++ region_parts w v.regions)) h
 
--- two campaigns of which a faction sees the same give it one report, for the same faulty lines and own events
+-- a faction gets one report of two campaigns, if it sees the same of both, and has the same faulty lines and own events
 pub only_what_is_seen_is_reported : OnlyWhatIsSeenIsReported
 unfolding view_of
 only_what_is_seen_is_reported w c d faction faults events others seen results_text =

@@ -12,22 +12,22 @@ use Rattle.std.proofs.lemmas.Cmp.{tied_itself}
 use Rattle.atl_world.specs.Sums.{numbers_among, numbers_where}
 use Rattle.atl_world.proofs.SumLaws.{chosen-cons}
 use Rattle.atl_world.proofs.TrackLaws.{is_true}
-use Rattle.atl_world.proofs.GeneralLaws.{key_turned}
+use Rattle.atl_world.proofs.GeneralLaws.{key_equality_is_symmetric}
 use Rattle.atl_records.specs.declared.records.Region.{Region}
 use Rattle.atl_records.specs.declared.records.Unit.{Unit}
 use Rattle.atl_records.specs.Every.{EachEntry}
-use Rattle.atl_campaign.specs.Campaign.{CampaignValue, numbers_of}
+use Rattle.atl_campaign.specs.Campaign.{CampaignValue, numbers_of_faction}
 use Rattle.atl_records.proofs.EveryLaws.{each-from_every}
 use Rattle.atl_report.specs.Watching.{is_watching, sees_region}
 use Rattle.atl_report.specs.Gathering.{with_region, with_watched, with_all_watched}
 
 -- a number compares equal to itself
-itself : (n : ℕ) → is_eq (nat_cmp n n) ≡ true
-itself n = ap is_eq (tied_itself nat_cmp_total n)
+equal_to_itself : (n : ℕ) → is_eq (nat_cmp n n) ≡ true
+equal_to_itself n = ap is_eq (tied_itself nat_cmp_total n)
 
 -- a number above another does not compare equal to it
-above : (k q : ℕ) → is_lt (nat_cmp k q) ≡ true → is_eq (nat_cmp q k) ≡ false
-above k q h = elim (nat_cmp q k) as (λ o. nat_cmp q k ≡ o → is_eq o ≡ false) [
+above_is_not_equal : (k q : ℕ) → is_lt (nat_cmp k q) ≡ true → is_eq (nat_cmp q k) ≡ false
+above_is_not_equal k q h = elim (nat_cmp q k) as (λ o. nat_cmp q k ≡ o → is_eq o ≡ false) [
   | Less ↦ λ _. refl
   | Equal ↦ λ e. absurd (false≢true (sym (ap is_lt (nat_cmp_total.antisymm k q ∙ ap ordering_reverse e)) ∙ h))
   | Greater ↦ λ _. refl
@@ -42,7 +42,7 @@ module _ {X : Type 0} (p : X → Bool) (g : Option X → Bool) where
   past k v fs [] h = refl
   past k v fs (e ∷ es) h =
       let rest = past k v fs es (and_parts _ _ h).1 in
-      let here : g (find nat_cmp e.0 ((k, v) ∷ fs)) ≡ g (find nat_cmp e.0 fs) = ap (λ b. g (cond b (Some v) (find nat_cmp e.0 fs))) (above k e.0 (and_parts _ _ h).0) in
+      let here : g (find nat_cmp e.0 ((k, v) ∷ fs)) ≡ g (find nat_cmp e.0 fs) = ap (λ b. g (cond b (Some v) (find nat_cmp e.0 fs))) (above_is_not_equal k e.0 (and_parts _ _ h).0) in
       ap (list_any (λ n. g (find nat_cmp n ((k, v) ∷ fs)))) (chosen-cons p e es)
       ∙ elim (p e.1) as (λ b. list_any (λ n. g (find nat_cmp n ((k, v) ∷ fs))) (cond b (e.0 ∷ numbers_among p es) (numbers_among p es)) ≡ list_any (λ n. g (find nat_cmp n fs)) (cond b (e.0 ∷ numbers_among p es) (numbers_among p es))) [
         | true ↦ ap (λ b. b || list_any (λ n. g (find nat_cmp n ((k, v) ∷ fs))) (numbers_among p es)) here ∙ ap (λ b. g (find nat_cmp e.0 fs) || b) rest
@@ -56,7 +56,7 @@ module _ {X : Type 0} (p : X → Bool) (g : Option X → Bool) where
   some_found [] h = refl
   some_found (e ∷ es) h =
       let rest = past e.0 e.1 es es (and_parts _ _ h).0 ∙ some_found es (and_parts _ _ h).1 in
-      let here : g (find nat_cmp e.0 (e ∷ es)) ≡ g (Some e.1) = ap (λ b. g (cond b (Some e.1) (find nat_cmp e.0 es))) (itself e.0) in
+      let here : g (find nat_cmp e.0 (e ∷ es)) ≡ g (Some e.1) = ap (λ b. g (cond b (Some e.1) (find nat_cmp e.0 es))) (equal_to_itself e.0) in
       ap (list_any (λ n. g (find nat_cmp n (e ∷ es)))) (chosen-cons p e es)
       ∙ elim (p e.1) as (λ b. list_any (λ n. g (find nat_cmp n (e ∷ es))) (cond b (e.0 ∷ numbers_among p es) (numbers_among p es)) ≡ ((b && g (Some e.1)) || list_any (λ e. p e.1 && g (Some e.1)) es)) [
         | true ↦ ap (λ b. b || list_any (λ n. g (find nat_cmp n (e ∷ es))) (numbers_among p es)) here ∙ ap (λ b. g (Some e.1) || b) rest
@@ -70,13 +70,13 @@ module _ {X : Type 0} (p : X → Bool) (g : Option X → Bool) where
 
 -- ---- who watches where
 
--- whether the unit is the faction's, has men, and is in region q
+-- whether a unit is the faction's (`f`), has men, and is in region `q`
 abbrev watches_in : ℕ → ℕ → Option Unit → Bool
 watches_in f q None = false
 watches_in f q (Some u) = is_watching f (Some u) && eq_by_cmp nat_cmp q u.region
 
--- `a and a and m and e` is `b and a and m`, if e is b: for `seen_by`, where a unit is the faction's (a), has men (m)
--- and is in the region (e, b)
+-- For `region_is_seen_by_unit`: three tests give the same in another order. They say whether a unit is the faction's
+-- (`a`), has men (`m`), and is in the region (`b`, or `e`, which is equal).
 regrouped : (a m e b : Bool) → e ≡ b → (a && ((a && m) && e)) ≡ (b && (a && m))
 regrouped true true e true h = h
 regrouped true true e false h = h
@@ -85,11 +85,11 @@ regrouped true false e false h = refl
 regrouped false m e true h = refl
 regrouped false m e false h = refl
 
--- a region is seen just where one of the faction's units with men is in it
-seen_by : (c : CampaignValue) (f q : ℕ) → list_any (λ n. watches_in f q (get c.units n)) (numbers_of f c.units) ≡ sees_region c f q
-seen_by c f q =
+-- a faction sees a region exactly if one of its units with men is in it
+region_is_seen_by_unit : (c : CampaignValue) (f q : ℕ) → list_any (λ n. watches_in f q (get c.units n)) (numbers_of_faction f c.units) ≡ sees_region c f q
+region_is_seen_by_unit c f q =
     some_where (λ (u : Unit). u.faction == f) (watches_in f q) c.units
-    ∙ ap (λ (t : ℕ × Unit → Bool). list_any t (entries c.units)) (λ i e. regrouped (e.1.faction == f) (nat_lt 0 e.1.holding.men) (eq_by_cmp nat_cmp q e.1.region) (e.1.region == q) (key_turned q e.1.region) i)
+    ∙ ap (λ (t : ℕ × Unit → Bool). list_any t (entries c.units)) (λ i e. regrouped (e.1.faction == f) (nat_lt 0 e.1.holding.men) (eq_by_cmp nat_cmp q e.1.region) (e.1.region == q) (key_equality_is_symmetric q e.1.region) i)
     ∙ sym (some_where (λ (u : Unit). u.region == q) (is_watching f) c.units)
 
 -- ---- the numbers gathered
@@ -186,18 +186,18 @@ module _ (c : CampaignValue) (f q : ℕ) where
   or_none false = refl
 
   -- the regions gathered from all units of a faction are just those that it sees
-  get-with_all_watched : get (with_all_watched c f (numbers_of f c.units) empty) q ≡ cond (sees_region c f q) (there q) None
+  get-with_all_watched : get (with_all_watched c f (numbers_of_faction f c.units) empty) q ≡ cond (sees_region c f q) (there q) None
   get-with_all_watched =
-      all_watched (numbers_of f c.units) empty false (get-empty nat_cmp q)
-      ∙ ap (λ t. cond t (there q) None) (or_none (list_any (λ n. watches_in f q (get c.units n)) (numbers_of f c.units)) ∙ seen_by c f q)
+      all_watched (numbers_of_faction f c.units) empty false (get-empty nat_cmp q)
+      ∙ ap (λ t. cond t (there q) None) (or_none (list_any (λ n. watches_in f q (get c.units n)) (numbers_of_faction f c.units)) ∙ region_is_seen_by_unit c f q)
 
 -- the numbers gathered from the faction's units are those of the regions that it sees, in rising order
-pub entries-with_all_watched : (c : CampaignValue) (f : ℕ) → entries (with_all_watched c f (numbers_of f c.units) empty) ≡ map (λ e. (e.0, tt)) (filter (λ e. sees_region c f e.0) (entries c.regions))
+pub entries-with_all_watched : (c : CampaignValue) (f : ℕ) → entries (with_all_watched c f (numbers_of_faction f c.units) empty) ≡ map (λ e. (e.0, tt)) (filter (λ e. sees_region c f e.0) (entries c.regions))
 entries-with_all_watched c f =
     let seen = where_key nat_cmp (sees_region c f) (entries c.regions) in
     let numbers : List (ℕ × Prim.Unit {0}) = map number_alone seen in
     let sorted : T (is_sorted nat_cmp numbers) = rw (sorted-alone seen) (is_sorted-where_key nat_cmp (sees_region c f) (entries c.regions) (entries_sorted c.regions)) in
-    ap entries (same_map nat_cmp_total nat_cmp-IsAntisymmetric (with_all_watched c f (numbers_of f c.units) empty) (from_sorted numbers) (λ q.
+    ap entries (same_map nat_cmp_total nat_cmp-IsAntisymmetric (with_all_watched c f (numbers_of_faction f c.units) empty) (from_sorted numbers) (λ q.
     get-with_all_watched c f q ∙ sym (get-from_sorted nat_cmp numbers q sorted ∙ find-alone q seen
     ∙ ap (option_map forget_value) (find-where_key nat_cmp (sees_region c f) q (λ x e. ap (sees_region c f) (sym (nat_cmp-IsAntisymmetric q x e))) (entries c.regions) ∙ ap (λ o. cond (sees_region c f q) o None) (sym (get-entries c.regions q)))
     ∙ alone_chosen (sees_region c f q) (get c.regions q))))

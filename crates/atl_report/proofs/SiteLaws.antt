@@ -6,13 +6,13 @@ use Rattle.std.specs.FinMap.{FinMap, get, get-insert, get-empty, empty}
 use Rattle.std.proofs.lemmas.List.{append_assoc}
 use Rattle.atl_world.specs.Sums.{numbers_among}
 use Rattle.atl_world.proofs.SumLaws.{chosen-cons}
-use Rattle.atl_world.proofs.GeneralLaws.{is_equal, key_turned}
+use Rattle.atl_world.proofs.GeneralLaws.{is_equal, key_equality_is_symmetric}
 use Rattle.atl_records.specs.declared.records.Structure.{Structure}
 use Rattle.atl_campaign.specs.KeptLists.{list_of}
 use Rattle.atl_report.specs.Sites.{with_site}
 
--- for `site_goes_on`: a region's list, followed by its numbers still to come, is the same whether n, if it is of the
--- region (b), is last in the list or first among those still to come
+-- For `site_goes_on`: a region's list, followed by its numbers still to come, is the same whether number n ends the
+-- list or begins those still to come. Test `b` says whether n is of the region.
 by_region : (b : Bool) (o : Option (List ℕ)) (listed rest : List ℕ) (n : ℕ) → (b ≡ true → listed ≡ unwrap_or o [])
     → unwrap_or (cond b (Some (listed ++ (n ∷ []))) o) [] ++ rest ≡ unwrap_or o [] ++ cond b (n ∷ rest) rest
 by_region true o listed rest n h = ap (λ l. (l ++ (n ∷ [])) ++ rest) (h refl) ∙ append_assoc (unwrap_or o []) (n ∷ []) rest
@@ -29,7 +29,7 @@ pub site_goes_on : (sites : FinMap nat_cmp (List ℕ)) (n : ℕ) (s : Structure)
     ≡ list_of sites region ++ numbers_among (λ (t : Structure). t.region == region) ((n, s) ∷ es)
 site_goes_on sites n s es region =
     ap (λ o. unwrap_or o [] ++ numbers_among (λ (t : Structure). t.region == region) es) (get-insert nat_cmp_total sites s.region (list_of sites s.region ++ (n ∷ [])) region)
-    ∙ ap (λ b. unwrap_or (cond b (Some (list_of sites s.region ++ (n ∷ []))) (get sites region)) [] ++ numbers_among (λ (t : Structure). t.region == region) es) (key_turned region s.region)
+    ∙ ap (λ b. unwrap_or (cond b (Some (list_of sites s.region ++ (n ∷ []))) (get sites region)) [] ++ numbers_among (λ (t : Structure). t.region == region) es) (key_equality_is_symmetric region s.region)
     ∙ by_region (s.region == region) (get sites region) (list_of sites s.region) (numbers_among (λ (t : Structure). t.region == region) es) n (same_list sites region s.region)
     ∙ ap (λ l. list_of sites region ++ l) (sym (chosen-cons (λ (t : Structure). t.region == region) (n, s) es))
 

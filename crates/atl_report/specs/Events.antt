@@ -15,7 +15,10 @@ use Rattle.atl_report.specs.Each.{each_text}
 
 -- the line for a line of the mailing that was not read: its line number, and the fault's number and name
 unfoldable pub faulty_line : FaultyLine → List ℕ
-faulty_line f = codes "Line " ▸ decimal f.line ▸ codes ": " ▸ decimal (fault_number f.fault) ▸ codes " " ▸ fault_name f.fault ▸ codes ".\n"
+faulty_line f =
+    codes "Line " ▸ decimal f.line
+    ▸ codes ": " ▸ decimal (fault_number f.fault)
+    ▸ codes " " ▸ fault_name f.fault ▸ codes ".\n"
 
 -- the lines for all faulty lines of the mailing, in their order
 abbrev pub faulty_lines : List FaultyLine → List ℕ
@@ -29,8 +32,17 @@ name_of_number number = option_map_or event_fault_name (find (λ fault. event_fa
 
 -- the line of an event, by its outcome: done with an amount, a fault, or men that starved
 abbrev pub event_text : Event → Outcome → List ℕ
-event_text e (Done n) = codes "Unit " ▸ decimal e.unit ▸ codes ", line " ▸ decimal e.line ▸ codes ", " ▸ event_keyword e.verb ▸ codes ": done " ▸ decimal n ▸ codes ".\n"
-event_text e (Fault k) = codes "Unit " ▸ decimal e.unit ▸ codes ", line " ▸ decimal e.line ▸ codes ", " ▸ event_keyword e.verb ▸ codes ": fault " ▸ decimal k ▸ codes " " ▸ name_of_number k ▸ codes ".\n"
+event_text e (Done n) =
+    codes "Unit " ▸ decimal e.unit
+    ▸ codes ", line " ▸ decimal e.line
+    ▸ codes ", " ▸ event_keyword e.verb
+    ▸ codes ": done " ▸ decimal n ▸ codes ".\n"
+event_text e (Fault k) =
+    codes "Unit " ▸ decimal e.unit
+    ▸ codes ", line " ▸ decimal e.line
+    ▸ codes ", " ▸ event_keyword e.verb
+    ▸ codes ": fault " ▸ decimal k
+    ▸ codes " " ▸ name_of_number k ▸ codes ".\n"
 event_text e (Starved n) = codes "Unit " ▸ decimal e.unit ▸ codes ": " ▸ decimal n ▸ codes " starved.\n"
 
 -- the line of an event in a report, by its outcome

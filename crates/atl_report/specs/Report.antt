@@ -29,15 +29,27 @@ use Rattle.atl_report.specs.declared.views.Side.TheVariants.{Own, Other}
 
 -- the first line of a report: month, and the faction's number and name
 unfoldable pub header_line : View → List ℕ
-header_line v = codes "Atlantis report, month " ▸ decimal v.month ▸ codes ", faction " ▸ decimal v.faction ▸ codes " \"" ▸ v.name ▸ codes "\".\n"
+header_line v =
+    codes "Atlantis report, month " ▸ decimal v.month
+    ▸ codes ", faction " ▸ decimal v.faction
+    ▸ codes " \"" ▸ v.name ▸ codes "\".\n"
 
 -- ---- a unit that is seen
 
 -- the start of a unit's line: number, name and men, after `*` with the money of an own unit, or after `-` with the
 -- faction of another's
 abbrev pub unit_head : UnitView → Side → List ℕ
-unit_head u (Own money items skills) = codes "* Unit " ▸ decimal u.number ▸ codes " \"" ▸ u.name ▸ codes "\": " ▸ decimal u.men ▸ codes " men, " ▸ decimal money ▸ codes " money"
-unit_head u (Other faction name) = codes "- Unit " ▸ decimal u.number ▸ codes " \"" ▸ u.name ▸ codes "\" of faction " ▸ decimal faction ▸ codes " \"" ▸ name ▸ codes "\": " ▸ decimal u.men ▸ codes " men"
+unit_head u (Own money items skills) =
+    codes "* Unit " ▸ decimal u.number
+    ▸ codes " \"" ▸ u.name
+    ▸ codes "\": " ▸ decimal u.men
+    ▸ codes " men, " ▸ decimal money ▸ codes " money"
+unit_head u (Other faction name) =
+    codes "- Unit " ▸ decimal u.number
+    ▸ codes " \"" ▸ u.name
+    ▸ codes "\" of faction " ▸ decimal faction
+    ▸ codes " \"" ▸ name
+    ▸ codes "\": " ▸ decimal u.men ▸ codes " men"
 
 -- the word `guard`, after a comma, in the line of a unit that guards; else empty
 abbrev pub guard_text : Bool → List ℕ
@@ -84,7 +96,11 @@ unit_lines w = each_text (unit_line w)
 -- the line of a structure: number, name, the kind's name, how much is done of the kind's full size, and the owner
 abbrev pub structure_text : StructureView → Kind → List ℕ
 structure_text s kind =
-    codes "Structure " ▸ decimal s.number ▸ codes " \"" ▸ s.name ▸ codes "\", " ▸ kind.name ▸ codes ", " ▸ decimal s.done ▸ codes " of "
+    codes "Structure " ▸ decimal s.number
+    ▸ codes " \"" ▸ s.name
+    ▸ codes "\", " ▸ kind.name
+    ▸ codes ", " ▸ decimal s.done
+    ▸ codes " of "
     ▸ decimal kind.size ▸ codes ", owner " ▸ decimal s.owner ▸ codes ".\n"
 
 -- the line of a structure; empty where the world does not have its kind
@@ -100,7 +116,11 @@ structure_lines w = each_text (structure_line w)
 -- the line of a region: its number, its name and terrain as the world gives them, its peasants and its money
 abbrev pub region_text : RegionView → RegionPlan → (terrain : List ℕ) → List ℕ
 region_text r plan terrain =
-    codes "Region " ▸ decimal r.number ▸ codes " \"" ▸ plan.name ▸ codes "\", " ▸ terrain ▸ codes ": " ▸ decimal r.peasants ▸ codes " peasants, "
+    codes "Region " ▸ decimal r.number
+    ▸ codes " \"" ▸ plan.name
+    ▸ codes "\", " ▸ terrain
+    ▸ codes ": " ▸ decimal r.peasants
+    ▸ codes " peasants, "
     ▸ decimal r.money ▸ codes " money.\n"
 
 -- the name of a region's terrain
@@ -137,12 +157,18 @@ exits_line w r = option_map_or exits_text (get w.regions r.number) []
 -- the line of a market: stock, wanted pieces, the prices that the world sets in the region, and the item's name
 abbrev pub market_text : MarketView → Market → Item → List ℕ
 market_text e m item =
-    codes "Market " ▸ item.name ▸ codes ": " ▸ decimal e.stock ▸ codes " in stock at " ▸ decimal m.price ▸ codes ", " ▸ decimal e.wanted
+    codes "Market " ▸ item.name
+    ▸ codes ": " ▸ decimal e.stock
+    ▸ codes " in stock at " ▸ decimal m.price
+    ▸ codes ", " ▸ decimal e.wanted
     ▸ codes " wanted at " ▸ decimal m.pays ▸ codes ".\n"
 
 -- the line of an item's market in a region; empty where the world has no such market
 unfoldable pub market_line : WorldValue → ℕ → MarketView → List ℕ
-market_line w region e = option_map_or (λ m. option_map_or (market_text e m) (slice_get w.items e.item) []) (market_of w region e.item) []
+market_line w region e =
+    option_map_or
+    (λ m. option_map_or (market_text e m) (slice_get w.items e.item) [])
+    (market_of w region e.item) []
 
 -- the lines of the markets of a list, which are of one region, in its order
 abbrev pub market_lines : WorldValue → ℕ → List MarketView → List ℕ
@@ -150,7 +176,12 @@ market_lines w region = each_text (market_line w region)
 
 -- all lines of a region: its own, exits, markets, structures and units
 unfoldable pub region_part : WorldValue → RegionView → List ℕ
-region_part w r = region_line w r ▸ exits_line w r ▸ market_lines w r.number r.markets ▸ structure_lines w r.structures ▸ unit_lines w r.units
+region_part w r =
+    region_line w r
+    ▸ exits_line w r
+    ▸ market_lines w r.number r.markets
+    ▸ structure_lines w r.structures
+    ▸ unit_lines w r.units
 
 -- all lines of each region of a list (`region_part`), in the order of the list
 abbrev pub region_parts : WorldValue → List RegionView → List ℕ

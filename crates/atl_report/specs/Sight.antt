@@ -15,7 +15,7 @@ use Rattle.atl_records.specs.declared.records.Unit.{Unit}
 use Rattle.atl_campaign.specs.Good.{guards}
 use Rattle.atl_records.specs.Holdings.{HoldingValue, amount_of}
 use Rattle.atl_records.specs.Levels.{level_of}
-use Rattle.atl_campaign.specs.Campaign.{CampaignValue, numbers_in}
+use Rattle.atl_campaign.specs.Campaign.{CampaignValue, numbers_in_region}
 use Rattle.atl_report.specs.declared.views.View.{View}
 use Rattle.atl_report.specs.declared.views.RegionView.{RegionView}
 use Rattle.atl_report.specs.declared.views.MarketView.{MarketView}
@@ -60,15 +60,23 @@ side_of c faction u =
 
 -- `unit_view c faction number u`: the view that a faction has of the unit u, which it sees and which has this number
 abbrev pub unit_view : CampaignValue → ℕ → ℕ → Unit → UnitView
-unit_view c faction number u = record { number = number; name = u.holding.name; men = u.holding.men; guard = guards u; structure = u.structure; side = side_of c faction u }
+unit_view c faction number u = record {
+  number = number;
+  name = u.holding.name;
+  men = u.holding.men;
+  guard = guards u;
+  structure = u.structure;
+  side = side_of c faction u;
+}
 
 -- the view that the watching faction has of a unit; None where there is no such unit, or it isn't seen
 abbrev pub seen_unit : WorldValue → CampaignValue → Watch → ℕ → Option Unit → Option UnitView
-seen_unit w c watch number unit = option_and_then (λ u. if is_seen w watch u then Some (unit_view c watch.faction number u) else None) unit
+seen_unit w c watch number unit =
+    option_and_then (λ u. if is_seen w watch u then Some (unit_view c watch.faction number u) else None) unit
 
 -- the views of the units that the watching faction sees in the watched region, in the order of their numbers
 abbrev pub unit_views : WorldValue → CampaignValue → Watch → List UnitView
-unit_views w c watch = filter_map (λ n. seen_unit w c watch n (get c.units n)) (numbers_in watch.region c.units)
+unit_views w c watch = filter_map (λ n. seen_unit w c watch n (get c.units n)) (numbers_in_region watch.region c.units)
 
 -- ---- structures
 
@@ -83,11 +91,19 @@ shown_owner w c watch s = if is_seen_there w watch (get c.units s.owner) then s.
 -- the view of a structure: number, kind, name, how much is done, and the owner, which is 0 where there is none, or the
 -- owner isn't seen
 abbrev pub structure_view : WorldValue → CampaignValue → Watch → ℕ → Structure → StructureView
-structure_view w c watch number s = record { number = number; kind = s.kind; name = s.name; done = s.done; owner = shown_owner w c watch s }
+structure_view w c watch number s = record {
+  number = number;
+  kind = s.kind;
+  name = s.name;
+  done = s.done;
+  owner = shown_owner w c watch s;
+}
 
 -- the views of all structures of the watched region, in the order of their numbers
 abbrev pub structure_views : WorldValue → CampaignValue → Watch → List StructureView
-structure_views w c watch = filter_map (λ n. option_map (structure_view w c watch n) (get c.structures n)) (structures_in watch.region c.structures)
+structure_views w c watch =
+    filter_map (λ n. option_map (structure_view w c watch n) (get c.structures n))
+    (structures_in watch.region c.structures)
 
 -- ---- markets
 
@@ -107,12 +123,26 @@ region_market_views r plan = option_map_or (market_views r) plan []
 
 -- the view of a region: peasants, money, markets, all structures, and the units that are seen
 abbrev pub region_view : WorldValue → CampaignValue → Watch → Region → RegionView
-region_view w c watch r = record { number = watch.region; peasants = r.peasants; money = r.money; markets = region_market_views r (get w.regions watch.region); structures = structure_views w c watch; units = unit_views w c watch }
+region_view w c watch r = record {
+  number = watch.region;
+  peasants = r.peasants;
+  money = r.money;
+  markets = region_market_views r (get w.regions watch.region);
+  structures = structure_views w c watch;
+  units = unit_views w c watch;
+}
 
 -- the views of the regions that the faction sees, in the order of their numbers
 abbrev pub region_views : WorldValue → CampaignValue → ℕ → List RegionView
-region_views w c faction = map (λ e. region_view w c (watch_over w c faction e.0) e.1) (filter (λ e. sees_region c faction e.0) (entries c.regions))
+region_views w c faction =
+    map (λ e. region_view w c (watch_over w c faction e.0) e.1)
+    (filter (λ e. sees_region c faction e.0) (entries c.regions))
 
 -- all that a faction sees of a campaign
 unfoldable pub view_of : WorldValue → CampaignValue → ℕ → View
-view_of w c faction = record { month = c.month; faction = faction; name = shown_name (get c.factions faction); regions = region_views w c faction }
+view_of w c faction = record {
+  month = c.month;
+  faction = faction;
+  name = shown_name (get c.factions faction);
+  regions = region_views w c faction;
+}

@@ -6,8 +6,8 @@ use Rattle.atl_records.specs.declared.records.Structure.{Structure}
 use Rattle.atl_campaign.specs.KeptLists.{list_of}
 use Rattle.atl_report.specs.Sight.{structures_in}
 
--- the lists are right: each region's list has the numbers of its structures, sorted, and a region without a list has
--- none
+-- the condition that lists of structures by region are right: each region's list has the numbers of its structures,
+-- sorted, and a region without a list has no structures
 abbrev pub AreSites : FinMap nat_cmp Structure → FinMap nat_cmp (List ℕ) → Type 0
 AreSites structures sites = (region : ℕ) → list_of sites region ≡ structures_in region structures
 

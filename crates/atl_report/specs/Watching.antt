@@ -7,7 +7,7 @@ use Rattle.atl_world.specs.Worlds.{WorldValue}
 use Rattle.atl_records.specs.declared.records.Unit.{Unit}
 use Rattle.atl_campaign.specs.Good.{guards}
 use Rattle.atl_records.specs.Levels.{level_in_any}
-use Rattle.atl_campaign.specs.Campaign.{CampaignValue, numbers_in}
+use Rattle.atl_campaign.specs.Campaign.{CampaignValue, numbers_in_region}
 use Rattle.atl_report.specs.declared.watch.Watch.{Watch}
 
 -- ---- regions
@@ -18,13 +18,14 @@ is_watching faction unit = option_map_or (λ u. u.faction == faction && nat_lt 0
 
 -- `sees_region c faction region`: whether a faction sees a region, since it has a unit with men there
 abbrev pub sees_region : CampaignValue → ℕ → ℕ → Bool
-sees_region c faction region = list_any (λ n. is_watching faction (get c.units n)) (numbers_in region c.units)
+sees_region c faction region = list_any (λ n. is_watching faction (get c.units n)) (numbers_in_region region c.units)
 
 -- ---- units
 
 -- the observation level of a unit, if it is of the given faction; 0 for another faction's unit, or without a unit
 abbrev pub observation_of : WorldValue → ℕ → Option Unit → ℕ
-observation_of w faction unit = option_map_or (λ u. if u.faction == faction then level_in_any u.holding w.rules.observation else 0) unit 0
+observation_of w faction unit =
+    option_map_or (λ u. if u.faction == faction then level_in_any u.holding w.rules.observation else 0) unit 0
 
 -- the greatest number of a list, 0 of an empty one
 abbrev pub greatest : List ℕ → ℕ
@@ -33,7 +34,7 @@ greatest (n ∷ ns) = max n (greatest ns)
 
 -- `observation_in w c faction region`: the best observation level of a faction's units in a region
 abbrev pub observation_in : WorldValue → CampaignValue → ℕ → ℕ → ℕ
-observation_in w c faction region = greatest (map (λ n. observation_of w faction (get c.units n)) (numbers_in region c.units))
+observation_in w c faction region = greatest (map (λ n. observation_of w faction (get c.units n)) (numbers_in_region region c.units))
 
 -- `watch_over w c faction region`: a faction's watch in a region, with the best observation level of its units there
 abbrev pub watch_over : WorldValue → CampaignValue → ℕ → ℕ → Watch

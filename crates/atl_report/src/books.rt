@@ -1,7 +1,7 @@
 //! Writes the text of the books. See docs/FORMATS.md, "Books".
 ghost use Rattle.std.specs.Prelude.{◌≡◌, ◌++◌, IfOk, OnOk, length, string_bytes};
 ghost use Rattle.std.specs.List.{slice_get};
-ghost use Rattle.atl_campaign.specs.Founding.{things_of};
+ghost use Rattle.atl_campaign.specs.Founding.{thing_count};
 ghost use Rattle.atl_campaign.specs.Totals.{IsCountable};
 ghost use Rattle.atl_report.specs.Books.{IsThing, entry_name, item_name, thing_name, amount_text, amount_line, amount_lines, total_line, thing_part, item_parts, books_of};
 
@@ -120,7 +120,7 @@ fn write_total(
 /// Writes all lines of a thing that the books count: those of its entries, and its total. There are
 /// at most 1,000,000 units and regions together.
 #[tactic(auto, unfolding(crate::specs::Books::thing_part))]
-fn write_part(
+fn write_thing_part(
     out: &mut String,
     world: &World,
     campaign: &Campaign,
@@ -139,14 +139,14 @@ fn write_part(
 /// Writes the lines of all items of the world, in its order. The books count the things of this
 /// world, and there are at most 1,000,000 units and regions together.
 fn write_items(out: &mut String, world: &World, campaign: &Campaign) -> Result<(), AllocError>
-    requires things { campaign.now.value.books.things ≡ things_of world.now }
+    requires things { campaign.now.value.books.things ≡ thing_count world.now }
     requires countable { IsCountable campaign.now.value }
     ensures { OnOk result (string_bytes out.new
         ≡ string_bytes out.old ++ item_parts world.now campaign.now.value
         (length world.now.items)) }
 {
     for item in 0..world.items().len() {
-        write_part(out, world, campaign, Thing::Item(item as u16))?;
+        write_thing_part(out, world, campaign, Thing::Item(item as u16))?;
     }
     Ok(())
 }
@@ -158,14 +158,14 @@ fn write_items(out: &mut String, world: &World, campaign: &Campaign) -> Result<(
 /// "Books".
 #[tactic(auto, unfolding(crate::specs::Books::books_of))]
 pub fn books_text(alloc: Global, world: &World, campaign: &Campaign) -> Result<String, AllocError>
-    requires things { campaign.now.value.books.things ≡ things_of world.now }
+    requires things { campaign.now.value.books.things ≡ thing_count world.now }
     requires countable { IsCountable campaign.now.value }
     ensures definition { IfOk result
         (λ text. string_bytes text ≡ books_of world.now campaign.now.value) }
 {
     let mut out = String::new(alloc);
-    write_part(&mut out, world, campaign, Thing::Money)?;
-    write_part(&mut out, world, campaign, Thing::People)?;
+    write_thing_part(&mut out, world, campaign, Thing::Money)?;
+    write_thing_part(&mut out, world, campaign, Thing::People)?;
     write_items(&mut out, world, campaign)?;
     Ok(out)
 }

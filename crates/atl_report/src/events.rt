@@ -75,7 +75,7 @@ fn write_events(out: &mut String, faction: u32, events: &[Event]) -> Result<(), 
 }
 
 /// Whether some event is the faction's own.
-fn has_own(faction: u32, events: &[Event]) -> bool
+fn has_own_event(faction: u32, events: &[Event]) -> bool
     ensures { result ≡ list_any (λ e. e.faction == faction) events.now }
 {
     events.iter().any(|event| event.faction == faction)
@@ -86,7 +86,7 @@ fn has_no_results(faction: u32, faults: &[FaultyLine], events: &[Event]) -> bool
     ensures { result ≡ (length faults.now == 0 && not
         (list_any (λ e. e.faction == faction) events.now)) }
 {
-    faults.is_empty() && !has_own(faction, events)
+    faults.is_empty() && !has_own_event(faction, events)
 }
 
 /// Writes the faulty lines and the faction's own events, or `None.` where there is neither.

@@ -178,7 +178,11 @@ impl InReport for UnitView {
 
 /// Writes the line of a structure: number, name, the kind's name, how much is done of the kind's
 /// full size, and the owner.
-fn write_built(out: &mut String, structure: &StructureView, kind: &Kind) -> Result<(), AllocError>
+fn write_structure_text(
+    out: &mut String,
+    structure: &StructureView,
+    kind: &Kind,
+) -> Result<(), AllocError>
     ensures { OnOk result (string_bytes out.new
         ≡ string_bytes out.old ++ structure_text structure.now kind.now) }
 {
@@ -202,7 +206,7 @@ impl InReport for StructureView {
     #[tactic(auto, unfolding(crate::specs::Report::structure_line))]
     fn write(&self, out: &mut String, world: &World) -> Result<(), AllocError> {
         match world.kind(self.kind) {
-            Some(kind) => write_built(out, self, kind),
+            Some(kind) => write_structure_text(out, self, kind),
             None => Ok(()),
         }
     }
@@ -305,7 +309,7 @@ fn write_exits(out: &mut String, world: &World, region: &RegionView) -> Result<(
 }
 
 /// Writes the line of a market: the item's name, stock, wanted pieces and prices.
-fn write_trade(
+fn write_market_text(
     out: &mut String,
     seen: MarketView,
     market: &Market,
@@ -340,7 +344,7 @@ fn write_market(
         return Ok(());
     };
     match world.item(seen.item) {
-        Some(item) => write_trade(out, seen, market, item),
+        Some(item) => write_market_text(out, seen, market, item),
         None => Ok(()),
     }
 }
@@ -378,8 +382,8 @@ impl InReport for RegionView {
 }
 
 /// The text of a report on a view, with the faulty lines of the faction's mailing and those of the
-/// events that are its own. The world must be the one with which the view was made. See
-/// docs/FORMATS.md, "Reports".
+/// events that are its own. The world must be the one with which the view was made. AllocError
+/// without memory. See docs/FORMATS.md, "Reports".
 #[tactic(auto, unfolding(crate::specs::Report::report_of))]
 pub fn report_text(
     alloc: Global,

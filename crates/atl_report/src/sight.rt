@@ -242,7 +242,11 @@ fn region_view(
 }
 
 /// Adds a region's number to the set of the regions seen, where the campaign has the region.
-fn see(seen: &mut Numbered<()>, campaign: &Campaign, number: u32) -> Result<(), AllocError>
+fn add_region_seen(
+    seen: &mut Numbered<()>,
+    campaign: &Campaign,
+    number: u32,
+) -> Result<(), AllocError>
     ensures { OnOk result (seen.new
         ≡ with_region seen.old number (get campaign.now.value.regions number)) }
 {
@@ -266,7 +270,7 @@ fn regions_seen(
     for number in campaign.of_faction(faction) {
         if let Some(unit) = campaign.unit(*number) {
             if is_watching(unit, faction) {
-                see(&mut seen, campaign, unit.region)?;
+                add_region_seen(&mut seen, campaign, unit.region)?;
             }
         }
     }
@@ -297,9 +301,9 @@ fn region_views(
 }
 
 /// What a faction sees, as `view` gives it, from lists of each region's structures (`sites_of`).
-/// With these lists the views of many factions go over the campaign's structures only once.
-/// Besides, it goes over the faction's units and what is in the regions seen, and no further.
-/// AllocError without memory.
+/// With these lists the views of many factions go over the campaign's structures only once. The
+/// call goes over the faction's units and what is in the regions seen, and no further. AllocError
+/// without memory.
 #[tactic(auto, unfolding(crate::specs::Sight::view_of))]
 pub fn view_over(
     alloc: Global,

@@ -12,19 +12,19 @@ use Rattle.atl_store.specs.Faults.{create_fault, write_fault}
 use Rattle.atl_store.specs.declared.fault.CreateFault.TheVariants as create
 use Rattle.atl_store.specs.declared.fault.WriteFault.{WriteFault}
 use Rattle.atl_store.specs.declared.fault.WriteFault.TheVariants as write
-use Rattle.atl_service.specs.Answering.{of_write}
+use Rattle.atl_service.specs.Answering.{fault_of_write}
 use Rattle.atl_service.specs.Causes.{GivesError, HasCause}
 
 -- if a test chose between two different values, the chosen value shows the test's result
 module _ {F : Type 0} (memory other : F) (apart : memory ≢ other) where
-  -- for `lacked` and `creation_lacked`: if a test that chooses between the faults `memory` and `other`, which differ,
-  -- chose `memory`, it is true
+  -- for `write_lacked_memory` and `creation_lacked`: if a test that chooses between the faults `memory` and `other`,
+  -- which differ, chose `memory`, it is true
   is_first : (b : Bool) → memory ≡ cond b memory other → b ≡ true
   is_first true is = refl
   is_first false is = absurd (apart is)
 
-  -- for `failed` and `creation_failed`: if a test that chooses between the faults `memory` and `other`, which differ,
-  -- chose `other`, it is false
+  -- for `write_gave_other_error` and `creation_failed`: if a test that chooses between the faults `memory` and `other`,
+  -- which differ, chose `other`, it is false
   is_second : (b : Bool) → other ≡ cond b memory other → b ≡ false
   is_second true is = absurd (apart (sym is))
   is_second false is = refl
@@ -47,21 +47,21 @@ module _ {S : Type 0} (g : Ghosts S) (own : Statements) (old new : Held S) where
   creation_failed (e, is, given) = record { error = e; memory_is = is_second create.Memory create.Store creates_apart (is_memory e) is; given = given }
 
   -- if a write reported Memory, one of its calls ran out of memory
-  lacked : IsFaultOfError g own write_fault old new write.Memory → GivesError g own true old new
-  lacked (e, is, given) = record { error = e; memory_is = is_first write.Memory write.Store writes_apart (is_memory e) is; given = given }
+  write_lacked_memory : IsFaultOfError g own write_fault old new write.Memory → GivesError g own true old new
+  write_lacked_memory (e, is, given) = record { error = e; memory_is = is_first write.Memory write.Store writes_apart (is_memory e) is; given = given }
 
   -- if a write reported Store, one of its calls gave an error other than out of memory
-  failed : IsFaultOfError g own write_fault old new write.Store → GivesError g own false old new
-  failed (e, is, given) = record { error = e; memory_is = is_second write.Memory write.Store writes_apart (is_memory e) is; given = given }
+  write_gave_other_error : IsFaultOfError g own write_fault old new write.Store → GivesError g own false old new
+  write_gave_other_error (e, is, given) = record { error = e; memory_is = is_second write.Memory write.Store writes_apart (is_memory e) is; given = given }
 
   -- if a write's fault reports, on a clean disk, an error of one of its calls, this error is the cause of the service's
   -- fault: out of memory for Memory, another for Store (`HasCause`)
-  pub write_has_cause : (fault : WriteFault) → (HasCleanDisk (state g new) → IsFaultOfError g own write_fault old new fault) → HasCause g own old new (of_write fault)
-  write_has_cause write.Memory told = inr (λ clean. lacked (told clean))
-  write_has_cause write.Store told = λ clean. failed (told clean)
+  pub write_has_cause : (fault : WriteFault) → (HasCleanDisk (state g new) → IsFaultOfError g own write_fault old new fault) → HasCause g own old new (fault_of_write fault)
+  write_has_cause write.Memory says = inr (λ clean. write_lacked_memory (says clean))
+  write_has_cause write.Store says = λ clean. write_gave_other_error (says clean)
 
   -- if a call ends with a write's fault, which on a clean disk reports an error of a call of the write, this error is
   -- the cause of the service's fault (`HasCause`)
-  pub call_has_cause : {A : Type 0} (fault : WriteFault) (r : Result A WriteFault) → IsErrAnd r (λ f. f ≡ fault) → (HasCleanDisk (state g new) → IsFaultOfError g own write_fault old new fault) → IfErr r (λ f. HasCause g own old new (of_write f))
-  call_has_cause fault (Ok a) is told = tt
-  call_has_cause fault (Err f) is told = subst (λ x. HasCause g own old new (of_write x)) (sym is) (write_has_cause fault told)
+  pub call_has_cause : {A : Type 0} (fault : WriteFault) (r : Result A WriteFault) → IsErrAnd r (λ f. f ≡ fault) → (HasCleanDisk (state g new) → IsFaultOfError g own write_fault old new fault) → IfErr r (λ f. HasCause g own old new (fault_of_write f))
+  call_has_cause fault (Ok a) is says = tt
+  call_has_cause fault (Err f) is says = subst (λ x. HasCause g own old new (fault_of_write x)) (sym is) (write_has_cause fault says)

@@ -10,7 +10,7 @@ use Rattle.std.specs.List.{AllByRecursion, IsDistinct, flat_map}
 use Rattle.std.specs.Ordering.{nat_cmp, eq_by_cmp}
 use Rattle.std.specs.FinMap.{FinMap, empty, entries, get, insert, same_entries_map}
 use Rattle.atl_world.specs.Worlds.{WorldValue, IsWorld}
-use Rattle.atl_world.specs.Sums.{mapped, numbers_among}
+use Rattle.atl_world.specs.Sums.{map_values, numbers_among}
 use Rattle.atl_world.proofs.MappedLaws.{entries-mapped, get-mapped, insert_last}
 use Rattle.atl_world.proofs.Maps.{entries-empty}
 use Rattle.atl_orders.specs.declared.fault.FaultyLine.{FaultyLine}
@@ -19,7 +19,7 @@ use Rattle.atl_orders.specs.declared.fault.MailFault.TheVariants.{TooLong, NoHea
 use Rattle.atl_orders.specs.declared.mailing.Mailing.{Mailing}
 use Rattle.atl_orders.specs.Limits.{most_bytes}
 use Rattle.atl_orders.specs.TextLines.{lines}
-use Rattle.atl_orders.specs.Mailing.{IsMailingOf, IsReadWith, Reading, Reads, after_header, header_from, reading, reading_of}
+use Rattle.atl_orders.specs.Mailing.{IsMailingOf, IsReadWith, Reading, AgreesOrMemory, after_header, header_from, reading, reading_of}
 use Rattle.atl_records.specs.declared.event.Event.{Event}
 use Rattle.atl_records.specs.declared.records.Faction.{Faction}
 use Rattle.atl_campaign.specs.Covers.{MarksChanges}
@@ -41,7 +41,7 @@ use Rattle.atl_report.specs.Sight.{view_of}
 use Rattle.atl_report.specs.Sites.{AreSites}
 use Rattle.atl_service.specs.declared.closing.ReadMail.{ReadMail}
 use Rattle.atl_service.specs.declared.reporting.MonthResult.{MonthResult}
-use Rattle.atl_service.specs.Months.{AreThere, HasRead, ReadSoFar, reported_to_all}
+use Rattle.atl_service.specs.Months.{AreFactions, HasRead, ReadSoFar, reported_to_all}
 use Rattle.atl_service.specs.Closing.{closed, faults_in, faults_of, read_of, readings, reported_to, reported_with, with_month_reports}
 
 -- ---- each stored mailing can be read, and no two are of one faction
@@ -62,20 +62,20 @@ module _ (w : WorldValue) (n : ℕ) (text : List ℕ) where
   names_if_short false is short names = names
 
   -- a stored mailing of a faction can be read, and names that faction
-  pub reads : IsMailingOf n text → IsReadAsOf (reading w text)
+  pub stored_mailing_is_read : IsMailingOf n text → IsReadAsOf (reading w text)
   unfolding reading
-  reads sent = names_if_short (nat_lt most_bytes (length text)) refl sent.short (let (next, rest, is) = sent.header in named next rest is)
+  stored_mailing_is_read sent = names_if_short (nat_lt most_bytes (length text)) refl sent.short (let (next, rest, is) = sent.header in named next rest is)
 
   -- reading a stored mailing of a faction never fails
   pub not_unread : (fault : MailFault) → IsMailingOf n text → reading w text ≡ Err fault → ⊥
-  not_unread fault sent unread = let (r, is, own) = reads sent in apart r fault (sym is ∙ unread)
+  not_unread fault sent unread = let (r, is, own) = stored_mailing_is_read sent in apart r fault (sym is ∙ unread)
     where
       -- for `not_unread`: a mailing that was read (Ok) is not one that can't be read (Err)
       apart : (r : Reading) (fault : MailFault) → ◌≡◌ {A = Result Reading MailFault} (Ok r) (Err fault) → ⊥
       apart r fault is = cc
 
   -- if the code fails to read a stored mailing of a faction, its fault is Memory
-  pub only_memory : (fault : MailFault) → IsMailingOf n text → Reads reading_of (Err fault) (reading w text) → fault ≡ Memory
+  pub only_memory : (fault : MailFault) → IsMailingOf n text → AgreesOrMemory reading_of (Err fault) (reading w text) → fault ≡ Memory
   only_memory TooLong sent unread = absurd (not_unread TooLong sent unread)
   only_memory NoHeader sent unread = absurd (not_unread NoHeader sent unread)
   only_memory BadHeader sent unread = absurd (not_unread BadHeader sent unread)
@@ -90,7 +90,7 @@ module _ (w : WorldValue) where
   factions_read : (es : List (ℕ × List ℕ)) → EachEntry IsMailingOf es → map (λ r. r.faction) (texts_read es) ≡ map (λ e. e.0) es
   factions_read [] h = refl
   factions_read (e ∷ es) h =
-      let (r, is, own) = reads w e.0 e.1 h.0 in
+      let (r, is, own) = stored_mailing_is_read w e.0 e.1 h.0 in
       ap (λ read. map (λ r. r.faction) (read_of read ++ texts_read es)) is ∙ ap₂ (λ n ns. n ∷ ns) own (factions_read es h.1)
 
 -- mailings and their readings name the same factions in the same order
@@ -113,7 +113,7 @@ own_factions w c ms good is =
 -- ---- the faulty lines of each mailing
 
 -- the faulty lines found under a number are those of that faction's mailing, or none without a mailing (`faults_in`)
-pub faulty_lines_under : (w : WorldValue) (mail : FinMap nat_cmp (List ℕ)) (n : ℕ) → unwrap_or (get (mapped (λ text. faults_of (reading w text)) mail) n) [] ≡ faults_in w (get mail n)
+pub faulty_lines_under : (w : WorldValue) (mail : FinMap nat_cmp (List ℕ)) (n : ℕ) → unwrap_or (get (map_values (λ text. faults_of (reading w text)) mail) n) [] ≡ faults_in w (get mail n)
 faulty_lines_under w mail n = ap (λ o. unwrap_or o []) (get-mapped (λ text. faults_of (reading w text)) mail n) ∙ at (get mail n)
   where
     -- for `faulty_lines_under`: the faulty lines found for a faction, with a mailing (`o`) or without one, are those of
@@ -132,7 +132,7 @@ module _ (w : WorldValue) (events : List Event) where
       ap (λ faults. fold (reported_to w f events) (reported_with w c n faults events) ns) (same n) ∙ same_reports f g same (reported_to w g events c n) ns
 
   -- storing reports for factions of the campaign keeps the campaign good
-  pub good_reports : (faults : ℕ → List FaultyLine) (c : CampaignValue) (ns : List ℕ) → AreThere c ns → IsGood w c → IsGood w (fold (reported_to w faults events) c ns)
+  pub good_reports : (faults : ℕ → List FaultyLine) (c : CampaignValue) (ns : List ℕ) → AreFactions c ns → IsGood w c → IsGood w (fold (reported_to w faults events) c ns)
   good_reports faults c [] there good = good
   good_reports faults c (n ∷ ns) (here, there) good =
       good_reports faults (reported_to w faults events c n) ns there (IsGood-with_report w c n (report_of w (view_of w c n) (faults n) events) here good)
@@ -148,8 +148,8 @@ there_among P p (e ∷ es) (here, all) = at (p e.1) (there_among P p es all)
     at true rest = (here, rest)
     at false rest = rest
 
--- if no faction was removed, the factions that weren't gone before are in the campaign after
-pub active_there : (before after : CampaignValue) → ((n : ℕ) → HasValue before.factions n → HasValue after.factions n) → AreThere after (active before)
+-- the factions that weren't gone before are in the campaign after, if no faction was removed
+pub active_there : (before after : CampaignValue) → ((n : ℕ) → HasValue before.factions n → HasValue after.factions n) → AreFactions after (active before)
 active_there before after stay = there_among (HasValue after.factions) (λ f. not f.gone) (entries before.factions) (each-from_every (λ n f. HasValue after.factions n) before.factions (λ n f is. stay n (f, is)))
 
 -- ---- the month
@@ -157,7 +157,7 @@ active_there before after stay = there_among (HasValue after.factions) (λ f. no
 -- storing the reports after the month's phases, with the month counted and the mail removed, gives the campaign of
 -- `closed`
 pub closed_is : (w : WorldValue) (c after : CampaignValue) (events : List Event) (words : List ℕ) (faults : FinMap nat_cmp (List FaultyLine)) → (after, events) ≡ month_of w c (by_faction (readings w c)) words
-    → faults ≡ mapped (λ text. faults_of (reading w text)) c.mail → fold (reported_to w (λ n. unwrap_or (get faults n) []) events) (after_month after) (active c) ≡ closed w c words
+    → faults ≡ map_values (λ text. faults_of (reading w text)) c.mail → fold (reported_to w (λ n. unwrap_or (get faults n) []) events) (after_month after) (active c) ≡ closed w c words
 unfolding closed
 closed_is w c after events words faults is wrong =
     same_reports w events (λ n. unwrap_or (get faults n) []) (λ n. faults_in w (get c.mail n)) (λ n. ap (λ m. unwrap_or (get m n) []) wrong ∙ faulty_lines_under w c.mail n) (after_month after) (active c)
@@ -165,8 +165,8 @@ closed_is w c after events words faults is wrong =
 
 -- ---- the marks
 
--- if no mark is lost from `c` to the campaign of value `what` and marks `marks`, and all that changed is marked
--- (`MarksChanges`), the same is true of a campaign `d` with this value and these marks
+-- no mark is lost from `c` to `d`, and all that changed is marked (`MarksChanges`), if this holds of the value and the
+-- marks that `d` has
 marked_as : (c d : MarkedCampaign) (what : CampaignValue) (marks : Marks) → d.value ≡ what → d.marks ≡ marks → MarksChanges c (record { value = what; marks = marks }) → MarksChanges c d
 marked_as c d what marks is m h = subst (MarksChanges c) (sym (ap₂ (λ s n. record { value = s; marks = n }) is m)) h
 
@@ -201,7 +201,7 @@ faulty_lines_in w es = map (λ e. (e.0, faults_of (reading w e.1))) es
 
 -- the faulty lines of all mailings of a campaign, by faction
 abbrev faulty_lines_of_mail : WorldValue → CampaignValue → FinMap nat_cmp (List FaultyLine)
-faulty_lines_of_mail w c = mapped (λ text. faults_of (reading w text)) c.mail
+faulty_lines_of_mail w c = map_values (λ text. faults_of (reading w text)) c.mail
 
 -- before the first mailing of a good campaign is read, what was read (nothing) and what is left make the whole mail
 -- (`ReadSoFar`)
@@ -220,14 +220,14 @@ pub read_goes_on : (w : WorldValue) (c : CampaignValue) (ms ns : List Mailing) (
 read_goes_on w c ms ns faults faults' here rest n text m left one_more read kept put (mailings, all, outcome, sent) =
     let is : reading w text ≡ Ok (reading_of m) = ap (reading w) (sym kept) ∙ read in
     let of_all = subst (λ es. map reading_of ms ++ texts_read w es ≡ readings w c) left mailings in
-    let told_of_all = subst (λ es. entries faults ++ faulty_lines_in w es ≡ entries (faulty_lines_of_mail w c)) left outcome in
+    let says_of_all = subst (λ es. entries faults ++ faulty_lines_in w es ≡ entries (faulty_lines_of_mail w c)) left outcome in
     let first : faults_of (reading w text) ≡ m.faults = ap faults_of is in
-    let told_now = subst (λ fs. entries faults ++ (n, fs) ∷ faulty_lines_in w rest ≡ entries (faulty_lines_of_mail w c)) first told_of_all in (
+    let says_now = subst (λ fs. entries faults ++ (n, fs) ∷ faulty_lines_in w rest ≡ entries (faulty_lines_of_mail w c)) first says_of_all in (
       ap (λ xs. map reading_of xs ++ texts_read w rest) one_more ∙ ap (λ xs. xs ++ texts_read w rest) (map-append reading_of ms (m ∷ []))
           ∙ append_assoc (map reading_of ms) (reading_of m ∷ []) (texts_read w rest) ∙ ap (λ rs. map reading_of ms ++ (read_of rs ++ texts_read w rest)) (sym is) ∙ of_all,
       subst (All (IsReadWith w)) (sym one_more) (All-push (IsReadWith w) ms m all read),
-      ap (λ fs. entries fs ++ faulty_lines_in w rest) put ∙ ap (λ es. es ++ faulty_lines_in w rest) (insert_last faults (faulty_lines_of_mail w c) n m.faults (faulty_lines_in w rest) told_now)
-          ∙ append_assoc (entries faults) ((n, m.faults) ∷ []) (faulty_lines_in w rest) ∙ told_now,
+      ap (λ fs. entries fs ++ faulty_lines_in w rest) put ∙ ap (λ es. es ++ faulty_lines_in w rest) (insert_last faults (faulty_lines_of_mail w c) n m.faults (faulty_lines_in w rest) says_now)
+          ∙ append_assoc (entries faults) ((n, m.faults) ∷ []) (faulty_lines_in w rest) ∙ says_now,
       (subst (EachEntry IsMailingOf) left sent).1,
     )
 
@@ -241,8 +241,8 @@ read_ends w c r rest none (mailings, all, outcome, sent) = record {
 
 -- ---- the reports, stored one after another
 
--- if folding a list from index `i` on takes `old` to `last`, then folding it from index `i + 1` on takes `new` to
--- `last`, where `new` is the step from `old` by element `i`
+-- folding a list from index `i + 1` on takes `new` to `last`, if `new` is the step from `old` by element `i`, and
+-- folding it from `i` on takes `old` to `last`
 pub fold_further : {A B : Type 0} (step : A → B → A) (old new last : A) (all : List B) (i : ℕ) (d : B) → i < length all → new ≡ step old (get_or all i d) → fold step old (drop i all) ≡ last → fold step new (drop (i + 1) all) ≡ last
 fold_further step old new last all i d h is whole = ap (λ a. fold step a (drop (i + 1) all)) is ∙ subst (λ l. fold step old l ≡ last) (drop_more all i d h) whole
 
@@ -259,6 +259,6 @@ few_things w c world good = omega (arith, good.sound.steady.numbers.books.count,
 
 -- if storing a month's reports for factions of a good campaign makes the campaign of `closed`, the campaign after
 -- storing them is that of `closed`, and good
-pub closed_after_reports : (w : WorldValue) (c turned after : CampaignValue) (words : List ℕ) (outcome : MonthResult) → reported_to_all w turned outcome ≡ closed w c words → after ≡ reported_to_all w turned outcome → AreThere turned outcome.factions.items → IsGood w turned → (after ≡ closed w c words) × IsGood w after
+pub closed_after_reports : (w : WorldValue) (c turned after : CampaignValue) (words : List ℕ) (outcome : MonthResult) → reported_to_all w turned outcome ≡ closed w c words → after ≡ reported_to_all w turned outcome → AreFactions turned outcome.factions.items → IsGood w turned → (after ≡ closed w c words) × IsGood w after
 closed_after_reports w c turned after words outcome whole is there good =
     (is ∙ whole, subst (IsGood w) (sym is) (good_reports w outcome.events.items (λ n. unwrap_or (get outcome.faults n) []) turned outcome.factions.items there good))

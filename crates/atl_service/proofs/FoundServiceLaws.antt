@@ -12,7 +12,7 @@ use Rattle.atl_campaign.specs.Founding.{founded_of}
 use Rattle.atl_campaign.specs.Good.{IsGood}
 use Rattle.atl_sql.specs.Making.{has_campaign}
 use Rattle.atl_store.specs.Keeps.{Keeps, IsLater, IsReadyToCreate, MayLeaveCampaign, Creates, BreaksOffCreation, FailsToCreate, RefusesToCreate, HoldsCampaign}
-use Rattle.atl_store.proofs.StayLaws.{spares_itself}
+use Rattle.atl_store.proofs.StayLaws.{unchanged_itself}
 use Rattle.atl_store.specs.declared.fault.CreateFault.{CreateFault}
 use Rattle.atl_store.specs.declared.fault.CreateFault.TheVariants.{NotEmpty, Store, Memory}
 use Rattle.atl_store.proofs.WorldTextLaws.{world_text_is}
@@ -20,12 +20,12 @@ use Rattle.atl_sql.specs.Causes.{IsFaultOfError}
 use Rattle.atl_store.specs.Faults.{create_fault}
 use Rattle.atl_store.specs.OwnStatements.{OfFounding}
 use Rattle.atl_sql.proofs.CauseLaws.{gives_among}
-use Rattle.atl_service.specs.Causes.{FoundsBy}
+use Rattle.atl_service.specs.Causes.{OfFoundingBy}
 use Rattle.atl_service.specs.Service.{IsConsistent}
 use Rattle.atl_service.specs.declared.command.Cause.{Cause}
 use Rattle.atl_service.specs.declared.command.Cause.TheVariants.{World as BadWorld, BadPassText}
 use Rattle.atl_service.specs.declared.command.Cause.TheVariants as none
-use Rattle.atl_service.specs.Found.{Founds, FailsToFound, LeavesByCause, RefusesFounding, MayBeCause, Prepares, RefusesToWrite, of_creation}
+use Rattle.atl_service.specs.Found.{Founds, FailsToFound, LeavesByCause, RefusesFounding, MayBeCause, Prepares, RefusesToWrite, cause_of_creation_fault}
 use Rattle.atl_service.proofs.CauseLaws.{creation_failed, creation_lacked}
 
 module _ {S : Type 0} (g : Ghosts S) where
@@ -35,7 +35,7 @@ module _ {S : Type 0} (g : Ghosts S) where
 
   -- a founding that leaves the connection unchanged leaves what a failed one may leave (`FailsToFound`)
   nothing_done : (conn : Held S) (text pass : List ℕ) → FailsToFound g conn text pass conn
-  nothing_done conn text pass = record { tables = λ clean. spares_itself (state g conn); unfounded = λ bad. refl; crash = λ clean w is db may. inl may }
+  nothing_done conn text pass = record { tables = λ clean. unchanged_itself (state g conn); unfounded = λ bad. refl; crash = λ clean w is db may. inl may }
 
   -- founding may refuse with a cause that doesn't depend on the tables (the world text, the pass text, Memory), and
   -- leave the connection unchanged (`RefusesFounding`)
@@ -79,37 +79,38 @@ module _ {S : Type 0} (g : Ghosts S) where
 
   -- ---- a founding whose tables could not be created
   module _ (old new : Held S) (w : WorldValue) (c : CampaignValue) (text pass : List ℕ) (made : Prepares text pass w c) (later : IsLater (state g old) (state g new)) where
-    -- if the tables could not be created, on a clean disk they are as before while the connection is open, and a crash
-    -- leaves what it could have left before, or the founded campaign (`FailsToFound`)
-    failed : FailsToCreate g text c old new → FailsToFound g old text pass new
-    failed fails = record {
+    -- If the tables could not be created, founding leaves what a failed one may leave (`FailsToFound`). On a clean disk
+    -- the tables are as before while the connection is open, and a crash leaves what it could have left before, or the
+    -- founded campaign.
+    failed_creation_fails_founding : FailsToCreate g text c old new → FailsToFound g old text pass new
+    failed_creation_fails_founding fails = record {
       tables = fails.tables;
       unfounded = λ bad. elim bad [ inl no_world ↦ absurd (no_world (w, made.world)) | inr no_pass ↦ absurd (false≢true (sym no_pass ∙ made.pass_is_good)) ];
       crash = λ clean v v_is. let same : w ≡ v = ok_same w v (sym made.world ∙ v_is) in subst (λ (d : CampaignValue). MayLeaveCampaign (state g old) text d (state g new)) (made.campaign ∙ ap (λ u. founded_of u pass) same) (fails.crash clean);
     }
       where
-        -- for `failed`: if the results Ok of reading two worlds are equal, so are the worlds
+        -- for `failed_creation_fails_founding`: if the results Ok of reading two worlds are equal, so are the worlds
         ok_same : (a b : WorldValue) → ◌≡◌ {A = Result WorldValue WorldFault} (Ok a) (Ok b) → a ≡ b
         ok_same a b e = cc
 
     -- if a fault reports an error of the statements that create the tables of campaign `c` (`OfFounding`), it reports
-    -- one of those that found by the world text and the pass text (`FoundsBy`)
-    told_by_founding : (fault : CreateFault) → IsFaultOfError g (OfFounding text c) create_fault old new fault → IsFaultOfError g (FoundsBy text pass) create_fault old new fault
-    told_by_founding fault told = (
-      told.0,
-      told.1,
-      gives_among g (OfFounding text c) (FoundsBy text pass) (λ sql params own. (w, made.world, subst (λ (d : CampaignValue). OfFounding text d sql params) made.campaign own)) told.0 old new told.2,
+    -- one of those that found by the world text and the pass text (`OfFoundingBy`)
+    error_of_founding : (fault : CreateFault) → IsFaultOfError g (OfFounding text c) create_fault old new fault → IsFaultOfError g (OfFoundingBy text pass) create_fault old new fault
+    error_of_founding fault says = (
+      says.0,
+      says.1,
+      gives_among g (OfFounding text c) (OfFoundingBy text pass) (λ sql params own. (w, made.world, subst (λ (d : CampaignValue). OfFounding text d sql params) made.campaign own)) says.0 old new says.2,
     )
 
     -- if creating the tables fails, founding refuses with the cause of the same name as the fault, and leaves what this
     -- cause allows (`RefusesFounding`)
-    pub refused_by_store : (fault : CreateFault) → RefusesToCreate g text c old new fault → RefusesFounding g old text pass (of_creation fault) new
+    pub refused_by_store : (fault : CreateFault) → RefusesToCreate g text c old new fault → RefusesFounding g old text pass (cause_of_creation_fault fault) new
     refused_by_store NotEmpty refused = record { cause = ((w, made.world), made.pass_is_good, refused.0); leaves = refused.1; later = later }
-    refused_by_store Store refused = record { cause = ((w, made.world), made.pass_is_good, refused.0.fresh); leaves = (failed refused.0, store_refuses refused.1); later = later }
+    refused_by_store Store refused = record { cause = ((w, made.world), made.pass_is_good, refused.0.fresh); leaves = (failed_creation_fails_founding refused.0, store_refuses refused.1); later = later }
       where
         -- If creating fails with Store, the connection wasn't ready and is unchanged, or it was ready and the write
         -- failed. On a clean disk a call of the write then gave an error other than out of memory (`RefusesToWrite`).
-        store_refuses : ((¬ IsReadyToCreate (state g old)) × (new ≡ old)) ⊎ BreaksOffCreation g text c old new Store → RefusesToWrite g (FoundsBy text pass) old new
+        store_refuses : ((¬ IsReadyToCreate (state g old)) × (new ≡ old)) ⊎ BreaksOffCreation g text c old new Store → RefusesToWrite g (OfFoundingBy text pass) old new
         store_refuses (inl unasked) = inl unasked
-        store_refuses (inr off) = inr (off.ready, λ clean. creation_failed g (FoundsBy text pass) old new (told_by_founding Store (off.told clean)))
-    refused_by_store Memory refused = record { cause = tt; leaves = (failed refused.0, inr (λ clean. creation_lacked g (FoundsBy text pass) old new (told_by_founding Memory (refused.1.told clean)))); later = later }
+        store_refuses (inr off) = inr (off.ready, λ clean. creation_failed g (OfFoundingBy text pass) old new (error_of_founding Store (off.reports_error clean)))
+    refused_by_store Memory refused = record { cause = tt; leaves = (failed_creation_fails_founding refused.0, inr (λ clean. creation_lacked g (OfFoundingBy text pass) old new (error_of_founding Memory (refused.1.reports_error clean)))); later = later }

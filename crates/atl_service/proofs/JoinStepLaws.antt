@@ -6,7 +6,7 @@ use Rattle.atl_world.specs.Worlds.{WorldValue}
 use Rattle.atl_records.specs.declared.records.JoinFault.TheVariants.{NameTaken, Full}
 use Rattle.atl_campaign.specs.Campaign.{CampaignValue, with_report}
 use Rattle.atl_campaign.specs.Good.{IsGood}
-use Rattle.atl_campaign.specs.Joining.{join_of, joined, name_taken, is_full, new_faction, first_unit}
+use Rattle.atl_campaign.specs.Joining.{join_of, after_join, name_taken, is_full, new_faction, first_unit}
 use Rattle.atl_report.specs.Report.{report_of}
 use Rattle.atl_report.specs.Sight.{view_of}
 use Rattle.atl_store.specs.Keeps.{IsJoining}
@@ -43,27 +43,27 @@ module _ (w : WorldValue) (c : CampaignValue) (name pass : List ℕ) (word : ℕ
   unfolding step
   steps_on d n m a b e = rw (a, b, e) refl
 
--- if `join_of` succeeds with `y` after its tests whether the name is taken and whether the campaign is full, `y` is the
--- joined campaign `x`
-accepted : {S : Type 0} (taken full : Bool) (x y : S) → cond taken (Err NameTaken) (cond full (Err Full) (Ok x)) ≡ Ok y → x ≡ y
-accepted true full x y e = cc
-accepted false true x y e = cc
-accepted false false x y e = cc
+-- the result `y` of a join that succeeds is the joined campaign `x`, since a join gives an error if the name is taken
+-- or the campaign is full
+join_result_is_joined : {S : Type 0} (taken full : Bool) (x y : S) → cond taken (Err NameTaken) (cond full (Err Full) (Ok x)) ≡ Ok y → x ≡ y
+join_result_is_joined true full x y e = cc
+join_result_is_joined false true x y e = cc
+join_result_is_joined false false x y e = cc
 
 -- an option that has a value is not None
 is_there : {V : Type 0} (o : Option V) (v : V) → o ≡ Some v → IsSome o
 is_there o v is = ap is_some is
 
--- after a join in a good campaign, with its first report, the faction, its unit, which came last, and its report are
--- there, and the books have money and people among their things (`HasArrival`)
-arrival : (w : WorldValue) (name pass : List ℕ) (word : ℕ) (c : CampaignValue) → IsGood w c → HasArrival (reported w (joined w name pass word c) c.next_faction) c.next_faction
-unfolding joined
+-- the campaign that `after_join` makes of a good one, with the first report, has what a write of the join needs
+-- (`HasArrival`): the faction, its unit, which came last, and its report
+arrival : (w : WorldValue) (name pass : List ℕ) (word : ℕ) (c : CampaignValue) → IsGood w c → HasArrival (reported w (after_join w name pass word c) c.next_faction) c.next_faction
+unfolding after_join
 arrival w name pass word c good =
     let member = new_faction c.next_faction name pass in
     let band = first_unit w word c in
     let start = pos w.rules.start_money in
     let back : c.next_unit + 1 - 1 ≡ c.next_unit = omega arith in
-    let report = report_of w (view_of w (joined w name pass word c) c.next_faction) [] [] in
+    let report = report_of w (view_of w (after_join w name pass word c) c.next_faction) [] [] in
     record {
       next = omega arith;
       things = omega (arith, good.sound.steady.numbers.books.count);
@@ -72,21 +72,21 @@ arrival w name pass word c good =
       report = is_there _ report (get_inserted c.reports c.next_faction report);
     }
 
--- after a join that succeeds in a good campaign, with its first report, the new faction, unit and report are there, and
--- the books have money and people among their things (`HasArrival`)
+-- the campaign that a successful `join_of` makes of a good one, with the first report, has what a write of the join
+-- needs (`HasArrival`)
 pub arrives : (w : WorldValue) (name pass : List ℕ) (word : ℕ) (c d : CampaignValue) (n m : ℕ) → IsGood w c → join_of w name pass word c ≡ Ok (d, (n, m)) → HasArrival (reported w d n) n
 unfolding join_of
 arrives w name pass word c d n m good e =
-    let is : (joined w name pass word c, (c.next_faction, c.next_unit)) ≡ (d, (n, m)) = accepted (name_taken c name) (is_full c) _ _ e in
-    let same : joined w name pass word c ≡ d = ap (λ p. p.0) is in
+    let is : (after_join w name pass word c, (c.next_faction, c.next_unit)) ≡ (d, (n, m)) = join_result_is_joined (name_taken c name) (is_full c) _ _ e in
+    let same : after_join w name pass word c ≡ d = ap (λ p. p.0) is in
     let number : c.next_faction ≡ n = ap (λ p. p.1.0) is in
-    subst (λ (s : CampaignValue). HasArrival (reported w s n) n) same (subst (λ k. HasArrival (reported w (joined w name pass word c) k) k) number (arrival w name pass word c good))
+    subst (λ (s : CampaignValue). HasArrival (reported w s n) n) same (subst (λ k. HasArrival (reported w (after_join w name pass word c) k) k) number (arrival w name pass word c good))
 
 -- a join that succeeds in a good campaign, with its first report, is one that the store can write (`IsJoining`)
 pub joining_is : (w : WorldValue) (name pass : List ℕ) (word : ℕ) (c d : CampaignValue) (n m : ℕ) → IsGood w c → join_of w name pass word c ≡ Ok (d, (n, m)) → IsJoining c n (reported w d n)
 unfolding join_of
 joining_is w name pass word c d n m good e =
-    let is : (joined w name pass word c, (c.next_faction, c.next_unit)) ≡ (d, (n, m)) = accepted (name_taken c name) (is_full c) _ _ e in
-    let same : joined w name pass word c ≡ d = ap (λ p. p.0) is in
+    let is : (after_join w name pass word c, (c.next_faction, c.next_unit)) ≡ (d, (n, m)) = join_result_is_joined (name_taken c name) (is_full c) _ _ e in
+    let same : after_join w name pass word c ≡ d = ap (λ p. p.0) is in
     let number : c.next_faction ≡ n = ap (λ p. p.1.0) is in
     (w, name, pass, word, report_of w (view_of w d n) [] [], good, sym number, ap (λ (s : CampaignValue). with_report s n (report_of w (view_of w d n) [] [])) (sym same))

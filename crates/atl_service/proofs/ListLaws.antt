@@ -56,8 +56,8 @@ module _ {S : Type 0} (g : Ghosts S) where
     record { old = f.4.old; held = λ clean. subst (λ t. Keeps (state g f.4.old) t c) (same clean) (f.4.held clean); cause = f.4.cause },
   )
 
-  -- if a command was carried out, and the later answers are right from the service after it on (`FollowsAt`), its
-  -- answer is that of `step`, and the later answers are right from the campaign of `step` on (`Follows`)
+  -- If a command was carried out, its answer is that of `step`, and the later answers follow from the campaign of
+  -- `step` (`Follows`). The premise is that these are right from the service after the command on (`FollowsAt`).
   carried_out : (old mid new : ServiceValue S) (c : CampaignValue) (x : Command) (a : Answer) (cs : List Command) (rs : List Answer) → (accepts : Accepts g c old x a mid) → (HasCleanDisk (state g new.conn) → HasCleanDisk (state g mid.conn))
       → (state g old.conn).faults ≤ (state g mid.conn).faults → FollowsAt g mid cs rs new mid.campaign
       → ((step old.world c x).1 ≡ a) × Follows g (text_in g old.conn) (state g old.conn).faults old.world (step old.world c x).0 cs rs new × (new.world ≡ old.world)
@@ -84,16 +84,16 @@ module _ {S : Type 0} (g : Ghosts S) where
   ended_in_fault old mid new c x fault cs rs closes cause holds clean rest =
       let shut : mid.campaign ≡ None = ap (λ (e : ServiceValue S). e.campaign) closes.same in
       let on = subst (FollowsAt g mid cs rs new) shut rest in
-      let told : IsFault g (text_in g old.conn) old.world c x fault mid.conn = record { old = old.conn; held = λ h. holds (clean h); cause = cause } in (
+      let says : IsFault g (text_in g old.conn) old.world c x fault mid.conn = record { old = old.conn; held = λ h. holds (clean h); cause = cause } in (
         on.0,
         ap (λ (e : ServiceValue S). e.campaign) on.1 ∙ shut,
         subst (λ (e : ServiceValue S). HasCleanDisk (state g e.conn) → LeavesAfterFault (state g old.conn).faults (state g e.conn) (text_in g old.conn) c (step old.world c x).0) (sym on.1) closes.tables,
-        subst (λ (e : ServiceValue S). IsFault g (text_in g old.conn) old.world c x fault e.conn) (sym on.1) told,
+        subst (λ (e : ServiceValue S). IsFault g (text_in g old.conn) old.world c x fault e.conn) (sym on.1) says,
         ap (λ (e : ServiceValue S). e.world) on.1 ∙ ap (λ (e : ServiceValue S). e.world) closes.same,
       )
 
-  -- if the first command of a list ran in an open service as `run` may (`RunsOpen`), and the later answers are right
-  -- from the service after it on, all answers to the list are right (`FollowsAt`)
+  -- all answers to a list are right (`FollowsAt`), if its first command ran in an open service as `run` may
+  -- (`RunsOpen`), and the later answers are right from there on
   first_open : (old mid new : ServiceValue S) (c : CampaignValue) (x : Command) (a : Answer) (cs : List Command) (rs : List Answer) → RunsOpen g c old x a mid
       → (HasCleanDisk (state g new.conn) → HasCleanDisk (state g mid.conn)) → IsLater (state g old.conn) (state g mid.conn) → HoldsCampaign g old.conn (text_in g old.conn) c → old.campaign ≡ Some c → FollowsAt g mid cs rs new mid.campaign
       → FollowsAt g old (x ∷ cs) (a ∷ rs) new (Some c)
@@ -109,8 +109,8 @@ module _ {S : Type 0} (g : Ghosts S) where
   first_open old mid new c x (Fault Store) cs rs ran was later holds up rest = let k = ended_in_fault old mid new c x Store cs rs ran.0 ran.1 holds later.clean rest in (((λ e. let d = e in cc), k.0, k.1, k.2, k.3), k.4)
   first_open old mid new c x (Fault Closed) cs rs ran was later holds up rest = absurd ran
 
-  -- if the first command of a list ran in a service, open or closed, as `run` may (`RunsAt`), and the later answers are
-  -- right from the service after it on, all answers to the list are right (`FollowsAt`)
+  -- all answers to a list are right (`FollowsAt`), if its first command ran in an open or a closed service as `run` may
+  -- (`RunsAt`), and the later answers are right from there on
   first_at : (old mid new : ServiceValue S) (x : Command) (a : Answer) (cs : List Command) (rs : List Answer) (o : Option CampaignValue) → old.campaign ≡ o → RunsAt g old x a mid o
       → (HasCleanDisk (state g new.conn) → HasCleanDisk (state g mid.conn)) → IsLater (state g old.conn) (state g mid.conn) → IfSome o (λ c. HoldsCampaign g old.conn (text_in g old.conn) c) → FollowsAt g mid cs rs new mid.campaign
       → FollowsAt g old (x ∷ cs) (a ∷ rs) new o
@@ -172,8 +172,8 @@ module _ {S : Type 0} (g : Ghosts S) where
   all_closed (x ∷ cs) [] h = absurd h
   all_closed (x ∷ cs) (a ∷ rs) h = ap₂ (λ b bs. b ∷ bs) h.0 (all_closed cs rs h.1)
 
-  -- if the main theorem holds of the rest of a list, or a command of the rest ended in a fault (`Ends`), it is so for
-  -- the whole list, where `step` gives the first command's answer
+  -- the main theorem holds of a list, or a command of it ended in a fault (`Ends`), if this is so of the list without
+  -- its first command, whose answer is that of `step`
   further : (text : List ℕ) (faults : ℕ) (w : WorldValue) (c : CampaignValue) (x : Command) (a : Answer) (cs : List Command) (rs : List Answer) (new : ServiceValue S) → (step w c x).1 ≡ a → Ends text faults w (step w c x).0 cs rs new
       → Ends text faults w c (x ∷ cs) (a ∷ rs) new
   further text faults w c x a cs rs new is (inl h) = inl (record { answers_are = ap₂ (λ b bs. b ∷ bs) (sym is) h.answers_are; campaign_is = h.campaign_is; tables = h.tables })

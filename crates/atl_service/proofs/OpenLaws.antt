@@ -14,53 +14,53 @@ use Rattle.atl_sql.specs.Rows.{Holds}
 use Rattle.atl_store.specs.WorldText.{world_text}
 use Rattle.atl_store.proofs.AlikeLaws.{holds_one, one_text}
 use Rattle.atl_store.proofs.OneWorldLaws.{holds_one_world}
-use Rattle.atl_store.proofs.StayLaws.{later, spares_itself}
+use Rattle.atl_store.proofs.StayLaws.{survives_is_later, unchanged_itself}
 use Rattle.atl_service.specs.Service.{IsService}
-use Rattle.atl_service.specs.Opened.{ComesBack, Opens, RefusesOpening, of_loading}
+use Rattle.atl_service.specs.Opened.{ComesBack, Opens, RefusesOpening, cause_of_loading_fault}
 use Rattle.sqlite.specs.State.{HasCleanDisk}
 
 -- if the test for autocommit is true, the connection is in no transaction
-pub is_idle : (told busy : Bool) → told ≡ not busy → told ≡ true → busy ≡ false
-is_idle told false is so = refl
-is_idle told true is so = cc
+pub is_idle : (says busy : Bool) → says ≡ not busy → says ≡ true → busy ≡ false
+is_idle says false is so = refl
+is_idle says true is so = cc
 
 -- if the test for autocommit is false, the connection is in a transaction
-pub is_busy : (told busy : Bool) → told ≡ not busy → told ≡ false → busy ≡ true
-is_busy told false is so = cc
-is_busy told true is so = refl
+pub is_busy : (says busy : Bool) → says ≡ not busy → says ≡ false → busy ≡ true
+is_busy says false is so = cc
+is_busy says true is so = refl
 
 module _ {S : Type 0} (g : Ghosts S) where
   -- a connection that isn't touched is left alone (`LeavesAlone`): its tables and what a crash may leave stay as they
   -- were
   pub alone_itself : (conn : Held S) → LeavesAlone g conn conn
   alone_itself conn = record {
-    spares = λ clean. spares_itself (state g conn);
+    unchanged = λ clean. unchanged_itself (state g conn);
     survives = record { clean = omega arith; shield = λ s. s; counts = omega arith; limit = refl; closes = λ clean up. inl up; crash = λ clean db may. inl may };
     mode = refl;
   }
 
   -- opening may refuse a connection in a transaction with Store, and leave it as it is (`RefusesOpening`)
-  pub refused_in_transaction : (conn : Held S) → conn.in_transaction ≡ true → RefusesOpening g conn (of_loading Store) conn
-  refused_in_transaction conn busy = record { fault = Store; why_is = refl; cause = λ clean. inl busy; alone = alone_itself conn; later = later _ _ _ (alone_itself conn).survives }
+  pub refused_in_transaction : (conn : Held S) → conn.in_transaction ≡ true → RefusesOpening g conn (cause_of_loading_fault Store) conn
+  refused_in_transaction conn busy = record { fault = Store; why_is = refl; cause = λ clean. inl busy; alone = alone_itself conn; later = survives_is_later _ _ _ (alone_itself conn).survives }
 
   module _ (old new : Held S) (alone : LeavesAlone g old new) where
     -- if loading fails with a fault, opening refuses with the cause of the same name (`RefusesOpening`)
-    pub refused_by_load : (fault : StoreFault) → (HasCleanDisk (state g new) → RefusesToLoad g old fault) → RefusesOpening g old (of_loading fault) new
-    refused_by_load fault cause = record { fault = fault; why_is = refl; cause = cause; alone = alone; later = later _ _ _ alone.survives }
+    pub refused_by_load : (fault : StoreFault) → (HasCleanDisk (state g new) → RefusesToLoad g old fault) → RefusesOpening g old (cause_of_loading_fault fault) new
+    refused_by_load fault cause = record { fault = fault; why_is = refl; cause = cause; alone = alone; later = survives_is_later _ _ _ alone.survives }
 
     module _ (w : WorldValue) (c : MarkedCampaign) (loads : Loads g old new w c) where
       -- a service of the world and campaign that were loaded is one that `open` may return (`Opens`)
       pub opens : Opens g old (record { conn = new; world = w; campaign = Some c.value })
-      opens = record { campaign = c; is_open = refl; loads = loads; alone = alone; later = later _ _ _ alone.survives }
+      opens = record { campaign = c; is_open = refl; loads = loads; alone = alone; later = survives_is_later _ _ _ alone.survives }
 
       -- on a clean disk the text, world and campaign of the opened service are those that the tables held (`ComesBack`)
       pub comes_back : ComesBack g old (record { conn = new; world = w; campaign = Some c.value })
       comes_back clean text v d reads good held =
           let kept = loads.tables clean in
-          let were = held ((later _ _ _ alone.survives).clean clean) in
+          let were = held ((survives_is_later _ _ _ alone.survives).clean clean) in
           let db = (state g old).now.trees in
           let there = world_text (state g new) in
-          let rows = subst (λ (s : Database). Holds s.trees there c.value) ((alone.spares clean).same kept.is_open).0 kept.rows in
+          let rows = subst (λ (s : Database). Holds s.trees there c.value) ((alone.unchanged clean).same kept.is_open).0 kept.rows in
           let texts : there ≡ text = one_text db there text c.value d rows were.rows in
           let worlds : w ≡ v = holds_one_world w v db there text c.value d (loads.world clean) reads rows were.rows in
           (texts, worlds, ap Some (holds_one v db there text c.value d (subst (λ p. IsGood p c.value) worlds loads.good) good rows were.rows).1)

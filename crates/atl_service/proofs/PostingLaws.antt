@@ -53,32 +53,32 @@ module _ (c : CampaignValue) (faction : ℕ) (text : List ℕ) where
   kept_by w (Ok f) taken = kept_here f.gone (mailed c faction text (reading w text)) (kept_read (reading w text)) taken
 
   -- a command Mail that is answered Mailed stores its text
-  kept : (w : WorldValue) (pass : List ℕ) → StoresIfMailed (step w c (Mail faction pass text))
+  mailed_text_is_stored : (w : WorldValue) (pass : List ℕ) → StoresIfMailed (step w c (Mail faction pass text))
   unfolding step
-  kept w pass = kept_by w (faction_with_pass pass (get c.factions faction))
+  mailed_text_is_stored w pass = kept_by w (faction_with_pass pass (get c.factions faction))
 
 -- ---- the mail after a list of mailings
 
 -- the mail after these commands, if all their mailings are stored
-abbrev posted : FinMap nat_cmp (List ℕ) → List Command → FinMap nat_cmp (List ℕ)
-posted mail [] = mail
-posted mail (Join _ _ _ ∷ more) = posted mail more
-posted mail (Mail faction _ text ∷ more) = posted (insert mail faction text) more
-posted mail (Close _ _ _ ∷ more) = posted mail more
-posted mail (Report _ _ ∷ more) = posted mail more
+abbrev mail_after : FinMap nat_cmp (List ℕ) → List Command → FinMap nat_cmp (List ℕ)
+mail_after mail [] = mail
+mail_after mail (Join _ _ _ ∷ more) = mail_after mail more
+mail_after mail (Mail faction _ text ∷ more) = mail_after (insert mail faction text) more
+mail_after mail (Close _ _ _ ∷ more) = mail_after mail more
+mail_after mail (Report _ _ ∷ more) = mail_after mail more
 
--- running stored mailings changes the mail alone, to `posted`
-run_posts : (w : WorldValue) (c : CampaignValue) (sent : List Command) → AreMailed w c sent → (run_of w c sent).0 ≡ record c { mail = posted c.mail sent }
+-- running stored mailings changes the mail alone, to `mail_after`
+run_posts : (w : WorldValue) (c : CampaignValue) (sent : List Command) → AreMailed w c sent → (run_of w c sent).0 ≡ record c { mail = mail_after c.mail sent }
 run_posts w c [] all = refl
 run_posts w c (Join _ _ _ ∷ more) all = absurd all
 run_posts w c (Mail faction pass text ∷ more) all =
-    run_posts w (step w c (Mail faction pass text)).0 more all.1 ∙ ap (λ (d : CampaignValue). record d { mail = posted d.mail more }) (kept c faction text w pass all.0)
+    run_posts w (step w c (Mail faction pass text)).0 more all.1 ∙ ap (λ (d : CampaignValue). record d { mail = mail_after d.mail more }) (mailed_text_is_stored c faction text w pass all.0)
 run_posts w c (Close _ _ _ ∷ more) all = absurd all
 run_posts w c (Report _ _ ∷ more) all = absurd all
 
 -- a faction's mail after a list of stored mailings is its last text in the list, or its earlier mail if the list has
 -- none
-get_posted : (mail : FinMap nat_cmp (List ℕ)) (sent : List Command) (n : ℕ) → get (posted mail sent) n ≡ last_text n (get mail n) sent
+get_posted : (mail : FinMap nat_cmp (List ℕ)) (sent : List Command) (n : ℕ) → get (mail_after mail sent) n ≡ last_text n (get mail n) sent
 get_posted mail [] n = refl
 get_posted mail (Join _ _ _ ∷ more) n = get_posted mail more n
 get_posted mail (Mail faction pass text ∷ more) n =
@@ -91,8 +91,8 @@ get_posted mail (Mail faction pass text ∷ more) n =
 get_posted mail (Close _ _ _ ∷ more) n = get_posted mail more n
 get_posted mail (Report _ _ ∷ more) n = get_posted mail more n
 
--- a faction's last text among commands, with `before` or else `other` in place of a missing one, is the last text with
--- `before` in place of a missing one, or else `other`
+-- a faction's last text with the default "`before`, or else `other`" is its last text with the default `before`, or
+-- else `other`
 last_or : (n : ℕ) (before other : Option (List ℕ)) (sent : List Command) → last_text n (option_or before other) sent ≡ option_or (last_text n before sent) other
 last_or n before other [] = refl
 last_or n before other (Join _ _ _ ∷ more) = last_or n before other more
@@ -106,10 +106,10 @@ last_or n before other (Mail faction pass text ∷ more) = ap (λ o. last_text n
 last_or n before other (Close _ _ _ ∷ more) = last_or n before other more
 last_or n before other (Report _ _ ∷ more) = last_or n before other more
 
--- Two lists of commands with the same last text of each faction leave the same mail (`posted`) from the same mail
+-- Two lists of commands with the same last text of each faction leave the same mail (`mail_after`) from the same mail
 -- before.
-same_mail : (mail : FinMap nat_cmp (List ℕ)) (sent others : List Command) → ((n : ℕ) → last_text n None sent ≡ last_text n None others) → posted mail sent ≡ posted mail others
-same_mail mail sent others same = same_map nat_cmp_total nat_cmp-IsAntisymmetric (posted mail sent) (posted mail others) (λ n.
+same_mail : (mail : FinMap nat_cmp (List ℕ)) (sent others : List Command) → ((n : ℕ) → last_text n None sent ≡ last_text n None others) → mail_after mail sent ≡ mail_after mail others
+same_mail mail sent others same = same_map nat_cmp_total nat_cmp-IsAntisymmetric (mail_after mail sent) (mail_after mail others) (λ n.
     get_posted mail sent n ∙ last_or n None (get mail n) sent ∙ ap (λ o. option_or o (get mail n)) (same n) ∙ sym (get_posted mail others n ∙ last_or n None (get mail n) others))
 
 -- after two lists of stored mailings with the same last text of each faction, closing a month gives the same result

@@ -18,15 +18,15 @@ use Rattle.atl_store.specs.declared.fault.WriteFault.{WriteFault}
 use Rattle.atl_store.specs.declared.fault.WriteFault.TheVariants as write
 use Rattle.atl_store.specs.Keeps.{HoldsCampaign}
 use Rattle.atl_service.specs.Service.{ServiceValue, text_in, IsConsistent}
-use Rattle.atl_service.specs.Answering.{Answers, CommandLeavesAfterFault, LeavesIdle, of_write}
+use Rattle.atl_service.specs.Answering.{Answers, CommandLeavesAfterFault, LeavesIdle, fault_of_write}
 use Rattle.atl_service.specs.Causes.{OfCommand, HasCause}
 use Rattle.atl_service.specs.Runs.{Runs, RunsOpen, Closes}
 
 module _ {S : Type 0} (g : Ghosts S) where
   -- the value of a service as contracts see it, with this connection and this world, and with this campaign if it is
   -- open (`is_open`), else without one
-  abbrev pub shown : Held S → WorldValue → CampaignValue → Bool → ServiceValue S
-  shown conn w c is_open = record { conn = conn; world = w; campaign = cond is_open (Some c) None }
+  abbrev pub service_value : Held S → WorldValue → CampaignValue → Bool → ServiceValue S
+  service_value conn w c is_open = record { conn = conn; world = w; campaign = cond is_open (Some c) None }
 
   module _ (conn conn' : Held S) (w : WorldValue) (c c' : CampaignValue) (command : Command) where
     -- The command was answered without a fault, and left campaign `c'` and connection `conn'` (`Answers`).
@@ -36,42 +36,42 @@ module _ {S : Type 0} (g : Ghosts S) where
     -- after an answered command in a consistent service, the tables hold the new campaign with the same world text, if
     -- the disk is clean
     holding : (answer : Answer) → IsConsistent g conn w c true → LeavesIdle g conn conn' → Answered answer → HoldsCampaign g conn' (text_in g conn) c'
-    holding answer stands leaves done clean = done.tables clean (text_in g conn) (stands.tables refl (leaves.later.clean clean))
+    holding answer before leaves done clean = done.tables clean (text_in g conn) (before.tables refl (leaves.later.clean clean))
 
     -- a consistent open service stays consistent after an answered command
     consistent_open : (answer : Answer) → IsConsistent g conn w c true → LeavesIdle g conn conn' → Answered answer → IsConsistent g conn' w c' true
-    consistent_open answer stands leaves done = record {
+    consistent_open answer before leaves done = record {
       idle = leaves.idle;
       good = λ up. done.good;
-      tables = λ up clean. let kept = holding answer stands leaves done clean in subst (λ t. Keeps (state g conn') t c') (sym (world_text_is (state g conn') (text_in g conn) c' kept)) kept;
-      text = λ up clean. ap world_of (world_text_is (state g conn') (text_in g conn) c' (holding answer stands leaves done clean)) ∙ stands.text refl (leaves.later.clean clean);
+      tables = λ up clean. let kept = holding answer before leaves done clean in subst (λ t. Keeps (state g conn') t c') (sym (world_text_is (state g conn') (text_in g conn) c' kept)) kept;
+      text = λ up clean. ap world_of (world_text_is (state g conn') (text_in g conn) c' (holding answer before leaves done clean)) ∙ before.text refl (leaves.later.clean clean);
     }
 
     -- a consistent service stays consistent after an answered command, if its field `is_open` is true
     pub consistent_after : (answer : Answer) (is_open : Bool) → is_open ≡ true → IsConsistent g conn w c is_open → LeavesIdle g conn conn' → Answered answer → IsConsistent g conn' w c' is_open
-    consistent_after answer true up stands leaves done = consistent_open answer stands leaves done
-    consistent_after answer false up stands leaves done = absurd (false≢true up)
+    consistent_after answer true up before leaves done = consistent_open answer before leaves done
+    consistent_after answer false up before leaves done = absurd (false≢true up)
 
     -- after an answered command the tables of an open, consistent service hold its new campaign, if the disk is clean
     pub tables_after : (answer : Answer) (is_open : Bool) → is_open ≡ true → IsConsistent g conn w c is_open → LeavesIdle g conn conn' → Answered answer
-        → IfSome (shown conn' w c' is_open).campaign (λ d. HoldsCampaign g conn' (text_in g conn') d)
-    tables_after answer true up stands leaves done = (consistent_open answer stands leaves done).tables refl
-    tables_after answer false up stands leaves done = absurd (false≢true up)
+        → IfSome (service_value conn' w c' is_open).campaign (λ d. HoldsCampaign g conn' (text_in g conn') d)
+    tables_after answer true up before leaves done = (consistent_open answer before leaves done).tables refl
+    tables_after answer false up before leaves done = absurd (false≢true up)
 
     -- the answer to an answered command of an open, consistent service is one that `run` may give (`RunsOpen`)
-    runs_open : (answer : Answer) → IsConsistent g conn w c true → LeavesIdle g conn conn' → Answered answer → RunsOpen g c (shown conn w c true) command answer (shown conn' w c' true)
-    runs_open (Joined f u) stands leaves done = record { after = c'; step = done.step_is; same = refl; tables = holding (Joined f u) stands leaves done }
-    runs_open (Mailed n fs) stands leaves done = record { after = c'; step = done.step_is; same = refl; tables = holding (Mailed n fs) stands leaves done }
-    runs_open (MonthDone n) stands leaves done = record { after = c'; step = done.step_is; same = refl; tables = holding (MonthDone n) stands leaves done }
-    runs_open (Text t) stands leaves done = (record { after = c'; step = done.step_is; same = refl; tables = holding (Text t) stands leaves done }, ap₂ (λ h d. shown h w d true) done.same.1 done.same.0)
-    runs_open (Refused r) stands leaves done = (done.step_is ∙ ap (λ d. (d, Refused r)) done.same.0, ap₂ (λ h d. shown h w d true) done.same.1 done.same.0)
-    runs_open (Fault f) stands leaves done = absurd done.no_fault
+    runs_open : (answer : Answer) → IsConsistent g conn w c true → LeavesIdle g conn conn' → Answered answer → RunsOpen g c (service_value conn w c true) command answer (service_value conn' w c' true)
+    runs_open (Joined f u) before leaves done = record { after = c'; step = done.step_is; same = refl; tables = holding (Joined f u) before leaves done }
+    runs_open (Mailed n fs) before leaves done = record { after = c'; step = done.step_is; same = refl; tables = holding (Mailed n fs) before leaves done }
+    runs_open (MonthDone n) before leaves done = record { after = c'; step = done.step_is; same = refl; tables = holding (MonthDone n) before leaves done }
+    runs_open (Text t) before leaves done = (record { after = c'; step = done.step_is; same = refl; tables = holding (Text t) before leaves done }, ap₂ (λ h d. service_value h w d true) done.same.1 done.same.0)
+    runs_open (Refused r) before leaves done = (done.step_is ∙ ap (λ d. (d, Refused r)) done.same.0, ap₂ (λ h d. service_value h w d true) done.same.1 done.same.0)
+    runs_open (Fault f) before leaves done = absurd done.no_fault
 
     -- the answer to a command that ended without a fault (`Answered`), in a consistent service whose field `is_open` is
     -- true, is one that `run` may give (`Runs`)
-    pub runs_on : (old : ServiceValue S) (answer : Answer) (is_open : Bool) → shown conn w c is_open ≡ old → is_open ≡ true → IsConsistent g conn w c is_open → LeavesIdle g conn conn' → Answered answer → Runs g old command answer (shown conn' w c' is_open)
-    runs_on old answer true seen up stands leaves done = subst (λ e. Runs g e command answer (shown conn' w c' true)) seen (runs_open answer stands leaves done)
-    runs_on old answer false seen up stands leaves done = absurd (false≢true up)
+    pub runs_on : (old : ServiceValue S) (answer : Answer) (is_open : Bool) → service_value conn w c is_open ≡ old → is_open ≡ true → IsConsistent g conn w c is_open → LeavesIdle g conn conn' → Answered answer → Runs g old command answer (service_value conn' w c' is_open)
+    runs_on old answer true seen up before leaves done = subst (λ e. Runs g e command answer (service_value conn' w c' true)) seen (runs_open answer before leaves done)
+    runs_on old answer false seen up before leaves done = absurd (false≢true up)
 
     -- The command ended in a fault. On a clean disk the tables keep the campaign before the command, and a crash leaves
     -- this campaign or the one after the command (`CommandLeavesAfterFault`).
@@ -80,18 +80,18 @@ module _ {S : Type 0} (g : Ghosts S) where
 
     -- a command of a consistent open service that ended in a fault closes the service, and on a clean disk the tables
     -- hold the campaign before it (`Closes`)
-    closes_open : IsConsistent g conn w c true → LeavesIdle g conn conn' → EndedInFault → Closes g c (shown conn w c true) command (shown conn' w c' false)
-    closes_open stands leaves gave_up = record { same = refl; tables = λ clean. gave_up clean (text_in g conn) (stands.tables refl (leaves.later.clean clean)) }
+    closes_open : IsConsistent g conn w c true → LeavesIdle g conn conn' → EndedInFault → Closes g c (service_value conn w c true) command (service_value conn' w c' false)
+    closes_open before leaves gave_up = record { same = refl; tables = λ clean. gave_up clean (text_in g conn) (before.tables refl (leaves.later.clean clean)) }
 
     -- if a command of a consistent open service ended in a fault of a write that has its cause (`HasCause`), `run` may
     -- answer the service's fault for it and close (`Runs`)
-    pub closes_for : (old : ServiceValue S) (fault : WriteFault) (told : Failure) (is_open : Bool) → told ≡ of_write fault → shown conn w c is_open ≡ old → is_open ≡ true → IsConsistent g conn w c is_open → LeavesIdle g conn conn' → EndedInFault → HasCause g (OfCommand w c command) conn conn' (of_write fault)
-        → Runs g old command (Fault told) (shown conn' w c' false)
-    closes_for old fault told true is seen up stands leaves gave_up cause = subst (λ e. Runs g e command (Fault told) (shown conn' w c' false)) seen (subst (λ t. RunsOpen g c (shown conn w c true) command (Fault t) (shown conn' w c' false)) (sym is) (closes fault cause))
+    pub closes_for : (old : ServiceValue S) (fault : WriteFault) (says : Failure) (is_open : Bool) → says ≡ fault_of_write fault → service_value conn w c is_open ≡ old → is_open ≡ true → IsConsistent g conn w c is_open → LeavesIdle g conn conn' → EndedInFault → HasCause g (OfCommand w c command) conn conn' (fault_of_write fault)
+        → Runs g old command (Fault says) (service_value conn' w c' false)
+    closes_for old fault says true is seen up before leaves gave_up cause = subst (λ e. Runs g e command (Fault says) (service_value conn' w c' false)) seen (subst (λ t. RunsOpen g c (service_value conn w c true) command (Fault t) (service_value conn' w c' false)) (sym is) (closes fault cause))
       where
         -- for `closes_for`: the open service, whose command ended in a fault of a write that has its cause, may answer
         -- the service's fault for it and close (`RunsOpen`)
-        closes : (fault : WriteFault) → HasCause g (OfCommand w c command) conn conn' (of_write fault) → RunsOpen g c (shown conn w c true) command (Fault (of_write fault)) (shown conn' w c' false)
-        closes write.Memory cause = (closes_open stands leaves gave_up, cause)
-        closes write.Store cause = (closes_open stands leaves gave_up, cause)
-    closes_for old fault told false is seen up stands leaves gave_up cause = absurd (false≢true up)
+        closes : (fault : WriteFault) → HasCause g (OfCommand w c command) conn conn' (fault_of_write fault) → RunsOpen g c (service_value conn w c true) command (Fault (fault_of_write fault)) (service_value conn' w c' false)
+        closes write.Memory cause = (closes_open before leaves gave_up, cause)
+        closes write.Store cause = (closes_open before leaves gave_up, cause)
+    closes_for old fault says false is seen up before leaves gave_up cause = absurd (false≢true up)

@@ -7,7 +7,7 @@ use Rattle.std.specs.FinMap.{FinMap, get, get-insert, get-empty, empty}
 use Rattle.std.proofs.lemmas.Bool.Decides.{nat_tests}
 use Rattle.std.proofs.lemmas.List.{append_assoc, drop_more}
 use Rattle.atl_world.specs.Worlds.{WorldValue}
-use Rattle.atl_world.proofs.GeneralLaws.{key_turned}
+use Rattle.atl_world.proofs.GeneralLaws.{key_equality_is_symmetric}
 use Rattle.atl_orders.specs.declared.fault.FaultyLine.{FaultyLine}
 use Rattle.atl_records.specs.declared.event.Event.{Event}
 use Rattle.atl_campaign.specs.Campaign.{CampaignValue, with_report}
@@ -16,8 +16,8 @@ use Rattle.atl_report.proofs.EventLaws.{only_what_is_seen_is_reported}
 use Rattle.atl_service.specs.Closing.{reported_with}
 use Rattle.atl_service.specs.Sorting.{events_of, with_event}
 
--- a faction's sorted events followed by its events of the rest stay the same when the first event of the rest is moved
--- to the end of the sorted ones, or isn't the faction's (`b` is false)
+-- a faction's sorted events, and then its unsorted ones, stay the same list when the first unsorted event, if it is the
+-- faction's (`b`), is moved to the end of the sorted ones
 by_faction : (b : Bool) (o : Option (List Event)) (listed rest : List Event) (e : Event) → (b ≡ true → listed ≡ unwrap_or o [])
     → unwrap_or (cond b (Some (listed ++ (e ∷ []))) o) [] ++ rest ≡ unwrap_or o [] ++ cond b (e ∷ rest) rest
 by_faction true o listed rest e h = ap (λ l. (l ++ (e ∷ [])) ++ rest) (h refl) ∙ append_assoc (unwrap_or o []) (e ∷ []) rest
@@ -37,7 +37,7 @@ event_goes_on : (sorted : FinMap nat_cmp (List Event)) (e : Event) (es : List Ev
     → events_of (with_event sorted e) n ++ own_events n es ≡ events_of sorted n ++ own_events n (e ∷ es)
 event_goes_on sorted e es n =
     ap (λ o. unwrap_or o [] ++ own_events n es) (get-insert nat_cmp_total sorted e.faction (events_of sorted e.faction ++ (e ∷ [])) n)
-    ∙ ap (λ b. unwrap_or (cond b (Some (events_of sorted e.faction ++ (e ∷ []))) (get sorted n)) [] ++ own_events n es) (key_turned n e.faction)
+    ∙ ap (λ b. unwrap_or (cond b (Some (events_of sorted e.faction ++ (e ∷ []))) (get sorted n)) [] ++ own_events n es) (key_equality_is_symmetric n e.faction)
     ∙ by_faction (e.faction == n) (get sorted n) (events_of sorted e.faction) (own_events n es) e (same_list sorted n e.faction)
 
 -- the list of faction `n` followed by this faction's unsorted events stays the same when event `i` is added to the list
@@ -65,8 +65,8 @@ own_again n (e ∷ es) = by_test (e.faction == n) refl (own_again n es)
     by_test true is rest = ap (λ t. cond t (e ∷ own_events n (own_events n es)) (own_events n (own_events n es))) is ∙ ap (λ (more : List Event). e ∷ more) rest
     by_test false is rest = rest
 
--- where a call answers Ok and stores faction n's report made from its own events, campaign d is c with the report made
--- from all events
+-- a report of faction `n` made from its own events is the one made from all events: where a call answers Ok and stores
+-- the first, campaign `d` is `c` with the second
 pub stored_own : {A E : Type 0} (w : WorldValue) (c d : CampaignValue) (n : ℕ) (faults lines : List FaultyLine) (events own : List Event) (r : Result A E)
     → lines ≡ faults → own ≡ own_events n events → OnOk r (d ≡ reported_with w c n lines own) → OnOk r (d ≡ reported_with w c n faults events)
 stored_own w c d n faults lines events own (Err e) wrong mine is = tt

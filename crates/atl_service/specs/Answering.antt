@@ -39,7 +39,8 @@ IfTextOrRefused (Fault _) P = ⊤
 
 -- A command was answered without a fault: answer and new campaign are those of `step`. If the disk is clean and the
 -- tables held the old campaign, they hold the new one.
-pub record Answers {S : Type 0} (g : Ghosts S) (w : WorldValue) (before : CampaignValue) (old : Held S) (command : Command) (after : CampaignValue) (new : Held S) (answer : Answer) : Type 0 where
+pub record Answers {S : Type 0} (g : Ghosts S) (w : WorldValue) (before : CampaignValue) (old : Held S)
+    (command : Command) (after : CampaignValue) (new : Held S) (answer : Answer) : Type 0 where
   -- the campaign after the command and the answer are those of `step`
   pub step_is : step w before command ≡ (after, answer)
   -- the answer is no fault
@@ -54,7 +55,9 @@ pub record Answers {S : Type 0} (g : Ghosts S) (w : WorldValue) (before : Campai
 -- A command ended in a fault: on a clean disk, tables that held the campaign before the command still do
 -- (`LeavesAfterFault`). A crash leaves that campaign or the one after `step`.
 abbrev pub CommandLeavesAfterFault : {S : Type 0} → Ghosts S → WorldValue → CampaignValue → Held S → Command → Held S → Type 0
-CommandLeavesAfterFault g w before old command new = HasCleanDisk (state g new) → (text : List ℕ) → Keeps (state g old) text before → LeavesAfterFault (state g old).faults (state g new) text before (step w before command).0
+CommandLeavesAfterFault g w before old command new =
+    HasCleanDisk (state g new) → (text : List ℕ) → Keeps (state g old) text before
+    → LeavesAfterFault (state g old).faults (state g new) text before (step w before command).0
 
 -- After any command, answered or failed, the connection is in no transaction. A disk that isn't clean stays so, no
 -- failure of it is forgotten, and reads that are compared with digests stay so (`IsLater`). If the disk is clean,
@@ -69,9 +72,9 @@ pub record LeavesIdle {S : Type 0} (g : Ghosts S) (old new : Held S) : Type 0 wh
   pub others : HasCleanDisk (state g new) → LeavesOthersAlone (state g old) (state g new)
 
 -- the service's fault for a fault of a write to the store: Memory for Memory, Store for Store
-abbrev pub of_write : WriteFault → Failure
-of_write write.Memory = fault.Memory
-of_write write.Store = fault.Store
+abbrev pub fault_of_write : WriteFault → Failure
+fault_of_write write.Memory = fault.Memory
+fault_of_write write.Store = fault.Store
 
 -- Why a mailing was not stored: `step` refuses it for this reason; or memory ran out, and then nothing more is
 -- required.

@@ -31,8 +31,8 @@ OfCommand w c (Close month pass words) = OfChange (step w c (Close month pass wo
 OfCommand w c (Report faction pass) = λ sql params. ⊥
 
 -- the SQL statements that found a campaign with this world text and pass text; none if the text is no world
-abbrev pub FoundsBy : List ℕ → List ℕ → Statements
-FoundsBy text pass sql params = (w : WorldValue) × (world_of text ≡ Ok w) × OfFounding text (founded_of w pass) sql params
+abbrev pub OfFoundingBy : List ℕ → List ℕ → Statements
+OfFoundingBy text pass sql params = (w : WorldValue) × (world_of text ≡ Ok w) × OfFounding text (founded_of w pass) sql params
 
 -- ---- causes
 
@@ -64,7 +64,8 @@ HasCause g own old new Store = GivesOtherError g own old new
 HasCause g own old new Closed = ⊥
 
 -- The fault of a command has its cause, and, if the disk is clean, the tables before the command held the campaign `c`.
-pub record IsFault {S : Type 0} (g : Ghosts S) (text : List ℕ) (w : WorldValue) (c : CampaignValue) (command : Command) (fault : Fault) (new : Held S) : Type 0 where
+pub record IsFault {S : Type 0} (g : Ghosts S) (text : List ℕ) (w : WorldValue) (c : CampaignValue)
+    (command : Command) (fault : Fault) (new : Held S) : Type 0 where
   -- the connection before the command
   pub old : Held S
   -- if the disk is clean, the tables before the command held the campaign `c` and the text

@@ -50,7 +50,8 @@ reported_to w faults events c faction = reported_with w c faction (faults factio
 -- the campaign after a month's phases, with the month counted, the mail removed, and new reports for the factions not
 -- gone before the month
 abbrev pub with_month_reports : WorldValue → CampaignValue → CampaignValue × List Event → CampaignValue
-with_month_reports w before (after, events) = fold (reported_to w (λ n. faults_in w (get before.mail n)) events) (after_month after) (active before)
+with_month_reports w before (after, events) =
+    fold (reported_to w (λ n. faults_in w (get before.mail n)) events) (after_month after) (active before)
 
 -- the campaign after closing a month with these words of the dice: mail read and removed, phases run, month counted,
 -- reports stored

@@ -18,7 +18,7 @@ use Rattle.atl_store.specs.declared.fault.CreateFault.TheVariants as create
 use Rattle.atl_service.specs.declared.command.Cause.{Cause}
 use Rattle.atl_service.specs.declared.command.Cause.TheVariants.{World as BadWorld, BadPassText, NotEmpty, NotACampaign, OldFormat, NotOld, Damaged, Differs, Store, Memory}
 use Rattle.atl_sql.specs.Statements.{Statements}
-use Rattle.atl_service.specs.Causes.{FoundsBy, GivesOtherError, LacksMemory}
+use Rattle.atl_service.specs.Causes.{OfFoundingBy, GivesOtherError, LacksMemory}
 use Rattle.atl_service.specs.Service.{ServiceValue, text_in}
 
 -- A campaign was founded: the service is open with the text's world and the founded campaign, and, if the disk is
@@ -69,13 +69,16 @@ pub record FailsToFound {S : Type 0} (g : Ghosts S) (old : Held S) (text pass : 
   pub unfounded : (¬ IsWorldText text) ⊎ (pass_ok pass ≡ false) → new ≡ old
   -- if the disk is clean and the text is a world, a crash leaves what it could have left before, or the founded
   -- campaign (`MayLeaveCampaign`)
-  pub crash : HasCleanDisk (state g new) → (w : WorldValue) → world_of text ≡ Ok w → MayLeaveCampaign (state g old) text (founded_of w pass) (state g new)
+  pub crash : HasCleanDisk (state g new) → (w : WorldValue) → world_of text ≡ Ok w
+      → MayLeaveCampaign (state g old) text (founded_of w pass) (state g new)
 
 -- Why founding fails with Store: the connection isn't ready (`IsReadyToCreate`) and is unchanged, or it is ready and
 -- the write failed. In the second case, if the disk is clean, a call of the write gave an error other than out of
 -- memory.
 abbrev pub RefusesToWrite : {S : Type 0} → Ghosts S → Statements → Held S → Held S → Type 0
-RefusesToWrite g own old new = ((¬ IsReadyToCreate (state g old)) × (new ≡ old)) ⊎ (IsReadyToCreate (state g old) × GivesOtherError g own old new)
+RefusesToWrite g own old new =
+    ((¬ IsReadyToCreate (state g old)) × (new ≡ old))
+    ⊎ (IsReadyToCreate (state g old) × GivesOtherError g own old new)
 
 -- What a refused founding by a world text and a pass text leaves, by its cause. After a failed check nothing is
 -- changed. After Store and Memory, if the disk is clean, the tables are as before, and a crash may leave the founded
@@ -91,12 +94,13 @@ LeavesByCause g old text pass new OldFormat = ⊥
 LeavesByCause g old text pass new NotOld = ⊥
 LeavesByCause g old text pass new (Damaged rule) = ⊥
 LeavesByCause g old text pass new Differs = ⊥
-LeavesByCause g old text pass new Store = FailsToFound g old text pass new × RefusesToWrite g (FoundsBy text pass) old new
-LeavesByCause g old text pass new Memory = FailsToFound g old text pass new × LacksMemory g (FoundsBy text pass) old new
+LeavesByCause g old text pass new Store = FailsToFound g old text pass new × RefusesToWrite g (OfFoundingBy text pass) old new
+LeavesByCause g old text pass new Memory = FailsToFound g old text pass new × LacksMemory g (OfFoundingBy text pass) old new
 
 -- A founding was refused: its cause is the first check that fails, Store or Memory, and the connection is left as this
 -- cause allows.
-pub record RefusesFounding {S : Type 0} (g : Ghosts S) (old : Held S) (text pass : List ℕ) (why : Cause) (new : Held S) : Type 0 where
+pub record RefusesFounding {S : Type 0} (g : Ghosts S) (old : Held S) (text pass : List ℕ)
+    (why : Cause) (new : Held S) : Type 0 where
   -- founding may fail with this cause (`MayBeCause`)
   pub cause : MayBeCause text pass (has_campaign old.schema) why
   -- founding leaves what its cause allows (`LeavesByCause`)
@@ -118,12 +122,12 @@ pub record Prepares (text pass : List ℕ) (w : WorldValue) (c : CampaignValue) 
 -- ---- the cause for a fault of the world text, or of creating the tables
 
 -- the cause for a fault of the world text: Memory for Memory, else `BadWorld` with the fault
-abbrev pub of_world : WorldFault → Cause
-of_world world.Memory = Memory
-of_world fault = BadWorld fault
+abbrev pub cause_of_world_fault : WorldFault → Cause
+cause_of_world_fault world.Memory = Memory
+cause_of_world_fault fault = BadWorld fault
 
 -- the cause for a fault of creating the tables, of the same name
-abbrev pub of_creation : CreateFault → Cause
-of_creation create.NotEmpty = NotEmpty
-of_creation create.Store = Store
-of_creation create.Memory = Memory
+abbrev pub cause_of_creation_fault : CreateFault → Cause
+cause_of_creation_fault create.NotEmpty = NotEmpty
+cause_of_creation_fault create.Store = Store
+cause_of_creation_fault create.Memory = Memory

@@ -4,7 +4,7 @@ use Rattle.std.specs.List.{AllByRecursion, flat_map}
 use Rattle.std.specs.Ordering.{nat_cmp}
 use Rattle.std.specs.FinMap.{FinMap, entries, get, len}
 use Rattle.atl_world.specs.Worlds.{WorldValue, IsWorld}
-use Rattle.atl_world.specs.Sums.{mapped}
+use Rattle.atl_world.specs.Sums.{map_values}
 use Rattle.atl_orders.specs.declared.fault.FaultyLine.{FaultyLine}
 use Rattle.atl_orders.specs.declared.mailing.Mailing.{Mailing}
 use Rattle.atl_orders.specs.Mailing.{IsMailingOf, IsReadWith, reading, reading_of}
@@ -24,7 +24,8 @@ abbrev pub ReadSoFar : WorldValue → CampaignValue → List Mailing → FinMap 
 ReadSoFar w c mailings faults rest =
     (map reading_of mailings ++ flat_map (λ e. read_of (reading w e.1)) rest ≡ readings w c)
     × All (IsReadWith w) mailings
-    × (entries faults ++ map (λ e. (e.0, faults_of (reading w e.1))) rest ≡ entries (mapped (λ text. faults_of (reading w text)) c.mail))
+    × (entries faults ++ map (λ e. (e.0, faults_of (reading w e.1))) rest
+    ≡ entries (map_values (λ text. faults_of (reading w text)) c.mail))
     × EachEntry IsMailingOf rest
 
 -- All mail of the campaign is read: `r` has the mailings in the factions' order, and the faulty lines of each under its
@@ -35,15 +36,16 @@ pub record HasRead (w : WorldValue) (c : CampaignValue) (r : ReadMail) : Type 0 
   -- each mailing is exactly what its own text gives with the world (`IsReadWith`)
   pub read : All (IsReadWith w) r.mailings.items
   -- the faulty lines of each stored mailing are under its faction's number
-  pub faults : r.faults ≡ mapped (λ text. faults_of (reading w text)) c.mail
+  pub faults : r.faults ≡ map_values (λ text. faults_of (reading w text)) c.mail
 
 -- Each of these numbers is the number of a faction of the campaign.
-abbrev pub AreThere : CampaignValue → List ℕ → Type 0
-AreThere c factions = AllByRecursion (λ n. HasValue c.factions n) factions
+abbrev pub AreFactions : CampaignValue → List ℕ → Type 0
+AreFactions c factions = AllByRecursion (λ n. HasValue c.factions n) factions
 
 -- the campaign with a new report for each faction that the month's result lists, with its faulty lines and events
 abbrev pub reported_to_all : WorldValue → CampaignValue → MonthResult → CampaignValue
-reported_to_all w c outcome = fold (reported_to w (λ n. unwrap_or (get outcome.faults n) []) outcome.events.items) c outcome.factions.items
+reported_to_all w c outcome =
+    fold (reported_to w (λ n. unwrap_or (get outcome.faults n) []) outcome.events.items) c outcome.factions.items
 
 -- Closing this month is not refused: `step` answers MonthDone, the month limit isn't reached, and there is one word for
 -- each region of a valid world.

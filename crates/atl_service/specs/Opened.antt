@@ -36,16 +36,19 @@ pub record Opens {S : Type 0} (g : Ghosts S) (old : Held S) (made : ServiceValue
 -- world text and a good campaign of its world.
 abbrev pub ComesBack : {S : Type 0} → Ghosts S → Held S → ServiceValue S → Type 0
 ComesBack g old made =
-    HasCleanDisk (state g made.conn) → (text : List ℕ) (w : WorldValue) (c : CampaignValue) → world_of text ≡ Ok w → IsGood w c → HoldsCampaign g old text c
+    HasCleanDisk (state g made.conn) → (text : List ℕ) (w : WorldValue) (c : CampaignValue)
+    → world_of text ≡ Ok w
+    → IsGood w c
+    → HoldsCampaign g old text c
     → (text_in g made.conn ≡ text) × (made.world ≡ w) × (made.campaign ≡ Some c)
 
 -- the cause that `open` reports for a fault of loading, of the same name
-abbrev pub of_loading : StoreFault → Cause
-of_loading load.NotACampaign = NotACampaign
-of_loading load.OldFormat = OldFormat
-of_loading (load.Damaged rule) = Damaged rule
-of_loading load.Store = Store
-of_loading load.Memory = Memory
+abbrev pub cause_of_loading_fault : StoreFault → Cause
+cause_of_loading_fault load.NotACampaign = NotACampaign
+cause_of_loading_fault load.OldFormat = OldFormat
+cause_of_loading_fault (load.Damaged rule) = Damaged rule
+cause_of_loading_fault load.Store = Store
+cause_of_loading_fault load.Memory = Memory
 
 -- Opening was refused for a fault of loading: if the disk is clean, loading gives this fault, and the tables are
 -- unchanged.
@@ -53,7 +56,7 @@ pub record RefusesOpening {S : Type 0} (g : Ghosts S) (old : Held S) (why : Caus
   -- the fault with which loading the campaign failed
   pub fault : StoreFault
   -- the cause of the refusal is that of the fault of loading, of the same name
-  pub why_is : why ≡ of_loading fault
+  pub why_is : why ≡ cause_of_loading_fault fault
   -- if the disk is clean, loading may return this fault (`RefusesToLoad`)
   pub cause : HasCleanDisk (state g new) → RefusesToLoad g old fault
   -- If the disk is clean, nothing is changed, and a crash leaves what it could have left before (`Survives`); the

@@ -21,7 +21,8 @@ IsMailed (Fault _) = ⊥
 abbrev pub AreMailed : WorldValue → CampaignValue → List Command → Type 0
 AreMailed w c [] = ⊤
 AreMailed w c (Join _ _ _ ∷ more) = ⊥
-AreMailed w c (Mail faction pass text ∷ more) = IsMailed (step w c (Mail faction pass text)).1 × AreMailed w (step w c (Mail faction pass text)).0 more
+AreMailed w c (Mail faction pass text ∷ more) =
+    IsMailed (step w c (Mail faction pass text)).1 × AreMailed w (step w c (Mail faction pass text)).0 more
 AreMailed w c (Close _ _ _ ∷ more) = ⊥
 AreMailed w c (Report _ _ ∷ more) = ⊥
 

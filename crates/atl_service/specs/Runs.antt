@@ -19,7 +19,8 @@ use Rattle.atl_service.specs.Service.{ServiceValue, text_in}
 
 -- A command was carried out: campaign and answer are those of `step`, and, if the disk is clean, the tables hold the
 -- new campaign.
-pub record Accepts {S : Type 0} (g : Ghosts S) (c : CampaignValue) (old : ServiceValue S) (command : Command) (answer : Answer) (new : ServiceValue S) : Type 0 where
+pub record Accepts {S : Type 0} (g : Ghosts S) (c : CampaignValue) (old : ServiceValue S)
+    (command : Command) (answer : Answer) (new : ServiceValue S) : Type 0 where
   -- the campaign after the command
   pub after : CampaignValue
   -- the campaign after the command and the answer are those of `step`
@@ -35,12 +36,14 @@ Refuses c old command answer new = (step old.world c command ≡ (c, answer)) ×
 
 -- A fault closed the service: if the disk is clean, the tables hold the campaign before the command
 -- (`LeavesAfterFault`). A crash leaves that campaign or the one after `step`.
-pub record Closes {S : Type 0} (g : Ghosts S) (c : CampaignValue) (old : ServiceValue S) (command : Command) (new : ServiceValue S) : Type 0 where
+pub record Closes {S : Type 0} (g : Ghosts S) (c : CampaignValue) (old : ServiceValue S)
+    (command : Command) (new : ServiceValue S) : Type 0 where
   -- the service is closed, so has no campaign; its world is as before
   pub same : new ≡ record old { conn = new.conn; campaign = None }
   -- if the disk is clean, the tables hold the campaign before the command while the connection is open, and a crash
   -- leaves that campaign or the one after `step` (`LeavesAfterFault`)
-  pub tables : HasCleanDisk (state g new.conn) → LeavesAfterFault (state g old.conn).faults (state g new.conn) (text_in g old.conn) c (step old.world c command).0
+  pub tables : HasCleanDisk (state g new.conn)
+      → LeavesAfterFault (state g old.conn).faults (state g new.conn) (text_in g old.conn) c (step old.world c command).0
 
 -- What one command may answer in a service that is open with campaign `c`, and what each answer leaves of the service.
 -- Joined, Mailed, MonthDone and Text carry the command out (`Accepts`). Text, which is a report, and Refused change
@@ -51,8 +54,10 @@ RunsOpen g c old command (Mailed orders faults) new = Accepts g c old command (M
 RunsOpen g c old command (MonthDone month) new = Accepts g c old command (MonthDone month) new
 RunsOpen g c old command (Text report) new = Accepts g c old command (Text report) new × (new ≡ old)
 RunsOpen g c old command (Refused why) new = Refuses c old command (Refused why) new
-RunsOpen g c old command (Fault Memory) new = Closes g c old command new × HasCause g (OfCommand old.world c command) old.conn new.conn Memory
-RunsOpen g c old command (Fault Store) new = Closes g c old command new × HasCause g (OfCommand old.world c command) old.conn new.conn Store
+RunsOpen g c old command (Fault Memory) new =
+    Closes g c old command new × HasCause g (OfCommand old.world c command) old.conn new.conn Memory
+RunsOpen g c old command (Fault Store) new =
+    Closes g c old command new × HasCause g (OfCommand old.world c command) old.conn new.conn Store
 RunsOpen g c old command (Fault Closed) new = ⊥
 
 -- What one command may answer and leave: an open service carries the command out, refuses it, or closes with a fault
@@ -78,26 +83,39 @@ AreClosed (c ∷ cs) [] = ⊥
 -- service ends with the last campaign, which on a clean disk the tables hold. After a fault the service is closed, and
 -- the fault has its cause. On a clean disk the tables then stay at the campaign of the commands before the fault
 -- (`LeavesAfterFault`). `faults` is how often the disk had failed before.
-abbrev pub Follows : {S : Type 0} → Ghosts S → List ℕ → ℕ → WorldValue → CampaignValue → List Command → List Answer → ServiceValue S → Type 0
+abbrev pub Follows : {S : Type 0} → Ghosts S → List ℕ → ℕ → WorldValue → CampaignValue → List Command → List Answer
+    → ServiceValue S → Type 0
 Follows g text faults w c [] [] new = (new.campaign ≡ Some c) × HoldsCampaign g new.conn text c
-Follows g text faults w c (command ∷ cs) (Joined faction unit ∷ rs) new = ((step w c command).1 ≡ Joined faction unit) × Follows g text faults w (step w c command).0 cs rs new
-Follows g text faults w c (command ∷ cs) (Mailed orders faulty ∷ rs) new = ((step w c command).1 ≡ Mailed orders faulty) × Follows g text faults w (step w c command).0 cs rs new
-Follows g text faults w c (command ∷ cs) (MonthDone month ∷ rs) new = ((step w c command).1 ≡ MonthDone month) × Follows g text faults w (step w c command).0 cs rs new
-Follows g text faults w c (command ∷ cs) (Text report ∷ rs) new = ((step w c command).1 ≡ Text report) × Follows g text faults w (step w c command).0 cs rs new
-Follows g text faults w c (command ∷ cs) (Refused why ∷ rs) new = ((step w c command).1 ≡ Refused why) × Follows g text faults w (step w c command).0 cs rs new
+Follows g text faults w c (command ∷ cs) (Joined faction unit ∷ rs) new =
+    ((step w c command).1 ≡ Joined faction unit) × Follows g text faults w (step w c command).0 cs rs new
+Follows g text faults w c (command ∷ cs) (Mailed orders faulty ∷ rs) new =
+    ((step w c command).1 ≡ Mailed orders faulty) × Follows g text faults w (step w c command).0 cs rs new
+Follows g text faults w c (command ∷ cs) (MonthDone month ∷ rs) new =
+    ((step w c command).1 ≡ MonthDone month) × Follows g text faults w (step w c command).0 cs rs new
+Follows g text faults w c (command ∷ cs) (Text report ∷ rs) new =
+    ((step w c command).1 ≡ Text report) × Follows g text faults w (step w c command).0 cs rs new
+Follows g text faults w c (command ∷ cs) (Refused why ∷ rs) new =
+    ((step w c command).1 ≡ Refused why) × Follows g text faults w (step w c command).0 cs rs new
 Follows g text faults w c (command ∷ cs) (Fault fault ∷ rs) new =
-    (fault ≢ Closed) × AreClosed cs rs × (new.campaign ≡ None) × (HasCleanDisk (state g new.conn) → LeavesAfterFault faults (state g new.conn) text c (step w c command).0) × IsFault g text w c command fault new.conn
+    (fault ≢ Closed)
+    × AreClosed cs rs
+    × (new.campaign ≡ None)
+    × (HasCleanDisk (state g new.conn) → LeavesAfterFault faults (state g new.conn) text c (step w c command).0)
+    × IsFault g text w c command fault new.conn
 Follows g text faults w c [] (a ∷ rs) new = ⊥
 Follows g text faults w c (command ∷ cs) [] new = ⊥
 
 -- What a list of commands may answer and leave: an open service answers as `step` up to the first fault, and Closed
 -- after it (`Follows`). A closed service answers Closed each time, and nothing changes.
-abbrev pub FollowsAt : {S : Type 0} → Ghosts S → ServiceValue S → List Command → List Answer → ServiceValue S → Option CampaignValue → Type 0
-FollowsAt g old commands answers new (Some c) = Follows g (text_in g old.conn) (state g old.conn).faults old.world c commands answers new × (new.world ≡ old.world)
+abbrev pub FollowsAt : {S : Type 0} → Ghosts S → ServiceValue S → List Command → List Answer → ServiceValue S
+    → Option CampaignValue → Type 0
+FollowsAt g old commands answers new (Some c) =
+    Follows g (text_in g old.conn) (state g old.conn).faults old.world c commands answers new × (new.world ≡ old.world)
 FollowsAt g old commands answers new None = AreClosed commands answers × (new ≡ old)
 
 -- Running the list of commands from service `old` may give these answers and leave service `new`.
-pub record RunsAll {S : Type 0} (g : Ghosts S) (old : ServiceValue S) (commands : List Command) (answers : List Answer) (new : ServiceValue S) : Type 0 where
+pub record RunsAll {S : Type 0} (g : Ghosts S) (old : ServiceValue S) (commands : List Command)
+    (answers : List Answer) (new : ServiceValue S) : Type 0 where
   -- the answers are those of `step` up to the first fault, and Closed after it (`Follows`), or, if the service was
   -- closed, each answer is Closed and nothing changes
   pub follows : FollowsAt g old commands answers new old.campaign
@@ -107,7 +125,8 @@ pub record RunsAll {S : Type 0} (g : Ghosts S) (old : ServiceValue S) (commands 
 
 -- The main theorem: answers and campaign are those of `run_of`, and if the disk has been clean so far, the tables hold
 -- exactly the campaign's rows.
-pub record Headline {S : Type 0} (g : Ghosts S) (text : List ℕ) (w : WorldValue) (c : CampaignValue) (commands : List Command) (answers : List Answer) (new : ServiceValue S) : Type 0 where
+pub record Headline {S : Type 0} (g : Ghosts S) (text : List ℕ) (w : WorldValue) (c : CampaignValue)
+    (commands : List Command) (answers : List Answer) (new : ServiceValue S) : Type 0 where
   -- the answers are those of `run_of`
   pub answers_are : answers ≡ (run_of w c commands).1
   -- the service is open with the campaign that `run_of` ends with
@@ -117,7 +136,8 @@ pub record Headline {S : Type 0} (g : Ghosts S) (text : List ℕ) (w : WorldValu
 
 -- A command ended in a fault that has its cause: the answers before it are those of `run_of`, and all later answers are
 -- Closed. If the disk is clean, the tables stay at the campaign of the commands before the fault (`LeavesAfterFault`).
-pub record Interrupted {S : Type 0} (g : Ghosts S) (text : List ℕ) (faults : ℕ) (w : WorldValue) (c : CampaignValue) (commands : List Command) (answers : List Answer) (new : ServiceValue S) : Type 0 where
+pub record Interrupted {S : Type 0} (g : Ghosts S) (text : List ℕ) (faults : ℕ) (w : WorldValue) (c : CampaignValue)
+    (commands : List Command) (answers : List Answer) (new : ServiceValue S) : Type 0 where
   -- the number of commands before the command that failed
   pub count : ℕ
   -- the command that failed
@@ -131,18 +151,24 @@ pub record Interrupted {S : Type 0} (g : Ghosts S) (text : List ℕ) (faults : �
   -- the fault isn't Closed, so the service was open until then
   pub first : fault ≢ Closed
   -- the answers are those of `run_of` up to the command that failed, then its fault, and then Closed each time
-  pub answers_are : answers ≡ (run_of w c (take count commands)).1 ++ Answers.Fault fault ∷ map (λ _. Answers.Fault Closed) (drop (count + 1) commands)
+  pub answers_are :
+      answers ≡ (run_of w c (take count commands)).1
+      ++ Answers.Fault fault ∷ map (λ _. Answers.Fault Closed) (drop (count + 1) commands)
   -- the service is closed, so has no campaign
   pub campaign_is : new.campaign ≡ None
   -- the fault has its cause, and, if the disk is clean, the tables held the campaign of the commands before it
   pub cause : IsFault g text w (run_of w c (take count commands)).0 command fault new.conn
-  -- if the disk is clean, the tables hold the campaign of the commands before the fault while the connection is open,
-  -- and a crash leaves that campaign or the one after the command that failed (`LeavesAfterFault`)
-  pub tables : HasCleanDisk (state g new.conn) → LeavesAfterFault faults (state g new.conn) text (run_of w c (take count commands)).0 (run_of w c (take (count + 1) commands)).0
+  -- If the disk is clean, the tables hold the campaign of the commands before the fault, while the connection is open.
+  -- On a clean disk, a crash leaves that campaign or the one after the command that failed (`LeavesAfterFault`).
+  pub tables : HasCleanDisk (state g new.conn)
+      → LeavesAfterFault faults (state g new.conn) text
+      (run_of w c (take count commands)).0 (run_of w c (take (count + 1) commands)).0
 
 -- From an open service `Headline` holds, or a command ended in a fault (`Interrupted`). From a closed one every answer
 -- is Closed, and nothing changes.
-abbrev pub HeadlineAt : {S : Type 0} → Ghosts S → ServiceValue S → List Command → List Answer → ServiceValue S → Option CampaignValue → Type 0
+abbrev pub HeadlineAt : {S : Type 0} → Ghosts S → ServiceValue S → List Command → List Answer → ServiceValue S
+    → Option CampaignValue → Type 0
 HeadlineAt g old commands answers new (Some c) =
-    Headline g (text_in g old.conn) old.world c commands answers new ⊎ Interrupted g (text_in g old.conn) (state g old.conn).faults old.world c commands answers new
+    Headline g (text_in g old.conn) old.world c commands answers new
+    ⊎ Interrupted g (text_in g old.conn) (state g old.conn).faults old.world c commands answers new
 HeadlineAt g old commands answers new None = (answers ≡ map (λ _. Answers.Fault Closed) commands) × (new ≡ old)

@@ -25,7 +25,8 @@ pub record ServiceValue (S : Type 0) : Type 0 where
 -- for proofs alone: the encoding of a service's value by its parts, which the kit requires of each type
 abbrev pub service_code : {S : Type 0} → Coded S → Coded (ServiceValue S)
 service_code {S} store =
-    code_by (Held S × (WorldValue × Option CampaignValue)) (coded× (held_code store) (coded× world_code (coded_option campaign_code)))
+    code_by (Held S × (WorldValue × Option CampaignValue))
+    (coded× (held_code store) (coded× world_code (coded_option campaign_code)))
     (λ e. (e.conn, (e.world, e.campaign)))
     (λ p. record { conn = p.0; world = p.1.0; campaign = p.1.1 })
     (λ _. refl)
@@ -36,7 +37,8 @@ text_in g conn = world_text (state g conn)
 
 -- The service is consistent: its connection is in no transaction and, while the service is open, its campaign is good.
 -- While it is open and the disk is clean, its tables hold the campaign and a text of its world.
-pub record IsConsistent {S : Type 0} (g : Ghosts S) (conn : Held S) (w : WorldValue) (c : CampaignValue) (is_open : Bool) : Type 0 where
+pub record IsConsistent {S : Type 0} (g : Ghosts S) (conn : Held S)
+    (w : WorldValue) (c : CampaignValue) (is_open : Bool) : Type 0 where
   -- the connection is in no transaction
   pub idle : conn.in_transaction ≡ false
   -- while the service is open, its campaign is good (`IsGood`)
@@ -47,7 +49,8 @@ pub record IsConsistent {S : Type 0} (g : Ghosts S) (conn : Held S) (w : WorldVa
   pub text : is_open ≡ true → HasCleanDisk (state g conn) → world_of (text_in g conn) ≡ Ok w
 
 -- The invariant of every service: it is consistent, and while it is open its campaign's dirty set is empty.
-pub record IsService {S : Type 0} (g : Ghosts S) (conn : Held S) (w : WorldValue) (c : MarkedCampaign) (is_open : Bool) : Type 0 where
+pub record IsService {S : Type 0} (g : Ghosts S) (conn : Held S)
+    (w : WorldValue) (c : MarkedCampaign) (is_open : Bool) : Type 0 where
   -- the service is consistent (`IsConsistent`)
   pub consistent : IsConsistent g conn w c.value is_open
   -- while the service is open, nothing of its campaign is marked

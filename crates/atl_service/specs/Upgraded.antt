@@ -31,14 +31,14 @@ pub record UpgradesTo {S : Type 0} (g : Ghosts S) (old : Held S) (text : List �
   pub later : IsLater (state g old) (state g made.conn)
 
 -- the cause that `upgrade` reports for a fault of the store's upgrade, of the same name
-abbrev pub of_upgrading : UpgradeFault → Cause
-of_upgrading upgrade.NotACampaign = NotACampaign
-of_upgrading upgrade.NotOld = NotOld
-of_upgrading (upgrade.Damaged rule) = Damaged rule
-of_upgrading (upgrade.World fault) = World fault
-of_upgrading upgrade.Differs = Differs
-of_upgrading upgrade.Store = Store
-of_upgrading upgrade.Memory = Memory
+abbrev pub cause_of_upgrade_fault : UpgradeFault → Cause
+cause_of_upgrade_fault upgrade.NotACampaign = NotACampaign
+cause_of_upgrade_fault upgrade.NotOld = NotOld
+cause_of_upgrade_fault (upgrade.Damaged rule) = Damaged rule
+cause_of_upgrade_fault (upgrade.World fault) = World fault
+cause_of_upgrade_fault upgrade.Differs = Differs
+cause_of_upgrade_fault upgrade.Store = Store
+cause_of_upgrade_fault upgrade.Memory = Memory
 
 -- An upgrade was refused with the store's fault. If the disk is clean, the tables are as before while the connection is
 -- open; a crash leaves what it could have left before, or the upgraded campaign.
@@ -46,7 +46,7 @@ pub record RefusesUpgrade {S : Type 0} (g : Ghosts S) (old : Held S) (text : Lis
   -- the fault with which the store refused to upgrade the file
   pub fault : UpgradeFault
   -- the cause of the refusal is that of the store's fault, of the same name
-  pub why_is : why ≡ of_upgrading fault
+  pub why_is : why ≡ cause_of_upgrade_fault fault
   -- The store may refuse the upgrade with this fault. If the disk is clean, the tables are as before while the
   -- connection is open, and a crash leaves what it could have left before, or the upgraded campaign
   -- (`RefusesToUpgrade`).

@@ -7,7 +7,7 @@ ghost use Rattle.atl_campaign.specs.Good.{IsGood, IsActive};
 ghost use Rattle.atl_campaign.specs.Marks.{no_marks};
 ghost use Rattle.atl_campaign.specs.Campaign.{with_mail};
 ghost use Rattle.atl_service.specs.Step.{faction_with_pass, step};
-ghost use Rattle.atl_service.specs.Answering.{Answers, Denies, CommandLeavesAfterFault, IsNoFault, LeavesIdle, of_write, mail_error};
+ghost use Rattle.atl_service.specs.Answering.{Answers, Denies, CommandLeavesAfterFault, IsNoFault, LeavesIdle, fault_of_write, mail_error};
 ghost use Rattle.atl_service.specs.Causes.{OfCommand, HasCause};
 
 use crate::closing::close;
@@ -41,7 +41,7 @@ fn join<S: Alter>(
         (Command.Join name.now pass.now word) conn.new) }
     ensures cause { IfErr result
         (λ fault. HasCause S.Store (OfCommand world.now campaign.old.value
-        (Command.Join name.now pass.now word)) conn.old conn.new (of_write fault)) }
+        (Command.Join name.now pass.now word)) conn.old conn.new (fault_of_write fault)) }
     ensures leaves { LeavesIdle S.Store conn.old conn.new }
     ensures unmarked { campaign.old.marks ≡ no_marks → OnOk result (campaign.new.marks ≡ no_marks) }
 {
@@ -171,7 +171,7 @@ fn mail<S: Alter>(
         (Command.Mail faction pass.now text.now) conn.new) }
     ensures cause { IfErr result
         (λ fault. HasCause S.Store (OfCommand world.now campaign.old.value
-        (Command.Mail faction pass.now text.now)) conn.old conn.new (of_write fault)) }
+        (Command.Mail faction pass.now text.now)) conn.old conn.new (fault_of_write fault)) }
     ensures leaves { LeavesIdle S.Store conn.old conn.new }
     ensures unmarked { campaign.old.marks ≡ no_marks → OnOk result (campaign.new.marks ≡ no_marks) }
 {
@@ -233,7 +233,7 @@ pub(crate) fn answer_to<S: Alter>(
         conn.new) }
     ensures cause { IfErr result
         (λ fault. HasCause S.Store (OfCommand world.now campaign.old.value command.now) conn.old
-        conn.new (of_write fault)) }
+        conn.new (fault_of_write fault)) }
     ensures leaves { LeavesIdle S.Store conn.old conn.new }
     ensures unmarked { campaign.old.marks ≡ no_marks → OnOk result (campaign.new.marks ≡ no_marks) }
 {

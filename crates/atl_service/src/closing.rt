@@ -9,10 +9,10 @@ ghost use Rattle.atl_campaign.specs.Good.{IsGood};
 ghost use Rattle.atl_records.specs.Limits.{last_month};
 ghost use Rattle.atl_campaign.specs.Marks.{no_marks};
 ghost use Rattle.atl_service.specs.declared.command.Command.TheVariants as command;
-ghost use Rattle.atl_service.specs.Answering.{Answers, CommandLeavesAfterFault, LeavesIdle, of_write};
+ghost use Rattle.atl_service.specs.Answering.{Answers, CommandLeavesAfterFault, LeavesIdle, fault_of_write};
 ghost use Rattle.atl_service.specs.Causes.{OfCommand, HasCause};
 ghost use Rattle.atl_service.specs.Closing.{closed};
-ghost use Rattle.atl_service.specs.Months.{AreThere, HasRead, MayClose, reported_to_all};
+ghost use Rattle.atl_service.specs.Months.{AreFactions, HasRead, MayClose, reported_to_all};
 ghost use Rattle.atl_service.specs.Step.{step};
 
 use crate::command::{Answer, Refusal};
@@ -85,7 +85,7 @@ fn turn_month(
     ensures outcome { IfOk result
         (λ outcome. reported_to_all world.now campaign.new.value outcome
         ≡ closed world.now campaign.old.value words.now) }
-    ensures there { IfOk result (λ outcome. AreThere campaign.new.value outcome.factions.items) }
+    ensures there { IfOk result (λ outcome. AreFactions campaign.new.value outcome.factions.items) }
     ensures good { OnOk result (IsGood world.now campaign.new.value) }
     ensures marks { OnOk result (MarksChanges campaign.old campaign.new) }
 {
@@ -155,7 +155,7 @@ pub(crate) fn close<S: Alter>(
         (command.Close month pass.now words.now) conn.new) }
     ensures cause { IfErr result
         (λ fault. HasCause S.Store (OfCommand world.now campaign.old.value
-        (command.Close month pass.now words.now)) conn.old conn.new (of_write fault)) }
+        (command.Close month pass.now words.now)) conn.old conn.new (fault_of_write fault)) }
     ensures leaves { LeavesIdle S.Store conn.old conn.new }
     ensures unmarked { campaign.old.marks ≡ no_marks → OnOk result (campaign.new.marks ≡ no_marks) }
 {

@@ -1,10 +1,10 @@
 //! The commands, their answers, and refusals and faults. See docs/RULES.md, "Refusals and faults".
 ghost use Rattle.std.specs.Prelude.{◌≡◌};
 ghost use Rattle.atl_service.specs.Numbers.{number_of, refusal_name, fault_name};
-ghost use Rattle.atl_service.specs.Found.{of_world, of_creation};
-ghost use Rattle.atl_service.specs.Opened.{of_loading};
-ghost use Rattle.atl_service.specs.Upgraded.{of_upgrading};
-ghost use Rattle.atl_service.specs.Answering.{of_write};
+ghost use Rattle.atl_service.specs.Found.{cause_of_world_fault, cause_of_creation_fault};
+ghost use Rattle.atl_service.specs.Opened.{cause_of_loading_fault};
+ghost use Rattle.atl_service.specs.Upgraded.{cause_of_upgrade_fault};
+ghost use Rattle.atl_service.specs.Answering.{fault_of_write};
 
 use atl_orders::FaultyLine;
 use atl_state::Rule;
@@ -185,7 +185,7 @@ impl Error for Fault {}
 
 /// A fault of a write to the store: Memory becomes Memory, and Store becomes Store.
 impl From<WriteFault> for Fault {
-    ghost from_gives = { λ fault told. told ≡ of_write fault };
+    ghost from_gives = { λ fault returned. returned ≡ fault_of_write fault };
 
     fn from(fault: WriteFault) -> Fault {
         match fault {
@@ -295,7 +295,7 @@ impl Error for Cause {}
 
 /// A fault of a world text: Memory becomes Memory, and each other one `World` with the fault.
 impl From<WorldFault> for Cause {
-    ghost from_gives = { λ fault cause. cause ≡ of_world fault };
+    ghost from_gives = { λ fault cause. cause ≡ cause_of_world_fault fault };
 
     fn from(fault: WorldFault) -> Cause {
         match fault {
@@ -307,7 +307,7 @@ impl From<WorldFault> for Cause {
 
 /// A fault of creating the tables becomes the cause of the same name.
 impl From<CreateFault> for Cause {
-    ghost from_gives = { λ fault cause. cause ≡ of_creation fault };
+    ghost from_gives = { λ fault cause. cause ≡ cause_of_creation_fault fault };
 
     fn from(fault: CreateFault) -> Cause {
         match fault {
@@ -320,7 +320,7 @@ impl From<CreateFault> for Cause {
 
 /// A fault of loading a campaign becomes the cause of the same name.
 impl From<StoreFault> for Cause {
-    ghost from_gives = { λ fault cause. cause ≡ of_loading fault };
+    ghost from_gives = { λ fault cause. cause ≡ cause_of_loading_fault fault };
 
     fn from(fault: StoreFault) -> Cause {
         match fault {
@@ -335,7 +335,7 @@ impl From<StoreFault> for Cause {
 
 /// A fault of the store's upgrade becomes the cause of the same name.
 impl From<UpgradeFault> for Cause {
-    ghost from_gives = { λ fault cause. cause ≡ of_upgrading fault };
+    ghost from_gives = { λ fault cause. cause ≡ cause_of_upgrade_fault fault };
 
     fn from(fault: UpgradeFault) -> Cause {
         match fault {

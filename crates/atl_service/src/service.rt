@@ -48,7 +48,11 @@ impl<S: Alter> Model for Service<S> {
 
     ghost coded = { service_code S.code };
 
-    ghost view = { λ a. record { conn = a.conn; world = a.world; campaign = cond a.is_open (Some a.campaign.value) None } };
+    ghost view = { λ a. record {
+      conn = a.conn;
+      world = a.world;
+      campaign = cond a.is_open (Some a.campaign.value) None;
+    } };
 
     ghost invariant = { λ a. IsService S.Store a.conn a.world a.campaign a.is_open };
 }
@@ -79,7 +83,7 @@ impl<S: Alter> Service<S> {
 
     /// Runs one command and returns its answer. A command that is refused, or answered with a
     /// report, changes nothing. If the disk is clean, fault Store means that a call of the write
-    /// gave another error than out of memory; fault Memory means that one ran out of memory, or
+    /// gave another error than out of memory. Fault Memory means that one ran out of memory, or
     /// that memory ran out before the database was asked to write. If the disk is clean, the tables
     /// are as before after either fault, while the connection is open. After a fault the service is
     /// closed, whatever the disk: every later command is answered Closed and changes nothing. See

@@ -1,5 +1,5 @@
--- Laws of the shares of a pot: no share is above its want, the whole pot is given if the wants exceed it, and each
--- share is within one of its exact part; and of the remainder that the code carries from share to share.
+-- Laws of the shares of a pot, and of the remainder that the code carries from share to share. No share is above its
+-- want, the whole pot is given if the wants exceed it, and each share is within one of its exact part.
 use Rattle.std.proofs.Common.{◌≡◌, ℕ, ◌+◌, ◌-◌, ◌*◌, ◌/◌, ◌%◌, ◌<◌, ◌≤◌, List, [], ◌∷◌, ◌++◌, length, get_or, min, inl, inr, zero, suc, sum, refl, ap, sym, ◌∙◌, add-zero, zero-add, arith}
 use Rattle.std.proofs.Math.Nat.{mul-div-le, mul-add, add-mul-div_left, div-add-mod, mod-lt, mul-div_left, mul-zero, zero-div, div-lt_iff_lt-mul, lt-mul-div-succ, mul-le-mul_left, le-div_iff_mul-le, mul_comm}
 use Rattle.std.proofs.lemmas.List.Sums.{sum_by-cons, sum_by-append}
@@ -7,24 +7,23 @@ use Rattle.std.proofs.lemmas.Bool.Decides.{nat_tests}
 use Rattle.std.proofs.lemmas.Bool.{cases_lt}
 use Rattle.atl_shares.specs.Share.{IsNearPart, SplittingKeepsOthers, share_upto, shares, shares_after}
 
--- `total` times what the first wants, which add up to `x`, get together (`share_upto`) is at most `pot * x`, and less
--- than `total` below it, if `total` isn't 0
-quotient : (pot total x : ℕ) → 0 < total → (total * share_upto pot total x ≤ pot * x) × (pot * x < total * share_upto pot total x + total)
-quotient pot total x p = (mul-div-le (pot * x) total, omega (arith, lt-mul-div-succ (pot * x) p))
+-- What the first wants get together (`share_upto`), times `total`, is at most `pot * x`, and above `pot * x` less
+-- `total`. The first wants add up to `x`, and all wants to `total`, which isn't 0.
+upto_is_rounded_quotient : (pot total x : ℕ) → 0 < total → (total * share_upto pot total x ≤ pot * x) × (pot * x < total * share_upto pot total x + total)
+upto_is_rounded_quotient pot total x p = (mul-div-le (pot * x) total, omega (arith, lt-mul-div-succ (pot * x) p))
 
--- the first wants that add up to `y` get together no less than those that add up to `x`, if `x` is at most `y`, and
--- `total` isn't 0
+-- The first wants that add up to `y` together get no less than those that add up to `x`, if `x` is at most `y`. All
+-- wants add up to `total`, which isn't 0.
 pub upto_mono : (pot total x y : ℕ) → 0 < total → x ≤ y → share_upto pot total x ≤ share_upto pot total y
 upto_mono pot total x y p h =
-    (le-div_iff_mul-le p).1 (omega (arith, mul_comm (share_upto pot total x) total, (quotient pot total x p).0, mul-le-mul_left pot h))
+    (le-div_iff_mul-le p).1 (omega (arith, mul_comm (share_upto pot total x) total, (upto_is_rounded_quotient pot total x p).0, mul-le-mul_left pot h))
 
--- where the pot is at most the sum of all wants, `total`, which isn't 0, a share, by prefix sums, is no larger than its
--- want
+-- a share, by prefix sums, is at most its want, if the pot is at most the sum of all wants, `total`, which isn't 0
 pub part_le : (pot total before want : ℕ) → 0 < total → pot ≤ total → share_upto pot total (before + want) - share_upto pot total before ≤ want
 part_le pot total before want p h =
     let spread : pot * (before + want) ≡ pot * before + pot * want = mul-add pot before want in
     let less : pot * want ≤ total * want = omega (arith, mul-le-mul_left want h, mul_comm pot want, mul_comm total want) in
-    let left : pot * before < total * share_upto pot total before + total = (quotient pot total before p).1 in
+    let left : pot * before < total * share_upto pot total before + total = (upto_is_rounded_quotient pot total before p).1 in
     let room : pot * (before + want) < (share_upto pot total before + want + 1) * total = omega arith in
     let few : share_upto pot total (before + want) < share_upto pot total before + want + 1 = (div-lt_iff_lt-mul p).1 room in
     omega arith
@@ -52,7 +51,7 @@ shares_after-append pot total before (x ∷ xs) ys =
     (shares_after-append pot total (before + x) xs ys
     ∙ ap (λ n. shares_after pot total (before + x) xs ++ shares_after pot total n ys) (let e : sum (x ∷ xs) ≡ x + sum xs = sum_by-cons (λ x. x) x xs in omega arith))
 
--- a share by prefix sums differs from `pot * want / total` by less than one, where `total` isn't 0
+-- a share by prefix sums differs from `pot * want / total` by less than one, if the sum of all wants, `total`, isn't 0
 pub share_near : (pot total before want : ℕ) → 0 < total →
     ((share_upto pot total (before + want) - share_upto pot total before) * total < pot * want + total)
     × (pot * want < (share_upto pot total (before + want) - share_upto pot total before) * total + total)
@@ -63,29 +62,30 @@ share_near pot total before want p =
     let mono : low ≤ share_upto pot total (before + want) = upto_mono pot total before (before + want) p (omega arith) in
     let top : share_upto pot total (before + want) ≡ here + low = omega arith in
     let cut : total * share_upto pot total (before + want) ≡ here * total + total * low = ap (λ n. total * n) top ∙ mul-add total here low ∙ ap (λ n. n + total * low) (mul_comm total here) in
-    let q0 = quotient pot total before p in
-    let q1 = quotient pot total (before + want) p in
+    let q0 = upto_is_rounded_quotient pot total before p in
+    let q1 = upto_is_rounded_quotient pot total (before + want) p in
     (omega arith, omega arith)
 
--- where the pot is enough for all wants, the shares are the wants
+-- the shares are the wants, if the pot is enough for all wants
 pub shares-enough : (pot : ℕ) (wants : List ℕ) → sum wants ≤ pot → shares pot wants ≡ wants
 shares-enough pot wants h = grind (arith, nat_tests)
 
--- where the pot isn't enough, the shares are the differences of what the first wants together get
+-- the shares are the differences of what the first wants together get, if the pot isn't enough for all wants
 pub shares-short : (pot : ℕ) (wants : List ℕ) → pot < sum wants → shares pot wants ≡ shares_after pot (sum wants) 0 wants
 shares-short pot wants h = grind (arith, nat_tests)
 
--- what holds of any want and its share, and of 0 and 0, holds of the want and the share at each index `i`
-each_later : (P : ℕ → ℕ → Type 0) (pot total : ℕ) → ((before want : ℕ) → P want (share_upto pot total (before + want) - share_upto pot total before)) → P 0 0 → (before : ℕ) (wants : List ℕ) (i : ℕ) → P (get_or wants i 0) (get_or (shares_after pot total before wants) i 0)
-each_later P pot total here none before [] i = none
-each_later P pot total here none before (w ∷ ws) zero = here before w
-each_later P pot total here none before (w ∷ ws) (suc i) = each_later P pot total here none (before + w) ws i
+-- a condition on a want and its share holds at each index `i` of the lists, if it holds of any want and its share, and
+-- of 0 and 0
+holds_at_each_index : (P : ℕ → ℕ → Type 0) (pot total : ℕ) → ((before want : ℕ) → P want (share_upto pot total (before + want) - share_upto pot total before)) → P 0 0 → (before : ℕ) (wants : List ℕ) (i : ℕ) → P (get_or wants i 0) (get_or (shares_after pot total before wants) i 0)
+holds_at_each_index P pot total here none before [] i = none
+holds_at_each_index P pot total here none before (w ∷ ws) zero = here before w
+holds_at_each_index P pot total here none before (w ∷ ws) (suc i) = holds_at_each_index P pot total here none (before + w) ws i
 
 -- no share is above its want
 pub share_at_most : (pot : ℕ) (wants : List ℕ) (i : ℕ) → get_or (shares pot wants) i 0 ≤ get_or wants i 0
 share_at_most pot wants i =
     elim (cases_lt pot (sum wants)) [
-      | inl h ↦ rw (shares-short pot wants h) (each_later (λ w s. s ≤ w) pot (sum wants) (λ b w. part_le pot (sum wants) b w (omega arith) (omega arith)) (omega arith) 0 wants i)
+      | inl h ↦ rw (shares-short pot wants h) (holds_at_each_index (λ w s. s ≤ w) pot (sum wants) (λ b w. part_le pot (sum wants) b w (omega arith) (omega arith)) (omega arith) 0 wants i)
       | inr h ↦ rw (shares-enough pot wants h) (omega arith)
     ]
 
@@ -102,11 +102,11 @@ all_is_given pot wants =
       | inr h ↦ ap sum (shares-enough pot wants h) ∙ omega arith
     ]
 
--- if the pot isn't enough, each share differs by less than one from the pot times its want divided by the sum of all
--- wants
+-- each share differs by less than one from the pot times its want divided by the sum of all wants, if the pot isn't
+-- enough
 pub share_is_near : (pot : ℕ) (wants : List ℕ) (i : ℕ) → pot < sum wants → IsNearPart pot (sum wants) (get_or wants i 0) (get_or (shares pot wants) i 0)
 share_is_near pot wants i h =
-    rw (shares-short pot wants h) (each_later (IsNearPart pot (sum wants)) pot (sum wants)
+    rw (shares-short pot wants h) (holds_at_each_index (IsNearPart pot (sum wants)) pot (sum wants)
     (λ b w. let n = share_near pot (sum wants) b w (omega arith) in record { above = n.0; below = n.1 })
     (record { above = omega arith; below = omega arith }) 0 wants i)
 
@@ -123,57 +123,57 @@ length-shares pot wants = elim (cases_lt pot (sum wants)) [
 ]
 
 -- the sum of all wants stays the same if several wants in a row (`parts`) take the place of one that is their sum
-sum-split : (ahead parts behind : List ℕ) → sum (ahead ++ parts ++ behind) ≡ sum (ahead ++ sum parts ∷ behind)
-sum-split ahead parts behind =
-    let one : sum (ahead ++ parts ++ behind) ≡ sum (ahead ++ parts) + sum behind = sum_by-append (λ x. x) (ahead ++ parts) behind in
+sum-split : (ahead parts after : List ℕ) → sum (ahead ++ parts ++ after) ≡ sum (ahead ++ sum parts ∷ after)
+sum-split ahead parts after =
+    let one : sum (ahead ++ parts ++ after) ≡ sum (ahead ++ parts) + sum after = sum_by-append (λ x. x) (ahead ++ parts) after in
     let two : sum (ahead ++ parts) ≡ sum ahead + sum parts = sum_by-append (λ x. x) ahead parts in
-    let three : sum (ahead ++ sum parts ∷ behind) ≡ sum ahead + sum (sum parts ∷ behind) = sum_by-append (λ x. x) ahead (sum parts ∷ behind) in
-    let four : sum (sum parts ∷ behind) ≡ sum parts + sum behind = sum_by-cons (λ x. x) (sum parts) behind in
+    let three : sum (ahead ++ sum parts ∷ after) ≡ sum ahead + sum (sum parts ∷ after) = sum_by-append (λ x. x) ahead (sum parts ∷ after) in
+    let four : sum (sum parts ∷ after) ≡ sum parts + sum after = sum_by-cons (λ x. x) (sum parts) after in
     omega arith
 
 -- splitting a want changes no other share by prefix sums (`shares_after`), and its parts get together what it got
-split_later : (pot total : ℕ) → 0 < total → (ahead parts behind : List ℕ)
-    → (shares_after pot total 0 (ahead ++ parts ++ behind) ≡ shares_after pot total 0 ahead ++ shares_after pot total (sum ahead) parts ++ shares_after pot total (sum ahead + sum parts) behind)
-    × (shares_after pot total 0 (ahead ++ sum parts ∷ behind) ≡ shares_after pot total 0 ahead ++ sum (shares_after pot total (sum ahead) parts) ∷ shares_after pot total (sum ahead + sum parts) behind)
-split_later pot total p ahead parts behind =
+split_keeps_shares_after : (pot total : ℕ) → 0 < total → (ahead parts after : List ℕ)
+    → (shares_after pot total 0 (ahead ++ parts ++ after) ≡ shares_after pot total 0 ahead ++ shares_after pot total (sum ahead) parts ++ shares_after pot total (sum ahead + sum parts) after)
+    × (shares_after pot total 0 (ahead ++ sum parts ∷ after) ≡ shares_after pot total 0 ahead ++ sum (shares_after pot total (sum ahead) parts) ∷ shares_after pot total (sum ahead + sum parts) after)
+split_keeps_shares_after pot total p ahead parts after =
     let front = shares_after pot total 0 ahead in
     let two : sum (ahead ++ parts) ≡ sum ahead + sum parts = sum_by-append (λ x. x) ahead parts in
     let given : sum (shares_after pot total (sum ahead) parts) + share_upto pot total (sum ahead) ≡ share_upto pot total (sum ahead + sum parts) = sum-shares_after pot total (sum ahead) p parts in
     let one : share_upto pot total (sum ahead + sum parts) - share_upto pot total (sum ahead) ≡ sum (shares_after pot total (sum ahead) parts) = omega arith in (
-      shares_after-append pot total 0 (ahead ++ parts) behind
-          ∙ ap (λ l. l ++ shares_after pot total (0 + sum (ahead ++ parts)) behind)
+      shares_after-append pot total 0 (ahead ++ parts) after
+          ∙ ap (λ l. l ++ shares_after pot total (0 + sum (ahead ++ parts)) after)
           (shares_after-append pot total 0 ahead parts ∙ ap (λ n. front ++ shares_after pot total n parts) (zero-add (sum ahead)))
-          ∙ ap (λ n. front ++ shares_after pot total (sum ahead) parts ++ shares_after pot total n behind) (zero-add (sum (ahead ++ parts)) ∙ two),
-      shares_after-append pot total 0 ahead (sum parts ∷ behind)
-          ∙ ap (λ n. front ++ shares_after pot total n (sum parts ∷ behind)) (zero-add (sum ahead))
-          ∙ ap (λ n. front ++ n ∷ shares_after pot total (sum ahead + sum parts) behind) one,
+          ∙ ap (λ n. front ++ shares_after pot total (sum ahead) parts ++ shares_after pot total n after) (zero-add (sum (ahead ++ parts)) ∙ two),
+      shares_after-append pot total 0 ahead (sum parts ∷ after)
+          ∙ ap (λ n. front ++ shares_after pot total n (sum parts ∷ after)) (zero-add (sum ahead))
+          ∙ ap (λ n. front ++ n ∷ shares_after pot total (sum ahead + sum parts) after) one,
     )
 
 -- splitting a want into several that follow one another changes no other share, and they get together what the one got
 pub splitting_keeps_others : SplittingKeepsOthers
-splitting_keeps_others pot ahead parts behind =
-    let same = sum-split ahead parts behind in
-    elim (cases_lt pot (sum (ahead ++ parts ++ behind))) [
+splitting_keeps_others pot ahead parts after =
+    let same = sum-split ahead parts after in
+    elim (cases_lt pot (sum (ahead ++ parts ++ after))) [
       | inl h ↦
-          let total = sum (ahead ++ parts ++ behind) in
-          let split = split_later pot total (omega arith) ahead parts behind in (
+          let total = sum (ahead ++ parts ++ after) in
+          let split = split_keeps_shares_after pot total (omega arith) ahead parts after in (
             shares_after pot total 0 ahead,
             shares_after pot total (sum ahead) parts,
-            shares_after pot total (sum ahead + sum parts) behind,
+            shares_after pot total (sum ahead + sum parts) after,
             length-shares_after pot total 0 ahead,
             length-shares_after pot total (sum ahead) parts,
-            shares-short pot (ahead ++ parts ++ behind) h ∙ split.0,
-            shares-short pot (ahead ++ sum parts ∷ behind) (omega arith)
-                ∙ ap (λ n. shares_after pot n 0 (ahead ++ sum parts ∷ behind)) (sym same) ∙ split.1,
+            shares-short pot (ahead ++ parts ++ after) h ∙ split.0,
+            shares-short pot (ahead ++ sum parts ∷ after) (omega arith)
+                ∙ ap (λ n. shares_after pot n 0 (ahead ++ sum parts ∷ after)) (sym same) ∙ split.1,
           )
       | inr h ↦ (
         ahead,
         parts,
-        behind,
+        after,
         refl,
         refl,
-        shares-enough pot (ahead ++ parts ++ behind) h,
-        shares-enough pot (ahead ++ sum parts ∷ behind) (omega arith),
+        shares-enough pot (ahead ++ parts ++ after) h,
+        shares-enough pot (ahead ++ sum parts ∷ after) (omega arith),
       )
     ]
 

@@ -1,4 +1,4 @@
-//! How a pot is shared among those who want of it. See docs/RULES.md, "Shares".
+//! How a pot is shared among several wants. See docs/RULES.md, "Shares".
 #![tactic(auto)]
 
 pub mod shares;

@@ -6,7 +6,7 @@ use Rattle.sqlite.specs.Term.{Term, lit, col}
 use Rattle.sqlite.specs.Listing.{understood}
 use Rattle.sqlite.specs.Order.{Row, column}
 use Rattle.sqlite_trees.specs.Tree.{rowid}
-use Rattle.atl_sql.specs.Sets.{visible}
+use Rattle.atl_sql.specs.Sets.{visible_row}
 use Rattle.atl_sql.specs.Tables.{campaign_table}
 use Rattle.atl_sql.specs.Shown.{CampaignRowValue, int, campaign_row, campaign_row_values}
 use Rattle.atl_sql.specs.PutsCampaignRow.{PutsCampaignRow}
@@ -16,17 +16,18 @@ use Rattle.atl_sql.proofs.StatementLaws.{DoneBy, done_by}
 use Rattle.atl_sql.proofs.Terms.{cast_int}
 
 -- the terms of the UPDATE of `campaign_upsert`: id, format and world text stay, the other columns become the parameters
-abbrev project : List Term
-project = col 1 0 ∷ lit Null ∷ col 1 2 ∷ col 0 0 ∷ col 0 1 ∷ col 0 2 ∷ col 0 3 ∷ col 0 4 ∷ col 1 8 ∷ []
+abbrev campaign_update_terms : List Term
+campaign_update_terms = col 1 0 ∷ lit Null ∷ col 1 2 ∷ col 0 0 ∷ col 0 1 ∷ col 0 2 ∷ col 0 3 ∷ col 0 4 ∷ col 1 8 ∷ []
 
--- the text `campaign_upsert` means an INSERT of the campaign row, with an UPDATE by the terms `project` (`MeansOwn`)
-means : MeansOwn campaign_upsert project
+-- the text `campaign_upsert` means an INSERT of the campaign row, with an UPDATE by the terms `campaign_update_terms`
+-- (`MeansOwn`)
+campaign_upsert_meaning : MeansOwn campaign_upsert campaign_update_terms
 unfolding understood everything
-means = record { is = λ more indexes. refl; plain = λ more indexes. (refl, refl) }
+campaign_upsert_meaning = record { is = λ more indexes. refl; plain = λ more indexes. (refl, refl) }
 
 -- of a row with values `before` and world text `text`, the UPDATE makes the row with values `head` and the same text
-changed : (head before : CampaignRowValue) (world text : List ℕ) (r : Row) → visible campaign_table r ≡ campaign_row before text → changed_to project head world r ≡ campaign_row head text
-changed head before world text r shows =
+update_keeps_world_text : (head before : CampaignRowValue) (world text : List ℕ) (r : Row) → visible_row campaign_table r ≡ campaign_row before text → changed_to campaign_update_terms head world r ≡ campaign_row head text
+update_keeps_world_text head before world text r shows =
     let id : rowid r ≡ int 1 = ap (λ row. column row 0) shows in
     let format : column r 2 ≡ int 2 = ap (λ row. column row 1) shows in
     let kept : column r 8 ≡ Text text = ap (λ row. column row 7) shows in
@@ -38,9 +39,9 @@ pub puts_campaign : (head : CampaignRowValue) (world : List ℕ) → DoneBy camp
 puts_campaign head world = done_by campaign_upsert (campaign_row_values head world) (PutsCampaignRow head world) (λ old new count inside ran. (
   ran.1.mode ∙ sym inside,
   λ has.
-      let put = puts_own campaign_upsert project means old new head world count has ran in
+      let put = puts_own campaign_upsert campaign_update_terms campaign_upsert_meaning old new head world count has ran in
       record {
-        does = record { first = put.first; again = λ before text is. put.again (campaign_row before text) (campaign_row head text) refl refl is (λ r shows. changed head before world text r shows) };
+        does = record { first = put.first; again = λ before text is. put.again (campaign_row before text) (campaign_row head text) refl refl is (λ r shows. update_keeps_world_text head before world text r shows) };
         tables = put.tables;
         carries = put.carries;
       },

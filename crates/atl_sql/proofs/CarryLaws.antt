@@ -15,24 +15,24 @@ use Rattle.sqlite_rules.specs.Action.{works, Work, work_for}
 use Rattle.sqlite.specs.Effect.{Database}
 use Rattle.atl_sql.specs.Sets.{Set}
 use Rattle.atl_sql.proofs.Made.{Makes}
-use Rattle.atl_sql.specs.Tables.{all_tables, all_and, all_trees, IsSoundDatabase}
-use Rattle.atl_sql.specs.Inside.{HasTables, Carries, Alters, Done}
+use Rattle.atl_sql.specs.Tables.{all_tables, all_tables_and_others, all_trees, IsSoundDatabase}
+use Rattle.atl_sql.specs.Inside.{HasTables, Carries, Alters, DoesAndKeeps}
 use Rattle.atl_sql.proofs.ListLaws.{has_map}
 
 -- ---- tables without a foreign key refer to nothing
 
--- if no table of the list has a foreign key, checking the list's foreign keys, by any `f`, gives no work to do
+-- tables without a foreign key give no foreign key to check, whatever check `f` would make of one
 none_refer : (tables : List Table) (f : Table → Reference → Option Work) → AllByRecursion (λ t. t.references ≡ []) tables → flat_map (λ child. filter_map (f child) child.references) tables ≡ []
 none_refer [] f free = refl
 none_refer (t ∷ tables) f free = rw (free.0) (none_refer tables f free.1)
 
 -- a write of a table checks no reference, if no table of the schema has a foreign key
-pub unlinked : (tables : List Table) (indexes : List Index) (tree : ℕ) → AllByRecursion (λ t. t.references ≡ []) tables → (olds news : List Row) → works (all_and tables indexes) Enforced 0 tree olds news ≡ []
-unlinked tables indexes tree free olds news = none_refer tables (work_for (all_and tables indexes) Enforced 0 tree olds news) free
+pub write_checks_no_reference : (tables : List Table) (indexes : List Index) (tree : ℕ) → AllByRecursion (λ t. t.references ≡ []) tables → (olds news : List Row) → works (all_tables_and_others tables indexes) Enforced 0 tree olds news ≡ []
+write_checks_no_reference tables indexes tree free olds news = none_refer tables (work_for (all_tables_and_others tables indexes) Enforced 0 tree olds news) free
 
 -- ---- indexes that make nothing unique find nothing
 
--- if no index of the list makes anything unique in the table t, the rows `new` and `r` share no unique value in t
+-- two rows share no unique value by the indexes of a list, if none of these makes anything unique in the table `t`
 pub none_share : (t : Table) (target : Option (List ℕ)) (new r : Row) (indexes : List Index) → ((i : Index) → Has indexes i → guards i t ≡ false) → list_any (shares target t new r) indexes ≡ false
 none_share t target new r [] plain = refl
 none_share t target new r (i ∷ indexes) plain = rw (plain i (inl refl)) (none_share t target new r indexes (λ j there. plain j (inr there)))
@@ -44,13 +44,13 @@ pub among_all : (tables : List Table) (t : Table) → Has all_tables t → Has (
 among_all tables t there = has_left all_tables tables t there
 
 -- the trees of a database with a campaign's tables are sound under the schema of these and of all other tables in it
-pub sound_under : (db : Database) (has : HasTables db) → IsSoundDatabase (all_and has.begins.tables has.begins.indexes) db.trees
+pub sound_under : (db : Database) (has : HasTables db) → IsSoundDatabase (all_tables_and_others has.begins.tables has.begins.indexes) db.trees
 sound_under db has = subst (λ s. IsSoundDatabase s db.trees) has.begins.made_of has.sound
 
 module _ (t : Table) (old new : Database) (has : HasTables old) (ours : Has all_tables t) where
   -- the schema of `old`: the ten tables with their indexes, and then its other tables and indexes
   abbrev schema : Schema
-  schema = all_and has.begins.tables has.begins.indexes
+  schema = all_tables_and_others has.begins.tables has.begins.indexes
 
   -- every table of the schema but `t` has the same rows before and after
   abbrev OthersStay : Type 0
@@ -79,8 +79,8 @@ module _ (t : Table) (old new : Database) (has : HasTables old) (ours : Has all_
   altered S makes = record { rows = makes.rows; others = λ u listed apart. makes.others u (among_all has.begins.tables u listed) apart }
 
   -- if `Does` follows from the rows of `t` being `S` and a campaign's other tables staying (`Alters`), a write that
-  -- makes the rows `S` (`Makes`) has done `Does` (`Done`)
-  pub done_with : (Does : Database → Database → Type 0) (S : Set) → (Alters t S old new → Does old new) → Makes schema t old new S → Done Does old new
+  -- makes the rows `S` (`Makes`) has done `Does` (`DoesAndKeeps`)
+  pub done_with : (Does : Database → Database → Type 0) (S : Set) → (Alters t S old new → Does old new) → Makes schema t old new S → DoesAndKeeps Does old new
   done_with Does S is makes = record { does = is (altered S makes); tables = stays_there makes.schema_is makes.sound; carries = carried makes.schema_is makes.others }
 
 -- ---- tables carried along by no write, and by two

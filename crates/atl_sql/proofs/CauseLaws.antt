@@ -17,11 +17,11 @@ use Rattle.atl_sql.specs.Errors.{is_memory}
 use Rattle.atl_sql.specs.Statements.{Statements}
 use Rattle.atl_sql.specs.Causes.{IsGiven, IsBroken, IsRefused, Gives, Leads, IsReached}
 
--- if the disk failed between the counts `a` and `b` of its failures, and `b` is at most `c`, it did between a and c
+-- if the count of disk failures grew from `a` to `b`, it grew from `a` to each count that is at least `b`
 more_later : (a b c : ℕ) → b ≤ c → MoreFaults a b → MoreFaults a c
 more_later a b c later more = omega (arith, later, more)
 
--- if the disk failed between the counts `b` and `c` of its failures, and `a` is at most `b`, it did between a and c
+-- if the count of disk failures grew from `b` to `c`, it grew to `c` from each count that is at most `b`
 more_before : (a b c : ℕ) → a ≤ b → MoreFaults b c → MoreFaults a c
 more_before a b c before more = omega (arith, before, more)
 
@@ -160,7 +160,7 @@ module _ {S : Type 0} (g : Ghosts S) (own : Statements) (e : Error) where
 
 -- ---- of a result
 
--- if `r` is the error `e`, what is true of `e` is true of the error of `r` (`IfErr`)
-pub errs_as : {A E : Type 0} (P : E → Type 0) (r : Result A E) (e : E) → IsErrAnd r (λ f. f ≡ e) → P e → IfErr r P
-errs_as P (Ok a) e told p = tt
-errs_as P (Err f) e told p = subst P (sym told) p
+-- what holds of the error `e` holds of the error of the result `r` (`IfErr`), if `r` is the error `e`
+pub property_of_equal_error : {A E : Type 0} (P : E → Type 0) (r : Result A E) (e : E) → IsErrAnd r (λ f. f ≡ e) → P e → IfErr r P
+property_of_equal_error P (Ok a) e says p = tt
+property_of_equal_error P (Err f) e says p = subst P (sym says) p

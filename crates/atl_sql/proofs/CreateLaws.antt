@@ -12,7 +12,7 @@ use Rattle.sqlite.specs.State.{State, Writes, Executes}
 use Rattle.sqlite_rules.proofs.ListLemmas.{all_has}
 use Rattle.sqlite.proofs.Callers.{IsPlain, command_of, statement_of, runs_as}
 use Rattle.atl_sql.proofs.Made.{Creates}
-use Rattle.atl_sql.proofs.EditLaws.{went, same_value}
+use Rattle.atl_sql.proofs.EditLaws.{ok_step_did, same_value}
 
 -- a CREATE TABLE that ran on the schema `before` has added its table, without rows (`Creates`)
 pub creates : (before : Schema) (table : Table) (text : List ℕ) (old new : State) (count : ℕ) → command_of (understood before text) ≡ CreateTable → statement_of text (understood before text) ≡ text
@@ -20,8 +20,8 @@ pub creates : (before : Schema) (table : Table) (text : List ℕ) (old new : Sta
     → Creates before (created before table) (next_tree before) old.now new.now
 creates before table text old new count is whole defines bare uncounted has h =
     let w = subst (λ t. Writes old new None CreateTable t [] count) whole (runs_as text [] old new before has CreateTable is bare count h) in
-    let all = went w.changed in
-    let first = went all.1 in
+    let all = ok_step_did w.changed in
+    let first = ok_step_did all.1 in
     let made = first.1 in
     let both : Ok made.table ≡ Ok table = sym made.defined ∙ defines in
     let same : made.table ≡ table = cc in

@@ -19,7 +19,7 @@ use Rattle.sqlite.specs.State.{State, Executes}
 use Rattle.sqlite.proofs.Callers.{IsPlain, command_of, statement_of}
 use Rattle.atl_sql.specs.Tables.{Part, Own, all_parts, creation_of, table_count, table_of}
 use Rattle.atl_sql.specs.Writes.{Writes, RunsStatement}
-use Rattle.atl_sql.specs.Statements.{Only, Creations}
+use Rattle.atl_sql.specs.Statements.{OneStatement, Creations}
 use Rattle.atl_sql.proofs.Made.{Creates, Extends}
 use Rattle.atl_sql.proofs.CreateLaws.{creates}
 use Rattle.atl_sql.proofs.ListLaws.{has_map}
@@ -63,18 +63,18 @@ place_among part [] = 0
 place_among part (p ∷ parts) = cond (nat_eq (tree_of part) (tree_of p)) 0 (place_among part parts + 1)
 
 -- the index of a part in the list of all parts
-abbrev place : Part → ℕ
-place part = place_among part all_parts
+abbrev position : Part → ℕ
+position part = place_among part all_parts
 
 -- the CREATE text of a part makes the part's table after those of the parts before it (`IsCreate`)
-pub is_made : (part : Part) → IsCreate (schema_of_first (place part)) (schema_of_first (place part + 1)) (table_of part) (creation_of part)
+pub is_made : (part : Part) → IsCreate (schema_of_first (position part)) (schema_of_first (position part + 1)) (table_of part) (creation_of part)
 unfolding understood everything
 is_made Own = record { command = refl; whole = refl; defines = refl; plain = (refl, refl); after_is = refl; tree_is = refl; last = refl; uncounted = refl }
 is_made part = record { command = refl; whole = refl; defines = refl; plain = (refl, refl); after_is = refl; tree_is = refl; last = refl; uncounted = refl }
 
--- the part at index `i` of the list of all parts has `i` as its index
-placed : (i : ℕ) (d : Part) → i < length all_parts → place (get_or all_parts i d) ≡ i
-placed i d small = sym (get_or-map place all_parts i d 0 small) ∙ get_or-range_with_len 0 (length all_parts) i 0 small ∙ zero-add i
+-- the index that `position` gives to the part at index `i` of the list of all parts is `i`
+placed : (i : ℕ) (d : Part) → i < length all_parts → position (get_or all_parts i d) ≡ i
+placed i d small = sym (get_or-map position all_parts i d 0 small) ∙ get_or-range_with_len 0 (length all_parts) i 0 small ∙ zero-add i
 
 -- the CREATE text of the part at index `i` makes its table after the first `i` tables (`IsCreate`)
 made_at : (i : ℕ) (d : Part) → i < length all_parts → IsCreate (schema_of_first i) (schema_of_first (i + 1)) (table_of (get_or all_parts i d)) (creation_of (get_or all_parts i d))
@@ -84,13 +84,14 @@ made_at i d small =
 
 -- ---- of all, one after another
 
--- the text is the CREATE text of some part, and running it turns empty tables of `before` into those of `after`
+-- The text is the CREATE text of some part. Running it turns a database of the schema `before`, without rows, into one
+-- of the schema `after`, without rows (`Extends`).
 abbrev pub MakesNextTable : Schema → Schema → List ℕ → Type 1
 MakesNextTable before after text = Has (map creation_of all_parts) text × ((old new : State) → RunsStatement text [] old new → Extends before after old new)
 
 -- the CREATE text of a part that turns `before` into `after` (`IsCreate`) makes the next table (`MakesNextTable`)
-makes : (before after : Schema) (table : Table) (text : List ℕ) → Has (map creation_of all_parts) text → IsCreate before after table text → MakesNextTable before after text
-makes before after table text listed is = (listed, run)
+create_text_makes_next_table : (before after : Schema) (table : Table) (text : List ℕ) → Has (map creation_of all_parts) text → IsCreate before after table text → MakesNextTable before after text
+create_text_makes_next_table before after table text listed is = (listed, run)
   where
     -- running the text inside a transaction turns empty tables of `before` into empty tables of `after`
     run : (old new : State) → RunsStatement text [] old new → Extends before after old new
@@ -109,15 +110,15 @@ module _ {X : Type 0} (text : X → List ℕ) (xs : List X) (all : map text xs �
       let few : i < length all_parts = subst (λ n. i < n) as_many small in
       let is : text (get_or xs i d) ≡ creation_of part = sym (get_or-map text xs i d [] small) ∙ ap (λ (l : List (List ℕ)). get_or l i []) all ∙ get_or-map creation_of all_parts i Own [] few in
       let listed : Has (map creation_of all_parts) (creation_of part) = has_map creation_of all_parts part (all_among all_parts refl part) in
-      subst (MakesNextTable (schema_of_first i) (schema_of_first (i + 1))) (sym is) (makes (schema_of_first i) (schema_of_first (i + 1)) (table_of part) (creation_of part) listed (made_at i Own few))
+      subst (MakesNextTable (schema_of_first i) (schema_of_first (i + 1))) (sym is) (create_text_makes_next_table (schema_of_first i) (schema_of_first (i + 1)) (table_of part) (creation_of part) listed (made_at i Own few))
 
 -- ---- in a transaction
 
 module _ {S A : Type 0} (g : Ghosts S) {r : Result A Error} {a b : MutBor (Held S)} where
   -- a step that runs nothing but the CREATE text of a part runs nothing but CREATE statements of the ten tables
-  pub creating : {Does : State → State → Type 0} {before after : Schema} (text : List ℕ) → MakesNextTable before after text → Writes g (Only text []) Does r a b → Writes g Creations Does r a b
+  pub creating : {Does : State → State → Type 0} {before after : Schema} (text : List ℕ) → MakesNextTable before after text → Writes g (OneStatement text []) Does r a b → Writes g Creations Does r a b
   creating text makes one = among_only g text [] (makes.0, refl) one
 
   -- a step that runs a part's CREATE text runs only such texts (`Creations`), and adds one empty table (`Extends`)
-  pub made_by : {before after : Schema} (text : List ℕ) → MakesNextTable before after text → Writes g (Only text []) (RunsStatement text []) r a b → Writes g Creations (Extends before after) r a b
+  pub made_by : {before after : Schema} (text : List ℕ) → MakesNextTable before after text → Writes g (OneStatement text []) (RunsStatement text []) r a b → Writes g Creations (Extends before after) r a b
   made_by text makes one = weaker g makes.1 (creating text makes one)

@@ -31,10 +31,10 @@ use Rattle.sqlite.proofs.Callers.{one_step}
 use Rattle.atl_sql.specs.Sets.{AreKeyedByRowid}
 use Rattle.atl_sql.proofs.ListLaws.{keyed_without, keyed_put, has_map, map_has, AreFound, stays, was_there}
 
--- if a step either stopped with an error or did `R`, and its result is Ok, it did `R`
-pub went : {B E R : Type 0} {b : B} {Stops : E → Type 0} → ((stop : E) × Stops stop × (Ok b ≡ Err stop)) ⊎ R → R
-went (inl stopped) = absurd (let e = stopped.2 in cc)
-went (inr on) = on
+-- a step that ended with Ok did `R`, if it either stopped with an error or did `R`
+pub ok_step_did : {B E R : Type 0} {b : B} {Stops : E → Type 0} → ((stop : E) × Stops stop × (Ok b ≡ Err stop)) ⊎ R → R
+ok_step_did (inl stopped) = absurd (let e = stopped.2 in cc)
+ok_step_did (inr on) = on
 
 -- two results Ok that are equal have the same value
 pub same_value : {B E : Type 0} {a b : B} → ◌≡◌ {A = Result B E} (Ok a) (Ok b) → a ≡ b
@@ -84,8 +84,8 @@ module _ (schema : Schema) (table : Table) (unlinked : (olds news : List Row) �
       → ((rows : List Row) → Answers (record { schema = schema; trees = db }) q params rows → AreFound p (db table.tree) rows)
       → Deletes (record { limit = limit; keys = Enforced; schema = schema; table = table; params = params }) q db (Ok w) → Loses schema table p db w.trees
   deletes limit params q p db w keyed found h =
-      let select_of = went h in
-      let wrote = went select_of.2 in
+      let select_of = ok_step_did h in
+      let wrote = ok_step_did select_of.2 in
       let is : w.trees ≡ wrote.0 = ap (λ (x : Written). x.trees) (same_value wrote.2) in
       subst (Loses schema table p db) (sym is) (loses p db wrote.0 select_of.0 keyed (found select_of.0 select_of.1) wrote.1)
 
@@ -104,7 +104,7 @@ module _ (schema : Schema) (table : Table) (unlinked : (olds news : List Row) �
         × ((t : Table) → Has schema.tables t → t.tree ≢ table.tree → w.trees t.tree ≡ db t.tree)
         × AreKeyedByRowid (w.trees table.tree)
     puts new db w keyed h =
-        let wrote = went h in
+        let wrote = ok_step_did h in
         let done = one_step schema Enforced db wrote.0 (edit_of db table [] Given 0 (new ∷ [])) (unlinked (taken_by db (edit_of db table [] Given 0 (new ∷ []))) (cast_row table new ∷ [])) wrote.1 in
         let is : w.trees ≡ wrote.0 = ap (λ (x : Written). x.trees) (same_value wrote.2) in
         let rows : w.trees table.tree ≡ put_row (cast_row table new) (db table.tree) = ap (λ (t : Trees). t table.tree) is ∙ done.rows in (
@@ -133,7 +133,7 @@ module _ (schema : Schema) (table : Table) (unlinked : (olds news : List Row) �
           others = put.3;
         }
     clears new db w (x ∷ more) keyed are h =
-        let cut = went h in
+        let cut = ok_step_did h in
         let lost = loses (p new) db cut.0 (x ∷ more) keyed (record { sound = are.sound; complete = are.complete }) cut.1 in
         let put = puts new cut.0 w lost.keyed cut.2 in
         record {

@@ -17,8 +17,8 @@ use Rattle.sqlite_schema.specs.declared.schema.Column.{Column}
 use Rattle.sqlite_schema.specs.Names.{place_of}
 use Rattle.sqlite_rules.specs.Cast.{cast, cast_all, cast_row}
 use Rattle.sqlite_trees.proofs.ListLemmas.{map-map}
-use Rattle.atl_sql.specs.Sets.{table, visible}
-use Rattle.atl_sql.specs.Tables.{number}
+use Rattle.atl_sql.specs.Sets.{table, visible_row}
+use Rattle.atl_sql.specs.Tables.{integer_column}
 use Rattle.atl_sql.specs.Shown.{int}
 use Rattle.atl_sql.proofs.Terms.{cast_null, cast_int}
 
@@ -45,10 +45,11 @@ fits_cast (c ∷ cs) (v ∷ vs) fits = let here = fits.0 in let later = fits_cas
 
 -- ---- the columns of a row, one by one
 
--- if `f (k + 1)` is `g k` for each k, mapping a range from a + 1 by f is mapping the range from a by g
-shifted : {X : Type 0} (f g : ℕ → X) → ((k : ℕ) → f (k + 1) ≡ g k) → (a n : ℕ) → map f (range_with_len (a + 1) n) ≡ map g (range_with_len a n)
-shifted f g same a zero = refl
-shifted f g same a (suc n) = let here = same a in let later = shifted f g same (a + 1) n in cc
+-- mapping the range from `a + 1` by the function `f` is mapping the range from `a` by the function `g`, if `f (k + 1)`
+-- is `g k` for each `k`
+shifted_range_maps_alike : {X : Type 0} (f g : ℕ → X) → ((k : ℕ) → f (k + 1) ≡ g k) → (a n : ℕ) → map f (range_with_len (a + 1) n) ≡ map g (range_with_len a n)
+shifted_range_maps_alike f g same a zero = refl
+shifted_range_maps_alike f g same a (suc n) = let here = same a in let later = shifted_range_maps_alike f g same (a + 1) n in cc
 
 -- column `k + 1` of a row is column `k` of the row without its first value
 next_column : (v : Value) (vs : Row) (k : ℕ) → column (v ∷ vs) (k + 1) ≡ column vs k
@@ -57,13 +58,13 @@ next_column v vs k = let next : k + 1 ≡ suc k = omega arith in ap (column (v �
 -- the first columns of the row `vs ++ more`, as many as `vs` has values, are `vs`
 each_column : (vs more : Row) → map (column (vs ++ more)) (range_with_len 0 (length vs)) ≡ vs
 each_column [] more = refl
-each_column (v ∷ vs) more = ap (λ (l : Row). v ∷ l) (shifted (column (v ∷ (vs ++ more))) (column (vs ++ more)) (next_column v (vs ++ more)) 0 (length vs) ∙ each_column vs more)
+each_column (v ∷ vs) more = ap (λ (l : Row). v ∷ l) (shifted_range_maps_alike (column (v ∷ (vs ++ more))) (column (vs ++ more)) (next_column v (vs ++ more)) 0 (length vs) ∙ each_column vs more)
 
 -- the columns after the first of the row `v ∷ (vs ++ more)`, as many as `vs` has values, are `vs`
 each_later : (v : Value) (vs more : Row) → map (column (v ∷ (vs ++ more))) (range_with_len 1 (length vs)) ≡ vs
-each_later v vs more = shifted (column (v ∷ (vs ++ more))) (column (vs ++ more)) (next_column v (vs ++ more)) 0 (length vs) ∙ each_column vs more
+each_later v vs more = shifted_range_maps_alike (column (v ∷ (vs ++ more))) (column (vs ++ more)) (next_column v (vs ++ more)) 0 (length vs) ∙ each_column vs more
 
--- the column of a row after the values `vs` is `x`, the value that comes next
+-- the column after the values `vs` of a row has the value `x` that follows them
 column_after : (vs : Row) (x : Value) (more : Row) → column (vs ++ x ∷ more) (length vs) ≡ x
 column_after [] x more = refl
 column_after (v ∷ vs) x more = column_after vs x more
@@ -74,8 +75,8 @@ column_after (v ∷ vs) x more = column_after vs x more
 abbrev pub given_row : ℕ → List Term
 given_row width = col 0 0 ∷ lit Null ∷ map (col 0) (range_with_len 1 width)
 
--- the terms of the UPDATE of a numbered row with this many values: the number that the row has, NULL, and the values
--- from the parameters
+-- the terms of the UPDATE of a numbered row, one for each column: the number that the row has, NULL for the key's own
+-- column, and as many values as are given, from the parameters
 abbrev pub changed_row : ℕ → List Term
 changed_row width = col 1 0 ∷ lit Null ∷ map (col 0) (range_with_len 1 width)
 
@@ -88,14 +89,14 @@ pub record MakesRow (t : Table) (width number : ℕ) (values : Row) : Type 0 whe
   -- SQL's casts to the columns' types leave the row as stored (the number, NULL, the values) unchanged
   pub casted : cast_row t (int number ∷ Null ∷ values) ≡ int number ∷ Null ∷ values
   -- of the row as stored, SQL shows the number and the values
-  pub shown : visible t (int number ∷ Null ∷ values) ≡ int number ∷ values
+  pub shown : visible_row t (int number ∷ Null ∷ values) ≡ int number ∷ values
   -- of what the UPDATE reads, the column after the number and the values is `x`, the rowid of the row to change
   pub aimed : (x : Value) (more : Row) → column ((int number ∷ values) ++ x ∷ more) (width + 1) ≡ x
 
 module _ (tree : ℕ) (name key_name : List ℕ) (columns : List Column) (uniques : List (List ℕ)) where
   -- the table whose first column, its key, is the row's number, and whose other columns are `columns`
   abbrev t : Table
-  t = table tree name (number key_name ∷ columns) (Some 0) (0 ∷ []) uniques []
+  t = table tree name (integer_column key_name ∷ columns) (Some 0) (0 ∷ []) uniques []
 
   module _ (n : ℕ) (values : Row) (fits : Fits columns values) where
     -- the number of values after the row's number
@@ -119,18 +120,18 @@ module _ (tree : ℕ) (name key_name : List ℕ) (columns : List Column) (unique
         ap (λ (count : ℕ). value_rows ((int n ∷ values) ++ []) (width + 2) count (given_row width)) once ∙ ap (λ (l : List Term). eval_all l (((int n ∷ values) ++ []) ∷ []) ∷ []) all ∙ ap (λ (l : Row). (int n ∷ Null ∷ l) ∷ []) (of_parameters [] [])
 
     -- SQL shows the row as its number and its values
-    shown_is : visible t stored_row ≡ int n ∷ values
+    shown_is : visible_row t stored_row ≡ int n ∷ values
     shown_is =
         let alone : map (column values) (range_with_len 0 width) ≡ values = subst (λ l. map (column l) (range_with_len 0 width) ≡ values) (append-nil values) (each_column values []) in
-        let behind : map (λ k. column stored_row (place_of t k)) (range_with_len 1 width) ≡ values = shifted (λ k. column stored_row (place_of t k)) (column values) second 0 width ∙ alone in
-        ap (λ l. int n ∷ l) (subst (λ w. map (λ k. column stored_row (place_of t k)) (range_with_len 1 w) ≡ values) (fits_length columns values fits) behind)
+        let after : map (λ k. column stored_row (place_of t k)) (range_with_len 1 width) ≡ values = shifted_range_maps_alike (λ k. column stored_row (place_of t k)) (column values) second 0 width ∙ alone in
+        ap (λ l. int n ∷ l) (subst (λ w. map (λ k. column stored_row (place_of t k)) (range_with_len 1 w) ≡ values) (fits_length columns values fits) after)
       where
         -- for `shown_is`: column `k + 1` of the stored row, as SQL shows it, is value `k` of `values`
         second : (k : ℕ) → column stored_row (place_of t (k + 1)) ≡ column values k
         second k =
             let apart : nat_eq 0 (k + 1) ≡ false = grind (arith, nat_tests) in
-            let place : place_of t (k + 1) ≡ suc (suc k) = rw apart (omega arith) in
-            ap (column stored_row) place
+            let position : place_of t (k + 1) ≡ suc (suc k) = rw apart (omega arith) in
+            ap (column stored_row) position
 
     -- SQL's casts leave the row of the number and the values unchanged
     casted_is : cast_row t stored_row ≡ stored_row

@@ -9,18 +9,18 @@ use Rattle.sqlite_trees.specs.View.{is_int}
 use Rattle.sqlite_schema.specs.Rules.{is_of}
 
 -- what a strict INTEGER NOT NULL column stores is an integer
-pub int_by : (v : Value) → is_of Integer v ≡ true → is_null v ≡ false → is_int v ≡ true
-int_by Null typed some = absurd (true≢false some)
-int_by (Int n) typed some = refl
-int_by (Real x) typed some = absurd (true≢false (sym typed))
-int_by (Text t) typed some = absurd (true≢false (sym typed))
-int_by (Blob b) typed some = absurd (true≢false (sym typed))
+pub strict_integer_is_int : (v : Value) → is_of Integer v ≡ true → is_null v ≡ false → is_int v ≡ true
+strict_integer_is_int Null typed some = absurd (true≢false some)
+strict_integer_is_int (Int n) typed some = refl
+strict_integer_is_int (Real x) typed some = absurd (true≢false (sym typed))
+strict_integer_is_int (Text t) typed some = absurd (true≢false (sym typed))
+strict_integer_is_int (Blob b) typed some = absurd (true≢false (sym typed))
 
 -- equal rows have equal first values, and are equal without these
 pub cons_is : (a b : Value) (xs ys : Row) → ◌≡◌ {A = Row} (a ∷ xs) (b ∷ ys) → (a ≡ b) × (xs ≡ ys)
 cons_is a b xs ys e = (cc, cc)
 
 -- a test "`b` or `rest`" is `b`, if `rest` is false
-pub unwrapped : (b rest : Bool) → rest ≡ false → (b || rest) ≡ b
-unwrapped true rest none = refl
-unwrapped false rest none = none
+pub or_with_false : (b rest : Bool) → rest ≡ false → (b || rest) ≡ b
+or_with_false true rest none = refl
+or_with_false false rest none = none

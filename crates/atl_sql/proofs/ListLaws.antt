@@ -64,7 +64,7 @@ without_keeps [] rows r h apart = h
 without_keeps (id ∷ ids) rows r h apart =
     without_keeps ids (without_rowid id rows) r (has_kept _ rows r h (ap not (apart id (inl refl)))) (λ i there. apart i (inr there))
 
--- no row that is left after removing rowids has one of them
+-- no row that is left after the rows of some rowids are removed has one of these rowids
 pub without_drops : (ids : List ℤ) (rows : List Row) (r : Row) → Has (without_all rows ids) r → (id : ℤ) → Has ids id → has_rowid id r ≡ false
 without_drops [] rows r h id there = absurd there
 without_drops (i ∷ ids) rows r h id (inl same) =

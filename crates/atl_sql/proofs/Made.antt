@@ -8,8 +8,8 @@ use Rattle.sqlite_schema.specs.declared.schema.Table.{Table}
 use Rattle.atl_sql.specs.Sets.{Set, HasExactly, rows_in}
 use Rattle.atl_sql.specs.Tables.{IsSoundDatabase}
 
--- a statement wrote one table: its rows are now the set `S`, and every other table is unchanged
--- The database is sound under its schema.
+-- A statement wrote one table: its rows are now the set `S`, and every other table is unchanged. The database is sound
+-- under its schema.
 pub record Makes (schema : Schema) (table : Table) (old new : Database) (S : Set) : Type 0 where
   -- after the write the database has this schema
   pub schema_is : new.schema ≡ schema
@@ -38,7 +38,7 @@ pub record AreBare (schema : Schema) (db : Database) : Type 0 where
   -- each table of the schema is empty
   pub empty : (t : Table) → Has schema.tables t → db.trees t.tree ≡ []
 
--- a database of the first schema, without rows, becomes a sound one of the second, without rows;
--- a transaction goes on exactly if there was one
+-- A database of the first schema, without rows, becomes a sound one of the second, without rows. The connection is in a
+-- transaction afterwards exactly if it was before.
 abbrev pub Extends : Schema → Schema → State → State → Type 0
 Extends before after old new = (new.in_transaction ≡ old.in_transaction) × (AreBare before old.now → AreBare after new.now × IsDatabase new.now)

@@ -18,7 +18,7 @@ use Rattle.sqlite_sql.specs.Program.{overlay}
 use Rattle.sqlite.specs.Effect.{Database, IsDatabase}
 use Rattle.sqlite.specs.State.{State, Writes}
 use Rattle.sqlite.specs.Does.{Does}
-use Rattle.atl_sql.specs.Sets.{visible, rows_in, HasExactly, put, drop_key, AreKeyedByRowid}
+use Rattle.atl_sql.specs.Sets.{visible_row, rows_in, HasExactly, put, drop_key, AreKeyedByRowid}
 use Rattle.atl_sql.specs.Tables.{all_tables, IsSoundDatabase}
 use Rattle.atl_sql.proofs.Made.{Makes}
 use Rattle.atl_sql.proofs.ListLaws.{has_map, map_has, one_rowid}
@@ -27,38 +27,38 @@ use Rattle.atl_sql.proofs.UpsertLaws.{hits, given, Upserted}
 use Rattle.atl_sql.proofs.StatementLaws.{mode}
 
 -- a statement that wrote (`Writes`) under this schema did to the trees what its command means under it (`Does`)
-pub did : (schema : Schema) (old new : State) (command : Command) (text : List ℕ) (params : Row) (count : ℕ) → old.now.schema ≡ schema → (w : Writes old new None command text params count)
+pub write_does_command : (schema : Schema) (old new : State) (command : Command) (text : List ℕ) (params : Row) (count : ℕ) → old.now.schema ≡ schema → (w : Writes old new None command text params count)
     → Does old.step_limit mode params (record { schema = schema; trees = old.now.trees }) text None command (Ok (w.tally, new.now))
-did schema old new command text params count has w =
+write_does_command schema old new command text params count has w =
     subst (λ s. Does old.step_limit mode params (record old.now { schema = s }) text None command (Ok (w.tally, new.now))) has w.changed
 
 module _ (schema : Schema) (among : (u : Table) → Has all_tables u → Has schema.tables u) (t : Table) (key : ℕ) where
   -- a row that SQL shows of a list of stored rows is shown of one row in the list
-  shown_again : (rows : List Row) (r : Row) → Has (map (visible t) rows) r → (x : Row) × Has rows x × (r ≡ visible t x)
-  shown_again rows r h = map_has (visible t) rows r h
+  shown_again : (rows : List Row) (r : Row) → Has (map (visible_row t) rows) r → (x : Row) × Has rows x × (r ≡ visible_row t x)
+  shown_again rows r h = map_has (visible_row t) rows r h
 
   -- the test finds exactly those rows of a list that have this key
   abbrev pub Tests : (Row → Bool) → Row → List Row → Type 0
-  Tests p k rows = (x : Row) → Has rows x → (p x ≡ true → take key (visible t x) ≡ k) × (take key (visible t x) ≡ k → p x ≡ true)
+  Tests p k rows = (x : Row) → Has rows x → (p x ≡ true → take key (visible_row t x) ≡ k) × (take key (visible_row t x) ≡ k → p x ≡ true)
 
   -- if the rows of a key are exchanged for a new row, the table's set of rows is the old one with the new row put
-  pub swaps_set : (p : Row → Bool) (n v : Row) (db next : Trees) → Swaps schema t p n db next → visible t n ≡ v → Tests p (take key v) (db t.tree)
+  pub swaps_set : (p : Row → Bool) (n v : Row) (db next : Trees) → Swaps schema t p n db next → visible_row t n ≡ v → Tests p (take key v) (db t.tree)
       → HasExactly (rows_in t next) (put key v (Has (rows_in t db)))
   swaps_set p n v db next swap is tests r = (
     λ there.
         let x = shown_again (next t.tree) r there in
         elim (swap.from x.0 x.1) [
-          | inl same ↦ inl (x.2 ∙ ap (visible t) same ∙ is)
+          | inl same ↦ inl (x.2 ∙ ap (visible_row t) same ∙ is)
           | inr was ↦ inr (
-            subst (Has (rows_in t db)) (sym x.2) (has_map (visible t) (db t.tree) x.0 was.0),
+            subst (Has (rows_in t db)) (sym x.2) (has_map (visible_row t) (db t.tree) x.0 was.0),
             λ e. true≢false (sym ((tests x.0 was.0).1 (ap (take key) (sym x.2) ∙ e)) ∙ was.1),
           )
         ],
     λ is_put. elim is_put [
-      | inl same ↦ subst (Has (rows_in t next)) (is ∙ sym same) (has_map (visible t) (next t.tree) n swap.there)
+      | inl same ↦ subst (Has (rows_in t next)) (is ∙ sym same) (has_map (visible_row t) (next t.tree) n swap.there)
       | inr was ↦
           let x = shown_again (db t.tree) r was.0 in
-          subst (Has (rows_in t next)) (sym x.2) (has_map (visible t) (next t.tree) x.0 (swap.kept x.0 x.1 (elim (cases_Bool (p x.0)) [
+          subst (Has (rows_in t next)) (sym x.2) (has_map (visible_row t) (next t.tree) x.0 (swap.kept x.0 x.1 (elim (cases_Bool (p x.0)) [
             | inl hit ↦ absurd (was.1 (ap (take key) x.2 ∙ (tests x.0 x.1).0 hit))
             | inr miss ↦ miss
           ])))
@@ -71,10 +71,10 @@ module _ (schema : Schema) (among : (u : Table) → Has all_tables u → Has sch
     λ there.
         let x = shown_again (next t.tree) r there in
         let was = lose.from x.0 x.1 in
-        (subst (Has (rows_in t db)) (sym x.2) (has_map (visible t) (db t.tree) x.0 was.0), λ e. true≢false (sym ((tests x.0 was.0).1 (ap (take key) (sym x.2) ∙ e)) ∙ was.1)),
+        (subst (Has (rows_in t db)) (sym x.2) (has_map (visible_row t) (db t.tree) x.0 was.0), λ e. true≢false (sym ((tests x.0 was.0).1 (ap (take key) (sym x.2) ∙ e)) ∙ was.1)),
     λ was.
         let x = shown_again (db t.tree) r was.0 in
-        subst (Has (rows_in t next)) (sym x.2) (has_map (visible t) (next t.tree) x.0 (lose.kept x.0 x.1 (elim (cases_Bool (p x.0)) [
+        subst (Has (rows_in t next)) (sym x.2) (has_map (visible_row t) (next t.tree) x.0 (lose.kept x.0 x.1 (elim (cases_Bool (p x.0)) [
           | inl hit ↦ absurd (was.1 (ap (take key) x.2 ∙ (tests x.0 x.1).0 hit))
           | inr miss ↦ miss
         ]))),
@@ -92,7 +92,7 @@ module _ (schema : Schema) (among : (u : Table) → Has all_tables u → Has sch
   }
 
   -- once the rows of a key are swapped for a new row, the table is the old one with the new row put (`Makes`)
-  pub swaps_make : (p : Row → Bool) (n v : Row) (old new : Database) → Swaps schema t p n old.trees new.trees → visible t n ≡ v → Tests p (take key v) (old.trees t.tree)
+  pub swaps_make : (p : Row → Bool) (n v : Row) (old new : Database) → Swaps schema t p n old.trees new.trees → visible_row t n ≡ v → Tests p (take key v) (old.trees t.tree)
       → IsSoundDatabase schema old.trees → IsDatabase new → new.schema ≡ schema → Makes schema t old new (put key v (Has (rows_in t old.trees)))
   swaps_make p n v old new swap shows tests sound base is = record {
     schema_is = is;
@@ -111,52 +111,52 @@ module _ (schema : Schema) (among : (u : Table) → Has all_tables u → Has sch
     sound = stays_sound old new sound base is lose.keyed lose.others;
   }
 
-  module _ (unlinked : (olds news : List Row) → works schema Enforced 0 t.tree olds news ≡ []) (limit : Option ℕ) (params : Row) (target : List ℕ) (place : ℕ) (project : List Term)
+  module _ (unlinked : (olds news : List Row) → works schema Enforced 0 t.tree olds news ≡ []) (limit : Option ℕ) (params : Row) (target : List ℕ) (position : ℕ) (project : List Term)
       (plain : (db : Trees) → overlay db [] t.tree ≡ db t.tree) (new v : Row) (old next : Database) where
     -- where a row has the key, the UPDATE of the upsert changes it to one that shows the values `v`
     abbrev pub UpdateShowsValues : Type 0
-    UpdateShowsValues = (r : Row) → Has (old.trees t.tree) r → take key (visible t r) ≡ take key v → visible t (cast_row t (eval_all project (given schema t unlinked limit params target place project plain new r ∷ r ∷ []))) ≡ v
+    UpdateShowsValues = (r : Row) → Has (old.trees t.tree) r → take key (visible_row t r) ≡ take key v → visible_row t (cast_row t (eval_all project (given schema t unlinked limit params target position project plain new r ∷ r ∷ []))) ≡ v
 
     -- two rows of the table with the same key have the same rowid, so they are one row
     abbrev pub OneRow : Type 0
-    OneRow = (x r : Row) → Has (old.trees t.tree) x → Has (old.trees t.tree) r → take key (visible t x) ≡ take key (visible t r) → is_eq (value_cmp (rowid x) (rowid r)) ≡ true
+    OneRow = (x r : Row) → Has (old.trees t.tree) x → Has (old.trees t.tree) r → take key (visible_row t x) ≡ take key (visible_row t r) → is_eq (value_cmp (rowid x) (rowid r)) ≡ true
 
     -- once an upsert has changed the row with the key to one that shows `v`, the table is the old one with the row `v`
     -- put (`Makes`)
-    over_make : (r : Row) → Has (old.trees t.tree) r → hits schema t unlinked limit params target place project plain new r ≡ true
-        → Swaps schema t (λ x. is_eq (value_cmp (rowid x) (rowid r))) (cast_row t (eval_all project (given schema t unlinked limit params target place project plain new r ∷ r ∷ []))) old.trees next.trees
-        → UpdateShowsValues → Tests (hits schema t unlinked limit params target place project plain new) (take key v) (old.trees t.tree) → OneRow
+    over_make : (r : Row) → Has (old.trees t.tree) r → hits schema t unlinked limit params target position project plain new r ≡ true
+        → Swaps schema t (λ x. is_eq (value_cmp (rowid x) (rowid r))) (cast_row t (eval_all project (given schema t unlinked limit params target position project plain new r ∷ r ∷ []))) old.trees next.trees
+        → UpdateShowsValues → Tests (hits schema t unlinked limit params target position project plain new) (take key v) (old.trees t.tree) → OneRow
         → Has all_tables t → IsSoundDatabase schema old.trees → IsDatabase next → next.schema ≡ schema → Makes schema t old next (put key v (Has (rows_in t old.trees)))
     over_make r there hit over changed tests alone listed sound base is =
-        let same : take key (visible t r) ≡ take key v = (tests r there).0 hit in
+        let same : take key (visible_row t r) ≡ take key v = (tests r there).0 hit in
         swaps_make _ _ v old next over (changed r there same) (λ x k. (
-          λ e. ap (λ (y : Row). take key (visible t y)) (one_rowid (old.trees t.tree) (sound.keyed t listed).apart x r k there e) ∙ same,
+          λ e. ap (λ (y : Row). take key (visible_row t y)) (one_rowid (old.trees t.tree) (sound.keyed t listed).apart x r k there e) ∙ same,
           λ e. alone x r k there (e ∙ sym same),
         )) sound base is
 
     -- after an upsert whose INSERT and whose UPDATE make rows that show `v`, the table is the old one with the row `v`
     -- put (`Makes`)
-    pub upserts_make : Upserted schema t unlinked limit params target place project plain new old.trees next.trees → visible t (cast_row t new) ≡ v → UpdateShowsValues
-        → Tests (hits schema t unlinked limit params target place project plain new) (take key v) (old.trees t.tree) → OneRow
+    pub upserts_make : Upserted schema t unlinked limit params target position project plain new old.trees next.trees → visible_row t (cast_row t new) ≡ v → UpdateShowsValues
+        → Tests (hits schema t unlinked limit params target position project plain new) (take key v) (old.trees t.tree) → OneRow
         → Has all_tables t → IsSoundDatabase schema old.trees → IsDatabase next → next.schema ≡ schema → Makes schema t old next (put key v (Has (rows_in t old.trees)))
     upserts_make (inl put_in) shows changed tests alone listed sound base is = swaps_make _ _ v old next put_in.1 shows tests sound base is
     upserts_make (inr over) shows changed tests alone listed sound base is = over_make over.0 over.1 over.2 over.3 changed tests alone listed sound base is
 
     -- if a row with the key is there, an upsert whose UPDATE makes a row that shows `v` puts the row `v` (`Makes`),
     -- whatever the INSERT would have made
-    pub updates_make : Upserted schema t unlinked limit params target place project plain new old.trees next.trees → (r : Row) → Has (old.trees t.tree) r → take key (visible t r) ≡ take key v → UpdateShowsValues
-        → Tests (hits schema t unlinked limit params target place project plain new) (take key v) (old.trees t.tree) → OneRow
+    pub updates_make : Upserted schema t unlinked limit params target position project plain new old.trees next.trees → (r : Row) → Has (old.trees t.tree) r → take key (visible_row t r) ≡ take key v → UpdateShowsValues
+        → Tests (hits schema t unlinked limit params target position project plain new) (take key v) (old.trees t.tree) → OneRow
         → Has all_tables t → IsSoundDatabase schema old.trees → IsDatabase next → next.schema ≡ schema → Makes schema t old next (put key v (Has (rows_in t old.trees)))
     updates_make (inl put_in) r there same changed tests alone listed sound base is = absurd (true≢false (sym ((tests r there).1 same) ∙ put_in.0 r there))
     updates_make (inr over) r there same changed tests alone listed sound base is = over_make over.0 over.1 over.2 over.3 changed tests alone listed sound base is
 
     -- an upsert keeps the database sound (`IsSoundDatabase`): the trees list the schema, their rows keep its rules,
     -- and in each of the ten tables the rowids are integers, no two alike
-    pub upserts_sound : Upserted schema t unlinked limit params target place project plain new old.trees next.trees → IsSoundDatabase schema old.trees → IsDatabase next → next.schema ≡ schema → IsSoundDatabase schema next.trees
+    pub upserts_sound : Upserted schema t unlinked limit params target position project plain new old.trees next.trees → IsSoundDatabase schema old.trees → IsDatabase next → next.schema ≡ schema → IsSoundDatabase schema next.trees
     upserts_sound (inl put_in) sound base is = stays_sound old next sound base is put_in.1.keyed put_in.1.others
     upserts_sound (inr over) sound base is = stays_sound old next sound base is over.3.keyed over.3.others
 
     -- an upsert of the table `t` leaves each table of the schema with another tree as it was
-    pub upserts_others : Upserted schema t unlinked limit params target place project plain new old.trees next.trees → (u : Table) → Has schema.tables u → u.tree ≢ t.tree → next.trees u.tree ≡ old.trees u.tree
+    pub upserts_others : Upserted schema t unlinked limit params target position project plain new old.trees next.trees → (u : Table) → Has schema.tables u → u.tree ≢ t.tree → next.trees u.tree ≡ old.trees u.tree
     upserts_others (inl put_in) = put_in.1.others
     upserts_others (inr over) = over.3.others

@@ -8,10 +8,10 @@ use Rattle.sqlite.specs.Table.{Table}
 use Rattle.sqlite.specs.State.{State}
 use Rattle.sqlite_rules.specs.Lists.{Has}
 use Rattle.sqlite_rules.proofs.ListLemmas.{has_either}
-use Rattle.atl_sql.specs.Sets.{AreKeyedByRowid, visible}
+use Rattle.atl_sql.specs.Sets.{AreKeyedByRowid, visible_row}
 use Rattle.atl_sql.proofs.Made.{Creates, AreBare, Extends}
 use Rattle.atl_sql.specs.Tables.{all_indexes, all_tables, no_tables, table_count}
-use Rattle.atl_sql.specs.Inside.{Inside, IsBlank}
+use Rattle.atl_sql.specs.Inside.{DoesInside, IsBlank}
 use Rattle.atl_sql.specs.Making.{AreEmpty}
 
 -- a CREATE TABLE, run where all tables are empty, makes one table more, and all are still empty (`Extends`)
@@ -43,8 +43,8 @@ with_tables tables = record { tables = tables; indexes = take (sum_by (λ t. len
 abbrev pub schema_of_first : ℕ → Schema
 schema_of_first count = with_tables (take count all_tables)
 
--- a database without tables gets the first `count` tables, all empty, and lists them in its trees (`IsDatabase`), if
--- `count` isn't 0; a transaction goes on exactly if there was one
+-- In a database without tables the first `count` tables are made, all empty. Its trees list them (`IsDatabase`), unless
+-- `count` is 0. The connection is in a transaction afterwards exactly if it was before.
 abbrev pub MakesFirst : ℕ → State → State → Type 0
 MakesFirst count old new = (new.in_transaction ≡ old.in_transaction) × (AreBare no_tables old.now → AreBare (schema_of_first count) new.now × (0 < count → IsDatabase new.now))
 
@@ -63,7 +63,7 @@ no_rows : AreKeyedByRowid []
 no_rows = record { apart = tt; ints = tt }
 
 -- making the first `count` tables in a blank database makes all ten, each empty, if `count` is ten or more
-pub makes_all : (count : ℕ) → table_count ≤ count → (a b : State) → MakesFirst count a b → Inside IsBlank AreEmpty a b
+pub makes_all : (count : ℕ) → table_count ≤ count → (a b : State) → MakesFirst count a b → DoesInside IsBlank AreEmpty a b
 makes_all count enough a b all = (
   all.0,
   λ blank.
@@ -71,7 +71,7 @@ makes_all count enough a b all = (
       let bare : AreBare (with_tables all_tables) b.now = subst (λ (l : List Table). AreBare (with_tables l) b.now) (take_all count all_tables enough) made.0 in
       let some : 0 < table_count = lit< tt in
       record {
-        does = λ t listed. ap (map (visible t)) (bare.empty t listed);
+        does = λ t listed. ap (map (visible_row t)) (bare.empty t listed);
         tables = record {
           begins = record { tables = []; indexes = []; made_of = bare.schema_is; free = tt; plain = λ i none. absurd none };
           sound = record {

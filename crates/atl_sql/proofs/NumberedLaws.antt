@@ -26,45 +26,45 @@ use Rattle.sqlite_rules.proofs.ListLemmas.{all_has}
 use Rattle.sqlite_sql.specs.declared.ops.BinaryOp.TheVariants.{Compare}
 use Rattle.sqlite_sql.specs.declared.ops.CompareOp.TheVariants.{Eq}
 use Rattle.sqlite.specs.Collation.TheVariants.{Binary}
-use Rattle.atl_sql.specs.Sets.{table, visible}
-use Rattle.atl_sql.specs.Tables.{number, all_tables, all_indexes, all_and}
+use Rattle.atl_sql.specs.Sets.{table, visible_row}
+use Rattle.atl_sql.specs.Tables.{integer_column, all_tables, all_indexes, all_tables_and_others}
 use Rattle.atl_sql.specs.Shown.{int}
-use Rattle.atl_sql.specs.Inside.{Inside, HasTables, Puts, Drops}
+use Rattle.atl_sql.specs.Inside.{DoesInside, HasTables, Puts, Drops}
 use Rattle.atl_sql.specs.Statements.{deletion, upsert}
-use Rattle.atl_sql.proofs.UpsertLaws.{Upserted, update_query, clause_on}
+use Rattle.atl_sql.proofs.UpsertLaws.{Upserted, update_query, conflict_clause}
 use Rattle.atl_sql.proofs.StatementLaws.{AlwaysPlain, PutsRow, DropsKey, upserting, removes, done_by}
-use Rattle.atl_sql.proofs.CarryLaws.{among_all, unlinked, none_share, sound_under, done_with}
-use Rattle.atl_sql.proofs.MakeLaws.{did, upserts_make, loses_make}
+use Rattle.atl_sql.proofs.CarryLaws.{among_all, write_checks_no_reference, none_share, sound_under, done_with}
+use Rattle.atl_sql.proofs.MakeLaws.{write_does_command, upserts_make, loses_make}
 use Rattle.atl_sql.proofs.FitLaws.{Fits, given_row, changed_row, makes_row}
 use Rattle.atl_sql.proofs.EditLaws.{delete_query, found_by}
-use Rattle.atl_sql.proofs.Terms.{head_is, by_number, one_number, at_number}
+use Rattle.atl_sql.proofs.Terms.{head_is, upsert_finds_number, one_number, delete_finds_number}
 
 -- the filter of the DELETE: the row's number equals the parameter
 abbrev has_number : List Term
 has_number = op2 (Compare Eq Binary) (col 1 0) (col 0 0) ∷ []
 
--- table `t`, of index `at` among all, has rows of a number and `width` values, put and deleted by the number
--- The table's two texts mean, whatever other tables follow: an INSERT of a row with an UPDATE of the row that has the
--- number, and a DELETE of the row that has the number.
+-- The rows of table `t` are a number and `width` values, and are put and deleted by the number. The index of the table
+-- among all tables is `at`. Its two texts mean the upsert of a row and the DELETE of a row by its number, whatever
+-- other tables follow.
 pub record IsNumbered (t : Table) (at width : ℕ) : Type 0 where
   -- the table is one of the ten
   pub ours : Has all_tables t
   -- the table has the index `at` among all tables of the schema
-  pub place : (more : List Table) → slice_get (all_tables ++ more) at ≡ Some t
+  pub position : (more : List Table) → slice_get (all_tables ++ more) at ≡ Some t
   -- the table's tree is one of the file, not that of a temporary table
   pub plain : (db : Trees) → overlay db [] t.tree ≡ db t.tree
   -- the upsert's text means an INSERT of a row, with an UPDATE of the row that has its number
   pub puts : (more : List Table) (indexes : List Index)
-      → command_of (understood (all_and more indexes) (upsert t 1)) ≡ InsertOr at Abort (Values (given_row width) (width + 2)) (clause_on (0 ∷ []) (record { lets = []; body = update_query t.tree (width + 1) (changed_row width) }) ∷ [])
+      → command_of (understood (all_tables_and_others more indexes) (upsert t 1)) ≡ InsertOr at Abort (Values (given_row width) (width + 2)) (conflict_clause (0 ∷ []) (record { lets = []; body = update_query t.tree (width + 1) (changed_row width) }) ∷ [])
   -- the upsert has no RETURNING and doesn't read the time
   pub puts_plain : AlwaysPlain (upsert t 1)
   -- the DELETE's text means the DELETE of the row that has the number
   pub drops : (more : List Table) (indexes : List Index)
-      → command_of (understood (all_and more indexes) (deletion t 1)) ≡ Delete at (record { lets = []; body = delete_query t.tree has_number })
+      → command_of (understood (all_tables_and_others more indexes) (deletion t 1)) ≡ Delete at (record { lets = []; body = delete_query t.tree has_number })
   -- the DELETE has no RETURNING and doesn't read the time
   pub drops_plain : AlwaysPlain (deletion t 1)
   -- no index of the ten tables makes the number unique
-  pub spared : (new x : Row) → list_any (shares (Some (0 ∷ [])) t new x) all_indexes ≡ false
+  pub no_index_shares : (new x : Row) → list_any (shares (Some (0 ∷ [])) t new x) all_indexes ≡ false
 
 -- one of the tables of a campaign, whose first column is the row's number
 module _ (tree : ℕ) (name key_name : List ℕ) (columns : List Column) (uniques : List (List ℕ)) (at : ℕ) where
@@ -74,7 +74,7 @@ module _ (tree : ℕ) (name key_name : List ℕ) (columns : List Column) (unique
 
   -- the table whose first column, its key, is the row's number, and whose other columns are `columns`
   abbrev t : Table
-  t = table tree name (number key_name ∷ columns) (Some 0) (0 ∷ []) uniques []
+  t = table tree name (integer_column key_name ∷ columns) (Some 0) (0 ∷ []) uniques []
 
   -- the text of the upsert of a row by its number
   abbrev put : List ℕ
@@ -89,20 +89,20 @@ module _ (tree : ℕ) (name key_name : List ℕ) (columns : List Column) (unique
 
     -- inside a transaction, the DELETE that ran removed the row that has the number
     drops : (n : ℕ) (old new : State) (count : ℕ) → IsTrue old.in_transaction → ExecutesInside 0 drop (int n ∷ []) old new (Ok count)
-        → Inside HasTables (Drops t 1 (int n ∷ [])) old new
+        → DoesInside HasTables (Drops t 1 (int n ∷ [])) old new
     drops n old new count inside ran = (
       ran.1.mode ∙ sym inside,
       λ has.
-          let schema = all_and has.begins.tables has.begins.indexes in
+          let schema = all_tables_and_others has.begins.tables has.begins.indexes in
           let sound = sound_under old.now has in
-          let none = unlinked has.begins.tables has.begins.indexes tree has.begins.free in
+          let none = write_checks_no_reference has.begins.tables has.begins.indexes tree has.begins.free in
           let k = int n ∷ [] in
           let db = old.now.trees in
           let w = runs_as drop k old new schema has.begins.made_of _ (is.drops has.begins.tables has.begins.indexes) (is.drops_plain has.begins.tables has.begins.indexes) count ran.0 in
           let keyed = sound.keyed t is.ours in
-          let out = removes schema tree name (number key_name ∷ columns) (Some 0) (0 ∷ []) uniques [] at (is.place has.begins.tables) none old.step_limit k (statement_of drop (understood schema drop)) (record { lets = []; body = delete_query tree has_number }) (λ r. list_all (holds (k ∷ r ∷ [])) has_number) db _ keyed
-          (λ rows answers. found_by tree has_number db (overlay db []) k rows (is.plain db) (answers.answer Null)) (did schema old new _ _ k count has.begins.made_of w) in
-          let makes = loses_make schema (among_all has.begins.tables) t 1 (λ r. list_all (holds (k ∷ r ∷ [])) has_number) k old.now new.now out.0 (λ x there. at_number (rowid x) n (all_has _ (db tree) x keyed.ints there)) sound w.sound out.1 in
+          let out = removes schema tree name (integer_column key_name ∷ columns) (Some 0) (0 ∷ []) uniques [] at (is.position has.begins.tables) none old.step_limit k (statement_of drop (understood schema drop)) (record { lets = []; body = delete_query tree has_number }) (λ r. list_all (holds (k ∷ r ∷ [])) has_number) db _ keyed
+          (λ rows answers. found_by tree has_number db (overlay db []) k rows (is.plain db) (answers.answer Null)) (write_does_command schema old new _ _ k count has.begins.made_of w) in
+          let makes = loses_make schema (among_all has.begins.tables) t 1 (λ r. list_all (holds (k ∷ r ∷ [])) has_number) k old.now new.now out.0 (λ x there. delete_finds_number (rowid x) n (all_has _ (db tree) x keyed.ints there)) sound w.sound out.1 in
           done_with t old.now new.now has is.ours _ _ (λ did. did) makes,
     )
 
@@ -114,32 +114,32 @@ module _ (tree : ℕ) (name key_name : List ℕ) (columns : List Column) (unique
 
     -- inside a transaction, the upsert that ran put its row, in place of the row with the same number
     puts : (n : ℕ) (values : Row) → Fits columns values → (old new : State) (count : ℕ) → IsTrue old.in_transaction
-        → ExecutesInside 0 put (int n ∷ values) old new (Ok count) → Inside HasTables (Puts t 1 (int n ∷ values)) old new
+        → ExecutesInside 0 put (int n ∷ values) old new (Ok count) → DoesInside HasTables (Puts t 1 (int n ∷ values)) old new
     unfolding first_key
     puts n values fits old new count inside ran = (
       ran.1.mode ∙ sym inside,
       λ has.
-          let schema = all_and has.begins.tables has.begins.indexes in
+          let schema = all_tables_and_others has.begins.tables has.begins.indexes in
           let sound = sound_under old.now has in
-          let none = unlinked has.begins.tables has.begins.indexes tree has.begins.free in
+          let none = write_checks_no_reference has.begins.tables has.begins.indexes tree has.begins.free in
           let writes = makes_row tree name key_name columns uniques n values fits in
           let v = int n ∷ values in
           let src = int n ∷ Null ∷ values in
           let project = changed_row width in
           let w = runs_as put v old new schema has.begins.made_of _ (is.puts has.begins.tables has.begins.indexes) (is.puts_plain has.begins.tables has.begins.indexes) count ran.0 in
           let keyed = sound.keyed t is.ours in
-          let up = upserting schema tree name (number key_name ∷ columns) (Some 0) (0 ∷ []) uniques [] at (is.place has.begins.tables) none old.step_limit v (0 ∷ []) (width + 1) project is.plain (statement_of put (understood schema put)) (given_row width) (width + 2) src
-          old.now.trees _ keyed (λ r there. writes.aimed (rowid r) _) writes.source (did schema old new _ _ v count has.begins.made_of w) in
+          let up = upserting schema tree name (integer_column key_name ∷ columns) (Some 0) (0 ∷ []) uniques [] at (is.position has.begins.tables) none old.step_limit v (0 ∷ []) (width + 1) project is.plain (statement_of put (understood schema put)) (given_row width) (width + 2) src
+          old.now.trees _ keyed (λ r there. writes.aimed (rowid r) _) writes.source (write_does_command schema old new _ _ v count has.begins.made_of w) in
           let made : with_rowid Chosen (old.now.trees tree) (cast_row t src) ≡ src = ap (with_rowid Chosen (old.now.trees tree)) writes.casted in
-          let shown : visible t (cast_row t src) ≡ v = ap (visible t) writes.casted ∙ writes.shown in
+          let shown : visible_row t (cast_row t src) ≡ v = ap (visible_row t) writes.casted ∙ writes.shown in
           let others : (x : Row) → list_any (shares (Some (0 ∷ [])) t src x) (all_indexes ++ has.begins.indexes) ≡ false = λ x. (
-          list_any-append (shares (Some (0 ∷ [])) t src x) all_indexes has.begins.indexes ∙ rw (is.spared src x) (none_share t (Some (0 ∷ [])) src x has.begins.indexes (λ i there. has.begins.plain i there t is.ours))
+          list_any-append (shares (Some (0 ∷ [])) t src x) all_indexes has.begins.indexes ∙ rw (is.no_index_shares src x) (none_share t (Some (0 ∷ [])) src x has.begins.indexes (λ i there. has.begins.plain i there t is.ours))
           ) in
           let makes = upserts_make schema (among_all has.begins.tables) t 1 none old.step_limit v (0 ∷ []) (width + 1) project is.plain src v old.now new.now
           (subst (λ k. Upserted schema t none old.step_limit v (0 ∷ []) (width + 1) project is.plain k old.now.trees new.now.trees) made up.0)
           shown
-          (λ r there same. ap (λ (k : Row). visible t (cast_row t k)) (writes.changed _ r ∙ ap (λ first. first ∷ Null ∷ values) (head_is _ _ _ _ same)) ∙ shown)
-          (λ x there. by_number (rowid x) n _ (others x) (all_has _ (old.now.trees tree) x keyed.ints there))
+          (λ r there same. ap (λ (k : Row). visible_row t (cast_row t k)) (writes.changed _ r ∙ ap (λ first. first ∷ Null ∷ values) (head_is _ _ _ _ same)) ∙ shown)
+          (λ x there. upsert_finds_number (rowid x) n _ (others x) (all_has _ (old.now.trees tree) x keyed.ints there))
           (λ x r one two same. one_number _ _ same)
           is.ours sound w.sound up.1 in
           done_with t old.now new.now has is.ours _ _ (λ did. did) makes,

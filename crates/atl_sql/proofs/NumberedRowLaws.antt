@@ -18,22 +18,22 @@ place_in part = unwrap_or (position (λ p. nat_eq (tree_of p) (tree_of part)) al
 abbrev width_of : Part → ℕ
 width_of part = length (drop 1 (table_of part).columns)
 
--- the texts of a part whose key is the row's number mean an upsert and a DELETE of the row of a number (`IsNumbered`)
-numbered : (part : Part) → IsNumberedPart part → IsNumbered (table_of part) (place_in part) (width_of part)
+-- a part whose key is the row's number has a table whose rows are put and deleted by this number (`IsNumbered`)
+part_is_numbered : (part : Part) → IsNumberedPart part → IsNumbered (table_of part) (place_in part) (width_of part)
 unfolding understood everything
-numbered Own is = absurd is
-numbered Goods is = absurd is
-numbered Books is = absurd is
-numbered Markets is = absurd is
-numbered part is = record {
+part_is_numbered Own is = absurd is
+part_is_numbered Goods is = absurd is
+part_is_numbered Books is = absurd is
+part_is_numbered Markets is = absurd is
+part_is_numbered part is = record {
   ours = listed part;
-  place = λ more. refl;
+  position = λ more. refl;
   plain = λ db. refl;
   puts = λ more indexes. refl;
   puts_plain = λ more indexes. (refl, refl);
   drops = λ more indexes. refl;
   drops_plain = λ more indexes. (refl, refl);
-  spared = λ new x. refl;
+  no_index_shares = λ new x. refl;
 }
 
 -- the upsert of a part whose key is the row's number puts the row of this number and these values (`PutsRow`)
@@ -42,7 +42,7 @@ puts_part Own is = absurd is
 puts_part Goods is = absurd is
 puts_part Books is = absurd is
 puts_part Markets is = absurd is
-puts_part part is = puts_numbered (table_of part).tree _ _ _ _ (place_in part) (numbered part is)
+puts_part part is = puts_numbered (table_of part).tree _ _ _ _ (place_in part) (part_is_numbered part is)
 
 -- the DELETE of a part whose key is the row's number removes the row of that number
 pub drops_part : (part : Part) → IsNumberedPart part → (n : ℕ) → DropsKey (table_of part) 1 (int n ∷ [])
@@ -50,4 +50,4 @@ drops_part Own is = absurd is
 drops_part Goods is = absurd is
 drops_part Books is = absurd is
 drops_part Markets is = absurd is
-drops_part part is = drops_numbered (table_of part).tree _ _ _ _ (place_in part) (numbered part is)
+drops_part part is = drops_numbered (table_of part).tree _ _ _ _ (place_in part) (part_is_numbered part is)

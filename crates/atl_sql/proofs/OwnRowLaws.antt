@@ -22,21 +22,21 @@ use Rattle.sqlite_rules.specs.Cast.{cast_row}
 use Rattle.sqlite_rules.specs.Edit.{with_rowid}
 use Rattle.sqlite_rules.specs.declared.error.Rowids.TheVariants.{Chosen}
 use Rattle.sqlite_rules.proofs.ListLemmas.{all_has}
-use Rattle.atl_sql.specs.Sets.{visible, rows_in, HasExactly}
-use Rattle.atl_sql.specs.Tables.{Own, campaign_table, all_and, all_tables}
+use Rattle.atl_sql.specs.Sets.{visible_row, rows_in, HasExactly}
+use Rattle.atl_sql.specs.Tables.{Own, campaign_table, all_tables_and_others, all_tables}
 use Rattle.atl_sql.specs.Shown.{CampaignRowValue, int, campaign_row, campaign_row_values}
 use Rattle.atl_sql.specs.Inside.{HasTables, Carries, Puts}
 use Rattle.atl_sql.proofs.ListLaws.{has_map, map_has}
-use Rattle.atl_sql.proofs.UpsertLaws.{Upserted, hits, update_query, clause_on}
+use Rattle.atl_sql.proofs.UpsertLaws.{Upserted, hits, update_query, conflict_clause}
 use Rattle.atl_sql.proofs.StatementLaws.{upserting}
 use Rattle.atl_sql.proofs.PartLaws.{listed}
-use Rattle.atl_sql.proofs.CarryLaws.{among_all, unlinked, none_share, sound_under, altered, stays_there, carried}
-use Rattle.atl_sql.proofs.MakeLaws.{did, upserts_make, updates_make, upserts_sound, upserts_others, Tests}
-use Rattle.atl_sql.proofs.Terms.{cast_null, cast_int, by_number, one_number}
+use Rattle.atl_sql.proofs.CarryLaws.{among_all, write_checks_no_reference, none_share, sound_under, altered, stays_there, carried}
+use Rattle.atl_sql.proofs.MakeLaws.{write_does_command, upserts_make, updates_make, upserts_sound, upserts_others, Tests}
+use Rattle.atl_sql.proofs.Terms.{cast_null, cast_int, upsert_finds_number, one_number}
 
 -- `campaign` is one of the ten tables
-ours : Has all_tables campaign_table
-ours = listed Own
+campaign_table_is_listed : Has all_tables campaign_table
+campaign_table_is_listed = listed Own
 
 -- the terms of the INSERT of a campaign row: id and format are fixed, all other columns are parameters
 abbrev pub own_terms : List Term
@@ -46,16 +46,16 @@ own_terms = lit (Int (pos 1)) ∷ lit Null ∷ lit (Int (pos 2)) ∷ col 0 0 ∷
 abbrev stored_own_row : CampaignRowValue → List ℕ → Row
 stored_own_row head world = int 1 ∷ Null ∷ int 2 ∷ campaign_row_values head world
 
--- what SQL shows of the row that the UPDATE by these terms makes of a row of `campaign` that is there
+-- the row, as SQL shows it, that the UPDATE by these terms makes of a stored row of `campaign`
 abbrev pub changed_to : List Term → CampaignRowValue → List ℕ → Row → Row
-changed_to project head world r = visible campaign_table (cast_row campaign_table (eval_all project ((campaign_row_values head world ++ rowid r ∷ shown campaign_table (stored_own_row head world)) ∷ r ∷ [])))
+changed_to project head world r = visible_row campaign_table (cast_row campaign_table (eval_all project ((campaign_row_values head world ++ rowid r ∷ shown campaign_table (stored_own_row head world)) ∷ r ∷ [])))
 
 -- an upsert of `campaign` inserts the row where there is none, or changes the one that is there by the terms `project`
 pub record PutsOwn (project : List Term) (head : CampaignRowValue) (world : List ℕ) (old new : Database) : Type 0 where
   -- if there is no campaign row, the row of the values `head` and the world text `world` is put
   pub first : rows_in campaign_table old.trees ≡ [] → Puts campaign_table 1 (campaign_row head world) old new
   -- a campaign row `before` that is there is replaced by the row `after` that the UPDATE makes of it, if both have id 1
-  pub again : (before after : Row) → take 1 before ≡ int 1 ∷ [] → take 1 after ≡ int 1 ∷ [] → HasExactly (rows_in campaign_table old.trees) (λ r. r ≡ before) → ((r : Row) → visible campaign_table r ≡ before → changed_to project head world r ≡ after) → Puts campaign_table 1 after old new
+  pub again : (before after : Row) → take 1 before ≡ int 1 ∷ [] → take 1 after ≡ int 1 ∷ [] → HasExactly (rows_in campaign_table old.trees) (λ r. r ≡ before) → ((r : Row) → visible_row campaign_table r ≡ before → changed_to project head world r ≡ after) → Puts campaign_table 1 after old new
   -- the tables of a campaign are there afterwards
   pub tables : HasTables new
   -- no table or index is gone, and tables that aren't a campaign's hold what they held (`Carries`)
@@ -64,46 +64,46 @@ pub record PutsOwn (project : List Term) (head : CampaignRowValue) (world : List
 -- the text means the upsert of `campaign` whose UPDATE has the terms `project`, whatever other tables follow
 pub record MeansOwn (sql : List ℕ) (project : List Term) : Type 1 where
   -- the text means the INSERT of a campaign row, with an UPDATE by the terms `project` of a row that is there
-  pub is : (more : List Table) (indexes : List Index) → command_of (understood (all_and more indexes) sql) ≡ InsertOr 0 Abort (Values own_terms 9) (clause_on (0 ∷ []) (record { lets = []; body = update_query campaign_table.tree 6 project }) ∷ [])
+  pub is : (more : List Table) (indexes : List Index) → command_of (understood (all_tables_and_others more indexes) sql) ≡ InsertOr 0 Abort (Values own_terms 9) (conflict_clause (0 ∷ []) (record { lets = []; body = update_query campaign_table.tree 6 project }) ∷ [])
   -- the statement has no RETURNING and doesn't read the time
-  pub plain : (more : List Table) (indexes : List Index) → IsPlain (understood (all_and more indexes) sql)
+  pub plain : (more : List Table) (indexes : List Index) → IsPlain (understood (all_tables_and_others more indexes) sql)
 
 -- a text that means an upsert of the campaign row (`MeansOwn`) inserts or changes the row (`PutsOwn`)
 pub puts_own : (sql : List ℕ) (project : List Term) → MeansOwn sql project → (old new : State) (head : CampaignRowValue) (world : List ℕ) (count : ℕ) → HasTables old.now → ExecutesInside 0 sql (campaign_row_values head world) old new (Ok count) → PutsOwn project head world old.now new.now
 unfolding first_key
 puts_own sql project means old new head world count has ran =
-    let schema = all_and has.begins.tables has.begins.indexes in
+    let schema = all_tables_and_others has.begins.tables has.begins.indexes in
     let sound = sound_under old.now has in
-    let none = unlinked has.begins.tables has.begins.indexes campaign_table.tree has.begins.free in
+    let none = write_checks_no_reference has.begins.tables has.begins.indexes campaign_table.tree has.begins.free in
     let v = campaign_row_values head world in
     let src = stored_own_row head world in
     let w = runs_as sql v old new schema has.begins.made_of _ (means.is has.begins.tables has.begins.indexes) (means.plain has.begins.tables has.begins.indexes) count ran.0 in
-    let keyed = sound.keyed campaign_table ours in
+    let keyed = sound.keyed campaign_table campaign_table_is_listed in
     let up = upserting schema campaign_table.tree _ _ _ _ _ _ 0 refl none old.step_limit v (0 ∷ []) 6 project (λ db. refl) (statement_of sql (understood schema sql)) own_terms 9 src
-    old.now.trees _ keyed (λ r there. refl) refl (did schema old new _ _ v count has.begins.made_of w) in
+    old.now.trees _ keyed (λ r there. refl) refl (write_does_command schema old new _ _ v count has.begins.made_of w) in
     let casted : cast_row campaign_table src ≡ src = rw (cast_int (pos 1), cast_int (pos 2), cast_int (pos head.month), cast_int (pos head.next_faction), cast_int (pos head.next_unit), cast_int (pos head.next_structure), cast_null) refl in
     let made : with_rowid Chosen (old.now.trees campaign_table.tree) (cast_row campaign_table src) ≡ src = ap (with_rowid Chosen (old.now.trees campaign_table.tree)) casted in
     let are_ints : (x : Row) → Has (old.now.trees campaign_table.tree) x → is_int (rowid x) ≡ true = λ x there. all_has _ (old.now.trees campaign_table.tree) x keyed.ints there in
     let upserted = subst (λ k. Upserted schema campaign_table none old.step_limit v (0 ∷ []) 6 project (λ db. refl) k old.now.trees new.now.trees) made up.0 in
-    let tests : Tests schema (among_all has.begins.tables) campaign_table 1 (hits schema campaign_table none old.step_limit v (0 ∷ []) 6 project (λ db. refl) src) (int 1 ∷ []) (old.now.trees campaign_table.tree) = λ x there. by_number (rowid x) 1 _ (none_share campaign_table (Some (0 ∷ [])) src x has.begins.indexes (λ i there. has.begins.plain i there campaign_table ours)) (are_ints x there) in
+    let tests : Tests schema (among_all has.begins.tables) campaign_table 1 (hits schema campaign_table none old.step_limit v (0 ∷ []) 6 project (λ db. refl) src) (int 1 ∷ []) (old.now.trees campaign_table.tree) = λ x there. upsert_finds_number (rowid x) 1 _ (none_share campaign_table (Some (0 ∷ [])) src x has.begins.indexes (λ i there. has.begins.plain i there campaign_table campaign_table_is_listed)) (are_ints x there) in
     let first : rows_in campaign_table old.now.trees ≡ [] → Puts campaign_table 1 (campaign_row head world) old.now new.now = λ bare.
-    altered campaign_table old.now new.now has ours _ (upserts_make schema (among_all has.begins.tables) campaign_table 1 none old.step_limit v (0 ∷ []) 6 project (λ db. refl) src (campaign_row head world) old.now new.now upserted
-    (ap (visible campaign_table) casted)
-    (λ r there same. absurd (subst (λ l. Has l (visible campaign_table r)) bare (has_map (visible campaign_table) (old.now.trees campaign_table.tree) r there)))
+    altered campaign_table old.now new.now has campaign_table_is_listed _ (upserts_make schema (among_all has.begins.tables) campaign_table 1 none old.step_limit v (0 ∷ []) 6 project (λ db. refl) src (campaign_row head world) old.now new.now upserted
+    (ap (visible_row campaign_table) casted)
+    (λ r there same. absurd (subst (λ l. Has l (visible_row campaign_table r)) bare (has_map (visible_row campaign_table) (old.now.trees campaign_table.tree) r there)))
     tests
     (λ x r one two same. one_number _ _ same)
-    ours sound w.sound up.1) in
-    let again : (before after : Row) → take 1 before ≡ int 1 ∷ [] → take 1 after ≡ int 1 ∷ [] → HasExactly (rows_in campaign_table old.now.trees) (λ r. r ≡ before) → ((r : Row) → visible campaign_table r ≡ before → changed_to project head world r ≡ after) → Puts campaign_table 1 after old.now new.now = λ before after key key_after is changed.
-    let x = map_has (visible campaign_table) (old.now.trees campaign_table.tree) before ((is before).1 refl) in
-    altered campaign_table old.now new.now has ours _ (updates_make schema (among_all has.begins.tables) campaign_table 1 none old.step_limit v (0 ∷ []) 6 project (λ db. refl) src after old.now new.now upserted
+    campaign_table_is_listed sound w.sound up.1) in
+    let again : (before after : Row) → take 1 before ≡ int 1 ∷ [] → take 1 after ≡ int 1 ∷ [] → HasExactly (rows_in campaign_table old.now.trees) (λ r. r ≡ before) → ((r : Row) → visible_row campaign_table r ≡ before → changed_to project head world r ≡ after) → Puts campaign_table 1 after old.now new.now = λ before after key key_after is changed.
+    let x = map_has (visible_row campaign_table) (old.now.trees campaign_table.tree) before ((is before).1 refl) in
+    altered campaign_table old.now new.now has campaign_table_is_listed _ (updates_make schema (among_all has.begins.tables) campaign_table 1 none old.step_limit v (0 ∷ []) 6 project (λ db. refl) src after old.now new.now upserted
     x.0 x.1 (ap (take 1) (sym x.2) ∙ key ∙ sym key_after)
-    (λ r there same. changed r ((is (visible campaign_table r)).0 (has_map (visible campaign_table) (old.now.trees campaign_table.tree) r there)))
+    (λ r there same. changed r ((is (visible_row campaign_table r)).0 (has_map (visible_row campaign_table) (old.now.trees campaign_table.tree) r there)))
     (subst (λ k. Tests schema (among_all has.begins.tables) campaign_table 1 (hits schema campaign_table none old.step_limit v (0 ∷ []) 6 project (λ db. refl) src) k (old.now.trees campaign_table.tree)) (sym key_after) tests)
     (λ x r one two same. one_number _ _ same)
-    ours sound w.sound up.1) in
+    campaign_table_is_listed sound w.sound up.1) in
     record {
       first = first;
       again = again;
-      tables = stays_there campaign_table old.now new.now has ours up.1 (upserts_sound schema (among_all has.begins.tables) campaign_table 1 none old.step_limit v (0 ∷ []) 6 project (λ db. refl) src v old.now new.now upserted sound w.sound up.1);
-      carries = carried campaign_table old.now new.now has ours up.1 (upserts_others schema (among_all has.begins.tables) campaign_table 1 none old.step_limit v (0 ∷ []) 6 project (λ db. refl) src v old.now new.now upserted);
+      tables = stays_there campaign_table old.now new.now has campaign_table_is_listed up.1 (upserts_sound schema (among_all has.begins.tables) campaign_table 1 none old.step_limit v (0 ∷ []) 6 project (λ db. refl) src v old.now new.now upserted sound w.sound up.1);
+      carries = carried campaign_table old.now new.now has campaign_table_is_listed up.1 (upserts_others schema (among_all has.begins.tables) campaign_table 1 none old.step_limit v (0 ∷ []) 6 project (λ db. refl) src v old.now new.now upserted);
     }

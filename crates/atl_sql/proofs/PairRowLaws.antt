@@ -9,9 +9,9 @@ use Rattle.sqlite.specs.Table.{Table}
 use Rattle.sqlite_schema.specs.declared.schema.Constraint.TheVariants.{Datatype, NotNull}
 use Rattle.sqlite_schema.specs.Rules.{passes}
 use Rattle.atl_sql.specs.Sets.{table}
-use Rattle.atl_sql.specs.Tables.{number}
+use Rattle.atl_sql.specs.Tables.{integer_column}
 use Rattle.atl_sql.specs.Shown.{int}
-use Rattle.atl_sql.proofs.KeyLaws.{int_by, cons_is}
+use Rattle.atl_sql.proofs.KeyLaws.{strict_integer_is_int, cons_is}
 use Rattle.atl_sql.proofs.KeyedRowLaws.{AreInts, MakesValues}
 use Rattle.atl_sql.proofs.Terms.{cast_null, cast_int}
 
@@ -24,13 +24,13 @@ abbrev pub pair_terms : List Term
 pair_terms = lit Null ∷ col 0 0 ∷ col 0 1 ∷ col 0 2 ∷ []
 
 -- the terms of the UPDATE: the row that is there keeps its key and takes over the third number
-abbrev pub pair_project : List Term
-pair_project = col 1 0 ∷ col 1 1 ∷ col 1 2 ∷ col 0 2 ∷ []
+abbrev pub pair_update_terms : List Term
+pair_update_terms = col 1 0 ∷ col 1 1 ∷ col 1 2 ∷ col 0 2 ∷ []
 
 module _ (tree : ℕ) (name first second amount : List ℕ) where
   -- a table, such as `books`, whose rows are a key of two numbers and one number more
   abbrev pub pair_table : Table
-  pair_table = table tree name (number first ∷ number second ∷ number amount ∷ []) None pair_unique (pair_unique ∷ []) []
+  pair_table = table tree name (integer_column first ∷ integer_column second ∷ integer_column amount ∷ []) None pair_unique (pair_unique ∷ []) []
 
   -- a row that passes the table's checks has integers in its key
   pub pair_ints : (schema : Schema) (x : Row) → passes Datatype schema (λ t. []) pair_table x ≡ true → passes NotNull schema (λ t. []) pair_table x ≡ true
@@ -43,10 +43,10 @@ module _ (tree : ℕ) (name first second amount : List ℕ) where
       let t2 = and_parts _ _ t1.1 in
       let p1 = and_parts _ _ present in
       let p2 = and_parts _ _ p1.1 in
-      (int_by a t1.0 (not-true _ p1.0), (int_by b t2.0 (not-true _ p2.0), tt))
+      (strict_integer_is_int a t1.0 (not-true _ p1.0), (strict_integer_is_int b t2.0 (not-true _ p2.0), tt))
 
   -- the terms of the upsert make the row of these three numbers (`MakesValues`)
-  pub makes_pair : (a b : ℕ) (n : ℤ) → MakesValues pair_table pair_unique 4 pair_terms 3 pair_project (int a ∷ int b ∷ Int n ∷ [])
+  pub makes_pair : (a b : ℕ) (n : ℤ) → MakesValues pair_table pair_unique 4 pair_terms 3 pair_update_terms (int a ∷ int b ∷ Int n ∷ [])
   makes_pair a b n = record {
     source = refl;
     casted = rw (cast_null, cast_int (pos a), cast_int (pos b), cast_int n) refl;

@@ -51,9 +51,9 @@ is_among parts part = list_any (λ p. nat_eq (tree_of part) (tree_of p)) parts
 abbrev pub are_apart : List Part → List Part → Bool
 are_apart ps qs = list_all (λ p. not (is_among qs p)) ps
 
--- a part of a list is among the list by the test `is_among`
-among : (parts : List Part) (part : Part) → Has parts part → is_among parts part ≡ true
-among parts part there = some_from (λ p. nat_eq (tree_of part) (tree_of p)) parts part there (itself (tree_of part))
+-- a part that is in a list passes the test `is_among` for this list
+member_is_among : (parts : List Part) (part : Part) → Has parts part → is_among parts part ≡ true
+member_is_among parts part there = some_from (λ p. nat_eq (tree_of part) (tree_of p)) parts part there (itself (tree_of part))
   where
     -- a number equals itself by the test `nat_eq`
     itself : (n : ℕ) → nat_eq n n ≡ true
@@ -61,9 +61,9 @@ among parts part there = some_from (λ p. nat_eq (tree_of part) (tree_of p)) par
 
 -- a part that fails the test `is_among` is not in the list
 pub not_among : (parts : List Part) (part : Part) → is_among parts part ≡ false → ¬ Has parts part
-not_among parts part free there = true≢false (sym (among parts part there) ∙ free)
+not_among parts part free there = true≢false (sym (member_is_among parts part there) ∙ free)
 
--- if "`b` or `c`" is true, `b` or `c` is true
+-- if the test "`b` or `c`" is true, at least one of `b` and `c` is true
 one_or_more : (b c : Bool) → (b || c) ≡ true → (b ≡ true) ⊎ (c ≡ true)
 one_or_more true c is = inl refl
 one_or_more false c is = inr is
@@ -86,4 +86,4 @@ all_among parts all part = among_has parts part (test_has (is_among parts) all_p
 
 -- no part is in two lists that are apart
 pub not_both : (ps qs : List Part) → are_apart ps qs ≡ true → (part : Part) → Has ps part → ¬ Has qs part
-not_both ps qs apart part there also = true≢false (sym (test_has (λ p. not (is_among qs p)) ps part apart there) ∙ ap not (among qs part also))
+not_both ps qs apart part there also = true≢false (sym (test_has (λ p. not (is_among qs p)) ps part apart there) ∙ ap not (member_is_among qs part also))

@@ -9,16 +9,16 @@ use Rattle.sqlite.specs.State.{State}
 use Rattle.sqlite.specs.Table.{Table}
 use Rattle.sqlite_rules.specs.Lists.{Has}
 use Rattle.sqlite_rules.proofs.ListLemmas.{has_left, has_right}
-use Rattle.atl_sql.specs.Inside.{Inside, HasTables}
-use Rattle.atl_sql.specs.Statements.{upsert, Each}
+use Rattle.atl_sql.specs.Inside.{DoesInside, HasTables}
+use Rattle.atl_sql.specs.Statements.{upsert, RowStatements}
 use Rattle.atl_sql.specs.Writes.{Writes, WritesRow, WritesRows}
-use Rattle.atl_sql.proofs.PutsLaws.{Towards, inside_rows, inside_both, none_yet, none_put, one_put, all_put}
-use Rattle.atl_sql.proofs.WriteLaws.{HandsOn, SoFar, begins, goes_on, stops, stops_second, two_steps, weaker, among, among_each}
+use Rattle.atl_sql.proofs.PutsLaws.{IsPartlyPut, inside_rows, inside_both, none_yet, none_put, one_put, all_put}
+use Rattle.atl_sql.proofs.WriteLaws.{HandsOn, HasDone, begins, goes_on, stops, stops_second, two_steps, weaker, writes_among_more, among_each}
 
 -- some rows of the list `all` are put without an error, and the rows `rest` are still to put
-pub record Putting {S : Type 0} (g : Ghosts S) (table : Table) (key : ℕ) (rest all : List Row) (old now : MutBor (Held S)) : Type 0 where
-  -- the steps done were upserts of rows of the list, and once `rest` is put too, all rows are (`Towards`)
-  pub so_far : SoFar g (Each (upsert table key) (Has all)) (Inside HasTables (Towards table key rest all)) old now
+pub record HasPutSome {S : Type 0} (g : Ghosts S) (table : Table) (key : ℕ) (rest all : List Row) (old now : MutBor (Held S)) : Type 0 where
+  -- the steps done were upserts of rows of the list, and once `rest` is put too, all rows are (`IsPartlyPut`)
+  pub so_far : HasDone g (RowStatements (upsert table key) (Has all)) (DoesInside HasTables (IsPartlyPut table key rest all)) old now
   -- the rows that are still to put are rows of the list
   pub left : (row : Row) → Has rest row → Has all row
 
@@ -36,11 +36,11 @@ module _ {S : Type 0} (g : Ghosts S) (table : Table) (key : ℕ) where
   -- a step that writes one row writes the rows of a list of just this row (`WritesRows`)
   pub one_written : (row : Row) (rows : List Row) {A : Type 0} {r : Result A Error} {a b : MutBor (Held S)} → rows ≡ row ∷ [] → WritesRow g table key row r a b → WritesRows g table key rows r a b
   one_written row rows is done =
-      among g (λ sql params only. (only.0, subst (λ (l : List Row). Has l params) (sym is) (inl only.1))) (weaker g (one_put table key row rows is) done)
+      writes_among_more g (λ sql params only. (only.0, subst (λ (l : List Row). Has l params) (sym is) (inl only.1))) (weaker g (one_put table key row rows is) done)
 
   module _ (xs ys : List Row) where
     -- a write by upserts of rows of `xs` is one by upserts of rows of `xs` and `ys` joined
-    first_part : {Does : State → State → Type 0} {A : Type 0} {r : Result A Error} {a b : MutBor (Held S)} → Writes g (Each (upsert table key) (Has xs)) Does r a b → Writes g (Each (upsert table key) (Has (xs ++ ys))) Does r a b
+    first_part : {Does : State → State → Type 0} {A : Type 0} {r : Result A Error} {a b : MutBor (Held S)} → Writes g (RowStatements (upsert table key) (Has xs)) Does r a b → Writes g (RowStatements (upsert table key) (Has (xs ++ ys))) Does r a b
     first_part done = among_each g (upsert table key) (Has xs) (λ row there. (refl, has_left xs ys row there)) done
 
     -- writing the rows of two lists, one list after the other, writes the rows of both joined (`WritesRows`)
@@ -54,25 +54,25 @@ module _ {S : Type 0} (g : Ghosts S) (table : Table) (key : ℕ) where
   -- ---- in a loop
 
   -- before the first row is put, the whole list is still to put
-  pub putting_begins : (rest all : List Row) {a : MutBor (Held S)} → rest ≡ all → Putting g table key rest all a a
+  pub putting_begins : (rest all : List Row) {a : MutBor (Held S)} → rest ≡ all → HasPutSome g table key rest all a a
   putting_begins rest all same = record { so_far = begins g (none_yet table key rest all same); left = λ row there. subst (λ (l : List Row). Has l row) same there }
 
   module _ (xs rest was all : List Row) (is : was ≡ xs ++ rest) where
     -- a write by upserts of rows of `xs`, the next ones to put, is one by upserts of rows of the whole list `all`
-    next_part : {old now : MutBor (Held S)} {Does : State → State → Type 0} {A : Type 0} {r : Result A Error} {a b : MutBor (Held S)} → Putting g table key was all old now → Writes g (Each (upsert table key) (Has xs)) Does r a b → Writes g (Each (upsert table key) (Has all)) Does r a b
+    next_part : {old now : MutBor (Held S)} {Does : State → State → Type 0} {A : Type 0} {r : Result A Error} {a b : MutBor (Held S)} → HasPutSome g table key was all old now → Writes g (RowStatements (upsert table key) (Has xs)) Does r a b → Writes g (RowStatements (upsert table key) (Has all)) Does r a b
     next_part so_far more = among_each g (upsert table key) (Has xs) (λ row there. (refl, so_far.left row (subst (λ (l : List Row). Has l row) (sym is) (has_left xs rest row there)))) more
 
-    -- putting the next rows, those of `xs`, without an error leaves only the rows `rest` to put (`Putting`)
-    pub putting_more : {u : Unit {0}} {a b c : MutBor (Held S)} → Putting g table key was all a b → WritesRows g table key xs (Ok u) b c → Putting g table key rest all a c
+    -- putting the next rows, those of `xs`, without an error leaves only the rows `rest` to put (`HasPutSome`)
+    pub putting_more : {u : Unit {0}} {a b c : MutBor (Held S)} → HasPutSome g table key was all a b → WritesRows g table key xs (Ok u) b c → HasPutSome g table key rest all a c
     putting_more so_far more = record {
-      so_far = goes_on g (λ old mid new did next. inside_rows table key xs rest all old mid new (subst (λ (l : List Row). Inside HasTables (Towards table key l all) old mid) is did) next) so_far.so_far (next_part so_far more);
+      so_far = goes_on g (λ old mid new did next. inside_rows table key xs rest all old mid new (subst (λ (l : List Row). DoesInside HasTables (IsPartlyPut table key l all) old mid) is did) next) so_far.so_far (next_part so_far more);
       left = λ row there. so_far.left row (subst (λ (l : List Row). Has l row) (sym is) (has_right xs rest row there));
     }
 
     -- if the next rows, those of `xs`, can't be put, the write of the whole list ends with this error
-    pub putting_failed : {Does : State → State → Type 0} {A X : Type 0} {e : Error} {r : Result A Error} {a b c : MutBor (Held S)} → Putting g table key was all a b → WritesRows {A = X} g table key xs (Err e) b c → HandsOn e r → Writes g (Each (upsert table key) (Has all)) Does r a c
+    pub putting_failed : {Does : State → State → Type 0} {A X : Type 0} {e : Error} {r : Result A Error} {a b c : MutBor (Held S)} → HasPutSome g table key was all a b → WritesRows {A = X} g table key xs (Err e) b c → HandsOn e r → Writes g (RowStatements (upsert table key) (Has all)) Does r a c
     putting_failed so_far more failed = stops_second g so_far.so_far (next_part so_far more) failed
 
   -- when no row is left to put, the whole list is written
-  pub putting_ends : (rest all : List Row) {a b : MutBor (Held S)} → rest ≡ [] → Putting g table key rest all a b → WritesRows {A = Unit {0}} g table key all (Ok (tt {0})) a b
+  pub putting_ends : (rest all : List Row) {a b : MutBor (Held S)} → rest ≡ [] → HasPutSome g table key rest all a b → WritesRows {A = Unit {0}} g table key all (Ok (tt {0})) a b
   putting_ends rest all none so_far = weaker g (all_put table key rest all none) so_far.so_far

@@ -23,8 +23,8 @@ Reads f sql in_table count = (old new : State) (rows : List Row) → Shown sql [
 pub asked_has_tables : (f : Format) (old before : State) → IsAsked old before → HasTablesOf f old.now.schema → HasTablesOf f before.now.schema
 asked_has_tables f old before select_of has = subst (λ (d : Database). HasTablesOf f d.schema) (sym select_of.same) has
 
--- if `old` has the tables of the format, a SELECT of a whole table (`Reads`), asked on a connection with the tables of
--- `old` (`IsAsked`), shows all rows that the table has in `old`
+-- A SELECT of a whole table (`Reads`) shows all rows that the table has in `old`, if `old` has the tables of the
+-- format. The SELECT is asked on a connection with the tables of `old` (`IsAsked`).
 pub asked_rows : (f : Format) (sql : List ℕ) (in_table : Trees → List Row) (count : ℕ) → Reads f sql in_table count → (old before during : State) (rows : List Row) → IsAsked old before → Shown sql [] before during rows → HasTablesOf f old.now.schema
     → IsPermutation (in_table old.now.trees) (map (first_columns count) rows)
 asked_rows f sql in_table count means old before during rows select_of shown has =

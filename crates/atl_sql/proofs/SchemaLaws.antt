@@ -22,20 +22,21 @@ only_one [] x d least most is same = absurd (omega (arith, least))
 only_one (y ∷ []) x d least most is same = ap (λ z. z ∷ []) (sym is ∙ same)
 only_one (y ∷ z ∷ xs) x d least most is same = absurd (omega (arith, most))
 
--- a test for an index whose name ends in the byte 49 is one for an index whose name ends in the number 1 (`decimal 1`)
-pub named : (name : List ℕ) (tree table : ℕ) (key : List ℕ) (found : Index) (r : Bool)
+-- A test for an index whose name ends in the byte 49 is one for an index whose name ends in the number 1. Both names
+-- are the same, since 49 is the digit 1 (`decimal 1`).
+pub index_name_ends_in_one : (name : List ℕ) (tree table : ℕ) (key : List ℕ) (found : Index) (r : Bool)
     → Decides r (found ≡ record { name = codes "sqlite_autoindex_" ++ (name ++ (codes "_" ++ 49 ∷ [])); tree = tree; table = table; columns = key; order = plain; is_unique = true })
     → Decides r (found ≡ record { name = codes "sqlite_autoindex_" ++ (name ++ (codes "_" ++ decimal 1)); tree = tree; table = table; columns = key; order = plain; is_unique = true })
-named name tree table key found r decides =
+index_name_ends_in_one name tree table key found r decides =
     subst (λ (d : List ℕ). Decides r (found ≡ record { name = codes "sqlite_autoindex_" ++ (name ++ (codes "_" ++ d)); tree = tree; table = table; columns = key; order = plain; is_unique = true })) (sym (decimal_digit 1 (omega arith))) decides
 
 -- a unique index that makes nothing unique in these tables is an index of none of them
-pub spares : (i : Index) (tables : List Table) → i.is_unique ≡ true → ((t : Table) → Has tables t → guards i t ≡ false)
+pub harmless_is_of_none : (i : Index) (tables : List Table) → i.is_unique ≡ true → ((t : Table) → Has tables t → guards i t ≡ false)
     → list_any (λ t. i.table == t.tree) tables ≡ false
-spares i [] unique spared = refl
-spares i (t ∷ tables) unique spared =
-    let first : (i.table == t.tree) ≡ false = rw unique at (spared t (inl refl)) in
-    let rest = spares i tables unique (λ u there. spared u (inr there)) in
+harmless_is_of_none i [] unique guards_none = refl
+harmless_is_of_none i (t ∷ tables) unique guards_none =
+    let first : (i.table == t.tree) ≡ false = rw unique at (guards_none t (inl refl)) in
+    let rest = harmless_is_of_none i tables unique (λ u there. guards_none u (inr there)) in
     rw (first, rest) refl
 
 -- an index that is of none of these tables makes nothing unique in any of them
@@ -52,8 +53,8 @@ any_mapped : {A B : Type 0} (f : A → B) (p : B → Bool) (xs : List A) → lis
 any_mapped f p [] = refl
 any_mapped f p (x ∷ xs) = ap (λ b. p (f x) || b) (any_mapped f p xs)
 
--- if the elements of a list have the trees of the ten tables, in this order, the first `count` elements have those of
--- the first `count` tables
+-- A tree is that of one of the first `count` elements of a list exactly if it is that of one of the first `count`
+-- tables. Premise: the elements have the trees of the ten tables, in this order.
 pub our_trees : {X : Type 0} (tree_of : X → ℕ) (xs : List X) → map tree_of xs ≡ all_trees → (tree count : ℕ)
     → list_any (λ x. tree == tree_of x) (take count xs) ≡ list_any (λ t. tree == t.tree) (take count all_tables)
 our_trees tree_of xs same tree count =
@@ -107,6 +108,6 @@ module _ (count keys : ℕ) (schema : Schema) where
     free = all-append _ tables begins.tables free begins.free;
     plain = λ i there. elim (has_either indexes begins.indexes i there) [
       | inl between ↦ all_has (IsHarmless fewer) indexes i plain between
-      | inr behind ↦ λ t ours. begins.plain i behind t (subst (λ l. Has l t) (sym first) (has_left (take fewer all_tables) tables t ours))
+      | inr after ↦ λ t ours. begins.plain i after t (subst (λ l. Has l t) (sym first) (has_left (take fewer all_tables) tables t ours))
     ];
   }

@@ -22,7 +22,7 @@ use Rattle.sqlite_sql.specs.Term.{eval_all}
 use Rattle.sqlite_trees.specs.Tree.{Trees}
 use Rattle.atl_world.specs.declared.format.Format.{Format}
 use Rattle.atl_world.specs.declared.format.Format.TheVariants.{First, Second}
-use Rattle.atl_sql.specs.Tables.{Part, Own, Goods, Books, Markets, has_table, books_table, table_of, market_table, market_unique, all_tables, first_and, table_count_in, index_count_in, IsHarmless, HasTablesOf}
+use Rattle.atl_sql.specs.Tables.{Part, Own, Goods, Books, Markets, has_table, books_table, table_of, market_table, market_unique, all_tables, first_tables_and_others, table_count_in, index_count_in, IsHarmless, HasTablesOf}
 use Rattle.atl_sql.specs.Reading.{select_of_part}
 use Rattle.atl_sql.specs.Stored.{first_columns}
 use Rattle.atl_sql.proofs.ReadLaws.{all_query, all_shown}
@@ -44,8 +44,8 @@ has_first Second schema has = begins_with_fewer 10 4 schema 9 3 (market_table �
 -- ---- columns
 
 -- the terms that read the first `count` columns of a table from a stored row
-abbrev first : Table → ℕ → List Term
-first t count = map (λ at. col 1 (place_of t at)) (range_with_len 0 count)
+abbrev first_column_terms : Table → ℕ → List Term
+first_column_terms t count = map (λ at. col 1 (place_of t at)) (range_with_len 0 count)
 
 -- the term that reads the rowid of a stored row
 abbrev rowid_term : Term
@@ -53,10 +53,10 @@ rowid_term = col 1 0
 
 -- the terms of a part's SELECT: all columns of the table, and the rowid after them if the key isn't the row's number
 abbrev columns_of : Part → List Term
-columns_of Goods = first has_table 4 ++ rowid_term ∷ []
-columns_of Books = first books_table 3 ++ rowid_term ∷ []
-columns_of Markets = first market_table 3 ++ rowid_term ∷ []
-columns_of part = first (table_of part) (length (table_of part).columns)
+columns_of Goods = first_column_terms has_table 4 ++ rowid_term ∷ []
+columns_of Books = first_column_terms books_table 3 ++ rowid_term ∷ []
+columns_of Markets = first_column_terms market_table 3 ++ rowid_term ∷ []
+columns_of part = first_column_terms (table_of part) (length (table_of part).columns)
 
 -- the number of columns of the key of a part's table
 abbrev key_of : Part → ℕ
@@ -67,17 +67,17 @@ key_of part = 1
 
 -- ---- a SELECT of all rows
 
--- the SELECT of a part means its columns (`columns_of`) of all rows, in the key's order, whatever other tables follow
--- The rows that the SELECT shows are those as which the part is read (`select_of_part`).
+-- The SELECT of a part means a query of its columns (`columns_of`) of all rows, in the order of the key, whatever other
+-- tables follow. The rows that the SELECT shows are those as which the part is read (`select_of_part`).
 record IsMeant (part : Part) : Type 0 where
   -- the text means the query of the part's columns (`columns_of`) of all rows of its table, in the order of the key
   command : (more : List Table) (indexes : List Index)
-      → command_of (understood (first_and (table_count_in (select_of_part part).since) (index_count_in (select_of_part part).since) more indexes) (select_of_part part).select)
-      ≡ Select (record { lets = []; body = all_query (table_of part).tree (columns_of part) (map (λ column. (column, ascending Binary)) (first (table_of part) (key_of part))) }) (select_of_part part).names
+      → command_of (understood (first_tables_and_others (table_count_in (select_of_part part).since) (index_count_in (select_of_part part).since) more indexes) (select_of_part part).select)
+      ≡ Select (record { lets = []; body = all_query (table_of part).tree (columns_of part) (map (λ column. (column, ascending Binary)) (first_column_terms (table_of part) (key_of part))) }) (select_of_part part).names
   -- the SELECT has no RETURNING and doesn't read the time
-  plain : (more : List Table) (indexes : List Index) → IsPlain (understood (first_and (table_count_in (select_of_part part).since) (index_count_in (select_of_part part).since) more indexes) (select_of_part part).select)
+  plain : (more : List Table) (indexes : List Index) → IsPlain (understood (first_tables_and_others (table_count_in (select_of_part part).since) (index_count_in (select_of_part part).since) more indexes) (select_of_part part).select)
   -- the SELECT doesn't read `sqlite_schema`, the table in which the database lists its tables
-  unlisted : (more : List Table) (indexes : List Index) → reads_listing (first_and (table_count_in (select_of_part part).since) (index_count_in (select_of_part part).since) more indexes) (select_of_part part).select ≡ false
+  unlisted : (more : List Table) (indexes : List Index) → reads_listing (first_tables_and_others (table_count_in (select_of_part part).since) (index_count_in (select_of_part part).since) more indexes) (select_of_part part).select ≡ false
   -- the table's tree is one of the file, not that of a temporary table
   same : (db : Trees) → overlay db [] (table_of part).tree ≡ db (table_of part).tree
   -- the rows that the query shows of the table are those as which the part is read (`select_of_part`)
@@ -86,23 +86,23 @@ record IsMeant (part : Part) : Type 0 where
   whole : (r : Row) → first_columns (length (select_of_part part).names) (eval_all (columns_of part) ([] ∷ r ∷ [])) ≡ eval_all (columns_of part) ([] ∷ r ∷ [])
 
 -- the SELECT of each part means the columns of all rows, in the order of the key (`IsMeant`)
-meant : (part : Part) → IsMeant part
+select_meaning : (part : Part) → IsMeant part
 unfolding understood everything
-meant Own = record { command = λ more indexes. refl; plain = λ more indexes. (refl, refl); unlisted = λ more indexes. refl; same = λ db. refl; rows = λ db. refl; whole = λ r. refl }
-meant part = record { command = λ more indexes. refl; plain = λ more indexes. (refl, refl); unlisted = λ more indexes. refl; same = λ db. refl; rows = λ db. refl; whole = λ r. refl }
+select_meaning Own = record { command = λ more indexes. refl; plain = λ more indexes. (refl, refl); unlisted = λ more indexes. refl; same = λ db. refl; rows = λ db. refl; whole = λ r. refl }
+select_meaning part = record { command = λ more indexes. refl; plain = λ more indexes. (refl, refl); unlisted = λ more indexes. refl; same = λ db. refl; rows = λ db. refl; whole = λ r. refl }
 
 -- under the tables of the first format that has a part, the part's SELECT shows all rows of the part's table (`Reads`)
 pub reads_part : (part : Part) (count : ℕ) → count ≡ length (select_of_part part).names → Reads (select_of_part part).since (select_of_part part).select (select_of_part part).in_table count
 reads_part part count same old new rows h has =
     let listing = select_of_part part in
-    let is = meant part in
+    let is = select_meaning part in
     let shown : Row → Row = λ r. eval_all (columns_of part) ([] ∷ r ∷ []) in
     let cut = first_columns (length listing.names) in
-    let got = reads_as listing.select [] old new (first_and (table_count_in listing.since) (index_count_in listing.since) has.tables has.indexes) has.made_of _ (is.command has.tables has.indexes) (is.plain has.tables has.indexes) (is.unlisted has.tables has.indexes) rows h in
+    let got = reads_as listing.select [] old new (first_tables_and_others (table_count_in listing.since) (index_count_in listing.since) has.tables has.indexes) has.made_of _ (is.command has.tables has.indexes) (is.plain has.tables has.indexes) (is.unlisted has.tables has.indexes) rows h in
     let all = all_shown (table_of part).tree (columns_of part) _ old.now.trees (overlay old.now.trees []) [] rows (is.same old.now.trees) (got.answer Null) in
-    let told : IsPermutation (listing.in_table old.now.trees) (map cut rows) = subst (λ was. IsPermutation was (map cut rows)) (is.rows old.now.trees) (whole_shown shown cut is.whole (old.now.trees (table_of part).tree) rows all) in
-    subst (λ n. IsPermutation (listing.in_table old.now.trees) (map (first_columns n) rows)) (sym same) told
+    let says : IsPermutation (listing.in_table old.now.trees) (map cut rows) = subst (λ was. IsPermutation was (map cut rows)) (is.rows old.now.trees) (whole_shown shown cut is.whole (old.now.trees (table_of part).tree) rows all) in
+    subst (λ n. IsPermutation (listing.in_table old.now.trees) (map (first_columns n) rows)) (sym same) says
 
 -- under the tables of its format the SELECT of a part has no RETURNING and doesn't read the time (`IsPlain`)
 pub part_plain : (part : Part) (schema : Schema) → HasTablesOf (select_of_part part).since schema → IsPlain (understood schema (select_of_part part).select)
-part_plain part schema has = subst (λ s. IsPlain (understood s (select_of_part part).select)) (sym has.made_of) ((meant part).plain has.tables has.indexes)
+part_plain part schema has = subst (λ s. IsPlain (understood s (select_of_part part).select)) (sym has.made_of) ((select_meaning part).plain has.tables has.indexes)

@@ -103,9 +103,9 @@ module _ {S : Type 0} (g : Ghosts S) (sql : List ℕ) (old begun mid end : Held 
   }
 
   -- a result with the fault of the refused SELECT's error is a result of asking it (`Asks`)
-  pub told : {Z : Type 0} (e : Error) (r : Result (Vec Row Z) ReadFault) → IsErrAnd r (λ fault. fault ≡ read_fault e) → (HasCleanDisk (state g mid) → FailsToQuery sql [] (state g begun) (state g mid) e ⊎ IsTooLate sql [] (state g begun) (state g mid) e) → Asks g sql old {Z = Z} r end
-  told e (Ok rows) is err = absurd is
-  told e (Err fault) is err = was_refused e fault is err
+  pub says : {Z : Type 0} (e : Error) (r : Result (Vec Row Z) ReadFault) → IsErrAnd r (λ fault. fault ≡ read_fault e) → (HasCleanDisk (state g mid) → FailsToQuery sql [] (state g begun) (state g mid) e ⊎ IsTooLate sql [] (state g begun) (state g mid) e) → Asks g sql old {Z = Z} r end
+  says e (Ok rows) is err = absurd is
+  says e (Err fault) is err = was_refused e fault is err
 
 -- ---- each row read
 
@@ -121,7 +121,7 @@ not_other e same = by_memory (is_memory e) (is_failure e) same
 
 -- the fault of a SELECT that is refused is never OtherType
 pub never_other : {S : Type 0} (g : Ghosts S) (sql : List ℕ) (old : Held S) (fault : ReadFault) → RefusesToSelect g sql old fault → fault ≡ OtherType → ⊥
-never_other g sql old fault told same = not_other told.2 (sym told.5 ∙ same)
+never_other g sql old fault says same = not_other says.2 (sym says.5 ∙ same)
 
 -- if the value of a result Ok has each of two properties, it has both
 if_both : {A E : Type 0} (P Q : A → Type 0) (r : Result A E) → IfOk r P → IfOk r Q → IfOk r (λ a. P a × Q a)
@@ -130,11 +130,11 @@ if_both P Q (Err e) p q = tt
 
 module _ {S A Z : Type 0} (g : Ghosts S) (sql : List ℕ) (old new : Held S) (forms : List Form) (shown : A → Row) where
   -- if the SELECT was refused, a read returns the fault of the refusal (`ReadsRows`)
-  pub unasked : {Y : Type 0} (fault : ReadFault) (r : Result (Vec A Z) ReadFault) → Asks g sql old {Z = Y} (Err fault) new → IsErrAnd r (λ told. told ≡ fault) → ReadsRows g sql old forms shown r new
+  pub unasked : {Y : Type 0} (fault : ReadFault) (r : Result (Vec A Z) ReadFault) → Asks g sql old {Z = Y} (Err fault) new → IsErrAnd r (λ says. says ≡ fault) → ReadsRows g sql old forms shown r new
   unasked fault (Ok all) asks is = absurd is
-  unasked fault (Err told) asks is = record {
+  unasked fault (Err says) asks is = record {
     rows = λ _. tt;
-    other = λ clean same. absurd (never_other g sql old told (subst (RefusesToSelect g sql old) (sym is) (asks.refused clean)) same);
+    other = λ clean same. absurd (never_other g sql old says (subst (RefusesToSelect g sql old) (sym is) (asks.refused clean)) same);
     refused = λ clean _ _. subst (RefusesToSelect g sql old) (sym is) (asks.refused clean);
     memory = λ clean same. inl (subst (RefusesToSelect g sql old) (sym is ∙ same) (asks.refused clean));
     rests = asks.rests;
@@ -146,10 +146,10 @@ module _ {S A Z : Type 0} (g : Ghosts S) (sql : List ℕ) (old new : Held S) (fo
   pub parsed : {Y : Type 0} (rows : Vec Row Y) (lent : List Row) (r : Result (Vec A Z) ReadFault) → Asks g sql old (Ok rows) new → lent ≡ rows.items
       → IfOk r (λ all. map shown all.items ≡ map (first_columns (length forms)) lent) → IfOk r (λ _. AreTyped forms lent) → IfErr r (λ fault. fault ≡ OtherType → ¬ AreTyped forms lent) → IfErr r (λ fault. fault ≢ OtherType → fault ≡ Memory) → ReadsRows g sql old forms shown r new
   parsed rows lent r asks same ok typed other which = record {
-    rows = λ clean. if_ok r (λ all told. (rows.items, asks.rows clean, told.0 ∙ ap (map (first_columns (length forms))) same, subst (λ l. AreTyped forms l) same told.1)) (if_both _ _ r ok typed);
-    other = λ clean. if_err r (λ fault told is. (rows.items, asks.rows clean, subst (λ l. ¬ AreTyped forms l) same (told is))) other;
-    refused = λ clean. if_err r (λ fault told no never. absurd (never (told no))) which;
-    memory = λ clean. if_err r (λ fault told is. inr (rows.items, asks.rows clean)) which;
+    rows = λ clean. if_ok r (λ all says. (rows.items, asks.rows clean, says.0 ∙ ap (map (first_columns (length forms))) same, subst (λ l. AreTyped forms l) same says.1)) (if_both _ _ r ok typed);
+    other = λ clean. if_err r (λ fault says is. (rows.items, asks.rows clean, subst (λ l. ¬ AreTyped forms l) same (says is))) other;
+    refused = λ clean. if_err r (λ fault says no never. absurd (never (says no))) which;
+    memory = λ clean. if_err r (λ fault says is. inr (rows.items, asks.rows clean)) which;
     rests = asks.rests;
     survives = asks.survives;
     idle = asks.idle;

@@ -13,7 +13,8 @@ use Rattle.atl_sql.specs.Errors.{is_memory, value_fault}
 use Rattle.atl_sql.specs.Stored.{Form, IsTyped, AreTyped}
 use Rattle.atl_sql.specs.declared.fault.ReadFault.TheVariants.{Memory, OtherType}
 
--- if the cut `first` changes no row that SQL shows, the rows that a SELECT showed, each cut, are still all of the table
+-- The rows that a SELECT showed, each cut by `first`, are all rows of the table. Premises: it showed all rows, and the
+-- cut changes no row that SQL shows.
 pub whole_shown : (shown first : Row → Row) → ((r : Row) → first (shown r) ≡ shown r) → (tree rows : List Row) → IsPermutation (map shown tree) rows → IsPermutation (map shown tree) (map first rows)
 whole_shown shown first whole tree rows same = subst (λ l. IsPermutation l (map first rows)) (kept tree) (IsPermutation-map first _ rows same)
   where
@@ -31,7 +32,7 @@ other_only e is = elim (is_memory e) as (λ b. (if b then Memory else OtherType)
 
 -- if reading one of the rows fails with OtherType, not all values of the rows are of their columns' forms (`AreTyped`)
 pub refuses_row : (forms : List Form) (rows : List Row) (at : ℕ) (row : Row) (e : Error) → at < length rows → row ≡ get_or rows at row → (IsTrue (not (is_memory e)) → ¬ IsTyped forms row) → value_fault e ≡ OtherType → ¬ AreTyped forms rows
-refuses_row forms rows at row e within is refused told typed = refused (other_only e told) (typed row (has_at rows at row within is))
+refuses_row forms rows at row e within is refused says typed = refused (other_only e says) (typed row (has_at rows at row within is))
 
 -- if the values of `rows` and of one row more are of their columns' forms, so are those of all together (`AreTyped`)
 typed_more : (forms : List Form) (rows more : List Row) (row : Row) → more ≡ rows ++ row ∷ [] → AreTyped forms rows → IsTyped forms row → AreTyped forms more

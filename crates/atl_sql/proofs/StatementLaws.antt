@@ -21,9 +21,9 @@ use Rattle.sqlite.specs.Listing.{understood}
 use Rattle.sqlite.specs.State.{State, ExecutesInside}
 use Rattle.sqlite.proofs.Callers.{IsPlain}
 use Rattle.sqlite_schema.specs.declared.schema.Index.{Index}
-use Rattle.atl_sql.specs.Inside.{Inside, HasTables, Puts, Drops}
-use Rattle.atl_sql.specs.Statements.{deletion, upsert, Only}
-use Rattle.atl_sql.specs.Tables.{all_and}
+use Rattle.atl_sql.specs.Inside.{DoesInside, HasTables, Puts, Drops}
+use Rattle.atl_sql.specs.Statements.{deletion, upsert, OneStatement}
+use Rattle.atl_sql.specs.Tables.{all_tables_and_others}
 use Rattle.sqlite.specs.Effect.{Database, Answers, value_rows}
 use Rattle.sqlite.specs.Rows.{Written, Task, Then, Gives, TriesEach, Counts, InsertsOr, count_of, nothing, mended, shown}
 use Rattle.sqlite.specs.Does.{Tally, Does, AtPlace, OnRows, Concludes}
@@ -33,10 +33,10 @@ use Rattle.sqlite.specs.declared.error.Error.{Error}
 use Rattle.sqlite.specs.Held.{Held}
 use Rattle.std.specs.Borrow.{MutBor}
 use Rattle.atl_sql.specs.Writes.{Writes, RunsStatement}
-use Rattle.atl_sql.proofs.WriteLaws.{weaker, among}
-use Rattle.atl_sql.proofs.EditLaws.{Loses, deletes, went, same_value}
+use Rattle.atl_sql.proofs.WriteLaws.{weaker, writes_among_more}
+use Rattle.atl_sql.proofs.EditLaws.{Loses, deletes, ok_step_did, same_value}
 use Rattle.atl_sql.proofs.ListLaws.{AreFound}
-use Rattle.atl_sql.proofs.UpsertLaws.{update_query, clause_on, Upserted, upserts}
+use Rattle.atl_sql.proofs.UpsertLaws.{update_query, conflict_clause, Upserted, upserts}
 use Rattle.sqlite_sql.specs.Program.{overlay}
 use Rattle.sqlite_schema.specs.declared.command.Conflict.TheVariants.{Abort}
 
@@ -45,7 +45,7 @@ abbrev pub mode : Mode
 mode = record { keys = Enforced; in_doubt = false; may_wait = false }
 
 module _ (schema : Schema) (tree : ℕ) (name : List ℕ) (columns : List Column) (key : Option ℕ) (primary : List ℕ) (uniques : List (List ℕ)) (checks : List Term)
-    (at : ℕ) (place : slice_get schema.tables at ≡ Some (table tree name columns key primary uniques checks))
+    (at : ℕ) (position : slice_get schema.tables at ≡ Some (table tree name columns key primary uniques checks))
     (unlinked : (olds news : List Row) → works schema Enforced 0 tree olds news ≡ []) where
   -- the table at index `at` of the schema
   abbrev t : Table
@@ -62,14 +62,14 @@ module _ (schema : Schema) (tree : ℕ) (name : List ℕ) (columns : List Column
   -- counting the highest rowid after an INSERT changes no tree, since the table has no AUTOINCREMENT
   counted : (limit : Option ℕ) (params : Row) (db : Trees) (done : Written × ℤ) (counter : Option Row) (w : Written)
       → Then (Counts (task limit params t) done.0.trees counter done.1) (λ next. Gives (record done.0 { trees = next })) (Ok w) → w.trees ≡ done.0.trees
-  counted limit params db done counter w h = let counts = went h in ap (λ (x : Written). x.trees) (same_value counts.2) ∙ same_value counts.1
+  counted limit params db done counter w h = let counts = ok_step_did h in ap (λ (x : Written). x.trees) (same_value counts.2) ∙ same_value counts.1
 
   -- the end of a statement changes neither the trees that the statement wrote nor the schema
   concluded : (limit : Option ℕ) (params : Row) (w : Written) (out : Tally × Database) → Concludes (task limit params t) mode None w (Ok out)
       → (out.1.trees ≡ w.trees) × (out.1.schema ≡ schema)
   concluded limit params w out h =
-      let tested = went h in
-      let shown = went tested.2 in
+      let tested = ok_step_did h in
+      let shown = ok_step_did tested.2 in
       (ap (λ (x : Tally × Database). x.1.trees) (same_value shown.2), ap (λ (x : Tally × Database). x.1.schema) (same_value shown.2))
 
   -- a DELETE that ran removed exactly the rows that pass its filter (`Loses`)
@@ -79,8 +79,8 @@ module _ (schema : Schema) (tree : ℕ) (name : List ℕ) (columns : List Column
       → Does limit mode params (record { schema = schema; trees = db }) text None (Delete at q) (Ok out)
       → Loses schema t p db out.1.trees × (out.1.schema ≡ schema)
   removes limit params text q p db out keyed found h =
-      let on_rows = subst (λ o. AtPlace (λ (u : Table). OnRows (task limit params u) mode None (Delete at q) db) o (Ok out)) place h in
-      let wrote = went on_rows in
+      let on_rows = subst (λ o. AtPlace (λ (u : Table). OnRows (task limit params u) mode None (Delete at q) db) o (Ok out)) position h in
+      let wrote = ok_step_did on_rows in
       let end = concluded limit params wrote.0 out wrote.2 in
       (subst (Loses schema t p db) (sym end.0) (deletes schema t unlinked limit params q p db wrote.0 keyed found wrote.1), end.1)
 
@@ -102,10 +102,10 @@ module _ (schema : Schema) (tree : ℕ) (name : List ℕ) (columns : List Column
     -- trying the one row of an upsert puts it, or changes the row with its key (`Changed`)
     each_upserts : (src : Row) (top : ℤ) (db : Trees) (done : Written × ℤ) → AreKeyedByRowid (db tree)
         → ((r : Row) → Has (db tree) r → column (params ++ rowid r ∷ shown t (row_inserted_by db src)) hole ≡ rowid r)
-        → TriesEach (task limit params t) Abort (clause_on target q ∷ []) (src ∷ []) top (nothing db) (Ok done)
+        → TriesEach (task limit params t) Abort (conflict_clause target q ∷ []) (src ∷ []) top (nothing db) (Ok done)
         → Changed (row_inserted_by db src) db done.0.trees
     each_upserts src top db done keyed aimed h =
-        let one = went h in
+        let one = ok_step_did h in
         let is : done.0.trees ≡ one.0.trees = ap (λ (x : Written × ℤ). x.0.trees) (same_value one.2) in
         subst (Changed (row_inserted_by db src) db) (sym is) (upserts schema t unlinked limit params target hole project plain (row_inserted_by db src) db one.0 keyed aimed one.1)
 
@@ -113,24 +113,24 @@ module _ (schema : Schema) (tree : ℕ) (name : List ℕ) (columns : List Column
     rows_upsert : (terms : List Term) (width : ℕ) (src : Row) (db : Trees) (w : Written) → AreKeyedByRowid (db tree)
         → ((r : Row) → Has (db tree) r → column (params ++ rowid r ∷ shown t (row_inserted_by db src)) hole ≡ rowid r)
         → value_rows (params ++ []) width (length terms / width) terms ≡ src ∷ []
-        → InsertsOr (task limit params t) Abort (clause_on target q ∷ []) (Values terms width) db (Ok w) → Changed (row_inserted_by db src) db w.trees
+        → InsertsOr (task limit params t) Abort (conflict_clause target q ∷ []) (Values terms width) db (Ok w) → Changed (row_inserted_by db src) db w.trees
     rows_upsert terms width src db w keyed aimed source h =
-        let rows = went h in
-        let counter = went rows.2 in
-        let each = went counter.2 in
+        let rows = ok_step_did h in
+        let counter = ok_step_did rows.2 in
+        let each = ok_step_did counter.2 in
         let given : rows.0 ≡ src ∷ [] = rows.1.1 ∙ source in
         subst (Changed (row_inserted_by db src) db) (sym (counted limit params db each.0 counter.0 w each.2))
-        (each_upserts src (count_of counter.0) db each.0 keyed aimed (subst (λ l. TriesEach (task limit params t) Abort (clause_on target q ∷ []) l (count_of counter.0) (nothing db) (Ok each.0)) given each.1))
+        (each_upserts src (count_of counter.0) db each.0 keyed aimed (subst (λ l. TriesEach (task limit params t) Abort (conflict_clause target q ∷ []) l (count_of counter.0) (nothing db) (Ok each.0)) given each.1))
 
     -- an upsert that ran put its row, or changed the row with its key (`Changed`)
     pub upserting : (text : List ℕ) (terms : List Term) (width : ℕ) (src : Row) (db : Trees) (out : Tally × Database) → AreKeyedByRowid (db tree)
         → ((r : Row) → Has (db tree) r → column (params ++ rowid r ∷ shown t (row_inserted_by db src)) hole ≡ rowid r)
         → value_rows (params ++ []) width (length terms / width) terms ≡ src ∷ []
-        → Does limit mode params (record { schema = schema; trees = db }) text None (InsertOr at Abort (Values terms width) (clause_on target q ∷ [])) (Ok out)
+        → Does limit mode params (record { schema = schema; trees = db }) text None (InsertOr at Abort (Values terms width) (conflict_clause target q ∷ [])) (Ok out)
         → Changed (row_inserted_by db src) db out.1.trees × (out.1.schema ≡ schema)
     upserting text terms width src db out keyed aimed source h =
-        let on_rows = subst (λ o. AtPlace (λ (u : Table). OnRows (task limit params u) mode None (InsertOr at Abort (Values terms width) (clause_on target q ∷ [])) db) o (Ok out)) place h in
-        let wrote = went on_rows in
+        let on_rows = subst (λ o. AtPlace (λ (u : Table). OnRows (task limit params u) mode None (InsertOr at Abort (Values terms width) (conflict_clause target q ∷ [])) db) o (Ok out)) position h in
+        let wrote = ok_step_did on_rows in
         let end = concluded limit params wrote.0 out wrote.2 in
         (subst (Changed (row_inserted_by db src) db) (sym end.0) (rows_upsert terms width src db wrote.0 keyed aimed source wrote.1), end.1)
 
@@ -138,11 +138,12 @@ module _ (schema : Schema) (tree : ℕ) (name : List ℕ) (columns : List Column
 
 -- a statement of this text is plain: without RETURNING, and not reading the time, whatever other tables follow the ten
 abbrev pub AlwaysPlain : List ℕ → Type 0
-AlwaysPlain sql = (more : List Table) (indexes : List Index) → IsPlain (understood (all_and more indexes) sql)
+AlwaysPlain sql = (more : List Table) (indexes : List Index) → IsPlain (understood (all_tables_and_others more indexes) sql)
 
--- inside a transaction a statement of this text with these parameters does `What` to the database
+-- inside a transaction a statement of this text with these parameters does to the database what the relation `What`
+-- says
 abbrev pub DoneBy : List ℕ → Row → (Database → Database → Type 0) → Type 1
-DoneBy sql values What = (old new : State) (count : ℕ) (params : Row) → IsTrue old.in_transaction → ExecutesInside 0 sql params old new (Ok count) → params ≡ values → Inside HasTables What old new
+DoneBy sql values What = (old new : State) (count : ℕ) (params : Row) → IsTrue old.in_transaction → ExecutesInside 0 sql params old new (Ok count) → params ≡ values → DoesInside HasTables What old new
 
 -- inside a transaction the upsert of a table, whose key is its first `key` columns, puts this row
 abbrev pub PutsRow : Table → ℕ → Row → Type 1
@@ -154,11 +155,11 @@ DropsKey t key k = DoneBy (deletion t key) k (Drops t key k)
 
 -- a text does `What` (`DoneBy`), if each run of it inside a transaction, with these values as parameters, does `What`
 pub done_by : (sql : List ℕ) (values : Row) (What : Database → Database → Type 0)
-    → ((old new : State) (count : ℕ) → IsTrue old.in_transaction → ExecutesInside 0 sql values old new (Ok count) → Inside HasTables What old new)
+    → ((old new : State) (count : ℕ) → IsTrue old.in_transaction → ExecutesInside 0 sql values old new (Ok count) → DoesInside HasTables What old new)
     → DoneBy sql values What
 done_by sql values What does old new count params inside h same = does old new count inside (subst (λ p. ExecutesInside 0 sql p old new (Ok count)) same h)
 
 -- a write that ran a statement with these values as parameters does `What`, if its text does so with them (`DoneBy`)
 pub runs_with : {S A : Type 0} (g : Ghosts S) {r : Result A Error} {a b : MutBor (Held S)} (sql : List ℕ) (values params : Row) (What : Database → Database → Type 0)
-    → DoneBy sql values What → params ≡ values → Writes g (Only sql params) (RunsStatement sql params) r a b → Writes g (Only sql values) (Inside HasTables What) r a b
-runs_with g sql values params What done same ran = among g (λ s p only. (only.0, only.1 ∙ same)) (weaker g (λ old new did. done old new did.1 params did.0 did.2 same) ran)
+    → DoneBy sql values What → params ≡ values → Writes g (OneStatement sql params) (RunsStatement sql params) r a b → Writes g (OneStatement sql values) (DoesInside HasTables What) r a b
+runs_with g sql values params What done same ran = writes_among_more g (λ s p only. (only.0, only.1 ∙ same)) (weaker g (λ old new did. done old new did.1 params did.0 did.2 same) ran)

@@ -105,10 +105,10 @@ module _ {S : Type 0} (g : Ghosts S) (sql : List ℕ) (old : Held S) where
     -- if the query is refused, reading its rows one by one returns the fault of the refusal (`Streams`)
     pub not_begun : {Z : Type 0} (now : Held S) (e : Error) (r : Result (Option (Vec A Z)) ReadFault) → IsPlain (understood old.schema sql) → IsErrAnd r (λ fault. fault ≡ read_fault e) → (HasCleanDisk (state g now) → FailsToQuery sql [] (state g old) (state g now) e)
         → now.in_transaction ≡ false → Survives (state g old) (state g now) (CommitsShowing sql [] (state g old)) → Streams g sql old forms shown r now
-    not_begun now e (Ok read) plain told err idle survives = absurd told
-    not_begun now e (Err fault) plain told err idle survives = record {
+    not_begun now e (Ok read) plain says err idle survives = absurd says
+    not_begun now e (Err fault) plain says err idle survives = record {
       rows = λ _. tt;
-      refused = λ clean. (old, now, e, record { was_open = λ up. up; is_open = λ up. up; same = refl; limit = refl; faults = no_fewer (state g old).faults }, err clean, told);
+      refused = λ clean. (old, now, e, record { was_open = λ up. up; is_open = λ up. up; same = refl; limit = refl; faults = no_fewer (state g old).faults }, err clean, says);
       same = λ _. tt;
       rests = λ clean. refused_rests sql (state g old) (state g now) plain e (err clean);
       survives = commits_nothing sql (state g old) (state g now) plain survives;
@@ -142,10 +142,10 @@ module _ {S : Type 0} (g : Ghosts S) (sql : List ℕ) (old : Held S) where
     module _ {A : Type 0} (forms : List Form) (shown : A → Row) where
       -- if the next row can't be fetched, reading the rows returns the fault of the error (`Streams`)
       pub not_advanced : {Z : Type 0} (e : Error) (r : Result (Option (Vec A Z)) ReadFault) → IsPlain (understood old.schema sql) → IsErrAnd r (λ fault. fault ≡ read_fault e) → (HasCleanDisk (state g now) → FailsToAdvance g mid now e) → Streams g sql old forms shown r now
-      not_advanced e (Ok read) plain told err = absurd told
-      not_advanced e (Err fault) plain told err = record {
+      not_advanced e (Ok read) plain says err = absurd says
+      not_advanced e (Err fault) plain says err = record {
         rows = λ _. tt;
-        refused = λ clean. (mid, now, e, asked_unchanged (state g old) (state g mid) (same_before clean) giving.survives, err clean sql [] given (giving.given_so (clean_before clean)).0, told);
+        refused = λ clean. (mid, now, e, asked_unchanged (state g old) (state g mid) (same_before clean) giving.survives, err clean sql [] given (giving.given_so (clean_before clean)).0, says);
         same = λ _. tt;
         rests = λ clean.
             let same = same_before clean in
@@ -204,11 +204,11 @@ module _ {S A Z : Type 0} (g : Ghosts S) (sql : List ℕ) (old : Held S) (forms 
   }
 
   -- if reading the rows one by one returns a fault, the read returns this fault (`ReadsRows`)
-  pub unstreamed : (fault : ReadFault) (r : Result (Vec A Z) ReadFault) (new : Held S) → Streams g sql old {Z = Z} forms shown (Err fault) new → IsErrAnd r (λ told. told ≡ fault) → ReadsRows g sql old forms shown r new
+  pub unstreamed : (fault : ReadFault) (r : Result (Vec A Z) ReadFault) (new : Held S) → Streams g sql old {Z = Z} forms shown (Err fault) new → IsErrAnd r (λ says. says ≡ fault) → ReadsRows g sql old forms shown r new
   unstreamed fault (Ok all) new streams is = absurd is
-  unstreamed fault (Err told) new streams is = record {
+  unstreamed fault (Err says) new streams is = record {
     rows = λ _. tt;
-    other = λ clean same. absurd (never_other g sql old told (subst (RefusesToSelect g sql old) (sym is) (streams.refused clean)) same);
+    other = λ clean same. absurd (never_other g sql old says (subst (RefusesToSelect g sql old) (sym is) (streams.refused clean)) same);
     refused = λ clean _ _. subst (RefusesToSelect g sql old) (sym is) (streams.refused clean);
     memory = λ clean same. inl (subst (RefusesToSelect g sql old) (sym is ∙ same) (streams.refused clean));
     rests = streams.rests;
@@ -219,10 +219,10 @@ module _ {S A Z : Type 0} (g : Ghosts S) (sql : List ℕ) (old : Held S) (forms 
   -- after reading the rows one by one gave None, a second read gives what a read at the start would (`ReadsRows`)
   pub read_again : (mid new : Held S) (r : Result (Vec A Z) ReadFault) → Streams g sql old {Z = Z} forms shown (Ok None) mid → ReadsRows g sql mid forms shown r new → ReadsRows g sql old forms shown r new
   read_again mid new r streams reads = record {
-    rows = λ clean. if_ok r (λ all told. (told.0, selects clean told.0 told.1, told.2, told.3)) (reads.rows clean);
-    other = λ clean. if_err r (λ fault told is. let other = told is in (other.0, selects clean other.0 other.1, other.2)) (reads.other clean);
-    refused = λ clean. if_err r (λ fault told a b. refuses clean fault (told a b)) (reads.refused clean);
-    memory = λ clean. if_err r (λ fault told is. elim (told is) [ inl refused ↦ inl (refuses clean Memory refused) | inr shown ↦ inr (shown.0, selects clean shown.0 shown.1) ]) (reads.memory clean);
+    rows = λ clean. if_ok r (λ all says. (says.0, selects clean says.0 says.1, says.2, says.3)) (reads.rows clean);
+    other = λ clean. if_err r (λ fault says is. let other = says is in (other.0, selects clean other.0 other.1, other.2)) (reads.other clean);
+    refused = λ clean. if_err r (λ fault says a b. refuses clean fault (says a b)) (reads.refused clean);
+    memory = λ clean. if_err r (λ fault says is. elim (says is) [ inl refused ↦ inl (refuses clean Memory refused) | inr shown ↦ inr (shown.0, selects clean shown.0 shown.1) ]) (reads.memory clean);
     rests = λ clean. rests_both (state g old) (state g mid) (state g new) (streams.rests (before clean)) (reads.rests clean);
     survives = survives_more (state g old) (state g mid) (state g new) streams.survives reads.survives;
     idle = reads.idle;
@@ -234,8 +234,8 @@ module _ {S A Z : Type 0} (g : Ghosts S) (sql : List ℕ) (old : Held S) (forms 
 
       -- for `read_again`: rows that the SELECT shows between the two reads are rows that it shows before the first
       selects : HasCleanDisk (state g new) → (rows : List Row) → Selects g sql mid rows → Selects g sql old rows
-      selects clean rows told = (told.0, told.1, asked_then (state g old) (state g mid) (state g told.0) (streams.same (before clean)) told.2, told.3)
+      selects clean rows says = (says.0, says.1, asked_then (state g old) (state g mid) (state g says.0) (streams.same (before clean)) says.2, says.3)
 
       -- for `read_again`: a fault of refusing the SELECT between the reads is one of refusing it before the first
       refuses : HasCleanDisk (state g new) → (fault : ReadFault) → RefusesToSelect g sql mid fault → RefusesToSelect g sql old fault
-      refuses clean fault told = (told.0, told.1, told.2, asked_then (state g old) (state g mid) (state g told.0) (streams.same (before clean)) told.3, told.4, told.5)
+      refuses clean fault says = (says.0, says.1, says.2, asked_then (state g old) (state g mid) (state g says.0) (streams.same (before clean)) says.3, says.4, says.5)

@@ -16,39 +16,39 @@ use Rattle.atl_sql.specs.Shown.{int}
 use Rattle.atl_sql.proofs.UpsertLaws.{equal_is, is_equal}
 
 -- a choice between a value and the same value is this value
-either : (b : Bool) (x : Value) → cond b x x ≡ x
-either true x = refl
-either false x = refl
+choice_of_equals : (b : Bool) (x : Value) → cond b x x ≡ x
+choice_of_equals true x = refl
+choice_of_equals false x = refl
 
 -- a NULL stays NULL in an INTEGER column
 pub cast_null : cast Integer Null ≡ Null
 unfolding unary
-cast_null = either _ Null
+cast_null = choice_of_equals _ Null
 
 -- an integer stays itself in an INTEGER column
 pub cast_int : (n : _) → cast Integer (Int n) ≡ Int n
 unfolding unary
-cast_int n = either _ (Int n)
+cast_int n = choice_of_equals _ (Int n)
 
 -- a test "(`b` and true) or `rest`" is `b`, if `rest` is false
-pub bare : (b rest : Bool) → rest ≡ false → ((b && true) || rest) ≡ b
-bare true rest none = refl
-bare false rest none = none
+pub and_true_or_false : (b rest : Bool) → rest ≡ false → ((b && true) || rest) ≡ b
+and_true_or_false true rest none = refl
+and_true_or_false false rest none = none
 
 -- equal rows have equal first values
 pub head_is : (a b : Value) (xs ys : Row) → ◌≡◌ {A = Row} (a ∷ xs) (b ∷ ys) → a ≡ b
 head_is a b xs ys e = cc
 
 -- an upsert's test of the key, which is the row's number `a`, is true exactly if `a` is `n`
-pub by_number : (a : Value) (n : ℕ) (rest : Bool) → rest ≡ false → is_int a ≡ true → (((equal Binary a (int n) && true) || rest) ≡ true → ◌≡◌ {A = Row} (a ∷ []) (int n ∷ [])) × (◌≡◌ {A = Row} (a ∷ []) (int n ∷ []) → ((equal Binary a (int n) && true) || rest) ≡ true)
-by_number a n rest none integer = (
-  λ hit. ap (λ v. v ∷ []) (equal_is a (int n) integer refl (sym (bare _ rest none) ∙ hit)),
-  λ same. bare _ rest none ∙ ap (λ v. equal Binary v (int n)) (head_is _ _ _ _ same) ∙ is_equal (int n) refl,
+pub upsert_finds_number : (a : Value) (n : ℕ) (rest : Bool) → rest ≡ false → is_int a ≡ true → (((equal Binary a (int n) && true) || rest) ≡ true → ◌≡◌ {A = Row} (a ∷ []) (int n ∷ [])) × (◌≡◌ {A = Row} (a ∷ []) (int n ∷ []) → ((equal Binary a (int n) && true) || rest) ≡ true)
+upsert_finds_number a n rest none integer = (
+  λ hit. ap (λ v. v ∷ []) (equal_is a (int n) integer refl (sym (and_true_or_false _ rest none) ∙ hit)),
+  λ same. and_true_or_false _ rest none ∙ ap (λ v. equal Binary v (int n)) (head_is _ _ _ _ same) ∙ is_equal (int n) refl,
 )
 
 -- a DELETE's test of the key, which is the row's number `a`, is true exactly if `a` is `n`
-pub at_number : (a : Value) (n : ℕ) → is_int a ≡ true → ((equal Binary a (int n) && true) ≡ true → ◌≡◌ {A = Row} (a ∷ []) (int n ∷ [])) × (◌≡◌ {A = Row} (a ∷ []) (int n ∷ []) → (equal Binary a (int n) && true) ≡ true)
-at_number a n integer = (
+pub delete_finds_number : (a : Value) (n : ℕ) → is_int a ≡ true → ((equal Binary a (int n) && true) ≡ true → ◌≡◌ {A = Row} (a ∷ []) (int n ∷ [])) × (◌≡◌ {A = Row} (a ∷ []) (int n ∷ []) → (equal Binary a (int n) && true) ≡ true)
+delete_finds_number a n integer = (
   λ hit. ap (λ v. v ∷ []) (equal_is a (int n) integer refl (sym (whole _) ∙ hit)),
   λ same. whole _ ∙ ap (λ v. equal Binary v (int n)) (head_is _ _ _ _ same) ∙ is_equal (int n) refl,
 )

@@ -7,7 +7,7 @@ use Rattle.sqlite.specs.Listing.{understood}
 use Rattle.sqlite.specs.Order.{Row, column}
 use Rattle.sqlite_trees.specs.Tree.{rowid}
 use Rattle.atl_world.specs.declared.format.Format.TheVariants.{First}
-use Rattle.atl_sql.specs.Sets.{visible}
+use Rattle.atl_sql.specs.Sets.{visible_row}
 use Rattle.atl_sql.specs.Tables.{campaign_table}
 use Rattle.atl_sql.specs.Shown.{CampaignRowValue, int, campaign_row, campaign_row_in, campaign_row_values}
 use Rattle.atl_sql.specs.Statements.{upgrading_upsert}
@@ -17,17 +17,18 @@ use Rattle.atl_sql.proofs.StatementLaws.{DoneBy, done_by}
 use Rattle.atl_sql.proofs.Terms.{cast_int}
 
 -- the terms of the UPDATE of `upgrading_upsert`: format 2, the new world text, and the other columns as they were
-abbrev project : List Term
-project = col 1 0 ∷ lit Null ∷ lit (Int (pos 2)) ∷ col 1 3 ∷ col 1 4 ∷ col 1 5 ∷ col 1 6 ∷ col 1 7 ∷ col 0 5 ∷ []
+abbrev upgrade_update_terms : List Term
+upgrade_update_terms = col 1 0 ∷ lit Null ∷ lit (Int (pos 2)) ∷ col 1 3 ∷ col 1 4 ∷ col 1 5 ∷ col 1 6 ∷ col 1 7 ∷ col 0 5 ∷ []
 
--- the text `upgrading_upsert` means an INSERT of the campaign row, with an UPDATE by the terms `project` (`MeansOwn`)
-upgrades_own : MeansOwn upgrading_upsert project
+-- the text `upgrading_upsert` means an INSERT of the campaign row, with an UPDATE by the terms `upgrade_update_terms`
+-- (`MeansOwn`)
+upgrades_own : MeansOwn upgrading_upsert upgrade_update_terms
 unfolding understood everything
 upgrades_own = record { is = λ more indexes. refl; plain = λ more indexes. (refl, refl) }
 
 -- of a campaign row of the first format, the UPDATE makes that of the second with the new world text
-upgraded : (head : CampaignRowValue) (text before : List ℕ) (r : Row) → visible campaign_table r ≡ campaign_row_in First head before → changed_to project head text r ≡ campaign_row head text
-upgraded head text before r shows =
+update_upgrades_row : (head : CampaignRowValue) (text before : List ℕ) (r : Row) → visible_row campaign_table r ≡ campaign_row_in First head before → changed_to upgrade_update_terms head text r ≡ campaign_row head text
+update_upgrades_row head text before r shows =
     let id : rowid r ≡ int 1 = ap (λ row. column row 0) shows in
     let month : column r 3 ≡ int head.month = ap (λ row. column row 2) shows in
     let faction : column r 4 ≡ int head.next_faction = ap (λ row. column row 3) shows in
@@ -42,6 +43,6 @@ pub puts_upgraded : (head : CampaignRowValue) (text : List ℕ) → DoneBy upgra
 puts_upgraded head text = done_by upgrading_upsert (campaign_row_values head text) (UpgradesCampaignRow head text) (λ old new count inside ran. (
   ran.1.mode ∙ sym inside,
   λ has.
-      let put = puts_own upgrading_upsert project upgrades_own old new head text count has ran in
-      record { does = λ before is. put.again (campaign_row_in First head before) (campaign_row head text) refl refl is (λ r shows. upgraded head text before r shows); tables = put.tables; carries = put.carries },
+      let put = puts_own upgrading_upsert upgrade_update_terms upgrades_own old new head text count has ran in
+      record { does = λ before is. put.again (campaign_row_in First head before) (campaign_row head text) refl refl is (λ r shows. update_upgrades_row head text before r shows); tables = put.tables; carries = put.carries },
 ))

@@ -42,7 +42,7 @@ use Rattle.sqlite_rules.specs.declared.error.Rowids.TheVariants.{Given}
 use Rattle.sqlite.specs.Rows.{Written, Task, Updates, Tries, Judged, Upserts, Meets, Clears, Puts, Edited, shown}
 use Rattle.atl_sql.specs.Sets.{AreKeyedByRowid}
 use Rattle.atl_sql.proofs.ListLaws.{eq_sym, AreFound, stays, was_there, keyed_put, keyed_without}
-use Rattle.atl_sql.proofs.EditLaws.{delete_query, Swaps, puts, went, same_value}
+use Rattle.atl_sql.proofs.EditLaws.{delete_query, Swaps, puts, ok_step_did, same_value}
 
 -- ---- SQL's = on integers
 
@@ -64,11 +64,11 @@ equal_ints (Real x) b p q = absurd (true≢false (sym p))
 equal_ints (Text x) b p q = absurd (true≢false (sym p))
 equal_ints (Blob x) b p q = absurd (true≢false (sym p))
 
--- two integers that are equal by the order of values are equal
+-- two whole numbers are equal, if their SQL integers are equal by the order of values
 same_int : (m n : ℤ) → is_eq (value_cmp (Int m) (Int n)) ≡ true → m ≡ n
 same_int m n h = let k = rw (value_cmp-Int m n) at h in grind (arith, ints, nat_tests)
 
--- integers that are equal by the order of values are equal
+-- two SQL values that are integers are equal, if they are equal by the order of values
 pub same_ints : (a b : Value) → is_int a ≡ true → is_int b ≡ true → is_eq (value_cmp a b) ≡ true → a ≡ b
 same_ints (Int m) (Int n) p q h = ap Int (same_int m n h)
 same_ints (Int m) Null p q h = absurd (true≢false (sym q))
@@ -80,7 +80,7 @@ same_ints (Real x) b p q h = absurd (true≢false (sym p))
 same_ints (Text x) b p q h = absurd (true≢false (sym p))
 same_ints (Blob x) b p q h = absurd (true≢false (sym p))
 
--- integers equal by SQL's = are equal
+-- two SQL values that are integers are equal, if they are equal by SQL's =
 pub equal_is : (a b : Value) → is_int a ≡ true → is_int b ≡ true → equal Binary a b ≡ true → a ≡ b
 equal_is a b p q h = same_ints a b p q (sym (equal_ints a b p q) ∙ h)
 
@@ -109,9 +109,9 @@ differ_not (Blob x) b p q h = absurd (true≢false (sym p))
 
 -- ---- the query of the update: the one row that has the rowid
 
--- the query of an upsert's UPDATE: the row whose rowid is column `place` of the parameters, with the values to set
+-- the query of an upsert's UPDATE: the row whose rowid is column `position` of the parameters, with the values to set
 abbrev pub update_query : ℕ → ℕ → List Term → Query
-update_query tree place project = record (delete_query tree (op2 (Compare Eq Binary) (col 1 0) (col 0 place) ∷ [])) { project = col 1 0 ∷ project }
+update_query tree position project = record (delete_query tree (op2 (Compare Eq Binary) (col 1 0) (col 0 position) ∷ [])) { project = col 1 0 ∷ project }
 
 module _ (p : Row → Bool) (f : Row → Env) where
   -- what a query by the test `p` chooses: the image by `f` of each row that passes
@@ -142,14 +142,14 @@ module _ (p : Row → Bool) (f : Row → Env) where
       rw (is x (inl refl) ∙ all_has _ rows r apart.0 h, one_chosen rows apart.1 r h (λ y k. is y (inr k)))
 
 -- the query of the UPDATE has one answer: the row with the given rowid, and the values to set
-pub row_by : (tree place : ℕ) (project : List Term) (db db' : Trees) (given : Row) (rows : List Row) (r : Row) → AreKeyedByRowid (db tree) → Has (db tree) r → column given place ≡ rowid r → db' tree ≡ db tree
-    → IsAnswer (update_query tree place project) db' given rows → rows ≡ (rowid r ∷ eval_all project (given ∷ r ∷ [])) ∷ []
-row_by tree place project db db' given rows r keyed there aimed same a =
-    let q = update_query tree place project in
+pub update_finds_its_row : (tree position : ℕ) (project : List Term) (db db' : Trees) (given : Row) (rows : List Row) (r : Row) → AreKeyedByRowid (db tree) → Has (db tree) r → column given position ≡ rowid r → db' tree ≡ db tree
+    → IsAnswer (update_query tree position project) db' given rows → rows ≡ (rowid r ∷ eval_all project (given ∷ r ∷ [])) ∷ []
+update_finds_its_row tree position project db db' given rows r keyed there aimed same a =
+    let q = update_query tree position project in
     let p = λ (x : Row). list_all (holds (given ∷ x ∷ [])) q.filter in
     let f = λ (x : Row). given ∷ x ∷ [] in
     let tests : (x : Row) → Has (db tree) x → p x ≡ is_eq (value_cmp (rowid x) (rowid r)) = λ x h.
-    both_true (equal Binary (rowid x) (column given place)) ∙ ap (equal Binary (rowid x)) aimed ∙ equal_ints (rowid x) (rowid r) (all_has _ (db tree) x keyed.ints h) (all_has _ (db tree) r keyed.ints there) in
+    both_true (equal Binary (rowid x) (column given position)) ∙ ap (equal Binary (rowid x)) aimed ∙ equal_ints (rowid x) (rowid r) (all_has _ (db tree) x keyed.ints h) (all_has _ (db tree) r keyed.ints there) in
     let staged : a.staged ≡ f r ∷ [] = a.grouped ∙ ap (chosen p f) same ∙ one_chosen p f (db tree) keyed.apart r there tests in
     let kept : a.kept ≡ output q (f r) ∷ [] = a.distinct ∙ ap (map (output q)) staged in
     let ordered = one_permutation (output q (f r)) a.ordered (subst (λ k. IsPermutation k a.ordered) kept a.same) in
@@ -163,18 +163,18 @@ row_by tree place project db db' given rows r keyed there aimed same a =
 -- ---- the statement
 
 -- the ON CONFLICT clause of an upsert: the key in these columns, and the program of its UPDATE
-abbrev pub clause_on : List ℕ → Program → Upsert
-clause_on target q = record { target = Some target; update = Some q }
+abbrev pub conflict_clause : List ℕ → Program → Upsert
+conflict_clause target q = record { target = Some target; update = Some q }
 
 module _ (schema : Schema) (t : Table) (unlinked : (olds news : List Row) → works schema Enforced 0 t.tree olds news ≡ []) (limit : Option ℕ) (params : Row)
-    (target : List ℕ) (place : ℕ) (project : List Term) (plain : (db : Trees) → overlay db [] t.tree ≡ db t.tree) where
+    (target : List ℕ) (position : ℕ) (project : List Term) (plain : (db : Trees) → overlay db [] t.tree ≡ db t.tree) where
   -- what the upsert is run with: the step limit, the schema, the table and the parameters
   abbrev upsert_task : Task
   upsert_task = record { limit = limit; keys = Enforced; schema = schema; table = t; params = params }
 
   -- the program of the UPDATE of this upsert
   abbrev q : Program
-  q = record { lets = []; body = update_query t.tree place project }
+  q = record { lets = []; body = update_query t.tree position project }
 
   -- whether a row of the table (the second argument) has the key of the new row (the first)
   abbrev pub hits : Row → Row → Bool
@@ -215,19 +215,19 @@ module _ (schema : Schema) (t : Table) (unlinked : (olds news : List Row) → wo
       }
 
   -- the UPDATE of an upsert exchanges the row that it hits for the one that it computes
-  updates : (new : Row) (db : Trees) (r x : Row) (w : Written) → AreKeyedByRowid (db t.tree) → Has (db t.tree) r → x ≡ rowid r ∷ [] → column (given new r) place ≡ rowid r
+  updates : (new : Row) (db : Trees) (r x : Row) (w : Written) → AreKeyedByRowid (db t.tree) → Has (db t.tree) r → x ≡ rowid r ∷ [] → column (given new r) position ≡ rowid r
       → Updates upsert_task q (params ++ rowid x ∷ shown t new) db (Ok w) → Swaps schema t (λ x. is_eq (value_cmp (rowid x) (rowid r))) (cast_row t (eval_all project (given new r ∷ r ∷ []))) db w.trees
   updates new db r x w keyed there is aimed h =
-      let select_of = went (subst (λ (y : Row). Updates upsert_task q (params ++ rowid y ∷ shown t new) db (Ok w)) is h) in
-      let wrote = went select_of.2 in
+      let select_of = ok_step_did (subst (λ (y : Row). Updates upsert_task q (params ++ rowid y ∷ shown t new) db (Ok w)) is h) in
+      let wrote = ok_step_did select_of.2 in
       let trees : w.trees ≡ wrote.0 = ap (λ (x : Written). x.trees) (same_value wrote.2) in
-      let rows = row_by t.tree place project db (overlay db []) (given new r) select_of.0 r keyed there aimed (plain db) (select_of.1.answer Null) in
+      let rows = update_finds_its_row t.tree position project db (overlay db []) (given new r) select_of.0 r keyed there aimed (plain db) (select_of.1.answer Null) in
       let edit = subst (λ l. Edited schema Enforced db (edit_of db t (ids_of l) Given 1 l) (Ok wrote.0)) rows wrote.1 in
       subst (Swaps schema t (λ x. is_eq (value_cmp (rowid x) (rowid r))) (cast_row t (eval_all project (given new r ∷ r ∷ []))) db) (sym trees) (replaced_at r _ db wrote.0 keyed there edit)
 
   -- the clause ON CONFLICT puts the new row where no row has its key, and else changes the row that has it
-  met : (new : Row) (db : Trees) (w : Written) (found : List Row) → AreKeyedByRowid (db t.tree) → ((r : Row) → Has (db t.tree) r → column (given new r) place ≡ rowid r)
-      → AreConflicts (Some target) schema.indexes t (db t.tree) new found → Meets upsert_task (Upserts upsert_task Abort new db []) new db (clause_on target q) found (Ok w) → Upserted new db w.trees
+  met : (new : Row) (db : Trees) (w : Written) (found : List Row) → AreKeyedByRowid (db t.tree) → ((r : Row) → Has (db t.tree) r → column (given new r) position ≡ rowid r)
+      → AreConflicts (Some target) schema.indexes t (db t.tree) new found → Meets upsert_task (Upserts upsert_task Abort new db []) new db (conflict_clause target q) found (Ok w) → Upserted new db w.trees
   met new db w [] keyed aimed are h =
       let put = puts schema t unlinked limit params new db w keyed (either h.0 h.2) in
       let clear : (r : Row) → Has (db t.tree) r → hits new r ≡ false = λ r was. elim (cases_Bool (hits new r)) [ inl hit ↦ absurd (are.complete r was hit) | inr miss ↦ miss ] in
@@ -251,12 +251,12 @@ module _ (schema : Schema) (t : Table) (unlinked : (olds news : List Row) → wo
       inr (hit.0, hit.1, hit.2, updates new db hit.0 x w keyed hit.1 hit.3 (aimed hit.0 hit.1) h)
 
   -- an upsert that ran put the new row, or changed the row with its key (`Upserted`)
-  pub upserts : (new : Row) (db : Trees) (w : Written) → AreKeyedByRowid (db t.tree) → ((r : Row) → Has (db t.tree) r → column (given new r) place ≡ rowid r)
-      → Tries upsert_task Abort (clause_on target q ∷ []) new db (Ok w) → Upserted new db w.trees
+  pub upserts : (new : Row) (db : Trees) (w : Written) → AreKeyedByRowid (db t.tree) → ((r : Row) → Has (db t.tree) r → column (given new r) position ≡ rowid r)
+      → Tries upsert_task Abort (conflict_clause target q ∷ []) new db (Ok w) → Upserted new db w.trees
   upserts new db w keyed aimed (inl refused) = absurd (let e = refused.1 in cc)
   upserts new db w keyed aimed (inr check_own_rows) = go check_own_rows.0 check_own_rows.2
     where
       -- whatever the check of the row's own values says, an upsert that ended with Ok put or changed the row
-      go : (verdict : Option Refusal) → Judged upsert_task Abort (clause_on target q ∷ []) new db verdict (Ok w) → Upserted new db w.trees
+      go : (verdict : Option Refusal) → Judged upsert_task Abort (conflict_clause target q ∷ []) new db verdict (Ok w) → Upserted new db w.trees
       go None h = met new db w h.0 keyed aimed h.1 h.2
       go (Some why) h = absurd (let e = h in cc)

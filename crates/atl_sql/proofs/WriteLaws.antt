@@ -13,22 +13,22 @@ use Rattle.sqlite.specs.State.{State, HasCleanDisk, Survives, KeepsCommit, Execu
 use Rattle.sqlite.proofs.InsideLemmas.{inside_keeps}
 use Rattle.atl_sql.specs.Writes.{Writes, RunsStatement}
 use Rattle.atl_sql.specs.Sets.{Set}
-use Rattle.atl_sql.specs.Statements.{Statements, Only, Each}
-use Rattle.atl_sql.proofs.CauseLaws.{gives, gives_after, gives_among, reached_then, reached_among, errs_as}
+use Rattle.atl_sql.specs.Statements.{Statements, OneStatement, RowStatements}
+use Rattle.atl_sql.proofs.CauseLaws.{gives, gives_after, gives_among, reached_then, reached_among, property_of_equal_error}
 use Rattle.atl_sql.proofs.KeepLaws.{survives_more, keeps_more, on_ok, if_err}
 
--- if a result is an error, the claim that P holds if it is Ok (`OnOk`) is true, whatever P is
-pub not_ok : {A E : Type 0} (r : Result A E) (P : Type 0) → IsErr r → OnOk r P
-not_ok (Ok a) P failed = absurd cc
-not_ok (Err e) P failed = tt
+-- a result that is an error meets `OnOk` for each claim P, since `OnOk` asks P of an Ok result alone
+pub on_ok_of_error : {A E : Type 0} (r : Result A E) (P : Type 0) → IsErr r → OnOk r P
+on_ok_of_error (Ok a) P failed = absurd cc
+on_ok_of_error (Err e) P failed = tt
 
 -- the result is this error, handed on from a call
 abbrev pub HandsOn : {A : Type 0} → Error → Result A Error → Type 0
 HandsOn e r = IsErr r × IsErrAnd r (λ f. f ≡ e)
 
 -- inside a transaction, steps by statements of `own` have done `Does` without an error
-abbrev pub SoFar : {S : Type 0} → Ghosts S → Statements → (State → State → Type 0) → MutBor (Held S) → MutBor (Held S) → Type 0
-SoFar g own Does old new = Writes g own Does {A = Unit {0}} (Ok (tt {0})) old new
+abbrev pub HasDone : {S : Type 0} → Ghosts S → Statements → (State → State → Type 0) → MutBor (Held S) → MutBor (Held S) → Type 0
+HasDone g own Does old new = Writes g own Does {A = Unit {0}} (Ok (tt {0})) old new
 
 -- doing nothing adds nothing that a crash could leave (`Survives`): each field compares a state with itself
 survives_start : (s : State) → Survives s s (λ _. ⊥)
@@ -58,19 +58,19 @@ module _ {S : Type 0} (g : Ghosts S) where
     ]
 
     -- a statement that fails is a write (`Writes`) that hands on its error and commits nothing
-    pub fails : {A : Type 0} (Does : State → State → Type 0) (e : Error) (result : Result A Error) → Ended (Err e) → Ran (Err e) → HandsOn e result → Writes g (Only sql params) Does result old new
+    pub fails : {A : Type 0} (Does : State → State → Type 0) (e : Error) (result : Result A Error) → Ended (Err e) → Ran (Err e) → HandsOn e result → Writes g (OneStatement sql params) Does result old new
     fails Does e result ended ran failed = record {
       same_reference = same;
-      does = λ _. not_ok result _ failed.0;
-      goes_on = λ _. not_ok result _ failed.0;
-      reaches = λ clean inside. not_ok result _ failed.0;
-      error_given = λ clean inside. errs_as _ result e failed.1 (gives g (Only sql params) e old.now new.now inside (inl (sql, params, (refl, refl), ran clean inside)));
+      does = λ _. on_ok_of_error result _ failed.0;
+      goes_on = λ _. on_ok_of_error result _ failed.0;
+      reaches = λ clean inside. on_ok_of_error result _ failed.0;
+      error_given = λ clean inside. property_of_equal_error _ result e failed.1 (gives g (OneStatement sql params) e old.now new.now inside (inl (sql, params, (refl, refl), ran clean inside)));
       kept = keeps (Err e) ended ran;
       survives = survives;
     }
 
     -- a statement that ran without an error is a write (`Writes`) of this statement alone (`RunsStatement`)
-    pub runs : {A : Type 0} (count : ℕ) (a : A) → Ended (Ok count) → Ran (Ok count) → Writes g (Only sql params) (RunsStatement sql params) (Ok a) old new
+    pub runs : {A : Type 0} (count : ℕ) (a : A) → Ended (Ok count) → Ran (Ok count) → Writes g (OneStatement sql params) (RunsStatement sql params) (Ok a) old new
     runs count a ended ran = record {
       same_reference = same;
       does = λ clean. elim (cases_Bool (state g old.now).in_transaction) [
@@ -94,8 +94,8 @@ module _ {S : Type 0} (g : Ghosts S) where
   weaker {r = r} less one = record { same_reference = one.same_reference; does = λ clean. on_ok r (less _ _) (one.does clean); goes_on = one.goes_on; reaches = one.reaches; error_given = one.error_given; kept = one.kept; survives = one.survives }
 
   -- a write by statements of `own` is a write by statements of `more`, if `more` has all of them
-  pub among : {own more : Statements} {Does : State → State → Type 0} {A : Type 0} {r : Result A Error} {a b : MutBor (Held S)} → ((sql : List ℕ) (params : Row) → own sql params → more sql params) → Writes g own Does r a b → Writes g more Does r a b
-  among {own = own} {more = more} {r = r} {a = a} {b = b} within one = record {
+  pub writes_among_more : {own more : Statements} {Does : State → State → Type 0} {A : Type 0} {r : Result A Error} {a b : MutBor (Held S)} → ((sql : List ℕ) (params : Row) → own sql params → more sql params) → Writes g own Does r a b → Writes g more Does r a b
+  writes_among_more {own = own} {more = more} {r = r} {a = a} {b = b} within one = record {
     same_reference = one.same_reference;
     does = one.does;
     goes_on = one.goes_on;
@@ -106,12 +106,12 @@ module _ {S : Type 0} (g : Ghosts S) where
   }
 
   -- a write by one statement is a write by statements of `own`, if `own` has this one
-  pub among_only : {own : Statements} {Does : State → State → Type 0} {A : Type 0} {r : Result A Error} {a b : MutBor (Held S)} (text : List ℕ) (values : Row) → own text values → Writes g (Only text values) Does r a b → Writes g own Does r a b
-  among_only {own = own} text values is one = among (λ sql params only. subst (λ s. own s params) (sym only.0) (subst (own text) (sym only.1) is)) one
+  pub among_only : {own : Statements} {Does : State → State → Type 0} {A : Type 0} {r : Result A Error} {a b : MutBor (Held S)} (text : List ℕ) (values : Row) → own text values → Writes g (OneStatement text values) Does r a b → Writes g own Does r a b
+  among_only {own = own} text values is one = writes_among_more (λ sql params only. subst (λ s. own s params) (sym only.0) (subst (own text) (sym only.1) is)) one
 
   -- a write by the statements of one text is a write by statements of `own`, if `own` has all of these
-  pub among_each : {own : Statements} {Does : State → State → Type 0} {A : Type 0} {r : Result A Error} {a b : MutBor (Held S)} (text : List ℕ) (rows : Set) → ((row : Row) → rows row → own text row) → Writes g (Each text rows) Does r a b → Writes g own Does r a b
-  among_each {own = own} text rows are one = among (λ sql params each. subst (λ s. own s params) (sym each.0) (are params each.1)) one
+  pub among_each : {own : Statements} {Does : State → State → Type 0} {A : Type 0} {r : Result A Error} {a b : MutBor (Held S)} (text : List ℕ) (rows : Set) → ((row : Row) → rows row → own text row) → Writes g (RowStatements text rows) Does r a b → Writes g own Does r a b
+  among_each {own = own} text rows are one = writes_among_more (λ sql params each. subst (λ s. own s params) (sym each.0) (are params each.1)) one
 
   -- two writes one after the other, the first without an error, are one write with the result of the second, and do
   -- `Does`, if `Does` follows from what the two do
@@ -137,10 +137,10 @@ module _ {S : Type 0} (g : Ghosts S) where
   pub stops : {own : Statements} {First Does : State → State → Type 0} {A X : Type 0} {e : Error} {r : Result A Error} {a b : MutBor (Held S)} → Writes g own First {A = X} (Err e) a b → HandsOn e r → Writes g own Does r a b
   stops {e = e} {r = r} one failed = record {
     same_reference = one.same_reference;
-    does = λ _. not_ok r _ failed.0;
-    goes_on = λ _. not_ok r _ failed.0;
-    reaches = λ clean inside. not_ok r _ failed.0;
-    error_given = λ clean inside. errs_as _ r e failed.1 (one.error_given clean inside);
+    does = λ _. on_ok_of_error r _ failed.0;
+    goes_on = λ _. on_ok_of_error r _ failed.0;
+    reaches = λ clean inside. on_ok_of_error r _ failed.0;
+    error_given = λ clean inside. property_of_equal_error _ r e failed.1 (one.error_given clean inside);
     kept = one.kept;
     survives = one.survives;
   }
@@ -168,8 +168,9 @@ module _ {S : Type 0} (g : Ghosts S) where
         survives = whole.survives;
       }
 
-  -- steps that have done `First` without an error, and one more that does `Second`, have together done `Does` (`SoFar`)
-  pub goes_on : {own : Statements} {First Second Does : State → State → Type 0} {u : Unit {0}} {a b c : MutBor (Held S)} → ((old mid new : State) → First old mid → Second mid new → Does old new) → SoFar g own First a b → Writes g own Second (Ok u) b c → SoFar g own Does a c
+  -- steps that have done `First` without an error, and one more that does `Second`, have together done `Does`
+  -- (`HasDone`)
+  pub goes_on : {own : Statements} {First Second Does : State → State → Type 0} {u : Unit {0}} {a b c : MutBor (Held S)} → ((old mid new : State) → First old mid → Second mid new → Does old new) → HasDone g own First a b → Writes g own Second (Ok u) b c → HasDone g own Does a c
   goes_on both so_far more = two_steps both so_far more
 
   -- doing nothing is a write (`Writes`) that does `Does`, if `Does` holds between each state and itself

@@ -14,7 +14,8 @@ use Rattle.atl_sql.specs.Statements.{Statements}
 
 -- from one state to the next, one statement of the set `own` ran inside a transaction, without an error
 abbrev pub RunsOne : Statements → State → State → Type 0
-RunsOne own before after = (sql : List ℕ) × (params : Row) × own sql params × (count : ℕ) × ExecutesInside 0 sql params before after (Ok count)
+RunsOne own before after =
+    (sql : List ℕ) × (params : Row) × own sql params × (count : ℕ) × ExecutesInside 0 sql params before after (Ok count)
 
 -- `count` statements of the set `own`, run one after another, lead from the connection `old` to `new`
 abbrev pub Leads : {S : Type 0} → Ghosts S → Statements → ℕ → Held S → Held S → Type 0
@@ -27,7 +28,9 @@ IsReached g own old new = (count : ℕ) × Leads g own count old new
 
 -- a statement of the set `own`, or the commit of the transaction, ended with this error
 abbrev pub IsGiven : Statements → Error → State → State → Type 0
-IsGiven own e before after = ((sql : List ℕ) × (params : Row) × own sql params × ExecutesInside 0 sql params before after (Err e)) ⊎ (IsTrue before.in_transaction × FailsToCommit before after e)
+IsGiven own e before after =
+    ((sql : List ℕ) × (params : Row) × own sql params × ExecutesInside 0 sql params before after (Err e))
+    ⊎ (IsTrue before.in_transaction × FailsToCommit before after e)
 
 -- a cause of an error: the disk failed between the two states, or the connection was shut already in the first
 abbrev pub IsBroken : State → State → Type 0

@@ -31,7 +31,7 @@ pub record Carries (old new : Database) : Type 0 where
   pub others : (t : Table) → Has old.schema.tables t → ¬ Has all_trees t.tree → new.trees t.tree ≡ old.trees t.tree
 
 -- `Does` is done, the tables of a campaign are there afterwards, and all others are kept with their indexes (`Carries`)
-pub record Done (Does : Database → Database → Type 0) (old new : Database) : Type 0 where
+pub record DoesAndKeeps (Does : Database → Database → Type 0) (old new : Database) : Type 0 where
   -- the database before and the one after are as `Does` says
   pub does : Does old new
   -- the tables of a campaign are there afterwards
@@ -39,16 +39,16 @@ pub record Done (Does : Database → Database → Type 0) (old new : Database) :
   -- no table or index is gone, and tables that aren't a campaign's hold what they held
   pub carries : Carries old new
 
--- if the tables were as `Before` says, `Does` is done to them, and all other tables are kept (`Done`); a transaction
--- goes on exactly if there was one
-abbrev pub Inside : (Database → Type 0) → (Database → Database → Type 0) → State → State → Type 0
-Inside Before Does old new = (new.in_transaction ≡ old.in_transaction) × (Before old.now → Done Does old.now new.now)
+-- A step on tables that are as `Before` says does `Does` to them, and keeps all other tables (`DoesAndKeeps`). The
+-- connection is in a transaction afterwards exactly if it was before.
+abbrev pub DoesInside : (Database → Type 0) → (Database → Database → Type 0) → State → State → Type 0
+DoesInside Before Does old new = (new.in_transaction ≡ old.in_transaction) × (Before old.now → DoesAndKeeps Does old.now new.now)
 
 -- `First` is done to the database, and then `Second`
-abbrev pub Both : (Database → Database → Type 0) → (Database → Database → Type 0) → Database → Database → Type 0
-Both First Second old new = (mid : Database) × First old mid × Second mid new
+abbrev pub DoesBoth : (Database → Database → Type 0) → (Database → Database → Type 0) → Database → Database → Type 0
+DoesBoth First Second old new = (mid : Database) × First old mid × Second mid new
 
--- the rows of this table are exactly this set, and each other table of a campaign is as it was
+-- afterwards the rows of this table are exactly those of this set, and each other table of a campaign is as it was
 pub record Alters (table : Table) (S : Set) (old new : Database) : Type 0 where
   -- the rows of the table are exactly those of the set `S`
   pub rows : HasExactly (rows_in table new.trees) S
@@ -84,7 +84,7 @@ PutsRows table key news old new = Alters table (puts key news (Has (rows_in tabl
 -- The connection is open and in no transaction.
 pub record Commits (Before : Database → Type 0) (Does : Database → Database → Type 0) (old new : State) : Type 0 where
   -- `Does` is done, if the tables were as `Before` says
-  pub does : Before old.now → Done Does old.now new.now
+  pub does : Before old.now → DoesAndKeeps Does old.now new.now
   -- all that the tables hold is committed
   pub committed : new.committed ≡ new.now
   -- afterwards the connection is in no transaction
@@ -105,4 +105,4 @@ pub record LeavesOff (old new : State) : Type 0 where
 -- what a crash may leave besides what it could have left before: the trees of a database to which `Does` was done,
 -- if the tables were as `Before` says
 abbrev pub MayLeave : (Database → Type 0) → (Database → Database → Type 0) → State → Trees → Type 0
-MayLeave Before Does old trees = (db : Database) × (Before old.now → Done Does old.now db) × (trees ≡ db.trees)
+MayLeave Before Does old trees = (db : Database) × (Before old.now → DoesAndKeeps Does old.now db) × (trees ≡ db.trees)

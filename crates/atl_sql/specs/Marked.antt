@@ -18,21 +18,22 @@ abbrev pub first_column_passes : (ℕ → Bool) → Row → Bool
 first_column_passes is_so (Int (pos n) ∷ row) = is_so n
 first_column_passes is_so row = false
 
--- whether the test `is_so`, the first argument, is true of the entry and the thing of a row of `books`
--- The entry is given by its index, the first column less 1; the thing by its number, the second column.
+-- Whether the test `is_so`, the first argument, is true of the entry and the thing of a row of `books`. The entry is
+-- given by its index, the first column less 1; the thing by its number, the second column.
 abbrev pub entry_and_thing_pass : (ℕ → ℕ → Bool) → Row → Bool
 entry_and_thing_pass is_so (Int (pos (suc entry)) ∷ Int (pos thing) ∷ row) = is_so entry thing
 entry_and_thing_pass is_so row = false
 
--- whether a row of `has` is of this kind (item or skill), and the test `is_so` is true of its unit and item or skill
-abbrev pub of_kind : ThingKind → (ℕ → ℕ → Bool) → Row → Bool
-of_kind sort is_so (Int (pos unit) ∷ Int (pos number) ∷ Int (pos thing) ∷ row) = number == sort_number sort && is_so unit thing
-of_kind sort is_so row = false
+-- whether a row of `has` is of this kind (item or skill), and the test `is_so` is true of its unit and its item or
+-- skill
+abbrev pub unit_and_thing_pass : ThingKind → (ℕ → ℕ → Bool) → Row → Bool
+unit_and_thing_pass sort is_so (Int (pos unit) ∷ Int (pos number) ∷ Int (pos thing) ∷ row) = number == sort_number sort && is_so unit thing
+unit_and_thing_pass sort is_so row = false
 
 -- whether the test `is_so`, the first argument, is true of the region and the item of a row of `market`
-abbrev pub of_stock : (ℕ → ℕ → Bool) → Row → Bool
-of_stock is_so (Int (pos region) ∷ Int (pos item) ∷ row) = is_so region item
-of_stock is_so row = false
+abbrev pub region_and_item_pass : (ℕ → ℕ → Bool) → Row → Bool
+region_and_item_pass is_so (Int (pos region) ∷ Int (pos item) ∷ row) = is_so region item
+region_and_item_pass is_so row = false
 
 -- whether the first column of a row is a marked number
 abbrev pub begins_marked : FinSet nat_cmp → Row → Bool
@@ -44,14 +45,15 @@ has_thing things unit thing = is_some (get (group_of things unit) thing)
 
 -- whether a row of `has` is marked: with all goods of its unit, or as a single item or skill
 abbrev pub goods_marked : Marks → Row → Bool
-goods_marked marks r = begins_marked marks.goods r || of_kind Item (has_thing marks.items) r || of_kind Skill (has_thing marks.skills) r
+goods_marked marks r =
+    begins_marked marks.goods r || unit_and_thing_pass Item (has_thing marks.items) r || unit_and_thing_pass Skill (has_thing marks.skills) r
 
 -- whether a row of `market` is marked: with all stocks of its region, or as a single stock
 abbrev pub stocks_marked : Marks → Row → Bool
-stocks_marked marks r = begins_marked marks.stocks r || of_stock (has_thing marks.stock_items) r
+stocks_marked marks r = begins_marked marks.stocks r || region_and_item_pass (has_thing marks.stock_items) r
 
--- whether the amount of an entry and a thing in the books is marked
--- The entry is given by its index, which has to be below `entry_count`.
+-- Whether the amount of an entry and a thing in the books is marked. The entry is given by its index, which has to be
+-- below `entry_count`.
 abbrev pub is_marked_amount : FinSet nat_cmp → ℕ → ℕ → Bool
 is_marked_amount marks entry thing = nat_le (suc entry) entry_count && contains marks (entry_count * thing + entry)
 
@@ -59,8 +61,8 @@ is_marked_amount marks entry thing = nat_le (suc entry) entry_count && contains 
 abbrev pub amount_marked : FinSet nat_cmp → Row → Bool
 amount_marked marks r = entry_and_thing_pass (is_marked_amount marks) r
 
--- whether a row of a part's table is marked, by its key; the campaign row always counts as marked,
--- since `own_after` of atl_store looks at its mark
+-- Whether a row of a part's table is marked, by its key. The campaign row always counts as marked, since `own_after` of
+-- atl_store looks at its mark.
 abbrev pub is_marked : Marks → Part → Row → Bool
 is_marked marks Own = λ r. true
 is_marked marks Factions = begins_marked marks.factions

@@ -7,13 +7,19 @@ use Rattle.atl_sql.specs.Tables.{campaign_table}
 use Rattle.atl_sql.specs.Shown.{CampaignRowValue, campaign_row, campaign_row_in}
 use Rattle.atl_sql.specs.Inside.{Puts}
 
--- Without a campaign row, one with this world text is inserted; a row that is there is changed and keeps its own text.
+-- What the upsert of the campaign row does: without such a row, it inserts one of the values `head` with this world
+-- text. A row that is there gets these values, and keeps its own world text.
 pub record PutsCampaignRow (head : CampaignRowValue) (world : List ℕ) (old new : Database) : Type 0 where
   -- without a campaign row, the row of the values `head` and the world text `world` is inserted
   pub first : rows_in campaign_table old.trees ≡ [] → Puts campaign_table 1 (campaign_row head world) old new
   -- a campaign row of the second format that is there becomes the row of the values `head`, with its own world text
-  pub again : (before : CampaignRowValue) (text : List ℕ) → HasExactly (rows_in campaign_table old.trees) (λ r. r ≡ campaign_row before text) → Puts campaign_table 1 (campaign_row head text) old new
+  pub again : (before : CampaignRowValue) (text : List ℕ)
+      → HasExactly (rows_in campaign_table old.trees) (λ r. r ≡ campaign_row before text)
+      → Puts campaign_table 1 (campaign_row head text) old new
 
 -- a campaign row of the values `head` in the first format becomes the one in the second, with the world text `text`
 abbrev pub UpgradesCampaignRow : CampaignRowValue → List ℕ → Database → Database → Type 0
-UpgradesCampaignRow head text old new = (before : List ℕ) → HasExactly (rows_in campaign_table old.trees) (λ r. r ≡ campaign_row_in First head before) → Puts campaign_table 1 (campaign_row head text) old new
+UpgradesCampaignRow head text old new =
+    (before : List ℕ)
+    → HasExactly (rows_in campaign_table old.trees) (λ r. r ≡ campaign_row_in First head before)
+    → Puts campaign_table 1 (campaign_row head text) old new

@@ -8,7 +8,7 @@ use Rattle.sqlite.specs.Held.{Held, state}
 use Rattle.sqlite.specs.Order.{Row}
 use Rattle.sqlite.specs.State.{State, HasCleanDisk, Survives, Shown, FailsToQuery}
 use Rattle.sqlite.specs.Table.{Table}
-use Rattle.atl_sql.specs.Sets.{rows_in, visible}
+use Rattle.atl_sql.specs.Sets.{rows_in, visible_row}
 use Rattle.atl_sql.specs.Statements.{column_names, selection, selection_with_ids}
 use Rattle.atl_world.specs.declared.format.Format.{Format}
 use Rattle.atl_world.specs.declared.format.Format.TheVariants.{First, Second}
@@ -42,11 +42,16 @@ pub record IsAsked (old before : State) : Type 0 where
 module _ {S : Type 0} (g : Ghosts S) (sql : List ℕ) (old : Held S) where
   -- the SELECT, asked on a connection with the tables of `old` (`IsAsked`), shows these rows
   abbrev pub Selects : List Row → Type 0
-  Selects rows = (before during : Held S) × IsAsked (state g old) (state g before) × Shown sql [] (state g before) (state g during) rows
+  Selects rows =
+      (before during : Held S) × IsAsked (state g old) (state g before) × Shown sql [] (state g before) (state g during) rows
 
   -- the SELECT, asked on a connection with the tables of `old` (`IsAsked`), is refused, and this is its error's fault
   abbrev pub RefusesToSelect : ReadFault → Type 0
-  RefusesToSelect fault = (before during : Held S) × (e : Error) × IsAsked (state g old) (state g before) × FailsToQuery sql [] (state g before) (state g during) e × (fault ≡ read_fault e)
+  RefusesToSelect fault =
+      (before during : Held S) × (e : Error)
+      × IsAsked (state g old) (state g before)
+      × FailsToQuery sql [] (state g before) (state g during) e
+      × (fault ≡ read_fault e)
 
   -- The SELECT is asked, whatever the schema is: Ok has the rows that it shows, Err the fault of its refusal.
   -- This is so if the disk is clean. Nothing is changed.
@@ -66,15 +71,21 @@ module _ {S : Type 0} (g : Ghosts S) (sql : List ℕ) (old : Held S) where
 
   -- All rows that the SELECT shows are read, each value in the form of its column, if the disk is clean.
   -- Nothing is changed.
-  pub record ReadsRows {A Z : Type 0} (forms : List Form) (shown : A → Row) (result : Result (Vec A Z) ReadFault) (new : Held S) : Type 0 where
+  pub record ReadsRows {A Z : Type 0} (forms : List Form) (shown : A → Row)
+      (result : Result (Vec A Z) ReadFault) (new : Held S) : Type 0 where
     -- Ok has all rows that the SELECT shows, in their order, and each value is of its column's form.
-    pub rows : HasCleanDisk (state g new) → IfOk result (λ all. (rows : List Row) × Selects rows × (map shown all.items ≡ map (first_columns (length forms)) rows) × AreTyped forms rows)
+    pub rows : HasCleanDisk (state g new)
+        → IfOk result (λ all. (rows : List Row) × Selects rows
+        × (map shown all.items ≡ map (first_columns (length forms)) rows)
+        × AreTyped forms rows)
     -- OtherType is returned only if a value is of another form than its column.
-    pub other : HasCleanDisk (state g new) → IfErr result (λ fault. fault ≡ OtherType → (rows : List Row) × Selects rows × ¬ AreTyped forms rows)
+    pub other : HasCleanDisk (state g new)
+        → IfErr result (λ fault. fault ≡ OtherType → (rows : List Row) × Selects rows × ¬ AreTyped forms rows)
     -- A fault other than OtherType and Memory is that of the SELECT's refusal.
     pub refused : HasCleanDisk (state g new) → IfErr result (λ fault. fault ≢ OtherType → fault ≢ Memory → RefusesToSelect fault)
     -- Memory is returned only if the SELECT is refused for lack of memory, or shows rows, for which memory may run out.
-    pub memory : HasCleanDisk (state g new) → IfErr result (λ fault. fault ≡ Memory → RefusesToSelect Memory ⊎ ((rows : List Row) × Selects rows))
+    pub memory : HasCleanDisk (state g new)
+        → IfErr result (λ fault. fault ≡ Memory → RefusesToSelect Memory ⊎ ((rows : List Row) × Selects rows))
     -- On a clean disk an open connection was open before, with its tables as they were or as last committed (`Rests`).
     pub rests : HasCleanDisk (state g new) → Rests (state g old) (state g new)
     -- On a clean disk a crash leaves only what it could have left before, and only a failure closes the connection.
@@ -86,9 +97,13 @@ module _ {S : Type 0} (g : Ghosts S) (sql : List ℕ) (old : Held S) where
 
   -- The rows of a query are read one by one: Ok has all of them, or None; Err has the fault of the refusal.
   -- When it is None isn't said. Nothing is changed.
-  pub record Streams {A Z : Type 0} (forms : List Form) (shown : A → Row) (result : Result (Option (Vec A Z)) ReadFault) (new : Held S) : Type 0 where
+  pub record Streams {A Z : Type 0} (forms : List Form) (shown : A → Row)
+      (result : Result (Option (Vec A Z)) ReadFault) (new : Held S) : Type 0 where
     -- With Ok of a list, it has all rows that the SELECT shows, and each value is of its column's form.
-    pub rows : HasCleanDisk (state g new) → IfOk result (λ read. IfSome read (λ all. (rows : List Row) × Selects rows × (map shown all.items ≡ map (first_columns (length forms)) rows) × AreTyped forms rows))
+    pub rows : HasCleanDisk (state g new)
+        → IfOk result (λ read. IfSome read (λ all. (rows : List Row) × Selects rows
+        × (map shown all.items ≡ map (first_columns (length forms)) rows)
+        × AreTyped forms rows))
     -- Err has the fault of the SELECT's refusal.
     pub refused : HasCleanDisk (state g new) → IfErr result RefusesToSelect
     -- After Ok the connection has the same tables and step limit (`IsAsked`), so the SELECT can be asked again.
@@ -104,16 +119,21 @@ module _ {S : Type 0} (g : Ghosts S) (sql : List ℕ) (old : Held S) where
 
 -- the list `new` is `old` and then one element read from this row, and the values of the row are of these forms
 abbrev pub AddsRow : {A : Type 0} → List Form → (A → Row) → List A → Row → List A → Type 0
-AddsRow forms shown old row new = (one : _) × (new ≡ old ++ one ∷ []) × (shown one ≡ first_columns (length forms) row) × IsTyped forms row
+AddsRow forms shown old row new =
+    (one : _) × (new ≡ old ++ one ∷ []) × (shown one ≡ first_columns (length forms) row) × IsTyped forms row
 
--- If the disk is clean and the schema begins with the tables of the format `since`, Ok has all rows of a table,
--- each as often as it is there.
-abbrev pub GivesTable : {S A Z : Type 0} → Ghosts S → Format → (Trees → List Row) → (A → Row) → Result (Vec A Z) ReadFault → Held S → Held S → Type 0
-GivesTable g since in_table shown result old new = HasCleanDisk (state g new) → HasTablesOf since old.schema → IfOk result (λ all. IsPermutation (in_table (state g old).now.trees) (map shown all.items))
+-- Ok has all rows of a table, each as often as it is there, if the disk is clean and the schema begins with the tables
+-- of the format `since`.
+abbrev pub GivesTable : {S A Z : Type 0} → Ghosts S → Format → (Trees → List Row) → (A → Row)
+    → Result (Vec A Z) ReadFault → Held S → Held S → Type 0
+GivesTable g since in_table shown result old new =
+    HasCleanDisk (state g new)
+    → HasTablesOf since old.schema
+    → IfOk result (λ all. IsPermutation (in_table (state g old).now.trees) (map shown all.items))
 
 -- the rows of a table without an INTEGER PRIMARY KEY, each with its rowid as a last column
 abbrev pub rows_with_ids_in : Table → Trees → List Row
-rows_with_ids_in table db = map (λ r. visible table r ++ rowid r ∷ []) (db table.tree)
+rows_with_ids_in table db = map (λ r. visible_row table r ++ rowid r ∷ []) (db table.tree)
 
 -- ---- the SELECT of each part
 
@@ -134,7 +154,13 @@ select_all_columns since t key = record { since = since; names = column_names t;
 
 -- how to read all columns of a table whose key is its first `key` columns, and each row's rowid as a last column
 abbrev pub select_all_columns_with_ids : Format → Table → ℕ → PartSelect
-select_all_columns_with_ids since t key = record { since = since; names = column_names t ++ codes "rowid" ∷ []; select = selection_with_ids t key; in_table = rows_with_ids_in t }
+select_all_columns_with_ids since t key =
+    record {
+      since = since;
+      names = column_names t ++ codes "rowid" ∷ [];
+      select = selection_with_ids t key;
+      in_table = rows_with_ids_in t;
+    }
 
 -- how each part is read: goods, books and stocks with their rowids, all others without
 abbrev pub select_of_part : Part → PartSelect

@@ -25,35 +25,42 @@ use Rattle.atl_sql.specs.Written.{sort_number}
 
 -- the month, the next numbers and the pass text of this campaign, for its campaign row
 abbrev pub campaign_row_of : CampaignValue → CampaignRowValue
-campaign_row_of c = record { month = c.month; next_faction = c.next_faction; next_unit = c.next_unit; next_structure = c.next_structure; pass = c.pass }
+campaign_row_of c =
+    record {
+      month = c.month;
+      next_faction = c.next_faction;
+      next_unit = c.next_unit;
+      next_structure = c.next_structure;
+      pass = c.pass;
+    }
 
 -- the campaign row, in the second format, of this world text and campaign
-abbrev pub campaign_line : List ℕ → CampaignValue → Row
-campaign_line text c = campaign_row (campaign_row_of c) text
+abbrev pub row_of_campaign : List ℕ → CampaignValue → Row
+row_of_campaign text c = campaign_row (campaign_row_of c) text
 
 -- the row of `faction` for the faction with this number
-abbrev pub faction_line : ℕ → Faction → Row
-faction_line n f = faction_row n f.joined_as f.name f.pass f.gone
+abbrev pub row_of_faction : ℕ → Faction → Row
+row_of_faction n f = faction_row n f.joined_as f.name f.pass f.gone
 
 -- the row of `region` for the region with this number
-abbrev pub region_line : ℕ → Region → Row
-region_line n r = region_row n r.peasants r.money
+abbrev pub row_of_region : ℕ → Region → Row
+row_of_region n r = region_row n r.peasants r.money
 
 -- the row of `unit` for the unit with this number
-abbrev pub unit_line : ℕ → Unit → Row
-unit_line n u = unit_row n u.faction u.holding.name u.region u.structure u.holding.men u.holding.money u.holding.guard
+abbrev pub row_of_unit : ℕ → Unit → Row
+row_of_unit n u = unit_row n u.faction u.holding.name u.region u.structure u.holding.men u.holding.money u.holding.guard
 
 -- the row of `structure` for the structure with this number
-abbrev pub structure_line : ℕ → Structure → Row
-structure_line n s = structure_row n s.kind s.name s.region s.done s.owner
+abbrev pub row_of_structure : ℕ → Structure → Row
+row_of_structure n s = structure_row n s.kind s.name s.region s.done s.owner
 
 -- the rows that `line` makes of the numbers and values of a map, one row for each, as a set
 abbrev pub RowsOf : {V : Type 0} → (ℕ → V → Row) → FinMap nat_cmp V → Row → Type 0
 RowsOf {V} line m r = (n : ℕ) × (v : V) × (get m n ≡ Some v) × (r ≡ line n v)
 
 -- the rows that `line` makes of a list of numbers and values, one row for each, as a list in their order
-abbrev pub lines_of : {V : Type 0} → (ℕ → V → Row) → List (ℕ × V) → List Row
-lines_of line entries = map (λ e. line e.0 e.1) entries
+abbrev pub rows_in_order : {V : Type 0} → (ℕ → V → Row) → List (ℕ × V) → List Row
+rows_in_order line entries = map (λ e. line e.0 e.1) entries
 
 -- what a unit's holding has of a kind of goods, by number: amounts of items, or days of skills
 abbrev pub things_of : ThingKind → HoldingValue → FinMap nat_cmp ℕ
@@ -72,25 +79,36 @@ amount_under units n sort thing = amount_of (things_under sort (get units n)) th
 -- the rows of `has`: one for each unit and each item or skill of it, if the amount is not 0
 abbrev pub HasRowsOf : FinMap nat_cmp Unit → Row → Type 0
 HasRowsOf units r =
-    (n : ℕ) × (u : Unit) × (get units n ≡ Some u) × (sort : ThingKind) × (thing : ℕ) × (amount : ℕ) × (get (things_of sort u.holding) thing ≡ Some amount) × (amount ≢ 0) × (r ≡ has_row n (sort_number sort) thing amount)
+    (n : ℕ) × (u : Unit) × (get units n ≡ Some u)
+    × (sort : ThingKind) × (thing : ℕ) × (amount : ℕ)
+    × (get (things_of sort u.holding) thing ≡ Some amount)
+    × (amount ≢ 0)
+    × (r ≡ has_row n (sort_number sort) thing amount)
 
 -- the rows of `books`: one for each entry and thing, if the amount is not 0
 abbrev pub BooksRowsOf : BooksValue → Row → Type 0
-BooksRowsOf books r = (e : BooksEntry) × (t : Thing) × (amount_in books e t ≢ pos 0) × (r ≡ books_row (entry_index e + 1) (thing_index t) (amount_in books e t))
+BooksRowsOf books r =
+    (e : BooksEntry) × (t : Thing)
+    × (amount_in books e t ≢ pos 0)
+    × (r ≡ books_row (entry_index e + 1) (thing_index t) (amount_in books e t))
 
 -- the rows of `market`: one for each region and item, if the stock is not 0
 abbrev pub MarketRowsOf : FinMap nat_cmp Region → Row → Type 0
 MarketRowsOf regions r =
-    (n : ℕ) × (region : Region) × (get regions n ≡ Some region) × (item : ℕ) × (stock : ℕ) × (get region.stocks item ≡ Some stock) × (stock ≢ 0) × (r ≡ market_row n item stock)
+    (n : ℕ) × (region : Region) × (get regions n ≡ Some region)
+    × (item : ℕ) × (stock : ℕ)
+    × (get region.stocks item ≡ Some stock)
+    × (stock ≢ 0)
+    × (r ≡ market_row n item stock)
 
 -- the set of rows that each part's table has to hold for a campaign, whose campaign row is `own`
 abbrev pub rows_for : Row → CampaignValue → Part → Set
 rows_for own c Own = λ r. r ≡ own
-rows_for own c Factions = RowsOf faction_line c.factions
-rows_for own c Regions = RowsOf region_line c.regions
-rows_for own c Units = RowsOf unit_line c.units
+rows_for own c Factions = RowsOf row_of_faction c.factions
+rows_for own c Regions = RowsOf row_of_region c.regions
+rows_for own c Units = RowsOf row_of_unit c.units
 rows_for own c Goods = HasRowsOf c.units
-rows_for own c Structures = RowsOf structure_line c.structures
+rows_for own c Structures = RowsOf row_of_structure c.structures
 rows_for own c Mail = RowsOf mail_row c.mail
 rows_for own c Reports = RowsOf report_row c.reports
 rows_for own c Books = BooksRowsOf c.books
@@ -99,9 +117,10 @@ rows_for own c Markets = MarketRowsOf c.regions
 -- the ten tables have exactly the rows of the world text and the campaign
 pub record Holds (trees : Trees) (text : List ℕ) (c : CampaignValue) : Type 0 where
   -- each part's table has exactly the part's rows
-  pub rows : (part : Part) → HasExactly (rows_in (table_of part) trees) (rows_for (campaign_line text c) c part)
+  pub rows : (part : Part) → HasExactly (rows_in (table_of part) trees) (rows_for (row_of_campaign text c) c part)
 
 -- the tables of a format have exactly the rows of the world text and the campaign
 pub record HoldsIn (f : Format) (trees : Trees) (text : List ℕ) (c : CampaignValue) : Type 0 where
   -- the table of each part that the format has holds exactly the part's rows
-  pub rows : (part : Part) → Has (parts_in f) part → HasExactly (rows_in (table_of part) trees) (rows_for (campaign_row_in f (campaign_row_of c) text) c part)
+  pub rows : (part : Part) → Has (parts_in f) part
+      → HasExactly (rows_in (table_of part) trees) (rows_for (campaign_row_in f (campaign_row_of c) text) c part)

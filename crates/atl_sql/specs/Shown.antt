@@ -43,7 +43,10 @@ pub record CampaignRowValue : Type 0 where
 
 -- the campaign row in this format: id 1, the format's number, month, next numbers, pass text, world text
 abbrev pub campaign_row_in : Format → CampaignRowValue → List ℕ → Row
-campaign_row_in f head world = int 1 ∷ int (format_number f) ∷ int head.month ∷ int head.next_faction ∷ int head.next_unit ∷ int head.next_structure ∷ Text head.pass ∷ Text world ∷ []
+campaign_row_in f head world =
+    int 1 ∷ int (format_number f)
+    ∷ int head.month ∷ int head.next_faction ∷ int head.next_unit ∷ int head.next_structure
+    ∷ Text head.pass ∷ Text world ∷ []
 
 -- the campaign row in the second format, in which it is written
 abbrev pub campaign_row : CampaignRowValue → List ℕ → Row
@@ -51,7 +54,9 @@ campaign_row = campaign_row_in Second
 
 -- the parameters of the statement that puts the campaign row: month, next numbers, pass text, world text
 abbrev pub campaign_row_values : CampaignRowValue → List ℕ → Row
-campaign_row_values head world = int head.month ∷ int head.next_faction ∷ int head.next_unit ∷ int head.next_structure ∷ Text head.pass ∷ Text world ∷ []
+campaign_row_values head world =
+    int head.month ∷ int head.next_faction ∷ int head.next_unit ∷ int head.next_structure
+    ∷ Text head.pass ∷ Text world ∷ []
 
 -- a row of `faction`: number, joined_as, name, pass, gone
 abbrev pub faction_row : ℕ → List ℕ → List ℕ → List ℕ → Bool → Row
@@ -63,7 +68,8 @@ region_row number peasants money = int number ∷ int peasants ∷ int money ∷
 
 -- a row of `unit`: number, faction, name, region, structure, men, money, guard
 abbrev pub unit_row : ℕ → ℕ → List ℕ → ℕ → ℕ → ℕ → ℕ → Bool → Row
-unit_row number faction name region structure men money guard = int number ∷ int faction ∷ Text name ∷ int region ∷ int structure ∷ int men ∷ int money ∷ flag guard ∷ []
+unit_row number faction name region structure men money guard =
+    int number ∷ int faction ∷ Text name ∷ int region ∷ int structure ∷ int men ∷ int money ∷ flag guard ∷ []
 
 -- a row of `structure`: number, kind, name, region, done, owner
 abbrev pub structure_row : ℕ → ℕ → List ℕ → ℕ → ℕ → ℕ → Row
@@ -105,7 +111,8 @@ market_row region item stock = int region ∷ int item ∷ int stock ∷ []
 
 -- the campaign row that was read, as SQL shows it, without its world text
 abbrev pub campaign_row_stored : StoredCampaignRow → Row
-campaign_row_stored s = Int s.id ∷ Int s.format ∷ Int s.month ∷ Int s.next_faction ∷ Int s.next_unit ∷ Int s.next_structure ∷ Text s.pass ∷ []
+campaign_row_stored s =
+    Int s.id ∷ Int s.format ∷ Int s.month ∷ Int s.next_faction ∷ Int s.next_unit ∷ Int s.next_structure ∷ Text s.pass ∷ []
 
 -- the forms in which the columns of `campaign` but the world text are read: numbers, and the pass text as bytes
 abbrev pub campaign_row_forms : List Form
@@ -137,7 +144,8 @@ region_forms = Number ∷ Number ∷ Number ∷ []
 
 -- a row of `unit` that was read, as SQL shows it
 abbrev pub unit_stored : StoredUnit → Row
-unit_stored s = Int s.number ∷ Int s.faction ∷ Text s.name ∷ Int s.region ∷ Int s.structure ∷ Int s.men ∷ Int s.money ∷ Int s.guard ∷ []
+unit_stored s =
+    Int s.number ∷ Int s.faction ∷ Text s.name ∷ Int s.region ∷ Int s.structure ∷ Int s.men ∷ Int s.money ∷ Int s.guard ∷ []
 
 -- the forms in which the columns of `unit` are read: numbers, and the name as bytes
 abbrev pub unit_forms : List Form

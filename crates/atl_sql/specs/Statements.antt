@@ -13,14 +13,14 @@ abbrev pub column_names : Table → List (List ℕ)
 column_names t = map (λ c. c.name) t.columns
 
 -- the texts one after another, with `between` between each two
-abbrev pub separated : List ℕ → List (List ℕ) → List ℕ
-separated between [] = []
-separated between (x ∷ []) = x
-separated between (x ∷ y ∷ more) = x ++ between ++ separated between (y ∷ more)
+abbrev pub join_texts : List ℕ → List (List ℕ) → List ℕ
+join_texts between [] = []
+join_texts between (x ∷ []) = x
+join_texts between (x ∷ y ∷ more) = x ++ between ++ join_texts between (y ∷ more)
 
 -- the texts one after another, with a comma and a space between each two
 abbrev pub comma_list : List (List ℕ) → List ℕ
-comma_list = separated (codes ", ")
+comma_list = join_texts (codes ", ")
 
 -- the text of the parameter with this number, from 1 to 9, such as `?1`
 abbrev pub parameter : ℕ → List ℕ
@@ -34,16 +34,21 @@ equations n (name ∷ more) = (name ++ codes " = " ++ parameter n) ∷ equations
 -- the text of the INSERT of a row; where a row has its key, the first `key` columns, it sets that row's other columns
 abbrev pub upsert : Table → ℕ → List ℕ
 upsert t key =
-    codes "INSERT INTO " ++ t.name ++ codes " (" ++ comma_list (column_names t) ++ codes ") VALUES (" ++ comma_list (map parameter (range_with_len 1 (length t.columns)))
-    ++ codes ") ON CONFLICT (" ++ comma_list (take key (column_names t)) ++ codes ") DO UPDATE SET " ++ comma_list (equations (key + 1) (drop key (column_names t)))
+    codes "INSERT INTO " ++ t.name ++ codes " (" ++ comma_list (column_names t)
+    ++ codes ") VALUES (" ++ comma_list (map parameter (range_with_len 1 (length t.columns)))
+    ++ codes ") ON CONFLICT (" ++ comma_list (take key (column_names t))
+    ++ codes ") DO UPDATE SET " ++ comma_list (equations (key + 1) (drop key (column_names t)))
 
 -- the text of the DELETE of the rows whose key, the first `key` columns, is given by the parameters
 abbrev pub deletion : Table → ℕ → List ℕ
-deletion t key = codes "DELETE FROM " ++ t.name ++ codes " WHERE " ++ separated (codes " AND ") (equations 1 (take key (column_names t)))
+deletion t key =
+    codes "DELETE FROM " ++ t.name ++ codes " WHERE " ++ join_texts (codes " AND ") (equations 1 (take key (column_names t)))
 
 -- the SELECT that shows the columns `names` of all rows of a table, in the order of its key, the first `key` columns
 abbrev pub selection_of : List (List ℕ) → Table → ℕ → List ℕ
-selection_of names t key = codes "SELECT " ++ comma_list names ++ codes " FROM " ++ t.name ++ codes " ORDER BY " ++ comma_list (take key (column_names t))
+selection_of names t key =
+    codes "SELECT " ++ comma_list names ++ codes " FROM " ++ t.name
+    ++ codes " ORDER BY " ++ comma_list (take key (column_names t))
 
 -- the SELECT that shows all columns of all rows of a table, in the order of its key, the first `key` columns
 abbrev pub selection : Table → ℕ → List ℕ
@@ -53,15 +58,17 @@ selection t key = selection_of (column_names t) t key
 abbrev pub selection_with_ids : Table → ℕ → List ℕ
 selection_with_ids t key = selection_of (column_names t ++ codes "rowid" ∷ []) t key
 
--- the text of the INSERT of the campaign row, in the second format;
--- if the row is there, it sets all columns but `id`, `format` and `world`
+-- The text of the INSERT of the campaign row, in the second format. If the row is there, it sets all columns but `id`,
+-- `format` and `world`.
 abbrev pub campaign_upsert : List ℕ
-campaign_upsert = codes "INSERT INTO campaign (id, format, month, next_faction, next_unit, next_structure, pass, world) VALUES (1, 2, ?1, ?2, ?3, ?4, ?5, ?6) ON CONFLICT (id) DO UPDATE SET month = ?1, next_faction = ?2, next_unit = ?3, next_structure = ?4, pass = ?5"
+campaign_upsert =
+    codes "INSERT INTO campaign (id, format, month, next_faction, next_unit, next_structure, pass, world) VALUES (1, 2, ?1, ?2, ?3, ?4, ?5, ?6) ON CONFLICT (id) DO UPDATE SET month = ?1, next_faction = ?2, next_unit = ?3, next_structure = ?4, pass = ?5"
 
--- the text of the INSERT of the campaign row, in the second format;
--- if the row is there, it sets `format` and `world` alone
+-- The text of the INSERT of the campaign row, in the second format. If the row is there, it sets `format` and `world`
+-- alone.
 abbrev pub upgrading_upsert : List ℕ
-upgrading_upsert = codes "INSERT INTO campaign (id, format, month, next_faction, next_unit, next_structure, pass, world) VALUES (1, 2, ?1, ?2, ?3, ?4, ?5, ?6) ON CONFLICT (id) DO UPDATE SET format = 2, world = ?6"
+upgrading_upsert =
+    codes "INSERT INTO campaign (id, format, month, next_faction, next_unit, next_structure, pass, world) VALUES (1, 2, ?1, ?2, ?3, ?4, ?5, ?6) ON CONFLICT (id) DO UPDATE SET format = 2, world = ?6"
 
 -- ---- sets of statements
 
@@ -70,12 +77,12 @@ abbrev pub Statements : Type 1
 Statements = List ℕ → Row → Type 0
 
 -- the statements of this text, each with one of these rows as its parameters
-abbrev pub Each : List ℕ → Set → Statements
-Each text rows sql params = (sql ≡ text) × rows params
+abbrev pub RowStatements : List ℕ → Set → Statements
+RowStatements text rows sql params = (sql ≡ text) × rows params
 
 -- the one statement of this text with these parameters
-abbrev pub Only : List ℕ → Row → Statements
-Only text values = Each text (λ row. row ≡ values)
+abbrev pub OneStatement : List ℕ → Row → Statements
+OneStatement text values = RowStatements text (λ row. row ≡ values)
 
 -- the statements that make the ten tables; they have no parameters
 abbrev pub Creations : Statements

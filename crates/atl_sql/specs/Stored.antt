@@ -22,16 +22,16 @@ pub data Form : Type 0 where
   Bytes : Form
 
 -- a value can be read in this form
-abbrev pub IsOf : Form → Value → Type 0
-IsOf Number v = (n : ℤ) × (v ≡ Int n)
-IsOf Utf8Text v = (t : List ℕ) × (v ≡ Text t) × IsUtf8 t
-IsOf TextBytes v = (t : List ℕ) × (v ≡ Text t)
-IsOf Bytes v = (b : List ℕ) × (v ≡ Blob b)
+abbrev pub HasForm : Form → Value → Type 0
+HasForm Number v = (n : ℤ) × (v ≡ Int n)
+HasForm Utf8Text v = (t : List ℕ) × (v ≡ Text t) × IsUtf8 t
+HasForm TextBytes v = (t : List ℕ) × (v ≡ Text t)
+HasForm Bytes v = (b : List ℕ) × (v ≡ Blob b)
 
 -- the values of the row from the column `at` on can be read in the forms of the list, one after another
 abbrev pub IsTypedFrom : ℕ → List Form → Row → Type 0
 IsTypedFrom at [] row = ⊤
-IsTypedFrom at (form ∷ forms) row = IsOf form (column row at) × IsTypedFrom (at + 1) forms row
+IsTypedFrom at (form ∷ forms) row = HasForm form (column row at) × IsTypedFrom (at + 1) forms row
 
 -- each value of the row can be read in its column's form
 abbrev pub IsTyped : List Form → Row → Type 0

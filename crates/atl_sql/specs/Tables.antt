@@ -19,15 +19,15 @@ use Rattle.sqlite_catalog.specs.Listing.{IsSound}
 use Rattle.sqlite_trees.specs.Tree.{Trees}
 use Rattle.atl_world.specs.declared.format.Format.{Format}
 use Rattle.atl_world.specs.declared.format.Format.TheVariants.{First, Second}
-use Rattle.atl_sql.specs.Sets.{field, table, AreKeyedByRowid}
+use Rattle.atl_sql.specs.Sets.{strict_column, table, AreKeyedByRowid}
 
 -- the column of this name that holds integers, STRICT and NOT NULL
-abbrev pub number : List ℕ → Column
-number name = field name Integer
+abbrev pub integer_column : List ℕ → Column
+integer_column name = strict_column name Integer
 
 -- the column of this name that holds texts, STRICT and NOT NULL
-abbrev pub text : List ℕ → Column
-text name = field name Text
+abbrev pub text_column : List ℕ → Column
+text_column name = strict_column name Text
 
 -- ---- the unique key of a table, besides the row's number, by its columns' indexes in a stored row (0 is the rowid)
 
@@ -52,50 +52,63 @@ market_unique = 1 ∷ 2 ∷ []
 -- the table `campaign` of one row, the campaign row: its key is `id`, and its check says `id = 1`
 abbrev pub campaign_table : Table
 campaign_table = table 0 (codes "campaign")
-    (number (codes "id") ∷ number (codes "format") ∷ number (codes "month") ∷ number (codes "next_faction") ∷ number (codes "next_unit") ∷ number (codes "next_structure") ∷ text (codes "pass") ∷ text (codes "world") ∷ [])
+    (integer_column (codes "id") ∷ integer_column (codes "format") ∷ integer_column (codes "month")
+    ∷ integer_column (codes "next_faction") ∷ integer_column (codes "next_unit") ∷ integer_column (codes "next_structure")
+    ∷ text_column (codes "pass") ∷ text_column (codes "world") ∷ [])
     (Some 0) (0 ∷ []) [] (op2 (Compare Eq Binary) (col 1 0) (lit (Int (pos 1))) ∷ [])
 
 -- the table `faction`: a row for each faction, gone or not; `joined_as` is unique
 abbrev pub faction_table : Table
 faction_table = table 1 (codes "faction")
-    (number (codes "number") ∷ text (codes "joined_as") ∷ text (codes "name") ∷ text (codes "pass") ∷ number (codes "gone") ∷ [])
+    (integer_column (codes "number") ∷ text_column (codes "joined_as") ∷ text_column (codes "name") ∷ text_column (codes "pass") ∷ integer_column (codes "gone") ∷ [])
     (Some 0) (0 ∷ []) (faction_unique ∷ []) []
 
 -- the table `region`: a row for each region
 abbrev pub region_table : Table
-region_table = table 3 (codes "region") (number (codes "number") ∷ number (codes "peasants") ∷ number (codes "money") ∷ []) (Some 0) (0 ∷ []) [] []
+region_table = table 3 (codes "region")
+    (integer_column (codes "number") ∷ integer_column (codes "peasants") ∷ integer_column (codes "money") ∷ [])
+    (Some 0) (0 ∷ []) [] []
 
 -- the table `unit`: a row for each unit
 abbrev pub unit_table : Table
 unit_table = table 4 (codes "unit")
-    (number (codes "number") ∷ number (codes "faction") ∷ text (codes "name") ∷ number (codes "region") ∷ number (codes "structure") ∷ number (codes "men") ∷ number (codes "money") ∷ number (codes "guard") ∷ [])
+    (integer_column (codes "number") ∷ integer_column (codes "faction") ∷ text_column (codes "name")
+    ∷ integer_column (codes "region") ∷ integer_column (codes "structure")
+    ∷ integer_column (codes "men") ∷ integer_column (codes "money") ∷ integer_column (codes "guard") ∷ [])
     (Some 0) (0 ∷ []) [] []
 
 -- the table `has` of what units have: a row for each item and each skill of a unit
 abbrev pub has_table : Table
-has_table = table 5 (codes "has") (number (codes "unit") ∷ number (codes "sort") ∷ number (codes "thing") ∷ number (codes "amount") ∷ []) None has_unique (has_unique ∷ []) []
+has_table = table 5 (codes "has")
+    (integer_column (codes "unit") ∷ integer_column (codes "sort") ∷ integer_column (codes "thing") ∷ integer_column (codes "amount") ∷ [])
+    None has_unique (has_unique ∷ []) []
 
 -- the table `structure`: a row for each structure
 abbrev pub structure_table : Table
 structure_table = table 7 (codes "structure")
-    (number (codes "number") ∷ number (codes "kind") ∷ text (codes "name") ∷ number (codes "region") ∷ number (codes "done") ∷ number (codes "owner") ∷ [])
+    (integer_column (codes "number") ∷ integer_column (codes "kind") ∷ text_column (codes "name")
+    ∷ integer_column (codes "region") ∷ integer_column (codes "done") ∷ integer_column (codes "owner") ∷ [])
     (Some 0) (0 ∷ []) [] []
 
 -- the table `mail`: a row for each faction that sent a mailing
 abbrev pub mail_table : Table
-mail_table = table 8 (codes "mail") (number (codes "faction") ∷ field (codes "text") Blob ∷ []) (Some 0) (0 ∷ []) [] []
+mail_table = table 8 (codes "mail") (integer_column (codes "faction") ∷ strict_column (codes "text") Blob ∷ []) (Some 0) (0 ∷ []) [] []
 
 -- the table `report`: a row for each faction that has a report
 abbrev pub report_table : Table
-report_table = table 9 (codes "report") (number (codes "faction") ∷ text (codes "text") ∷ []) (Some 0) (0 ∷ []) [] []
+report_table = table 9 (codes "report") (integer_column (codes "faction") ∷ text_column (codes "text") ∷ []) (Some 0) (0 ∷ []) [] []
 
 -- the table `books`: a row for each entry and thing with an amount
 abbrev pub books_table : Table
-books_table = table 10 (codes "books") (number (codes "entry") ∷ number (codes "thing") ∷ number (codes "amount") ∷ []) None books_unique (books_unique ∷ []) []
+books_table = table 10 (codes "books")
+    (integer_column (codes "entry") ∷ integer_column (codes "thing") ∷ integer_column (codes "amount") ∷ [])
+    None books_unique (books_unique ∷ []) []
 
 -- the table `market`: a row for each item of a region that is in stock
 abbrev pub market_table : Table
-market_table = table 12 (codes "market") (number (codes "region") ∷ number (codes "item") ∷ number (codes "stock") ∷ []) None market_unique (market_unique ∷ []) []
+market_table = table 12 (codes "market")
+    (integer_column (codes "region") ∷ integer_column (codes "item") ∷ integer_column (codes "stock") ∷ [])
+    None market_unique (market_unique ∷ []) []
 
 -- the parts of a campaign, one for each table: `Own` is the campaign row, `Goods` what units have, `Markets` the stocks
 pub data Part : Type 0 where
@@ -135,16 +148,24 @@ table_of Markets = market_table
 
 -- the CREATE TABLE statement of a part's table
 abbrev pub creation_of : Part → List ℕ
-creation_of Own = codes "CREATE TABLE campaign (id INTEGER NOT NULL PRIMARY KEY CHECK (id = 1), format INTEGER NOT NULL, month INTEGER NOT NULL, next_faction INTEGER NOT NULL, next_unit INTEGER NOT NULL, next_structure INTEGER NOT NULL, pass TEXT NOT NULL, world TEXT NOT NULL) STRICT"
-creation_of Factions = codes "CREATE TABLE faction (number INTEGER NOT NULL PRIMARY KEY, joined_as TEXT NOT NULL UNIQUE, name TEXT NOT NULL, pass TEXT NOT NULL, gone INTEGER NOT NULL) STRICT"
-creation_of Regions = codes "CREATE TABLE region (number INTEGER NOT NULL PRIMARY KEY, peasants INTEGER NOT NULL, money INTEGER NOT NULL) STRICT"
-creation_of Units = codes "CREATE TABLE unit (number INTEGER NOT NULL PRIMARY KEY, faction INTEGER NOT NULL, name TEXT NOT NULL, region INTEGER NOT NULL, structure INTEGER NOT NULL, men INTEGER NOT NULL, money INTEGER NOT NULL, guard INTEGER NOT NULL) STRICT"
-creation_of Goods = codes "CREATE TABLE has (unit INTEGER NOT NULL, sort INTEGER NOT NULL, thing INTEGER NOT NULL, amount INTEGER NOT NULL, PRIMARY KEY (unit, sort, thing)) STRICT"
-creation_of Structures = codes "CREATE TABLE structure (number INTEGER NOT NULL PRIMARY KEY, kind INTEGER NOT NULL, name TEXT NOT NULL, region INTEGER NOT NULL, done INTEGER NOT NULL, owner INTEGER NOT NULL) STRICT"
+creation_of Own =
+    codes "CREATE TABLE campaign (id INTEGER NOT NULL PRIMARY KEY CHECK (id = 1), format INTEGER NOT NULL, month INTEGER NOT NULL, next_faction INTEGER NOT NULL, next_unit INTEGER NOT NULL, next_structure INTEGER NOT NULL, pass TEXT NOT NULL, world TEXT NOT NULL) STRICT"
+creation_of Factions =
+    codes "CREATE TABLE faction (number INTEGER NOT NULL PRIMARY KEY, joined_as TEXT NOT NULL UNIQUE, name TEXT NOT NULL, pass TEXT NOT NULL, gone INTEGER NOT NULL) STRICT"
+creation_of Regions =
+    codes "CREATE TABLE region (number INTEGER NOT NULL PRIMARY KEY, peasants INTEGER NOT NULL, money INTEGER NOT NULL) STRICT"
+creation_of Units =
+    codes "CREATE TABLE unit (number INTEGER NOT NULL PRIMARY KEY, faction INTEGER NOT NULL, name TEXT NOT NULL, region INTEGER NOT NULL, structure INTEGER NOT NULL, men INTEGER NOT NULL, money INTEGER NOT NULL, guard INTEGER NOT NULL) STRICT"
+creation_of Goods =
+    codes "CREATE TABLE has (unit INTEGER NOT NULL, sort INTEGER NOT NULL, thing INTEGER NOT NULL, amount INTEGER NOT NULL, PRIMARY KEY (unit, sort, thing)) STRICT"
+creation_of Structures =
+    codes "CREATE TABLE structure (number INTEGER NOT NULL PRIMARY KEY, kind INTEGER NOT NULL, name TEXT NOT NULL, region INTEGER NOT NULL, done INTEGER NOT NULL, owner INTEGER NOT NULL) STRICT"
 creation_of Mail = codes "CREATE TABLE mail (faction INTEGER NOT NULL PRIMARY KEY, text BLOB NOT NULL) STRICT"
 creation_of Reports = codes "CREATE TABLE report (faction INTEGER NOT NULL PRIMARY KEY, text TEXT NOT NULL) STRICT"
-creation_of Books = codes "CREATE TABLE books (entry INTEGER NOT NULL, thing INTEGER NOT NULL, amount INTEGER NOT NULL, PRIMARY KEY (entry, thing)) STRICT"
-creation_of Markets = codes "CREATE TABLE market (region INTEGER NOT NULL, item INTEGER NOT NULL, stock INTEGER NOT NULL, PRIMARY KEY (region, item)) STRICT"
+creation_of Books =
+    codes "CREATE TABLE books (entry INTEGER NOT NULL, thing INTEGER NOT NULL, amount INTEGER NOT NULL, PRIMARY KEY (entry, thing)) STRICT"
+creation_of Markets =
+    codes "CREATE TABLE market (region INTEGER NOT NULL, item INTEGER NOT NULL, stock INTEGER NOT NULL, PRIMARY KEY (region, item)) STRICT"
 
 -- all parts, in the order in which their tables are made
 abbrev pub all_parts : List Part
@@ -169,8 +190,8 @@ IsNumberedPart Markets = ⊥
 IsNumberedPart part = ⊤
 
 -- how many columns the key of a part's table has; these are its first columns
-abbrev pub key_of : Part → ℕ
-key_of part = length (table_of part).primary
+abbrev pub key_width_of : Part → ℕ
+key_width_of part = length (table_of part).primary
 
 -- the ten tables, in the order in which they are made
 abbrev pub all_tables : List Table
@@ -178,7 +199,12 @@ all_tables = map table_of all_parts
 
 -- the four indexes that the database makes for the unique keys of the ten tables, each with its tree
 abbrev pub all_indexes : List Index
-all_indexes = automatic faction_table 0 faction_unique 2 ∷ automatic has_table 0 has_unique 6 ∷ automatic books_table 0 books_unique 11 ∷ automatic market_table 0 market_unique 13 ∷ []
+all_indexes =
+    automatic faction_table 0 faction_unique 2
+    ∷ automatic has_table 0 has_unique 6
+    ∷ automatic books_table 0 books_unique 11
+    ∷ automatic market_table 0 market_unique 13
+    ∷ []
 
 -- the schema of the first `tables` of the ten tables and the first `indexes` of their indexes, and of nothing else
 abbrev pub first_tables : ℕ → ℕ → Schema
@@ -188,12 +214,17 @@ first_tables tables indexes = record { tables = take tables all_tables; indexes 
 abbrev pub no_tables : Schema
 no_tables = first_tables 0 0
 
--- the schema without a view whose tables are the first `count` of the ten and then `tables`, and whose indexes are
--- the first `keys` of the ten tables' four and then `indexes`
-abbrev pub first_and : ℕ → ℕ → List Table → List Index → Schema
-first_and count keys tables indexes = record { tables = take count all_tables ++ tables; indexes = take keys all_indexes ++ indexes; views = [] }
+-- The schema of the first `count` of the ten tables and then `tables`, without a view. Its indexes are the first `keys`
+-- of the four that the ten tables have, and then `indexes`.
+abbrev pub first_tables_and_others : ℕ → ℕ → List Table → List Index → Schema
+first_tables_and_others count keys tables indexes =
+    record {
+      tables = take count all_tables ++ tables;
+      indexes = take keys all_indexes ++ indexes;
+      views = [];
+    }
 
--- the index makes nothing unique in any of the first `count` tables
+-- the index makes nothing unique in any of a campaign's first `count` tables
 abbrev pub IsHarmless : ℕ → Index → Type 0
 IsHarmless count i = (t : Table) → Has (take count all_tables) t → guards i t ≡ false
 
@@ -216,15 +247,15 @@ pub record AreIndexes (count keys : ℕ) (all : List Index) : Type 0 where
   -- none of the indexes after the first `keys` makes anything unique in the first `count` tables
   pub plain : AllByRecursion (IsHarmless count) others
 
--- The schema is the first `count` tables and `keys` indexes, then tables without a foreign key and indexes that make
--- nothing unique in the first `count` tables; and there is no view.
+-- The schema begins with the first `count` tables and `keys` indexes of a campaign, and has no view. After them it has
+-- only tables without a foreign key, and indexes that make nothing unique in these `count` tables.
 pub record Begins (count keys : ℕ) (schema : Schema) : Type 0 where
   -- the schema's tables after the first `count`
   pub tables : List Table
   -- the schema's indexes after the first `keys`
   pub indexes : List Index
   -- the schema has the first `count` tables and then `tables`, the first `keys` indexes and then `indexes`, and no view
-  pub made_of : schema ≡ first_and count keys tables indexes
+  pub made_of : schema ≡ first_tables_and_others count keys tables indexes
   -- none of the tables after the first `count` has a foreign key
   pub free : AllByRecursion (λ t. t.references ≡ []) tables
   -- none of the indexes after the first `keys` makes anything unique in the first `count` tables
@@ -264,8 +295,8 @@ abbrev pub IsFirstFormatOnly : Schema → Type 0
 IsFirstFormatOnly schema = schema ≡ first_tables (table_count_in First) (index_count_in First)
 
 -- For proofs alone: the schema of all ten tables with their indexes, then these other tables and indexes.
-abbrev pub all_and : List Table → List Index → Schema
-all_and = first_and table_count index_count
+abbrev pub all_tables_and_others : List Table → List Index → Schema
+all_tables_and_others = first_tables_and_others table_count index_count
 
 -- the schema begins with all ten tables of a campaign; others may follow (`Begins`)
 abbrev pub HasAll : Schema → Type 0

@@ -9,13 +9,14 @@ use Rattle.sqlite.specs.Order.{Row}
 use Rattle.sqlite.specs.State.{State, HasCleanDisk, Survives, KeepsCommit, ExecutesInside}
 use Rattle.sqlite_rules.specs.Lists.{Has}
 use Rattle.sqlite.specs.Table.{Table}
-use Rattle.atl_sql.specs.Inside.{Commits, LeavesOff, MayLeave, Inside, HasTables, Puts, PutsRows, Drops}
-use Rattle.atl_sql.specs.Statements.{deletion, upsert, Statements, Only, Each}
+use Rattle.atl_sql.specs.Inside.{Commits, LeavesOff, MayLeave, DoesInside, HasTables, Puts, PutsRows, Drops}
+use Rattle.atl_sql.specs.Statements.{deletion, upsert, Statements, OneStatement, RowStatements}
 use Rattle.atl_sql.specs.Causes.{Gives, IsReached}
 
 -- A step inside a transaction: with Ok it did `Does` by statements of `own` alone.
 -- With an error, this is one that a call of the transaction gave. All this is so if the disk is clean.
-pub record Writes {S : Type 0} (g : Ghosts S) (own : Statements) (Does : State → State → Type 0) {A : Type 0} (result : Result A Error) (old new : MutBor (Held S)) : Type 0 where
+pub record Writes {S : Type 0} (g : Ghosts S) (own : Statements) (Does : State → State → Type 0)
+    {A : Type 0} (result : Result A Error) (old new : MutBor (Held S)) : Type 0 where
   -- The step stays on the same connection.
   pub same_reference : new.ghost_name ≡ old.ghost_name
   -- With Ok the step has done `Does`, if the disk is clean.
@@ -23,9 +24,13 @@ pub record Writes {S : Type 0} (g : Ghosts S) (own : Statements) (Does : State �
   -- With Ok the connection is in a transaction exactly if it was in one, if the disk is clean.
   pub goes_on : HasCleanDisk (state g new.now) → OnOk result ((state g new.now).in_transaction ≡ (state g old.now).in_transaction)
   -- With Ok the step has run statements of `own` alone, if a transaction had begun and the disk is clean.
-  pub reaches : HasCleanDisk (state g new.now) → IsTrue (state g old.now).in_transaction → OnOk result (IsReached g own old.now new.now)
+  pub reaches : HasCleanDisk (state g new.now)
+      → IsTrue (state g old.now).in_transaction
+      → OnOk result (IsReached g own old.now new.now)
   -- An error of the step is one that a call of the transaction gave, if a transaction had begun and the disk is clean.
-  pub error_given : HasCleanDisk (state g new.now) → IsTrue (state g old.now).in_transaction → IfErr result (λ e. Gives g own e old.now new.now)
+  pub error_given : HasCleanDisk (state g new.now)
+      → IsTrue (state g old.now).in_transaction
+      → IfErr result (λ e. Gives g own e old.now new.now)
   -- The step has committed nothing, if the disk is clean.
   pub kept : HasCleanDisk (state g new.now) → KeepsCommit (state g old.now) (state g new.now)
   -- On a clean disk a crash leaves only what it could have left before, and only a failure closes the connection.
@@ -39,20 +44,26 @@ RunsStatement sql params old new = IsTrue old.in_transaction × (count : ℕ) ×
 
 -- A step of a transaction that puts this row into the table, whose key is its first `key` columns.
 abbrev pub WritesRow : {S A : Type 0} → Ghosts S → Table → ℕ → Row → Result A Error → MutBor (Held S) → MutBor (Held S) → Type 0
-WritesRow g table key row result old new = Writes g (Only (upsert table key) row) (Inside HasTables (Puts table key row)) result old new
+WritesRow g table key row result old new =
+    Writes g (OneStatement (upsert table key) row) (DoesInside HasTables (Puts table key row)) result old new
 
 -- A step of a transaction that deletes the rows whose key, the first `key` columns, is `k`.
 abbrev pub TakesOut : {S A : Type 0} → Ghosts S → Table → ℕ → Row → Result A Error → MutBor (Held S) → MutBor (Held S) → Type 0
-TakesOut g table key k result old new = Writes g (Only (deletion table key) k) (Inside HasTables (Drops table key k)) result old new
+TakesOut g table key k result old new =
+    Writes g (OneStatement (deletion table key) k) (DoesInside HasTables (Drops table key k)) result old new
 
 -- A step of a transaction that puts these rows one after another into the table, whose key is its first `key` columns.
-abbrev pub WritesRows : {S A : Type 0} → Ghosts S → Table → ℕ → List Row → Result A Error → MutBor (Held S) → MutBor (Held S) → Type 0
-WritesRows g table key rows result old new = Writes g (Each (upsert table key) (Has rows)) (Inside HasTables (PutsRows table key rows)) result old new
+abbrev pub WritesRows : {S A : Type 0} → Ghosts S → Table → ℕ → List Row
+    → Result A Error → MutBor (Held S) → MutBor (Held S) → Type 0
+WritesRows g table key rows result old new =
+    Writes g (RowStatements (upsert table key) (Has rows)) (DoesInside HasTables (PutsRows table key rows)) result old new
 
 -- A whole transaction of statements of `own`: with Ok it did `Does` and committed it, with an error it did nothing.
 -- `Does` is said only of tables that were as `Before` says.
 -- That the connection was in no transaction is a premise of the calls.
-pub record Transacts {S : Type 0} (g : Ghosts S) (own : Statements) (Before : Database → Type 0) (Does : Database → Database → Type 0) {A : Type 0} (result : Result A Error) (old new : Held S) : Type 0 where
+pub record Transacts {S : Type 0} (g : Ghosts S) (own : Statements)
+    (Before : Database → Type 0) (Does : Database → Database → Type 0)
+    {A : Type 0} (result : Result A Error) (old new : Held S) : Type 0 where
   -- With Ok the transaction did `Does` and committed it, if the disk is clean and the tables were as `Before` says.
   pub ok : HasCleanDisk (state g new) → OnOk result (Commits Before Does (state g old) (state g new))
   -- With an error, on a clean disk, the tables are those of the last commit, if the connection is still open.

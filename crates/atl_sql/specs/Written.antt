@@ -10,7 +10,14 @@ use Rattle.atl_sql.specs.Shown.{has_row, books_row, CampaignRowValue}
 
 -- the month, the next numbers and the pass text of a campaign row that is handed in to be written
 abbrev pub head_shown : CampaignRow → CampaignRowValue
-head_shown row = record { month = row.month; next_faction = row.next_faction; next_unit = row.next_unit; next_structure = row.next_structure; pass = row.pass.now }
+head_shown row =
+    record {
+      month = row.month;
+      next_faction = row.next_faction;
+      next_unit = row.next_unit;
+      next_structure = row.next_structure;
+      pass = row.pass.now;
+    }
 
 -- the number of a kind of goods in the column `sort` of `has`: 0 for an item, 1 for a skill
 abbrev pub sort_number : ThingKind → ℕ

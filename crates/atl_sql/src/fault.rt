@@ -89,7 +89,7 @@ impl From<AllocError> for ReadFault {
 }
 
 /// The fault for a value of a row that can't be read: Memory if memory ran out, else OtherType.
-pub(crate) fn unread(error: Error) -> ReadFault
+pub(crate) fn fault_of_value(error: Error) -> ReadFault
     ensures { result ≡ value_fault error }
 {
     by_cause(error, ReadFault::Memory, ReadFault::OtherType)

@@ -7,11 +7,11 @@ ghost use Rattle.std.specs.FinSet.{FinSet};
 ghost use Rattle.sqlite.specs.Order.{Row as SqlRow};
 ghost use Rattle.atl_sql.specs.Shown.{int};
 ghost use Rattle.atl_sql.specs.Tables.{Part, IsNumberedPart, table_of};
-ghost use Rattle.atl_sql.specs.Rows.{RowsOf, lines_of, rows_for};
+ghost use Rattle.atl_sql.specs.Rows.{RowsOf, rows_in_order, rows_for};
 ghost use Rattle.atl_sql.specs.Marked.{begins_marked, is_marked};
 ghost use Rattle.atl_sql.specs.Statements.{deletion};
 ghost use Rattle.atl_sql.specs.Writes.{WritesRow, WritesRows, TakesOut};
-ghost use Rattle.atl_world.specs.Tracking.{Lists};
+ghost use Rattle.atl_world.specs.Tracking.{IsAscendingListOf};
 ghost use Rattle.atl_campaign.specs.Marks.{Marks};
 ghost use Rattle.atl_campaign.specs.Campaign.{CampaignValue};
 
@@ -42,21 +42,22 @@ pub trait NumberedRow: Sized {
     ghost marks: { Marks → FinSet nat_cmp };
 
     // The rows of the part are those of all values of the type that the campaign has.
-    ghost are_rows: { (own : SqlRow) (c : CampaignValue) (r : SqlRow) → rows_for own c part r ↔ RowsOf line (values c) r };
+    ghost are_rows: { (own : SqlRow) (c : CampaignValue) (r : SqlRow) → rows_for own c part r ↔
+        RowsOf line (values c) r };
 
     // A row of the part is marked exactly if its number is.
     ghost are_marked: { (m : Marks) (r : SqlRow) → is_marked m part r ≡ begins_marked (marks m) r };
 
     /// The value with this number in a campaign, such as a faction; None if there is none.
-    fn of(campaign: &Campaign, number: u32) -> Option<&Self>
+    fn find_value(campaign: &Campaign, number: u32) -> Option<&Self>
         ensures { option_copied result ≡ get (values campaign.now.value) number };
 
     /// The numbers of the values whose rows are marked in a campaign, in rising order.
-    fn marked(campaign: &Campaign) -> MarkedNumbers<'_>
-        ensures { Lists (marks campaign.now.marks) result };
+    fn marked_numbers(campaign: &Campaign) -> MarkedNumbers<'_>
+        ensures { IsAscendingListOf (marks campaign.now.marks) result };
 
     /// The text of the statement that deletes the row with a given number.
-    fn removal() -> &'static str
+    fn delete_text() -> &'static str
         ensures { result.now ≡ deletion (table_of part) 1 };
 
     /// Inserts the value's row under its number, or changes the row that has the number.
@@ -79,7 +80,7 @@ pub fn put_each<V: NumberedRow + Drop, S: Alter>(
     values: Entries<'_, V>,
 ) -> Result<(), Error>
     ensures { WritesRows S.Store (table_of V.NumberedRow.part) 1
-        (lines_of V.NumberedRow.line values.entry) result tx.old.conn tx.new.conn }
+        (rows_in_order V.NumberedRow.line values.entry) result tx.old.conn tx.new.conn }
 {
     for (number, value) in values {
         value.put(tx, number)?;
@@ -95,5 +96,5 @@ pub fn take_out<V: NumberedRow, S: Alter>(
     ensures { TakesOut S.Store (table_of V.NumberedRow.part) 1 (int number ∷ []) result tx.old.conn
         tx.new.conn }
 {
-    run(tx, V::removal(), params![number])
+    run(tx, V::delete_text(), params![number])
 }

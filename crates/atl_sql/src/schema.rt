@@ -15,18 +15,18 @@ use indexes::are_indexes;
 use sqlite_schema::schema::{Schema, Table};
 
 /// Whether the table has no foreign key.
-fn is_free(found: &Table) -> bool
+fn has_no_foreign_key(found: &Table) -> bool
     ensures { IsTrue result ↔ (found.now.references ≡ []) }
 {
     found.references.is_empty()
 }
 
 /// Whether no table has a foreign key.
-fn are_free(tables: &[Table]) -> bool
+fn have_no_foreign_key(tables: &[Table]) -> bool
     ensures { IsTrue result ↔ (AllByRecursion (λ t. t.references ≡ []) tables.now) }
 {
     for table in tables {
-        if !is_free(table) {
+        if !has_no_foreign_key(table) {
             return false;
         }
     }
@@ -39,12 +39,14 @@ fn are_tables(tables: &[Table], count: usize) -> bool
     requires { count ≤ length all_tables }
     ensures { IsTrue result ↔ (AreTables count tables.now) }
 {
-    tables.len() >= count && are_first_tables(tables, count) && are_free(&tables[count..])
+    tables.len() >= count
+        && are_first_tables(tables, count)
+        && have_no_foreign_key(&tables[count..])
 }
 
-/// Whether the schema begins with the first `tables` tables and `keys` indexes of a campaign, has
-/// after them only tables without a foreign key and indexes that make nothing unique in the first
-/// tables, and has no view.
+/// Whether the schema begins with the first `tables` tables and `keys` indexes of a campaign, and
+/// has no view. After them only tables without a foreign key may follow, and indexes that make
+/// nothing unique in the first tables.
 fn begins(schema: &Schema, tables: usize, keys: usize) -> bool
     requires tables { tables ≤ length all_tables }
     requires keys { keys ≤ length all_indexes }
@@ -59,8 +61,9 @@ fn begins(schema: &Schema, tables: usize, keys: usize) -> bool
     schema.views.is_empty()
 }
 
-/// Whether the schema begins with a format's tables and their indexes, has after them only tables
-/// without a foreign key and indexes that make nothing unique in the first ones, and has no view.
+/// Whether the schema begins with a format's tables and their indexes, and has no view. After them
+/// only tables without a foreign key may follow, and indexes that make nothing unique in the first
+/// ones.
 pub fn has_tables_of(schema: &Schema, format: Format) -> bool
     ensures { IsTrue result ↔ (HasTablesOf format schema.now) }
 {
@@ -79,9 +82,10 @@ pub fn is_first_format_only(schema: &Schema) -> bool
         && has_tables_of(schema, Format::First)
 }
 
-/// Whether the schema begins with the ten tables of a campaign and their indexes, has after them
-/// only tables without a foreign key and indexes that make nothing unique in the ten, and has no
-/// view or trigger. After `create` of atl_store it does. See docs/FORMATS.md, "Tables".
+/// Whether the schema begins with the ten tables of a campaign and their indexes, and has no view
+/// or trigger. After them only tables without a foreign key may follow, and indexes that make
+/// nothing unique in the ten. The schema that `create` of atl_store makes is such a one. See
+/// docs/FORMATS.md, "Tables".
 pub fn has_all_tables(schema: &Schema) -> bool
     ensures { IsTrue result ↔ (HasAll schema.now) }
 {

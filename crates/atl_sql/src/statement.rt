@@ -1,6 +1,6 @@
 //! Runs one statement inside a transaction: all writes of this crate go through `run`.
 ghost use Rattle.sqlite.specs.Values.{bound};
-ghost use Rattle.atl_sql.specs.Statements.{Only};
+ghost use Rattle.atl_sql.specs.Statements.{OneStatement};
 ghost use Rattle.atl_sql.specs.Writes.{Writes, RunsStatement};
 
 use sqlite::types::ValueRef;
@@ -12,7 +12,7 @@ pub(crate) fn run<S: Alter>(
     sql: &str,
     params: &[ValueRef<'_>],
 ) -> Result<(), Error>
-    ensures { Writes S.Store (Only sql.now (bound params.now))
+    ensures { Writes S.Store (OneStatement sql.now (bound params.now))
         (RunsStatement sql.now (bound params.now)) result tx.old.conn tx.new.conn }
 {
     tx.execute(sql, params)?;

@@ -1,12 +1,12 @@
 //! Makes the tables of a campaign, and tests a schema for them. See docs/FORMATS.md, "Tables".
 ghost use Rattle.std.specs.Prelude.{◌≡◌, ◌≤◌, [], length, map, slice_get, take, ◌↔◌, IsTrue};
 ghost use Rattle.atl_sql.specs.Tables.{Markets, all_parts, all_tables, campaign_table, creation_of, faction_table};
-ghost use Rattle.atl_sql.specs.Statements.{Only, Creations};
+ghost use Rattle.atl_sql.specs.Statements.{OneStatement, Creations};
 ghost use Rattle.atl_sql.specs.Writes.{Writes, RunsStatement};
-ghost use Rattle.atl_sql.specs.Inside.{Inside, IsBlank};
+ghost use Rattle.atl_sql.specs.Inside.{DoesInside, IsBlank};
 ghost use Rattle.atl_sql.specs.Making.{AreEmpty};
 
-use crate::schema::checks::is_own_row;
+use crate::schema::checks::checks_id_is_one;
 use crate::schema::keys::{has_no_unique, is_numbered, is_unique};
 use crate::schema::shapes::{is_keyed, is_simple, is_strict};
 use crate::statement::run;
@@ -170,7 +170,7 @@ fn is_campaign(found: &Table) -> bool
     is_strict(found, &CAMPAIGN)
         && is_numbered(found)
         && has_no_unique(found)
-        && is_own_row(&found.checks)
+        && checks_id_is_one(&found.checks)
 }
 
 /// Whether a table of a schema is the table `faction`, in which `joined_as` is unique.
@@ -183,11 +183,11 @@ fn is_faction(found: &Table) -> bool
         && found.checks.roots.is_empty()
 }
 
-/// Whether a table of a schema is the one at index `place` of the ten tables of a campaign.
-fn is_table(found: &Table, place: usize) -> bool
-    ensures { IsTrue result ↔ (slice_get all_tables place ≡ Some found.now) }
+/// Whether a table of a schema is the one at index `position` of the ten tables of a campaign.
+fn is_table(found: &Table, position: usize) -> bool
+    ensures { IsTrue result ↔ (slice_get all_tables position ≡ Some found.now) }
 {
-    match place {
+    match position {
         0 => is_campaign(found),
         1 => is_faction(found),
         2 => is_simple(found, &REGION),
@@ -207,8 +207,8 @@ pub(crate) fn are_first_tables(tables: &[Table], count: usize) -> bool
     requires { count ≤ length tables.now }
     ensures { IsTrue result ↔ (take count tables.now ≡ take count all_tables) }
 {
-    for place in 0..count {
-        if !is_table(&tables[place], place) {
+    for position in 0..count {
+        if !is_table(&tables[position], position) {
             return false;
         }
     }
@@ -224,7 +224,8 @@ fn create_each<S: Alter>(
     tables: &[TableDefinition],
 ) -> Result<(), Error>
     requires { map (λ t. t.text.now) tables.now ≡ map creation_of all_parts }
-    ensures { Writes S.Store Creations (Inside IsBlank AreEmpty) result tx.old.conn tx.new.conn }
+    ensures { Writes S.Store Creations (DoesInside IsBlank AreEmpty) result tx.old.conn
+        tx.new.conn }
 {
     for table in tables {
         run(tx, table.text, &[])?;
@@ -234,14 +235,15 @@ fn create_each<S: Alter>(
 
 /// Makes the ten tables, each without a row, in a database that has no table.
 pub fn create_tables<S: Alter>(tx: &mut Transaction<'_, S>) -> Result<(), Error>
-    ensures { Writes S.Store Creations (Inside IsBlank AreEmpty) result tx.old.conn tx.new.conn }
+    ensures { Writes S.Store Creations (DoesInside IsBlank AreEmpty) result tx.old.conn
+        tx.new.conn }
 {
     create_each(tx, &ALL)
 }
 
 /// Makes the table `market`, which the first format doesn't have.
 pub fn create_market<S: Alter>(tx: &mut Transaction<'_, S>) -> Result<(), Error>
-    ensures { Writes S.Store (Only (creation_of Markets) [])
+    ensures { Writes S.Store (OneStatement (creation_of Markets) [])
         (RunsStatement (creation_of Markets) []) result tx.old.conn tx.new.conn }
 {
     run(tx, MARKET.text, &[])

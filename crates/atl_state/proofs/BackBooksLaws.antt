@@ -16,25 +16,25 @@ use Rattle.atl_records.specs.Books.{Account, BooksValue, account_cmp, amount_in,
 use Rattle.atl_campaign.specs.FromRows.{put_amounts}
 use Rattle.atl_campaign.specs.RowRules.{books_key, HaveDistinctKeys}
 use Rattle.atl_campaign.specs.Rows.{amounts_rows, books_row, books_rows}
-use Rattle.atl_campaign.proofs.ReadBackLaws.{each_permuted, each_back, read_whole, apart_keys, keys_permuted, same_size}
+use Rattle.atl_campaign.proofs.ReadBackLaws.{each_permuted, each_back, written_is_read, apart_keys, keys_permuted, pos_is_injective}
 use Rattle.atl_records.proofs.AccountLaws.{account_total, thing_at_index, same_account}
 use Rattle.atl_records.proofs.BookLaws.{AreBooks-no_amounts, same_books}
 use Rattle.atl_records.proofs.EveryEntryLaws.{entry_small, numbered_entry}
 use Rattle.atl_records.proofs.AmountListLaws.{amounts_sorted, each_amount, amount_of_each}
-use Rattle.atl_state.proofs.BooksRowLaws.{IsBooked, books_order}
+use Rattle.atl_state.proofs.BooksRowLaws.{IsBooked, assembled_books_have_rows}
 use Rattle.atl_campaign.proofs.FromRowLaws.{put-books}
-use Rattle.atl_campaign.proofs.HasLaws.{same}
+use Rattle.atl_campaign.proofs.HasLaws.{is_same_key}
 
 -- ---- each row
 
--- if P holds for the row of each account and its amount in a list, P holds for each row of `amounts_rows`, the list of
--- these rows
+-- a condition P holds for each row of `amounts_rows`, the rows of some accounts and amounts, if it holds for the row of
+-- each account and its amount
 rows_each : (P : StoredBooks → Type 0) (es : List (Account × ℤ)) → AllByRecursion (λ x. P (books_row x.0.0 x.0.1 x.1)) es → AllByRecursion P (amounts_rows es)
 rows_each P [] h = tt
 rows_each P (x ∷ es) h = (h.0, rows_each P es h.1)
 
--- if P holds for each row of `amounts_rows`, the list of the rows of some accounts and amounts, P holds for the row of
--- each account and its amount
+-- a condition P holds for the row of each account and its amount, if it holds for each row of `amounts_rows`, the rows
+-- of some accounts and amounts
 each_row : (P : StoredBooks → Type 0) (es : List (Account × ℤ)) → AllByRecursion P (amounts_rows es) → AllByRecursion (λ x. P (books_row x.0.0 x.0.1 x.1)) es
 each_row P [] h = tt
 each_row P (x ∷ es) h = (h.0, each_row P es h.1)
@@ -51,32 +51,32 @@ module _ (books : BooksValue) where
 -- ---- books whose rows are the same are the same
 
 -- an amount that books list for an entry and a thing is the books' amount of this entry and thing (`amount_in`)
-pub amount_is : (books : BooksValue) (e : BooksEntry) (t : Thing) (z : ℤ) → get books.amounts (e, t) ≡ Some z → amount_in books e t ≡ z
-amount_is books e t z is = ap (λ o. unwrap_or o (pos 0)) is
+pub listed_amount_is_amount_in : (books : BooksValue) (e : BooksEntry) (t : Thing) (z : ℤ) → get books.amounts (e, t) ≡ Some z → amount_in books e t ≡ z
+listed_amount_is_amount_in books e t z is = ap (λ o. unwrap_or o (pos 0)) is
 
 -- the books have the amount of a row under the row's entry and thing
-abbrev Says : BooksValue → StoredBooks → Type 0
-Says books r = (e : BooksEntry) (t : Thing) → r.entry ≡ pos (entry_index e + 1) → r.thing ≡ pos (thing_index t) → amount_in books e t ≡ r.amount
+abbrev HaveAmountOf : BooksValue → StoredBooks → Type 0
+HaveAmountOf books r = (e : BooksEntry) (t : Thing) → r.entry ≡ pos (entry_index e + 1) → r.thing ≡ pos (thing_index t) → amount_in books e t ≡ r.amount
 
 -- books have the amount of each of their own rows
-says_itself : (books : BooksValue) → AllByRecursion (Says books) (books_rows books)
+says_itself : (books : BooksValue) → AllByRecursion (HaveAmountOf books) (books_rows books)
 says_itself books =
-    lines_each books (Says books) (λ e t z is f u entry thing.
-    let next = same_size (entry_index e + 1) (entry_index f + 1) entry in
-    let one = same_account e f t u (omega arith) (same_size (thing_index t) (thing_index u) thing) in
-    sym (ap (λ (a : Account). amount_in books a.0 a.1) one) ∙ amount_is books e t z is)
+    lines_each books (HaveAmountOf books) (λ e t z is f u entry thing.
+    let next = pos_is_injective (entry_index e + 1) (entry_index f + 1) entry in
+    let one = same_account e f t u (omega arith) (pos_is_injective (thing_index t) (thing_index u) thing) in
+    sym (ap (λ (a : Account). amount_in books a.0 a.1) one) ∙ listed_amount_is_amount_in books e t z is)
 
 -- if books a and b have the same rows, in any order, each amount listed in a is also what b has for its entry and thing
-some_said : (a b : BooksValue) → IsPermutation (books_rows a) (books_rows b) → (e : BooksEntry) (t : Thing) (z : ℤ) → get a.amounts (e, t) ≡ Some z → amount_in b e t ≡ z
-some_said a b h e t z is = line_at a (Says b) (each_back (Says b) (books_rows a) (books_rows b) h (says_itself b)) e t z is e t refl refl
+listed_amounts_agree : (a b : BooksValue) → IsPermutation (books_rows a) (books_rows b) → (e : BooksEntry) (t : Thing) (z : ℤ) → get a.amounts (e, t) ≡ Some z → amount_in b e t ≡ z
+listed_amounts_agree a b h e t z is = line_at a (HaveAmountOf b) (each_back (HaveAmountOf b) (books_rows a) (books_rows b) h (says_itself b)) e t z is e t refl refl
 
 -- if two books have the same rows, in any order, they have the same amount for each entry and thing
 same_amounts : (a b : BooksValue) → IsPermutation (books_rows a) (books_rows b) → (e : BooksEntry) (t : Thing) → amount_in a e t ≡ amount_in b e t
 same_amounts a b h e t =
     elim (get a.amounts (e, t)) as (λ o. get a.amounts (e, t) ≡ o → unwrap_or o (pos 0) ≡ amount_in b e t) [
-      | Some z ↦ λ is. sym (some_said a b h e t z is)
+      | Some z ↦ λ is. sym (listed_amounts_agree a b h e t z is)
       | None ↦ λ none. elim (get b.amounts (e, t)) as (λ o. get b.amounts (e, t) ≡ o → pos 0 ≡ unwrap_or o (pos 0)) [
-        | Some z ↦ λ is. sym (ap (λ o. unwrap_or o (pos 0)) none) ∙ some_said b a (IsPermutation-sym (books_rows a) (books_rows b) h) e t z is
+        | Some z ↦ λ is. sym (ap (λ o. unwrap_or o (pos 0)) none) ∙ listed_amounts_agree b a (IsPermutation-sym (books_rows a) (books_rows b) h) e t z is
         | None ↦ λ _. refl
       ] refl
     ] refl
@@ -84,23 +84,23 @@ same_amounts a b h e t =
 -- ---- the rows of books in any order
 
 -- an account (an entry and a thing) is not less than itself
-less_itself : (a : Account) → is_lt (account_cmp a a) ≡ false
-less_itself a = ap is_lt (tied_itself account_total a)
+not_less_than_itself : (a : Account) → is_lt (account_cmp a a) ≡ false
+not_less_than_itself a = ap is_lt (tied_itself account_total a)
 
 -- the key of the row of an account (an entry and a thing) differs from those of the rows of all higher accounts
-others_apart : (x : Account × ℤ) (es : List (Account × ℤ)) → below_all account_cmp x.0 es ≡ true → AllByRecursion (λ r. same (books_key (books_row x.0.0 x.0.1 x.1)) (books_key r) ≡ false) (amounts_rows es)
+others_apart : (x : Account × ℤ) (es : List (Account × ℤ)) → below_all account_cmp x.0 es ≡ true → AllByRecursion (λ r. is_same_key (books_key (books_row x.0.0 x.0.1 x.1)) (books_key r) ≡ false) (amounts_rows es)
 others_apart x [] h = tt
 others_apart x (y ∷ es) h =
     let parts = and_parts (is_lt (account_cmp x.0 y.0)) (below_all account_cmp x.0 es) h in (
       apart_keys (books_key (books_row x.0.0 x.0.1 x.1)) (books_key (books_row y.0.0 y.0.1 y.1)) (λ k.
-          let next = same_size (entry_index x.0.0 + 1) (entry_index y.0.0 + 1) k.first in
-          let one = same_account x.0.0 y.0.0 x.0.1 y.0.1 (omega arith) (same_size (thing_index x.0.1) (thing_index y.0.1) k.second) in
-          false≢true (sym (less_itself x.0) ∙ ap (λ a. is_lt (account_cmp x.0 a)) one ∙ parts.0)),
+          let next = pos_is_injective (entry_index x.0.0 + 1) (entry_index y.0.0 + 1) k.first in
+          let one = same_account x.0.0 y.0.0 x.0.1 y.0.1 (omega arith) (pos_is_injective (thing_index x.0.1) (thing_index y.0.1) k.second) in
+          false≢true (sym (not_less_than_itself x.0) ∙ ap (λ a. is_lt (account_cmp x.0 a)) one ∙ parts.0)),
       others_apart x es parts.1,
     )
 
 -- the rows of accounts (an entry and a thing) in rising order have distinct keys
-entries_apart : (es : List (Account × ℤ)) → is_sorted account_cmp es ≡ true → IsDistinct (λ a b. same (books_key a) (books_key b)) (amounts_rows es)
+entries_apart : (es : List (Account × ℤ)) → is_sorted account_cmp es ≡ true → IsDistinct (λ a b. is_same_key (books_key a) (books_key b)) (amounts_rows es)
 unfolding IsDistinct
 entries_apart [] h = tt
 entries_apart (x ∷ es) h = let parts = and_parts (below_all account_cmp x.0 es) (is_sorted account_cmp es) h in (others_apart x es parts.0, entries_apart es parts.1)
@@ -111,9 +111,9 @@ module _ (things : ℕ) (few : things ≤ 4294967294) (books : BooksValue) (are 
   pub lines_booked : AllByRecursion (IsBooked things) (books_rows books)
   lines_booked =
       lines_each books (IsBooked things) (λ e t z is.
-      let entry = read_whole (entry_index e + 1) (omega (arith, entry_small e)) in
+      let entry = written_is_read (entry_index e + 1) (omega (arith, entry_small e)) in
       let (inside, some) = are.listed e t z is in
-      let thing = read_whole (thing_index t) (omega arith) in
+      let thing = written_is_read (thing_index t) (omega arith) in
       record {
         account = (e, t);
         row = refl;
@@ -138,4 +138,4 @@ module _ (things : ℕ) (few : things ≤ 4294967294) (books : BooksValue) (are 
     books_back =
         let said = put_amounts rows (no_amounts things) in
         same_books things said books (put-books things rows (no_amounts things) (AreBooks-no_amounts things)) are
-        (same_amounts said books (IsPermutation-trans (books_rows said) rows (books_rows books) (books_order things rows all_booked books_keys) (IsPermutation-sym (books_rows books) rows h)))
+        (same_amounts said books (IsPermutation-trans (books_rows said) rows (books_rows books) (assembled_books_have_rows things rows all_booked books_keys) (IsPermutation-sym (books_rows books) rows h)))

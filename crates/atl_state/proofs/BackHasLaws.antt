@@ -15,10 +15,10 @@ use Rattle.atl_campaign.specs.FromRows.{as_u32, is_of_unit_and_sort, things_had}
 use Rattle.atl_records.specs.Every.{Every}
 use Rattle.atl_campaign.specs.RowRules.{has_key, HaveDistinctKeys}
 use Rattle.atl_campaign.specs.Rows.{is_zero, has_row, rows_of_sort, held_rows, has_rows}
-use Rattle.atl_campaign.proofs.ReadBackLaws.{each_permuted, read_whole, written_whole, apart_keys, append_each, each_appended, append_apart, flat_apart, entries_rise, keys_permuted, same_size}
+use Rattle.atl_campaign.proofs.ReadBackLaws.{each_permuted, written_is_read, written_fits_u32, apart_keys, append_each, each_appended, append_apart, flat_apart, entries_rise, keys_permuted, pos_is_injective}
 use Rattle.atl_campaign.proofs.AssemblyLaws.{is_same}
 use Rattle.atl_state.proofs.BackGroupLaws.{groups_each, each_group, lines_each, each_line, lines_apart, amounts_back}
-use Rattle.atl_campaign.proofs.HasLaws.{HasWholeKey, same, things_apart}
+use Rattle.atl_campaign.proofs.HasLaws.{KeyFitsU32, is_same_key, things_apart}
 
 -- a unit's items for sort 0, and its days of study for any other
 abbrev pub goods_of : ℕ → Unit → FinMap nat_cmp ℕ
@@ -28,23 +28,23 @@ goods_of (suc n) u = u.holding.days
 -- ---- the rows of all units
 
 -- whether a row's amount is 0
-abbrev none : StoredHas → Bool
-none r = is_zero r.amount
+abbrev has_zero_amount : StoredHas → Bool
+has_zero_amount r = is_zero r.amount
 
 -- the rows of `has` for the goods of a unit
 abbrev goods_rows : ℕ × Unit → List StoredHas
 goods_rows e = held_rows e.0 e.1.holding
 
 -- the rows of `has` of one unit and one sort have distinct keys
-sort_apart : (n sort : ℕ) (m : FinMap nat_cmp ℕ) → IsDistinct (λ a b. same (has_key a) (has_key b)) (rows_of_sort n sort (entries m))
+sort_apart : (n sort : ℕ) (m : FinMap nat_cmp ℕ) → IsDistinct (λ a b. is_same_key (has_key a) (has_key b)) (rows_of_sort n sort (entries m))
 sort_apart n sort m =
-    lines_apart none (has_row n sort) m (λ a b. same (has_key a) (has_key b)) (λ i k a b l. apart_keys (has_key (has_row n sort i a)) (has_key (has_row n sort k b)) (λ keys. let one = same_size i k keys.third in omega arith))
+    lines_apart has_zero_amount (has_row n sort) m (λ a b. is_same_key (has_key a) (has_key b)) (λ i k a b l. apart_keys (has_key (has_row n sort i a)) (has_key (has_row n sort k b)) (λ keys. let one = pos_is_injective i k keys.third in omega arith))
 
 module _ (units : FinMap nat_cmp Unit) where
   -- if P holds for the row of each amount, not 0, that a unit of the map has, it holds for each row of `has` of the map
   pub has_each : (P : StoredHas → Type 0) → Every (λ n u. (s : ℕ) → s < 2 → Every (λ i a. is_zero (pos a) ≡ false → P (has_row n s i a)) (goods_of s u)) units → AllByRecursion P (has_rows (entries units))
   has_each P h = groups_each goods_rows P units (λ n u is.
-      append_each P (rows_of_sort n 0 (entries u.holding.items)) (rows_of_sort n 1 (entries u.holding.days)) (lines_each none (has_row n 0) u.holding.items P (h n u is 0 (omega arith))) (lines_each none (has_row n 1) u.holding.days P (h n u is 1 (omega arith))))
+      append_each P (rows_of_sort n 0 (entries u.holding.items)) (rows_of_sort n 1 (entries u.holding.days)) (lines_each has_zero_amount (has_row n 0) u.holding.items P (h n u is 0 (omega arith))) (lines_each has_zero_amount (has_row n 1) u.holding.days P (h n u is 1 (omega arith))))
 
   -- if P holds for each row of `has` of a map, it holds for the row of each amount, not 0, that a unit of the map has
   pub each_had : (P : StoredHas → Type 0) → AllByRecursion P (has_rows (entries units)) → Every (λ n u. (s : ℕ) → s < 2 → Every (λ i a. is_zero (pos a) ≡ false → P (has_row n s i a)) (goods_of s u)) units
@@ -52,32 +52,32 @@ module _ (units : FinMap nat_cmp Unit) where
     where
       -- if P holds for the rows of a unit's items and of its days, it holds for the row of each amount that isn't 0
       of_sort : AllByRecursion P (rows_of_sort n 0 (entries u.holding.items)) × AllByRecursion P (rows_of_sort n 1 (entries u.holding.days)) → (s : ℕ) → s < 2 → Every (λ i a. is_zero (pos a) ≡ false → P (has_row n s i a)) (goods_of s u)
-      of_sort both zero l = each_line none (has_row n 0) u.holding.items P both.0
-      of_sort both (suc zero) l = each_line none (has_row n 1) u.holding.days P both.1
+      of_sort both zero l = each_line has_zero_amount (has_row n 0) u.holding.items P both.0
+      of_sort both (suc zero) l = each_line has_zero_amount (has_row n 1) u.holding.days P both.1
       of_sort both (suc (suc s)) l = absurd (omega arith)
 
   -- a row of `has` of sort 0 has another key than rows of sort 1
-  sorts_differ : (a : StoredHas) (ys : List StoredHas) → a.sort ≡ pos 0 → AllByRecursion (λ b. b.sort ≡ pos 1) ys → AllByRecursion (λ b. same (has_key a) (has_key b) ≡ false) ys
+  sorts_differ : (a : StoredHas) (ys : List StoredHas) → a.sort ≡ pos 0 → AllByRecursion (λ b. b.sort ≡ pos 1) ys → AllByRecursion (λ b. is_same_key (has_key a) (has_key b) ≡ false) ys
   sorts_differ a [] item h = tt
-  sorts_differ a (b ∷ ys) item h = (apart_keys (has_key a) (has_key b) (λ k. let one = same_size 0 1 (sym item ∙ k.second ∙ h.0) in omega arith), sorts_differ a ys item h.1)
+  sorts_differ a (b ∷ ys) item h = (apart_keys (has_key a) (has_key b) (λ k. let one = pos_is_injective 0 1 (sym item ∙ k.second ∙ h.0) in omega arith), sorts_differ a ys item h.1)
 
   -- rows of `has` of sort 0 have other keys than rows of sort 1
-  all_differ : (xs ys : List StoredHas) → AllByRecursion (λ a. a.sort ≡ pos 0) xs → AllByRecursion (λ b. b.sort ≡ pos 1) ys → AllByRecursion (λ a. AllByRecursion (λ b. same (has_key a) (has_key b) ≡ false) ys) xs
+  all_differ : (xs ys : List StoredHas) → AllByRecursion (λ a. a.sort ≡ pos 0) xs → AllByRecursion (λ b. b.sort ≡ pos 1) ys → AllByRecursion (λ a. AllByRecursion (λ b. is_same_key (has_key a) (has_key b) ≡ false) ys) xs
   all_differ [] ys h k = tt
   all_differ (a ∷ xs) ys h k = (sorts_differ a ys h.0 k, all_differ xs ys h.1 k)
 
   -- the rows of `has` of one unit have distinct keys
-  held_apart : (n : ℕ) (u : Unit) → IsDistinct (λ a b. same (has_key a) (has_key b)) (held_rows n u.holding)
+  held_apart : (n : ℕ) (u : Unit) → IsDistinct (λ a b. is_same_key (has_key a) (has_key b)) (held_rows n u.holding)
   held_apart n u =
-      append_apart (λ a b. same (has_key a) (has_key b)) (rows_of_sort n 0 (entries u.holding.items)) (rows_of_sort n 1 (entries u.holding.days)) (sort_apart n 0 u.holding.items) (sort_apart n 1 u.holding.days)
-      (all_differ (rows_of_sort n 0 (entries u.holding.items)) (rows_of_sort n 1 (entries u.holding.days)) (lines_each none (has_row n 0) u.holding.items (λ r. r.sort ≡ pos 0) (λ i a is some. refl)) (lines_each none (has_row n 1) u.holding.days (λ r. r.sort ≡ pos 1) (λ i a is some. refl)))
+      append_apart (λ a b. is_same_key (has_key a) (has_key b)) (rows_of_sort n 0 (entries u.holding.items)) (rows_of_sort n 1 (entries u.holding.days)) (sort_apart n 0 u.holding.items) (sort_apart n 1 u.holding.days)
+      (all_differ (rows_of_sort n 0 (entries u.holding.items)) (rows_of_sort n 1 (entries u.holding.days)) (lines_each has_zero_amount (has_row n 0) u.holding.items (λ r. r.sort ≡ pos 0) (λ i a is some. refl)) (lines_each has_zero_amount (has_row n 1) u.holding.days (λ r. r.sort ≡ pos 1) (λ i a is some. refl)))
 
   -- the rows of `has` of all units have distinct keys
-  has_apart : IsDistinct (λ a b. same (has_key a) (has_key b)) (has_rows (entries units))
+  has_apart : IsDistinct (λ a b. is_same_key (has_key a) (has_key b)) (has_rows (entries units))
   has_apart =
-      flat_apart (λ a b. same (has_key a) (has_key b)) (λ (e : ℕ × Unit). held_rows e.0 e.1.holding) (λ e f. e.0 < f.0) (λ e r. r.unit ≡ pos e.0)
-      (λ x y a b l mine yours. apart_keys (has_key a) (has_key b) (λ k. let one = same_size x.0 y.0 (sym mine ∙ k.first ∙ yours) in omega arith))
-      (λ e. append_each (λ r. r.unit ≡ pos e.0) (rows_of_sort e.0 0 (entries e.1.holding.items)) (rows_of_sort e.0 1 (entries e.1.holding.days)) (lines_each none (has_row e.0 0) e.1.holding.items (λ r. r.unit ≡ pos e.0) (λ i a is some. refl)) (lines_each none (has_row e.0 1) e.1.holding.days (λ r. r.unit ≡ pos e.0) (λ i a is some. refl)))
+      flat_apart (λ a b. is_same_key (has_key a) (has_key b)) (λ (e : ℕ × Unit). held_rows e.0 e.1.holding) (λ e f. e.0 < f.0) (λ e r. r.unit ≡ pos e.0)
+      (λ x y a b l mine yours. apart_keys (has_key a) (has_key b) (λ k. let one = pos_is_injective x.0 y.0 (sym mine ∙ k.first ∙ yours) in omega arith))
+      (λ e. append_each (λ r. r.unit ≡ pos e.0) (rows_of_sort e.0 0 (entries e.1.holding.items)) (rows_of_sort e.0 1 (entries e.1.holding.days)) (lines_each has_zero_amount (has_row e.0 0) e.1.holding.items (λ r. r.unit ≡ pos e.0) (λ i a is some. refl)) (lines_each has_zero_amount (has_row e.0 1) e.1.holding.days (λ r. r.unit ≡ pos e.0) (λ i a is some. refl)))
       (λ e. held_apart e.0 e.1) (entries units) (entries_rise units)
 
   -- the numbers of units, items and skills fit 32 bits, and each amount of an item or of days is from 1 to most_u32
@@ -93,12 +93,12 @@ module _ (units : FinMap nat_cmp Unit) where
     has_keys = keys_permuted has_key (has_rows (entries units)) rows h has_apart
 
     -- the numbers in the keys of the rows of `has`, in any order, are read as themselves (HasWholeKey)
-    pub all_keyed : AllByRecursion HasWholeKey rows
+    pub all_keyed : AllByRecursion KeyFitsU32 rows
     all_keyed =
-        each_permuted HasWholeKey (has_rows (entries units)) rows h (has_each HasWholeKey (λ n u there s few i a is some. record {
-          unit = written_whole n (had.numbers n u there);
-          sort = written_whole s (omega arith);
-          thing = written_whole i (had.goods n u there s few i a is).0;
+        each_permuted KeyFitsU32 (has_rows (entries units)) rows h (has_each KeyFitsU32 (λ n u there s few i a is some. record {
+          unit = written_fits_u32 n (had.numbers n u there);
+          sort = written_fits_u32 s (omega arith);
+          thing = written_fits_u32 i (had.goods n u there s few i a is).0;
         }))
 
     -- an amount of at least 1 is not 0
@@ -120,13 +120,13 @@ module _ (units : FinMap nat_cmp Unit) where
     of_row : (n sort k s i a : ℕ) → k ≤ most_u32 → s < 2 → is_of_unit_and_sort n sort (has_row k s i a) ≡ true → IsSameUnitAndSort n sort k s
     of_row n sort k s i a few l e =
         let both = and_parts (as_u32 (pos k) == n) (as_u32 (pos s) == sort) e in
-        record { unit = sym (read_whole k few) ∙ is_same (as_u32 (pos k)) n both.0; kind = sym (read_whole s (omega arith)) ∙ is_same (as_u32 (pos s)) sort both.1 }
+        record { unit = sym (written_is_read k few) ∙ is_same (as_u32 (pos k)) n both.0; kind = sym (written_is_read s (omega arith)) ∙ is_same (as_u32 (pos s)) sort both.1 }
 
     -- a row of `has` made for unit n and sort s is read as one of them, if n fits 32 bits and s is 0 or 1
     of_itself : (n s i a : ℕ) → n ≤ most_u32 → s < 2 → is_of_unit_and_sort n s (has_row n s i a) ≡ true
     of_itself n s i a few l =
-        let unit : (as_u32 (pos n) == n) ≡ true = let e = read_whole n few in grind (arith, nat_tests) in
-        let kind : (as_u32 (pos s) == s) ≡ true = let e = read_whole s (omega arith) in grind (arith, nat_tests) in
+        let unit : (as_u32 (pos n) == n) ≡ true = let e = written_is_read n few in grind (arith, nat_tests) in
+        let kind : (as_u32 (pos s) == s) ≡ true = let e = written_is_read s (omega arith) in grind (arith, nat_tests) in
         ap (λ b. b && (as_u32 (pos s) == s)) unit ∙ kind
 
     module _ (n : ℕ) (u : Unit) (there : get units n ≡ Some u) (sort : ℕ) (few : sort < 2) where
@@ -138,8 +138,8 @@ module _ (units : FinMap nat_cmp Unit) where
           let it = of_row n sort k s i a (had.numbers k v at) l of in
           let small = had.goods k v at s l i a is in
           let one = some_same v u (sym at ∙ ap (get units) it.unit ∙ there) in
-          ap (get (goods_of sort u)) (read_whole i small.0) ∙ ap (λ x. get (goods_of sort x) i) (sym one) ∙ ap (λ q. get (goods_of q v) i) (sym it.kind) ∙ is ∙ ap (λ x. Some x) (sym (read_whole a small.2))))
+          ap (get (goods_of sort u)) (written_is_read i small.0) ∙ ap (λ x. get (goods_of sort x) i) (sym one) ∙ ap (λ q. get (goods_of q v) i) (sym it.kind) ∙ is ∙ ap (λ x. Some x) (sym (written_is_read a small.2))))
           (λ P all i a is.
           let small = had.goods n u there sort few i a is in
           let shown = each_had (λ r. is_of_unit_and_sort n sort r ≡ true → P r) all n u there sort few i a is (nonzero a small.1) (of_itself n sort i a (had.numbers n u there) few) in
-          (has_row n sort i a, read_whole i small.0, read_whole a small.2, shown))
+          (has_row n sort i a, written_is_read i small.0, written_is_read a small.2, shown))

@@ -20,11 +20,11 @@ use Rattle.atl_records.specs.Limits.{entry_count}
 use Rattle.atl_campaign.specs.RowRules.{Key, books_key}
 use Rattle.atl_campaign.specs.Rows.{amounts_rows, books_row, books_rows}
 use Rattle.atl_records.proofs.AccountLaws.{account_total, cases_account, index_of_thing_at}
-use Rattle.atl_records.proofs.BookLaws.{AreBooks-no_amounts, AreBooks-with_amount, get-with_amount, listed, zero_not}
+use Rattle.atl_records.proofs.BookLaws.{AreBooks-no_amounts, AreBooks-with_amount, get-with_amount, listing_of, nonzero_fails_is_zero}
 use Rattle.atl_records.proofs.EveryEntryLaws.{entry_at, numbered_entry}
 use Rattle.atl_records.proofs.EveryLaws.{none_some}
 use Rattle.atl_records.proofs.AmountListLaws.{entries-none}
-use Rattle.atl_campaign.proofs.HasLaws.{IsWhole, same, ties_itself}
+use Rattle.atl_campaign.proofs.HasLaws.{FitsU32, is_same_key, ties_itself}
 
 -- ---- one more amount
 
@@ -40,15 +40,15 @@ put_new a z (e ∷ es) h =
     ] h
 
 -- the row of `books` for an account (an entry and a thing) with its amount
-abbrev line : Account × ℤ → StoredBooks
-line x = books_row x.0.0 x.0.1 x.1
+abbrev row_of_amount : Account × ℤ → StoredBooks
+row_of_amount x = books_row x.0.0 x.0.1 x.1
 
 -- setting an amount other than 0 where there is none adds one row to those of the books; their order may differ
-one_amount : (books : BooksValue) (a : Account) (z : ℤ) → get books.amounts a ≡ None → z ≢ pos 0 → IsPermutation (books_rows (with_amount books a.0 a.1 z)) (line (a, z) ∷ books_rows books)
+one_amount : (books : BooksValue) (a : Account) (z : ℤ) → get books.amounts a ≡ None → z ≢ pos 0 → IsPermutation (books_rows (with_amount books a.0 a.1 z)) (row_of_amount (a, z) ∷ books_rows books)
 one_amount books a z none some =
     let m = books.amounts in
-    let is : entries (with_amount books a.0 a.1 z).amounts ≡ put account_cmp a z (entries m) = ap (λ b. entries (cond b (remove m a) (insert m a z))) (zero_not z some) ∙ entries-insert account_total m a z in
-    subst (λ es. IsPermutation (amounts_rows es) (line (a, z) ∷ books_rows books)) (sym is) (IsPermutation-map line (put account_cmp a z (entries m)) ((a, z) ∷ entries m) (put_new a z (entries m) (sym (get-entries m a) ∙ none)))
+    let is : entries (with_amount books a.0 a.1 z).amounts ≡ put account_cmp a z (entries m) = ap (λ b. entries (cond b (remove m a) (insert m a z))) (nonzero_fails_is_zero z some) ∙ entries-insert account_total m a z in
+    subst (λ es. IsPermutation (amounts_rows es) (row_of_amount (a, z) ∷ books_rows books)) (sym is) (IsPermutation-map row_of_amount (put account_cmp a z (entries m)) ((a, z) ∷ entries m) (put_new a z (entries m) (sym (get-entries m a) ∙ none)))
 
 -- ---- the amounts of rows, one after another
 
@@ -67,21 +67,21 @@ pub record IsBooked (things : ℕ) (r : StoredBooks) : Type 0 where
   -- the row's amount is not 0
   pub some : r.amount ≢ pos 0
 
--- if n is at least 1, and i is n - 1, i + 1 is n
+-- i + 1 is n, if n is at least 1 and i is n - 1
 one_up : (n i : ℕ) → 1 ≤ n → i ≡ n - 1 → i + 1 ≡ n
 one_up n i h e = omega arith
 
 -- A row is read as an account (IsBooked) if its entry is from 1 to entry_count, its thing is below `things`, both fit
 -- 32 bits, and its amount is not 0.
-pub booked_row : (things : ℕ) (r : StoredBooks) → IsWhole r.entry → IsWhole r.thing → 1 ≤ as_u32 r.entry → as_u32 r.entry ≤ entry_count → as_u32 r.thing < things → r.amount ≢ pos 0 → IsBooked things r
+pub booked_row : (things : ℕ) (r : StoredBooks) → FitsU32 r.entry → FitsU32 r.thing → 1 ≤ as_u32 r.entry → as_u32 r.entry ≤ entry_count → as_u32 r.thing < things → r.amount ≢ pos 0 → IsBooked things r
 booked_row things r entry thing least most there some =
     let (e, at) = entry_at (as_u32 r.entry - 1) (omega arith) in
     let number = one_up (as_u32 r.entry) (entry_index e) least at in
     let entries = ap pos number ∙ sym entry in
-    let places = ap pos (index_of_thing_at (as_u32 r.thing)) ∙ sym thing in
+    let indices = ap pos (index_of_thing_at (as_u32 r.thing)) ∙ sym thing in
     record {
       account = (e, thing_at (as_u32 r.thing));
-      row = λ i. record { entry = entries i; thing = places i; amount = r.amount };
+      row = λ i. record { entry = entries i; thing = indices i; amount = r.amount };
       named = ap entry_numbered (sym number) ∙ numbered_entry e;
       numbered = refl;
       there = there;
@@ -109,10 +109,10 @@ its_key : (things : ℕ) (r : StoredBooks) (h : IsBooked things r) → ◌≡◌
 its_key things r h = ap books_key h.row
 
 -- two rows with different keys that are read as accounts (IsBooked) are read as different accounts
-accounts_apart : (things : ℕ) (r s : StoredBooks) (h : IsBooked things r) (k : IsBooked things s) → same (books_key r) (books_key s) ≡ false → eq_by_cmp account_cmp k.account h.account ≡ false
+accounts_apart : (things : ℕ) (r s : StoredBooks) (h : IsBooked things r) (k : IsBooked things s) → is_same_key (books_key r) (books_key s) ≡ false → eq_by_cmp account_cmp k.account h.account ≡ false
 accounts_apart things r s h k differ =
     elim (cases_account k.account h.account) [
-      | inl one ↦ absurd (false≢true (sym (ap (same (books_key r)) (sym (its_key things r h) ∙ ap key_of (sym one) ∙ its_key things s k) ∙ differ) ∙ ties_itself (books_key r)))
+      | inl one ↦ absurd (false≢true (sym (ap (is_same_key (books_key r)) (sym (its_key things r h) ∙ ap key_of (sym one) ∙ its_key things s k) ∙ differ) ∙ ties_itself (books_key r)))
       | inr apart ↦ apart
     ]
 
@@ -121,19 +121,19 @@ abbrev IsFree : ℕ → BooksValue → StoredBooks → Type 0
 IsFree things books r = (h : IsBooked things r) → get books.amounts h.account ≡ None
 
 -- accounts of rows whose keys differ from row r's still have no amount (IsFree) once the amount of r's account is set
-stay_free : (things : ℕ) (books : BooksValue) (r : StoredBooks) (h : IsBooked things r) (rows : List StoredBooks) → AllByRecursion (λ y. same (books_key r) y ≡ false) (map books_key rows) → AllByRecursion (IsFree things books) rows
+stay_free : (things : ℕ) (books : BooksValue) (r : StoredBooks) (h : IsBooked things r) (rows : List StoredBooks) → AllByRecursion (λ y. is_same_key (books_key r) y ≡ false) (map books_key rows) → AllByRecursion (IsFree things books) rows
     → AllByRecursion (IsFree things (with_amount books h.account.0 h.account.1 r.amount)) rows
 stay_free things books r h [] d free = tt
 stay_free things books r h (s ∷ rows) d free = (
-  λ k. get-with_amount books h.account.0 h.account.1 r.amount k.account ∙ ap (λ b. cond b (listed r.amount) (get books.amounts k.account)) (accounts_apart things r s h k d.0) ∙ free.0 k,
+  λ k. get-with_amount books h.account.0 h.account.1 r.amount k.account ∙ ap (λ b. cond b (listing_of r.amount) (get books.amounts k.account)) (accounts_apart things r s h k d.0) ∙ free.0 k,
   stay_free things books r h rows d.1 free.1,
 )
 
 -- putting rows with distinct keys, whose accounts have no amount yet (IsFree), into books adds just these rows
-put_order : (things : ℕ) (rows : List StoredBooks) (books : BooksValue) → AreBooks things books → AllByRecursion (IsBooked things) rows → IsDistinct same (map books_key rows) → AllByRecursion (IsFree things books) rows → IsPermutation (books_rows books ++ rows) (books_rows (put_amounts rows books))
+putting_adds_rows : (things : ℕ) (rows : List StoredBooks) (books : BooksValue) → AreBooks things books → AllByRecursion (IsBooked things) rows → IsDistinct is_same_key (map books_key rows) → AllByRecursion (IsFree things books) rows → IsPermutation (books_rows books ++ rows) (books_rows (put_amounts rows books))
 unfolding IsDistinct
-put_order things [] books are all d free = subst (λ xs. IsPermutation xs (books_rows books)) (sym (append-nil (books_rows books))) (IsPermutation-refl (books_rows books))
-put_order things (r ∷ rows) books are all d free =
+putting_adds_rows things [] books are all d free = subst (λ xs. IsPermutation xs (books_rows books)) (sym (append-nil (books_rows books))) (IsPermutation-refl (books_rows books))
+putting_adds_rows things (r ∷ rows) books are all d free =
     let h = all.0 in
     let new = with_amount books h.account.0 h.account.1 r.amount in
     let also = AreBooks-with_amount books h.account.0 h.account.1 r.amount things are (account_there things r h) in
@@ -142,7 +142,7 @@ put_order things (r ∷ rows) books are all d free =
     let step = IsPermutation-append_left rows (r ∷ books_rows books) (books_rows new) (IsPermutation-sym (books_rows new) (r ∷ books_rows books) row) in
     subst (λ b. IsPermutation (books_rows books ++ r ∷ rows) (books_rows (put_amounts rows b))) (sym (with_booked_row things books r are h))
     (IsPermutation-trans (books_rows books ++ r ∷ rows) (r ∷ (books_rows books ++ rows)) last (IsPermutation-middle (books_rows books) r rows)
-    (IsPermutation-trans (r ∷ (books_rows books ++ rows)) (books_rows new ++ rows) last step (put_order things rows new also all.1 d.1 (stay_free things books r h rows d.0 free.1))))
+    (IsPermutation-trans (r ∷ (books_rows books ++ rows)) (books_rows new ++ rows) last step (putting_adds_rows things rows new also all.1 d.1 (stay_free things books r h rows d.0 free.1))))
 
 -- in empty books no row's account has an amount (IsFree)
 all_free : (things : ℕ) (rows : List StoredBooks) → AllByRecursion (IsFree things (no_amounts things)) rows
@@ -150,8 +150,8 @@ all_free things [] = tt
 all_free things (r ∷ rows) = (λ h. get-empty {X = ℤ} account_cmp h.account, all_free things rows)
 
 -- books assembled from rows with distinct keys, each read as an account (IsBooked), have just these rows, in some order
-pub books_order : (things : ℕ) (rows : List StoredBooks) → AllByRecursion (IsBooked things) rows → IsDistinct same (map books_key rows) → IsPermutation (books_rows (put_amounts rows (no_amounts things))) rows
-books_order things rows all d =
+pub assembled_books_have_rows : (things : ℕ) (rows : List StoredBooks) → AllByRecursion (IsBooked things) rows → IsDistinct is_same_key (map books_key rows) → IsPermutation (books_rows (put_amounts rows (no_amounts things))) rows
+assembled_books_have_rows things rows all d =
     let last = books_rows (put_amounts rows (no_amounts things)) in
-    let order = put_order things rows (no_amounts things) (AreBooks-no_amounts things) all d (all_free things rows) in
+    let order = putting_adds_rows things rows (no_amounts things) (AreBooks-no_amounts things) all d (all_free things rows) in
     IsPermutation-sym rows last (subst (λ xs. IsPermutation (xs ++ rows) last) (ap amounts_rows entries-none) order)

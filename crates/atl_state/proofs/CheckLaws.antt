@@ -17,7 +17,7 @@ use Rattle.atl_campaign.specs.declared.parts.StoredCampaignRow.{StoredCampaignRo
 use Rattle.atl_state.specs.Checking.{rule_number, KeepsRule, KeepsRulesBelow, IsFirstBroken, Fits}
 use Rattle.std.specs.List.{list_all, AllByRecursion}
 use Rattle.atl_records.specs.Books.{BooksValue, amount_in, AreBooks, entry_index, no_amounts}
-use Rattle.atl_campaign.specs.Founding.{things_of}
+use Rattle.atl_campaign.specs.Founding.{thing_count}
 use Rattle.atl_campaign.specs.FromRows.{as_u32, stocks_of, region_of, put_amounts, campaign_row_of, campaign_of}
 use Rattle.atl_records.specs.Every.{Every, HasValue}
 use Rattle.atl_campaign.specs.Good.{AreOfMarkets, HasNoStocks, IsGood}
@@ -26,7 +26,7 @@ use Rattle.atl_campaign.specs.Totals.{IsCountable}
 use Rattle.atl_records.specs.Limits.{first_entry_count}
 use Rattle.atl_campaign.specs.Rows.{books_rows, AreRowsOf}
 use Rattle.atl_state.proofs.BackBooksLaws.{line_at}
-use Rattle.atl_campaign.proofs.ReadBackLaws.{each_back, read_whole}
+use Rattle.atl_campaign.proofs.ReadBackLaws.{each_back, written_is_read}
 use Rattle.atl_records.proofs.EveryEntryLaws.{entry_small}
 use Rattle.atl_campaign.proofs.FromRowLaws.{by_number-every, from_le, AreInRange-said, HaveMen-said}
 use Rattle.atl_state.proofs.NamedLaws.{AreNamed-said, AreAmountsWithin-said}
@@ -48,9 +48,9 @@ same_rule : (r s : Rule) → rule_number r ≡ rule_number s → r ≡ s
 same_rule r s e = sym (its_rule r) ∙ ap rule_at e ∙ its_rule s
 
 -- the number of a rule is at least 1
-from_one : (r : Rule) → 1 ≤ rule_number r
-from_one OneRow = omega arith
-from_one _ = omega arith
+rule_number_is_positive : (r : Rule) → 1 ≤ rule_number r
+rule_number_is_positive OneRow = omega arith
+rule_number_is_positive _ = omega arith
 
 -- if there is exactly one campaign row by rule 1, the list of campaign rows has length 1
 only_one : (f : Format) (rows : List StoredCampaignRow) → is_one_campaign_row f rows ≡ true → length rows ≡ 1
@@ -59,9 +59,9 @@ only_one f (r ∷ []) h = refl
 only_one f (r ∷ other ∷ rows) h = absurd (false≢true h)
 
 -- an entry of markets fails the test for an entry of the first format (is_entry_in)
-late_entry : (n : ℕ) → first_entry_count ≤ n → n < 16 → is_entry_in First (as_u32 (pos (n + 1))) ≡ true → ⊥
-late_entry n l small h =
-    let read = read_whole (n + 1) (omega arith) in
+later_entry : (n : ℕ) → first_entry_count ≤ n → n < 16 → is_entry_in First (as_u32 (pos (n + 1))) ≡ true → ⊥
+later_entry n l small h =
+    let read = written_is_read (n + 1) (omega arith) in
     let most = from_le (as_u32 (pos (n + 1))) first_entry_count (and_parts (nat_le 1 (as_u32 (pos (n + 1)))) (nat_le (as_u32 (pos (n + 1))) first_entry_count) h).1 in
     absurd (omega (arith, read, most))
 
@@ -70,13 +70,13 @@ no_amount : (books : BooksValue) → AllByRecursion (λ (r : StoredBooks). is_en
 no_amount books listed e t l =
     elim (get books.amounts (e, t)) as (λ o. get books.amounts (e, t) ≡ o → unwrap_or o (pos 0) ≡ pos 0) [
       | None ↦ λ _. refl
-      | Some z ↦ λ is. absurd (late_entry (entry_index e) l (entry_small e) (line_at books (λ r. is_entry_in First (as_u32 r.entry) ≡ true) listed e t z is))
+      | Some z ↦ λ is. absurd (later_entry (entry_index e) l (entry_small e) (line_at books (λ r. is_entry_in First (as_u32 r.entry) ≡ true) listed e t z is))
     ] refl
 
 module _ (f : Format) (w : WorldValue) (p : Parts) where
   -- all rules with numbers below 1 are kept, as there are none
   pub below_first : KeepsRulesBelow f w p 1
-  below_first r h = absurd (omega (arith, from_one r))
+  below_first r h = absurd (omega (arith, rule_number_is_positive r))
 
   -- if rule r and all rules with lower numbers are kept, all rules with numbers below the number of r plus 1 are kept
   pub below_next : (r : Rule) → KeepsRulesBelow f w p (rule_number r) → KeepsRule f w p r → KeepsRulesBelow f w p (rule_number r + 1)
@@ -123,8 +123,8 @@ module _ (f : Format) (w : WorldValue) (p : Parts) where
   first_entries : f ≡ First → RowsKeep f w p → (e : BooksEntry) (t : Thing) → first_entry_count ≤ entry_index e → amount_in (campaign_of w p).books e t ≡ pos 0
   unfolding campaign_of
   first_entries is rows =
-      no_amount (put_amounts p.books (no_amounts (things_of w))) (each_back (λ r. is_entry_in First (as_u32 r.entry) ≡ true) (books_rows (put_amounts p.books (no_amounts (things_of w)))) p.books (books_said f w p rows)
-      (each_passes (is_booked f w) (λ r. is_entry_in First (as_u32 r.entry) ≡ true) (λ r h. subst (λ g. is_entry_in g (as_u32 r.entry) ≡ true) is (and_parts (is_entry_in f (as_u32 r.entry)) (nat_lt (as_u32 r.thing) (things_of w)) h).0) p.books rows.booked))
+      no_amount (put_amounts p.books (no_amounts (thing_count w))) (each_back (λ r. is_entry_in First (as_u32 r.entry) ≡ true) (books_rows (put_amounts p.books (no_amounts (thing_count w)))) p.books (books_said f w p rows)
+      (each_passes (is_booked f w) (λ r. is_entry_in First (as_u32 r.entry) ≡ true) (λ r h. subst (λ g. is_entry_in g (as_u32 r.entry) ≡ true) is (and_parts (is_entry_in f (as_u32 r.entry)) (nat_lt (as_u32 r.thing) (thing_count w)) h).0) p.books rows.booked))
 
   -- the format can hold the campaign assembled from rows that keep all rules
   pub checked-fits : IsWorld w → KeepsRulesBelow f w p 13 → Fits f (campaign_of w p)
@@ -168,7 +168,7 @@ module _ (f : Format) (w : WorldValue) (p : Parts) where
 
   -- If rows keep rules 1 to 10, the books read from them have as many things as the world, and each listed amount is of
   -- one of these and not 0.
-  pub books-said : KeepsRulesBelow f w p 11 → AreBooks (things_of w) (campaign_of w p).books
+  pub books-said : KeepsRulesBelow f w p 11 → AreBooks (thing_count w) (campaign_of w p).books
   books-said k = (AreInRange-said w p (k Ranges (omega arith))).books
 
   -- if rows keep rules 1 to 10, the units read from them hold only items of the world

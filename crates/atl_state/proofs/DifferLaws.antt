@@ -9,13 +9,13 @@ use Rattle.atl_records.specs.Every.{Every}
 use Rattle.atl_records.proofs.EveryLaws.{none_some, each_of, later, first, not_below, sorted}
 
 -- sorted entries of factions have no joined name twice, if factions with the same joined name have the same number
-differ_of : (es : List (ℕ × Faction)) → is_sorted nat_cmp es ≡ true → ((n k : ℕ) (f g : Faction) → find nat_cmp n es ≡ Some f → find nat_cmp k es ≡ Some g → f.joined_as ≡ g.joined_as → n ≡ k) → JoinedNamesDiffer es
-differ_of [] s h = tt
-differ_of (e ∷ es) s h = (
+names_in_entries_differ : (es : List (ℕ × Faction)) → is_sorted nat_cmp es ≡ true → ((n k : ℕ) (f g : Faction) → find nat_cmp n es ≡ Some f → find nat_cmp k es ≡ Some g → f.joined_as ≡ g.joined_as → n ≡ k) → JoinedNamesDiffer es
+names_in_entries_differ [] s h = tt
+names_in_entries_differ (e ∷ es) s h = (
   each_of (λ _ f. e.1.joined_as ≢ f.joined_as) es (and_parts _ _ s).1 (λ n f is same.
       let one : e.0 ≡ n = h e.0 n e.1 f (first e es) (later e es n f s is) same in
       none_some f (sym (not_below e.0 es (and_parts _ _ s).0) ∙ ap (λ k. find nat_cmp k es) one ∙ is)),
-  differ_of es (and_parts _ _ s).1 (λ n k f g is js same. h n k f g (later e es n f s is) (later e es k g s js) same),
+  names_in_entries_differ es (and_parts _ _ s).1 (λ n k f g is js same. h n k f g (later e es n f s is) (later e es k g s js) same),
 )
 
 -- in a map of factions, those with the same joined name have the same number
@@ -24,4 +24,4 @@ AllDiffer m = Every (λ n f. Every (λ k g. f.joined_as ≡ g.joined_as → n �
 
 -- the entries of a map of factions have no joined name twice, if factions with one joined name have one number
 pub entries_differ : (m : FinMap nat_cmp Faction) → AllDiffer m → JoinedNamesDiffer (entries m)
-entries_differ m every = differ_of (entries m) (sorted m) (λ n k f g is js same. every n f (get-entries m n ∙ is) k g (get-entries m k ∙ js) same)
+entries_differ m every = names_in_entries_differ (entries m) (sorted m) (λ n k f g is js same. every n f (get-entries m n ∙ is) k g (get-entries m k ∙ js) same)

@@ -22,7 +22,7 @@ use Rattle.atl_records.specs.declared.records.Structure.{Structure}
 use Rattle.atl_records.specs.declared.records.Unit.{Unit}
 use Rattle.atl_records.specs.Books.{no_amounts}
 use Rattle.atl_state.specs.Checking.{Fits}
-use Rattle.atl_campaign.specs.Founding.{things_of}
+use Rattle.atl_campaign.specs.Founding.{thing_count}
 use Rattle.atl_campaign.specs.FromRows.{as_u32, as_u16, is_set, faction_of, stocks_of, region_of, structure_of, unit_of, by_number, put_amounts, things_had, no_campaign_row, campaign_row_of, campaign_of}
 use Rattle.atl_records.specs.Every.{Every, HasValue}
 use Rattle.atl_campaign.specs.Good.{IsNumbered, IsGood}
@@ -32,12 +32,12 @@ use Rattle.atl_campaign.specs.RowRules.{one_key, market_key, HaveDistinctKeys}
 use Rattle.atl_campaign.specs.Rows.{flag, rows_by, campaign_row, faction_row, region_row, unit_row, structure_row, mail_row, report_row, has_rows, books_rows, market_row, market_rows, rows_of, AreRowsOf}
 use Rattle.atl_campaign.specs.Campaign.{CampaignValue}
 use Rattle.atl_campaign.proofs.AssemblyLaws.{min_small}
-use Rattle.atl_campaign.proofs.ReadBackLaws.{each_permuted, read_whole, written_whole, map_back, rows_so, rows_apart, entries_rise, keys_permuted, apart_numbers}
+use Rattle.atl_campaign.proofs.ReadBackLaws.{each_permuted, written_is_read, written_fits_u32, map_back, rows_so, rows_apart, entries_rise, keys_permuted, apart_numbers}
 use Rattle.atl_state.proofs.BackBooksLaws.{books_back}
 use Rattle.atl_state.proofs.BackHasLaws.{AreHad, goods_of, goods_back}
 use Rattle.atl_state.proofs.BackStockRowLaws.{AreStocked, stocks_each, market_keys, stocks_back}
 use Rattle.atl_records.proofs.EveryLaws.{every-from_each}
-use Rattle.atl_campaign.proofs.HasLaws.{IsWhole, same}
+use Rattle.atl_campaign.proofs.HasLaws.{FitsU32, is_same_key}
 use Rattle.atl_campaign.proofs.MapOfRowsLaws.{HaveDistinctNumbers-keys}
 use Rattle.atl_campaign.proofs.RuleLaws.{each_numbered, every_before}
 use Rattle.atl_campaign.proofs.StateLaws.{same_state}
@@ -46,15 +46,15 @@ use Rattle.atl_campaign.proofs.MarketLaws.{market_known}
 
 -- ---- numbers in a good campaign
 
--- the numbers of a map that is numbered from 1 without a gap are 1 to `most`, if it has at most `most` values
+-- each number of a map is from 1 to `most`, if the map is numbered from 1 without a gap, and has at most `most` values
 few_numbered : {V : Type 0} (m : FinMap nat_cmp V) (next most : ℕ) → IsNumbered m next → len m ≤ most → Every (λ n v. (1 ≤ n) × (n ≤ most)) m
 few_numbered m next most is few n v there = let range = every-from_each (λ n v. (1 ≤ n) × (n < next)) m (each_numbered m next is) n v there in (range.0, omega (arith, range.1, is.count, few))
 
--- the numbers of a map are at most `most`, if those from `next` on have no value, and `next` is at most most + 1
+-- each number of a map is at most `most`, if no number from `next` on has a value, and `next` is at most most + 1
 few_before : {V : Type 0} (m : FinMap nat_cmp V) (next most : ℕ) → ((n : ℕ) → next ≤ n → get m n ≡ None) → next ≤ most + 1 → Every (λ n v. n ≤ most) m
 few_before m next most free few n v there = let low = every_before m next free n v there in omega (arith, low, few)
 
--- if the numbers of a map are at most `most`, and that fits 32 bits, they fit 32 bits
+-- the numbers of a map fit 32 bits, if they are at most `most`, and `most` fits 32 bits
 small_enough : {V : Type 0} (m : FinMap nat_cmp V) (most : ℕ) → most ≤ most_u32 → Every (λ n v. n ≤ most) m → Every (λ n v. n ≤ most_u32) m
 small_enough m most few every n v there = let here = every n v there in omega (arith, few, here)
 
@@ -69,19 +69,19 @@ flag_back false = refl
 pub read16 : (n : ℕ) → n ≤ most_u16 → as_u16 (pos n) ≡ n
 read16 n h = min_small n most_u16 h
 
--- a faction that is under its own number, of 32 bits, is read back from its row
+-- a faction is read back from its row, if the row is written for its own number, and this fits 32 bits
 faction_back : (n : ℕ) (f : Faction) → n ≤ most_u32 → f.number ≡ n → faction_of (faction_row n f) ≡ f
 faction_back n f few is =
-    let number = read_whole n few ∙ sym is in
+    let number = written_is_read n few ∙ sym is in
     let gone = flag_back f.gone in
     λ i. record { number = number i; joined_as = f.joined_as; name = f.name; pass = f.pass; gone = gone i }
 
 -- a region is read back from its row and the rows of its stocks, if its number, peasants and money fit 32 bits
 region_back : (markets : List StoredMarket) (n : ℕ) (r : Region) → n ≤ most_u32 → r.peasants ≤ most_u32 → r.money ≤ most_u32 → stocks_of n markets ≡ r.stocks → region_of markets (region_row n r) ≡ r
 region_back markets n r few p m stocks =
-    let peasants = read_whole r.peasants p in
-    let money = read_whole r.money m in
-    let its_stocks = ap (λ k. stocks_of k markets) (read_whole n few) ∙ stocks in
+    let peasants = written_is_read r.peasants p in
+    let money = written_is_read r.money m in
+    let its_stocks = ap (λ k. stocks_of k markets) (written_is_read n few) ∙ stocks in
     λ i. record { peasants = peasants i; money = money i; stocks = its_stocks i }
 
 -- a structure's kind fits 16 bits, and its region, owner and how much is done 32
@@ -99,9 +99,9 @@ pub record StructureFits (s : Structure) : Type 0 where
 structure_back : (n : ℕ) (s : Structure) → StructureFits s → structure_of (structure_row n s) ≡ s
 structure_back n s h =
     let kind = read16 s.kind h.kind in
-    let region = read_whole s.region h.region in
-    let done = read_whole s.done h.done in
-    let owner = read_whole s.owner h.owner in
+    let region = written_is_read s.region h.region in
+    let done = written_is_read s.done h.done in
+    let owner = written_is_read s.owner h.owner in
     λ i. record { kind = kind i; name = s.name; region = region i; done = done i; owner = owner i }
 
 -- a unit's faction, region, structure, men and money fit 32 bits
@@ -120,48 +120,48 @@ pub record UnitFits (u : Unit) : Type 0 where
 -- a unit is read back from its row and the rows of its items and days, if its numbers fit 32 bits (`UnitFits`)
 unit_back : (has : List StoredHas) (n : ℕ) (u : Unit) → n ≤ most_u32 → UnitFits u → things_had n 0 has ≡ u.holding.items → things_had n 1 has ≡ u.holding.days → unit_of has (unit_row n u) ≡ u
 unit_back has n u few h items days =
-    let faction = read_whole u.faction h.faction in
-    let region = read_whole u.region h.region in
-    let structure = read_whole u.structure h.structure in
-    let men = read_whole u.holding.men h.men in
-    let money = read_whole u.holding.money h.money in
+    let faction = written_is_read u.faction h.faction in
+    let region = written_is_read u.region h.region in
+    let structure = written_is_read u.structure h.structure in
+    let men = written_is_read u.holding.men h.men in
+    let money = written_is_read u.holding.money h.money in
     let guard = flag_back u.holding.guard in
-    let its_items = ap (λ k. things_had k 0 has) (read_whole n few) ∙ items in
-    let its_days = ap (λ k. things_had k 1 has) (read_whole n few) ∙ days in
+    let its_items = ap (λ k. things_had k 0 has) (written_is_read n few) ∙ items in
+    let its_days = ap (λ k. things_had k 1 has) (written_is_read n few) ∙ days in
     λ i. record { faction = faction i; region = region i; structure = structure i; holding = record { name = u.holding.name; men = men i; money = money i; guard = guard i; items = its_items i; days = its_days i } }
 
 -- ---- a table with a key of one number
 
 module _ {V R : Type 0} (row : ℕ → V → R) (key : R → ℤ) (value : R → V) (keyed : (n : ℕ) (v : V) → key (row n v) ≡ pos n) (m : FinMap nat_cmp V) (few : Every (λ n v. n ≤ most_u32) m) (rows : List R) (h : IsPermutation (rows_by row (entries m)) rows) where
   -- if number n is below k, the rows that `row` makes for n and for k have different keys
-  apart : (n k : ℕ) (v u : V) → n < k → same (one_key (key (row n v))) (one_key (key (row k u))) ≡ false
-  apart n k v u l = ap (λ z. same (one_key z) (one_key (key (row k u)))) (keyed n v) ∙ ap (λ z. same (one_key (pos n)) (one_key z)) (keyed k u) ∙ apart_numbers n k l
+  apart : (n k : ℕ) (v u : V) → n < k → is_same_key (one_key (key (row n v))) (one_key (key (row k u))) ≡ false
+  apart n k v u l = ap (λ z. is_same_key (one_key z) (one_key (key (row k u)))) (keyed n v) ∙ ap (λ z. is_same_key (one_key (pos n)) (one_key z)) (keyed k u) ∙ apart_numbers n k l
 
   -- the rows that `row` makes of the numbers and values of the map `m`, in any order, have distinct keys
   pub table_keys : HaveDistinctKeys (λ r. one_key (key r)) rows
-  table_keys = keys_permuted (λ r. one_key (key r)) (rows_by row (entries m)) rows h (rows_apart row (λ a b. same (one_key (key a)) (one_key (key b))) apart (entries m) (entries_rise m))
+  table_keys = keys_permuted (λ r. one_key (key r)) (rows_by row (entries m)) rows h (rows_apart row (λ a b. is_same_key (one_key (key a)) (one_key (key b))) apart (entries m) (entries_rise m))
 
   -- the keys of the rows that `row` makes of the map `m`, in any order, fit 32 bits, so they are read as they are
-  whole : AllByRecursion (λ r. IsWhole (key r)) rows
-  whole = rows_so row (λ r. IsWhole (key r)) m rows h (λ n v is. subst IsWhole (sym (keyed n v)) (written_whole n (few n v is)))
+  whole : AllByRecursion (λ r. FitsU32 (key r)) rows
+  whole = rows_so row (λ r. FitsU32 (key r)) m rows h (λ n v is. subst FitsU32 (sym (keyed n v)) (written_fits_u32 n (few n v is)))
 
   -- the map `m` is read back from its rows, made by `row`, in any order, if each value is read back from its own row
   pub table_back : Every (λ n v. value (row n v) ≡ v) m → by_number (λ r. as_u32 (key r)) value rows ≡ m
   table_back back =
-      map_back row (λ r. as_u32 (key r)) value m rows h (λ n v is. (ap as_u32 (keyed n v) ∙ read_whole n (few n v is), back n v is))
-      (HaveDistinctNumbers-keys (λ r. one_key (key r)) (λ r. as_u32 (key r)) same (λ r. IsWhole (key r)) (λ r s. one_apart (key r) (key s)) rows whole table_keys)
+      map_back row (λ r. as_u32 (key r)) value m rows h (λ n v is. (ap as_u32 (keyed n v) ∙ written_is_read n (few n v is), back n v is))
+      (HaveDistinctNumbers-keys (λ r. one_key (key r)) (λ r. as_u32 (key r)) is_same_key (λ r. FitsU32 (key r)) (λ r s. one_apart (key r) (key s)) rows whole table_keys)
 
 -- ---- the campaign's own row
 
--- a list of length 1 of which each row is x is the list of x alone
-single : {R : Type 0} (x : R) (rows : List R) → length rows ≡ 1 → AllByRecursion (λ r. r ≡ x) rows → rows ≡ x ∷ []
-single x [] l all = absurd (omega (arith, l))
-single x (r ∷ []) l all = ap (λ s. s ∷ []) all.0
-single x (r ∷ s ∷ rows) l all = absurd (omega (arith, l))
+-- a list of length 1 whose every row is x is the list of x alone
+list_of_one_row : {R : Type 0} (x : R) (rows : List R) → length rows ≡ 1 → AllByRecursion (λ r. r ≡ x) rows → rows ≡ x ∷ []
+list_of_one_row x [] l all = absurd (omega (arith, l))
+list_of_one_row x (r ∷ []) l all = ap (λ s. s ∷ []) all.0
+list_of_one_row x (r ∷ s ∷ rows) l all = absurd (omega (arith, l))
 
 -- if `rows` are the list of x alone in some order, they are that list
 pub only_row : {R : Type 0} (x : R) (rows : List R) → IsPermutation (x ∷ []) rows → rows ≡ x ∷ []
-only_row x rows h = single x rows (length_permutation (x ∷ []) rows h) (each_permuted (λ r. r ≡ x) (x ∷ []) rows h (refl, tt))
+only_row x rows h = list_of_one_row x rows (length_permutation (x ∷ []) rows h) (each_permuted (λ r. r ≡ x) (x ∷ []) rows h (refl, tt))
 
 -- if `rows` are the empty list in some order, they are the empty list
 pub none_listed : {R : Type 0} (rows : List R) → IsPermutation [] rows → rows ≡ []
@@ -183,14 +183,14 @@ structure_small_enough w world s k r d o =
 
 -- A unit's items and skills have numbers of 32 bits, and amounts from 1 to most_u32. This supposes that the items and
 -- skills are of the world, and that the unit's men, amounts of items and days of skills are within their limits.
-few_goods : (w : WorldValue) → IsWorld w → (u : Unit) → Every (λ i a. i < length w.items) u.holding.items → Every (λ i a. i < length w.skills) u.holding.days → AreAmounts u.holding.items → u.holding.men ≤ men_limit
+goods_fit : (w : WorldValue) → IsWorld w → (u : Unit) → Every (λ i a. i < length w.items) u.holding.items → Every (λ i a. i < length w.skills) u.holding.days → AreAmounts u.holding.items → u.holding.men ≤ men_limit
     → Every (λ i a. (1 ≤ a) × (a ≤ most_days * u.holding.men)) u.holding.days → (s : ℕ) → s < 2 → Every (λ i a. (i ≤ most_u32) × (1 ≤ a) × (a ≤ most_u32)) (goods_of s u)
-few_goods w world u items skills amounts men days zero l i a is =
+goods_fit w world u items skills amounts men days zero l i a is =
     let few = world.few_items in
     let at = items i a is in
     let range = amounts i a is in
     (omega (arith, few, at), range.0, omega (arith, range.1))
-few_goods w world u items skills amounts men days (suc s) l i a is =
+goods_fit w world u items skills amounts men days (suc s) l i a is =
     let few = world.few_skills in
     let at = skills i a is in
     let range = days i a is in
@@ -249,7 +249,7 @@ module _ (w : WorldValue) (world : IsWorld w) (c : CampaignValue) (good : IsGood
   goods_few n u is =
       let placed = good.sound.steady.known.units n u is in
       let holding = (good.sound.steady.numbers.units n u is).1 in
-      few_goods w world u placed.items placed.skills holding.items holding.men (good.sound.steady.days n u is)
+      goods_fit w world u placed.items placed.skills holding.items holding.men (good.sound.steady.days n u is)
 
   -- in a good campaign the numbers of units, items and skills fit 32 bits, and each amount of an item or of days is
   -- from 1 to most_u32 (`AreHad`)
@@ -412,16 +412,16 @@ module _ (w : WorldValue) (world : IsWorld w) (c : CampaignValue) (good : IsGood
         unit_back p.has n u (had.numbers n u is) (unit_fits n u is) (goods_back c.units had p.has has_listed n u is 0 (omega arith)) (goods_back c.units had p.has has_listed n u is 1 (omega arith)))
 
     -- the world has at most 4,294,967,294 things, so each thing's number fits 32 bits
-    pub few_things : things_of w ≤ 4294967294
+    pub few_things : thing_count w ≤ 4294967294
     few_things = let few = world.few_items in omega (arith, few)
 
     -- the books read from a good campaign's rows are that campaign's
-    books_said : put_amounts p.books (no_amounts (things_of w)) ≡ c.books
-    books_said = books_back (things_of w) few_things c.books good.sound.steady.numbers.books p.books books_listed
+    books_said : put_amounts p.books (no_amounts (thing_count w)) ≡ c.books
+    books_said = books_back (thing_count w) few_things c.books good.sound.steady.numbers.books p.books books_listed
 
     -- the month read from a good campaign's rows is that campaign's
     pub month_said : as_u32 (campaign_row_of p).month ≡ c.month
-    month_said = let most : c.month ≤ last_month = good.sound.steady.numbers.month in ap (λ (h : StoredCampaignRow). as_u32 h.month) head_said ∙ read_whole c.month (omega (arith, most))
+    month_said = let most : c.month ≤ last_month = good.sound.steady.numbers.month in ap (λ (h : StoredCampaignRow). as_u32 h.month) head_said ∙ written_is_read c.month (omega (arith, most))
 
     -- the next faction number of a good campaign is at most last_faction + 1
     pub faction_next : c.next_faction ≤ last_faction + 1
@@ -433,15 +433,15 @@ module _ (w : WorldValue) (world : IsWorld w) (c : CampaignValue) (good : IsGood
 
     -- the next faction number read from a good campaign's rows is that campaign's
     next_faction_said : as_u32 (campaign_row_of p).next_faction ≡ c.next_faction
-    next_faction_said = ap (λ (h : StoredCampaignRow). as_u32 h.next_faction) head_said ∙ read_whole c.next_faction (omega (arith, faction_next))
+    next_faction_said = ap (λ (h : StoredCampaignRow). as_u32 h.next_faction) head_said ∙ written_is_read c.next_faction (omega (arith, faction_next))
 
     -- the next unit number read from a good campaign's rows is that campaign's
     next_unit_said : as_u32 (campaign_row_of p).next_unit ≡ c.next_unit
-    next_unit_said = let most : c.next_unit ≤ last_unit + 1 = good.sound.steady.numbers.next_unit_most in ap (λ (h : StoredCampaignRow). as_u32 h.next_unit) head_said ∙ read_whole c.next_unit (omega (arith, most))
+    next_unit_said = let most : c.next_unit ≤ last_unit + 1 = good.sound.steady.numbers.next_unit_most in ap (λ (h : StoredCampaignRow). as_u32 h.next_unit) head_said ∙ written_is_read c.next_unit (omega (arith, most))
 
     -- the next structure number read from a good campaign's rows is that campaign's
     next_structure_said : as_u32 (campaign_row_of p).next_structure ≡ c.next_structure
-    next_structure_said = ap (λ (h : StoredCampaignRow). as_u32 h.next_structure) head_said ∙ read_whole c.next_structure (omega (arith, structure_next))
+    next_structure_said = ap (λ (h : StoredCampaignRow). as_u32 h.next_structure) head_said ∙ written_is_read c.next_structure (omega (arith, structure_next))
 
     -- assembling the rows of a good campaign gives that campaign back
     pub state_back : campaign_of w p ≡ c

@@ -32,9 +32,9 @@ use Rattle.atl_records.specs.Books.{amount_in, entry_index, thing_index, IsWithi
 use Rattle.atl_state.specs.Checking.{KeepsRule, IsWithoutMarkets, Fits, Checks, GivesBack}
 use Rattle.atl_records.specs.Every.{EachEntry}
 use Rattle.atl_state.specs.Deciding.{JoinedNamesDiffer}
-use Rattle.atl_campaign.specs.Founding.{things_of}
+use Rattle.atl_campaign.specs.Founding.{thing_count}
 use Rattle.atl_campaign.specs.FromRows.{as_u32, faction_of, region_of, structure_of, unit_of, campaign_row_of, campaign_of}
-use Rattle.atl_campaign.specs.Good.{AreKnown, AreNumbered, AreDays, GoneHaveNone, UnitlessAreGone, AreOwned, AreAfloat, AreOfOneFaction, guards, IsMail, AreReported, amount_bound, IsGood}
+use Rattle.atl_campaign.specs.Good.{AreKnown, AreNumbered, AreDays, GoneHaveNone, UnitlessAreGone, AreOwned, AreAfloat, AreOfOneFaction, guards, HasValidMail, AreReported, amount_bound, IsGood}
 use Rattle.atl_records.specs.Limits.{entry_count, first_entry_count, entries_in, holding_limit, last_month, last_unit, men_limit, most_in_joining, most_in_month, most_structures, most_units}
 use Rattle.atl_campaign.specs.RowRules.{is_from, is_one_campaign_row, are_of_format, is_within, campaign_row_in_range, faction_in_range, region_in_range, unit_in_range, has_in_range, structure_in_range, books_in_range, books_bound, market_in_range, are_few, HaveDistinctKeysByTable, AreRowsInRange, faction_named, AreRowsNamed, is_of_unit, is_of_market, is_entry_in, is_booked}
 use Rattle.atl_campaign.specs.Rows.{flag, rows_by, campaign_row, faction_row, region_row, unit_row, structure_row, mail_row, report_row, has_row, has_rows, books_rows, market_rows, is_zero, AreRowsOf}
@@ -43,10 +43,10 @@ use Rattle.atl_campaign.specs.Campaign.{CampaignValue, MarkedCampaign}
 use Rattle.atl_campaign.specs.Totals.{Balances}
 use Rattle.atl_records.specs.declared.books.BooksEntry.{BooksEntry}
 use Rattle.atl_records.specs.declared.books.Thing.{Thing}
-use Rattle.atl_records.proofs.BookLaws.{zero_not}
+use Rattle.atl_records.proofs.BookLaws.{nonzero_fails_is_zero}
 use Rattle.atl_records.proofs.EveryEntryLaws.{entry_small}
-use Rattle.atl_campaign.proofs.ReadBackLaws.{each_permuted, all_pass, read_whole, rows_pass, count_rows}
-use Rattle.atl_state.proofs.BackBooksLaws.{amount_is, lines_each, books_keys}
+use Rattle.atl_campaign.proofs.ReadBackLaws.{each_permuted, all_pass, written_is_read, rows_pass, count_rows}
+use Rattle.atl_state.proofs.BackBooksLaws.{listed_amount_is_amount_in, lines_each, books_keys}
 use Rattle.atl_state.proofs.BackHasLaws.{has_each, has_keys, goods_of}
 use Rattle.atl_state.proofs.DifferLaws.{entries_differ}
 use Rattle.atl_state.proofs.GoodRowLaws as row
@@ -138,7 +138,7 @@ module _ (f : Format) (w : WorldValue) (world : IsWorld w) (c : CampaignValue) (
     structures = row.table_keys structure_row (λ r. r.number) structure_of (λ n s. refl) c.structures (row.structures_whole w world c good f fits p rows) p.structures (row.structures_listed w world c good f fits p rows);
     mail = row.table_keys mail_row (λ r. r.faction) (λ r. r.text) (λ n text. refl) c.mail (row.mail_whole w world c good f fits p rows) p.mail (row.mail_listed w world c good f fits p rows);
     reports = row.table_keys report_row (λ r. r.faction) (λ r. r.text) (λ n text. refl) c.reports (row.reports_whole w world c good f fits p rows) p.reports (row.reports_listed w world c good f fits p rows);
-    books = books_keys (things_of w) (row.few_things w world c good f fits p rows) c.books good.sound.steady.numbers.books p.books (row.books_listed w world c good f fits p rows);
+    books = books_keys (thing_count w) (row.few_things w world c good f fits p rows) c.books good.sound.steady.numbers.books p.books (row.books_listed w world c good f fits p rows);
     markets = row.markets_keyed w world c good f fits p rows;
   }
 
@@ -228,8 +228,8 @@ module _ (f : Format) (w : WorldValue) (world : IsWorld w) (c : CampaignValue) (
       all_pass (books_in_range (amount_bound c)) (λ r. books_in_range (amount_bound c) r ≡ true) (λ r e. e) p.books
       (each_permuted (λ r. books_in_range (amount_bound c) r ≡ true) (books_rows c.books) p.books (row.books_listed w world c good f fits p rows)
       (lines_each c.books (λ r. books_in_range (amount_bound c) r ≡ true) (λ e t z is.
-      let some = zero_not z (good.sound.steady.numbers.books.listed e t z is).1 in
-      and_true _ _ (not_from_false (is_zero z) some) (within_true (amount_bound c) z (subst (IsWithin (amount_bound c)) (amount_is c.books e t z is) (good.sound.amounts e t))))))
+      let some = nonzero_fails_is_zero z (good.sound.steady.numbers.books.listed e t z is).1 in
+      and_true _ _ (not_from_false (is_zero z) some) (within_true (amount_bound c) z (subst (IsWithin (amount_bound c)) (listed_amount_is_amount_in c.books e t z is) (good.sound.amounts e t))))))
 
   -- no amount of a row of `books` is 0, and all are within the bound read from the rows (books_bound)
   book_ranges : list_all (books_in_range (books_bound p)) p.books ≡ true
@@ -241,7 +241,7 @@ module _ (f : Format) (w : WorldValue) (world : IsWorld w) (c : CampaignValue) (
       all_pass (market_in_range w) (λ m. market_in_range w m ≡ true) (λ m e. e) p.markets (row.each_market w world c good f fits p rows (λ m. market_in_range w m ≡ true) (λ n r there i a is.
       let small = row.stocked w world c good in
       let range = (good.sound.steady.numbers.regions n r there).stocks i a is in
-      ap (λ k. is_from 1 (stock_limit w k (as_u32 (pos i))) (pos a)) (read_whole n (small.numbers n r there)) ∙ ap (λ k. is_from 1 (stock_limit w n k) (pos a)) (read_whole i (small.stocks n r there i a is).0) ∙ from_true 1 (stock_limit w n i) a range.0 range.1))
+      ap (λ k. is_from 1 (stock_limit w k (as_u32 (pos i))) (pos a)) (written_is_read n (small.numbers n r there)) ∙ ap (λ k. is_from 1 (stock_limit w n k) (pos a)) (written_is_read i (small.stocks n r there i a is).0) ∙ from_true 1 (stock_limit w n i) a range.0 range.1))
 
   -- a good campaign's rows keep rule 2, Ranges: keys differ, there are not too many, and numbers are in their ranges
   in_ranges : AreRowsInRange w p
@@ -270,14 +270,14 @@ module _ (f : Format) (w : WorldValue) (world : IsWorld w) (c : CampaignValue) (
   of_units : list_all (is_of_unit c) p.has ≡ true
   of_units =
       all_pass (is_of_unit c) (λ r. is_of_unit c r ≡ true) (λ r e. e) p.has (each_permuted (λ r. is_of_unit c r ≡ true) (has_rows (entries c.units)) p.has (row.has_listed w world c good f fits p rows)
-      (has_each c.units (λ r. is_of_unit c r ≡ true) (λ n u there s l i a is some. ap (λ k. is_some (get c.units k)) (read_whole n ((row.had w world c good).numbers n u there)) ∙ ap is_some there)))
+      (has_each c.units (λ r. is_of_unit c r ≡ true) (λ n u there s l i a is some. ap (λ k. is_some (get c.units k)) (written_is_read n ((row.had w world c good).numbers n u there)) ∙ ap is_some there)))
 
   -- each row of `market` of a good campaign is of a market of the world
   of_markets : list_all (is_of_market w) p.markets ≡ true
   of_markets =
       all_pass (is_of_market w) (λ m. is_of_market w m ≡ true) (λ m e. e) p.markets (row.each_market w world c good f fits p rows (λ m. is_of_market w m ≡ true) (λ n r there i a is.
       let small = row.stocked w world c good in
-      ap (λ k. is_some (market_of w k (as_u32 (pos i)))) (read_whole n (small.numbers n r there)) ∙ ap (λ k. is_some (market_of w n k)) (read_whole i (small.stocks n r there i a is).0) ∙ good.sound.steady.known.markets n r there i a is))
+      ap (λ k. is_some (market_of w k (as_u32 (pos i)))) (written_is_read n (small.numbers n r there)) ∙ ap (λ k. is_some (market_of w n k)) (written_is_read i (small.stocks n r there i a is).0) ∙ good.sound.steady.known.markets n r there i a is))
 
   -- an entry with an amount that is not 0 in a good campaign that the format can hold is one of the format
   entry_few : (e : BooksEntry) (t : Thing) → amount_in c.books e t ≢ pos 0 → entry_index e < entries_in f
@@ -291,14 +291,14 @@ module _ (f : Format) (w : WorldValue) (world : IsWorld w) (c : CampaignValue) (
   entry_true : (e : ℕ) → e < entries_in f → e < entry_count → is_entry_in f (as_u32 (pos (e + 1))) ≡ true
   entry_true e few small =
       let least : nat_le 1 (e + 1) ≡ true = le_true 1 (e + 1) (omega arith) in
-      ap (is_entry_in f) (read_whole (e + 1) (omega arith)) ∙ and_true _ _ least (le_true (e + 1) (entries_in f) (omega (arith, few)))
+      ap (is_entry_in f) (written_is_read (e + 1) (omega arith)) ∙ and_true _ _ least (le_true (e + 1) (entries_in f) (omega (arith, few)))
 
   -- the number of a thing of the world, as it is read from a row, is below how many things the world has
-  thing_true : (t : ℕ) → t < things_of w → nat_lt (as_u32 (pos t)) (things_of w) ≡ true
+  thing_true : (t : ℕ) → t < thing_count w → nat_lt (as_u32 (pos t)) (thing_count w) ≡ true
   thing_true t inside =
       let few = row.few_things w world c good f fits p rows in
-      let read = read_whole t (omega (arith, few)) in
-      lt_true (as_u32 (pos t)) (things_of w) (omega (arith, read))
+      let read = written_is_read t (omega (arith, few)) in
+      lt_true (as_u32 (pos t)) (thing_count w) (omega (arith, read))
 
   -- each row of `books` of a good campaign is of an entry of the format and a thing of the world
   of_books : list_all (is_booked f w) p.books ≡ true
@@ -306,7 +306,7 @@ module _ (f : Format) (w : WorldValue) (world : IsWorld w) (c : CampaignValue) (
       all_pass (is_booked f w) (λ r. is_booked f w r ≡ true) (λ r e. e) p.books (each_permuted (λ r. is_booked f w r ≡ true) (books_rows c.books) p.books (row.books_listed w world c good f fits p rows)
       (lines_each c.books (λ r. is_booked f w r ≡ true) (λ e t z is.
       let (inside, some) = good.sound.steady.numbers.books.listed e t z is in
-      let few = entry_few e t (λ none. some (sym (amount_is c.books e t z is) ∙ none)) in
+      let few = entry_few e t (λ none. some (sym (listed_amount_is_amount_in c.books e t z is) ∙ none)) in
       and_true _ _ (entry_true (entry_index e) few (entry_small e)) (thing_true (thing_index t) inside))))
 
   -- if P holds of a good campaign, it holds of the campaign assembled from its rows
@@ -326,7 +326,7 @@ module _ (f : Format) (w : WorldValue) (world : IsWorld w) (c : CampaignValue) (
   keeps Water = said (AreAfloat w) good.sound.steady.water
   keeps Guards = said (AreOfOneFaction guards) good.sound.steady.guarded
   keeps Books = (of_books, said Balances good.sound.balances)
-  keeps Mail = (said IsMail good.sound.mail, said AreReported good.reported)
+  keeps Mail = (said HasValidMail good.sound.mail, said AreReported good.reported)
 
 -- an answer that `check_as` may give (`Checks`) is, for the rows of a good campaign that the format can hold, this
 -- campaign or Memory (`GivesBack`)

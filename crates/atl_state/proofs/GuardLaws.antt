@@ -12,7 +12,7 @@ use Rattle.std.specs.FinMap.{FinMap, get, find, entries, get-entries, nat_cmp-Is
 use Rattle.atl_world.specs.Sums.{numbers_where}
 use Rattle.atl_world.proofs.SumLaws.{chosen-cons}
 use Rattle.atl_records.specs.declared.records.Unit.{Unit}
-use Rattle.atl_campaign.specs.Campaign.{CampaignValue, numbers_in}
+use Rattle.atl_campaign.specs.Campaign.{CampaignValue, numbers_in_region}
 use Rattle.atl_records.specs.Every.{Every, HasValue}
 use Rattle.atl_campaign.specs.Good.{AreOfOneFaction, guards}
 use Rattle.atl_state.specs.Deciding.{agree, guard_of, one_holder}
@@ -21,12 +21,12 @@ use Rattle.atl_records.proofs.EveryLaws.{none_some, passes-listed}
 -- ---- a number that is listed
 
 -- a number is in a list of numbers
-abbrev In : ℕ → List ℕ → Type 0
-In n [] = ⊥
-In n (m ∷ ms) = (n ≡ m) ⊎ In n ms
+abbrev IsListed : ℕ → List ℕ → Type 0
+IsListed n [] = ⊥
+IsListed n (m ∷ ms) = (n ≡ m) ⊎ IsListed n ms
 
 -- a number in a list is at some index of it
-position_of : (n : ℕ) (ns : List ℕ) → In n ns → (i : ℕ) × (i < length ns) × (get_or ns i 0 ≡ n)
+position_of : (n : ℕ) (ns : List ℕ) → IsListed n ns → (i : ℕ) × (i < length ns) × (get_or ns i 0 ≡ n)
 position_of n [] h = absurd h
 position_of n (m ∷ ms) (inl same) = (0, omega arith, sym same)
 position_of n (m ∷ ms) (inr h) = let (i, l, is) = position_of n ms h in (suc i, omega (arith, l), is)
@@ -37,31 +37,31 @@ module _ {V : Type 0} (p : V → Bool) where
   chosen es = map (λ e. e.0) (filter (λ e. p e.1) es)
 
   -- a number in a list is still in it when k is put in front (if b is true), or nothing is (if b is false)
-  still_in : (b : Bool) (n k : ℕ) (ns : List ℕ) → In n ns → In n (cond b (k ∷ ns) ns)
+  still_in : (b : Bool) (n k : ℕ) (ns : List ℕ) → IsListed n ns → IsListed n (cond b (k ∷ ns) ns)
   still_in true n k ns h = inr h
   still_in false n k ns h = h
 
   -- if a value is found in entries and passes the test, its number is among those that pass (`chosen`)
-  chosen_in : (es : List (ℕ × V)) (n : ℕ) (v : V) → find nat_cmp n es ≡ Some v → p v ≡ true → In n (chosen es)
+  chosen_in : (es : List (ℕ × V)) (n : ℕ) (v : V) → find nat_cmp n es ≡ Some v → p v ≡ true → IsListed n (chosen es)
   chosen_in [] n v is h = none_some v is
   chosen_in (e ∷ es) n v is h =
-      subst (In n) (sym (chosen-cons p e es)) (elim (nat_cmp n e.0) as (λ o. nat_cmp n e.0 ≡ o → cond (is_eq o) (Some e.1) (find nat_cmp n es) ≡ Some v → In n (cond (p e.1) (e.0 ∷ chosen es) (chosen es))) [
+      subst (IsListed n) (sym (chosen-cons p e es)) (elim (nat_cmp n e.0) as (λ o. nat_cmp n e.0 ≡ o → cond (is_eq o) (Some e.1) (find nat_cmp n es) ≡ Some v → IsListed n (cond (p e.1) (e.0 ∷ chosen es) (chosen es))) [
         | Less ↦ λ _ is. still_in (p e.1) n e.0 (chosen es) (chosen_in es n v is h)
-        | Equal ↦ λ o same. let one : e.1 ≡ v = cc in subst (λ b. In n (cond b (e.0 ∷ chosen es) (chosen es))) (sym (ap p one ∙ h)) (inl (nat_cmp-IsAntisymmetric n e.0 o))
+        | Equal ↦ λ o same. let one : e.1 ≡ v = cc in subst (λ b. IsListed n (cond b (e.0 ∷ chosen es) (chosen es))) (sym (ap p one ∙ h)) (inl (nat_cmp-IsAntisymmetric n e.0 o))
         | Greater ↦ λ _ is. still_in (p e.1) n e.0 (chosen es) (chosen_in es n v is h)
       ] refl is)
 
   -- a number whose value passes the test is in the list that numbers_where gives
-  listed : (m : FinMap nat_cmp V) (n : ℕ) (v : V) → get m n ≡ Some v → p v ≡ true → In n (numbers_where p m)
+  listed : (m : FinMap nat_cmp V) (n : ℕ) (v : V) → get m n ≡ Some v → p v ≡ true → IsListed n (numbers_where p m)
   listed m n v is h = chosen_in (entries m) n v (sym (get-entries m n) ∙ is) h
 
   -- a number in the list that numbers_where gives has a value that passes the test
-  of_listed : (m : FinMap nat_cmp V) (n : ℕ) → In n (numbers_where p m) → (v : V) × (get m n ≡ Some v) × (p v ≡ true)
+  of_listed : (m : FinMap nat_cmp V) (n : ℕ) → IsListed n (numbers_where p m) → (v : V) × (get m n ≡ Some v) × (p v ≡ true)
   of_listed m n h = let (i, l, is) = position_of n (numbers_where p m) h in subst (λ k. (v : V) × (get m k ≡ Some v) × (p v ≡ true)) is (passes-listed p m i 0 l)
 
 -- ---- the faction that guards a region, its holder
 
--- two numbers whose Some's are equal are equal
+-- the numbers x and y are equal, if Some x and Some y are
 same_value : (x y : ℕ) → Some x ≡ Some y → x ≡ y
 same_value x y e = cc
 
@@ -73,23 +73,23 @@ agree_true (Some x) (Some y) h = (Decides-eqb x y).1 (h x y refl refl)
 
 module _ (faction : ℕ → Option ℕ) where
   -- if a list passes one_holder with holder x, x is the faction of each of its numbers that has one
-  like_holder : (x : ℕ) (ns : List ℕ) → one_holder faction (Some x) ns ≡ true → (n y : ℕ) → In n ns → faction n ≡ Some y → y ≡ x
+  like_holder : (x : ℕ) (ns : List ℕ) → one_holder faction (Some x) ns ≡ true → (n y : ℕ) → IsListed n ns → faction n ≡ Some y → y ≡ x
   like_holder x [] h n y mine is = absurd mine
   like_holder x (m ∷ ms) h n y (inl same) is = (Decides-eqb y x).0 (ap (λ o. agree o (Some x)) (sym (ap faction (sym same) ∙ is)) ∙ (and_parts _ _ h).0)
   like_holder x (m ∷ ms) h n y (inr mine) is = like_holder x ms (and_parts _ _ h).1 n y mine is
 
   -- any two numbers of a list that have a faction have the same faction
   abbrev Alike : List ℕ → Type 0
-  Alike ns = (n k x y : ℕ) → In n ns → In k ns → faction n ≡ Some x → faction k ≡ Some y → x ≡ y
+  Alike ns = (n k x y : ℕ) → IsListed n ns → IsListed k ns → faction n ≡ Some x → faction k ≡ Some y → x ≡ y
 
   -- if a list passes one_holder with its first number's faction, this is the faction of each number of the list that
   -- has one
-  first_holds : (m z : ℕ) (ms : List ℕ) → faction m ≡ Some z → one_holder faction (Some z) ms ≡ true → (n x : ℕ) → In n (m ∷ ms) → faction n ≡ Some x → x ≡ z
+  first_holds : (m z : ℕ) (ms : List ℕ) → faction m ≡ Some z → one_holder faction (Some z) ms ≡ true → (n x : ℕ) → IsListed n (m ∷ ms) → faction n ≡ Some x → x ≡ z
   first_holds m z ms first h n x (inl same) is = same_value x z (sym is ∙ ap faction same ∙ first)
   first_holds m z ms first h n x (inr mine) is = like_holder z ms h n x mine is
 
   -- if a list's first number has no faction, each number of the list that has one is in the rest
-  not_first : (m : ℕ) (ms : List ℕ) → faction m ≡ None → (n x : ℕ) → In n (m ∷ ms) → faction n ≡ Some x → In n ms
+  not_first : (m : ℕ) (ms : List ℕ) → faction m ≡ None → (n x : ℕ) → IsListed n (m ∷ ms) → faction n ≡ Some x → IsListed n ms
   not_first m ms none n x (inl same) is = none_some x (sym none ∙ ap faction (sym same) ∙ is)
   not_first m ms none n x (inr mine) is = mine
 
@@ -104,7 +104,7 @@ module _ (faction : ℕ → Option ℕ) where
 
   -- if there is a holder, it is the faction of each number in the list that has one
   abbrev Fits : Option ℕ → List ℕ → Type 0
-  Fits holder ns = (n x y : ℕ) → In n ns → faction n ≡ Some x → holder ≡ Some y → x ≡ y
+  Fits holder ns = (n x y : ℕ) → IsListed n ns → faction n ≡ Some x → holder ≡ Some y → x ≡ y
 
   -- if the numbers of `m ∷ ms` are of one faction (Alike), the holder's if any (Fits), those of `ms` are of the
   -- holder's faction, or of m's without a holder
@@ -123,41 +123,41 @@ module _ (faction : ℕ → Option ℕ) where
 -- ---- the guards of all regions
 
 -- guard_of gives the faction of a unit that guards
-guard_is : (c : CampaignValue) (n : ℕ) (u : Unit) → get c.units n ≡ Some u → guards u ≡ true → guard_of c n ≡ Some u.faction
-guard_is c n u is on = ap (option_and_then (λ (v : Unit). cond (guards v) (Some v.faction) None)) is ∙ ap (λ b. cond b (Some u.faction) None) on
+guard_of_guarding_unit : (c : CampaignValue) (n : ℕ) (u : Unit) → get c.units n ≡ Some u → guards u ≡ true → guard_of c n ≡ Some u.faction
+guard_of_guarding_unit c n u is on = ap (option_and_then (λ (v : Unit). cond (guards v) (Some v.faction) None)) is ∙ ap (λ b. cond b (Some u.faction) None) on
 
 -- if `cond b (Some f) None` is Some x, b is true and f is x
-guarding : (b : Bool) (f x : ℕ) → cond b (Some f) None ≡ Some x → (b ≡ true) × (f ≡ x)
-guarding true f x e = (refl, same_value f x e)
-guarding false f x e = none_some x e
+cond_some_means_true : (b : Bool) (f x : ℕ) → cond b (Some f) None ≡ Some x → (b ≡ true) × (f ≡ x)
+cond_some_means_true true f x e = (refl, same_value f x e)
+cond_some_means_true false f x e = none_some x e
 
 -- if guard_of gives x for a unit, the unit guards and is of faction x
-is_guard : (c : CampaignValue) (n x : ℕ) (u : Unit) → get c.units n ≡ Some u → guard_of c n ≡ Some x → (guards u ≡ true) × (u.faction ≡ x)
-is_guard c n x u is e = guarding (guards u) u.faction x (sym (ap (option_and_then (λ (v : Unit). cond (guards v) (Some v.faction) None)) is) ∙ e)
+guard_means_unit_guards : (c : CampaignValue) (n x : ℕ) (u : Unit) → get c.units n ≡ Some u → guard_of c n ≡ Some x → (guards u ≡ true) × (u.faction ≡ x)
+guard_means_unit_guards c n x u is e = cond_some_means_true (guards u) u.faction x (sym (ap (option_and_then (λ (v : Unit). cond (guards v) (Some v.faction) None)) is) ∙ e)
 
 -- the guards in region r's list of units are of one faction: the list passes one_holder
 abbrev pub IsHeldByOne : CampaignValue → ℕ → Type 0
-IsHeldByOne c r = one_holder (guard_of c) None (numbers_in r c.units) ≡ true
+IsHeldByOne c r = one_holder (guard_of c) None (numbers_in_region r c.units) ≡ true
 
 -- the guards of each region are of one faction, if those in each region's list are, and each unit's region exists
-pub of_one_faction : (c : CampaignValue) → Every (λ n u. HasValue c.regions u.region) c.units → Every (λ r x. IsHeldByOne c r) c.regions → AreOfOneFaction guards c
-of_one_faction c placed held n u is m v there on also same =
+pub guards_are_of_one_faction : (c : CampaignValue) → Every (λ n u. HasValue c.regions u.region) c.units → Every (λ r x. IsHeldByOne c r) c.regions → AreOfOneFaction guards c
+guards_are_of_one_faction c placed held n u is m v there on also same =
     let r = u.region in
     let (x, known) = placed n u is in
     let here = Decides-eqb r r in
-    let beside = Decides-eqb v.region r in
-    alike (guard_of c) (numbers_in r c.units) (held r x known) n m u.faction v.faction (listed (λ (w : Unit). w.region == r) c.units n u is (here.1 refl)) (listed (λ (w : Unit). w.region == r) c.units m v there (beside.1 (sym same)))
-    (guard_is c n u is on) (guard_is c m v there also)
+    let others = Decides-eqb v.region r in
+    alike (guard_of c) (numbers_in_region r c.units) (held r x known) n m u.faction v.faction (listed (λ (w : Unit). w.region == r) c.units n u is (here.1 refl)) (listed (λ (w : Unit). w.region == r) c.units m v there (others.1 (sym same)))
+    (guard_of_guarding_unit c n u is on) (guard_of_guarding_unit c m v there also)
 
 -- the guards in each region's list are of one faction, if those of each region are
-pub held_by_one : (c : CampaignValue) → AreOfOneFaction guards c → Every (λ r x. IsHeldByOne c r) c.regions
-held_by_one c one r x known = hold (guard_of c) None (numbers_in r c.units) alike_here (λ n y z mine is e. none_some z e)
+pub lists_are_held_by_one : (c : CampaignValue) → AreOfOneFaction guards c → Every (λ r x. IsHeldByOne c r) c.regions
+lists_are_held_by_one c one r x known = hold (guard_of c) None (numbers_in_region r c.units) alike_here (λ n y z mine is e. none_some z e)
   where
     -- the guards in the list of region r are of one faction
-    alike_here : Alike (guard_of c) (numbers_in r c.units)
+    alike_here : Alike (guard_of c) (numbers_in_region r c.units)
     alike_here n k y z a b is js =
         let (u, there, here) = of_listed (λ (w : Unit). w.region == r) c.units n a in
-        let (v, also, beside) = of_listed (λ (w : Unit). w.region == r) c.units k b in
-        let (on, own) = is_guard c n y u there is in
-        let (off, other) = is_guard c k z v also js in
-        sym own ∙ one n u there k v also on off ((Decides-eqb u.region r).0 here ∙ sym ((Decides-eqb v.region r).0 beside)) ∙ other
+        let (v, also, others) = of_listed (λ (w : Unit). w.region == r) c.units k b in
+        let (on, own) = guard_means_unit_guards c n y u there is in
+        let (off, other) = guard_means_unit_guards c k z v also js in
+        sym own ∙ one n u there k v also on off ((Decides-eqb u.region r).0 here ∙ sym ((Decides-eqb v.region r).0 others)) ∙ other

@@ -21,7 +21,7 @@ use Rattle.atl_records.specs.declared.records.Faction.{Faction}
 use Rattle.atl_records.specs.declared.books.BooksEntry.{BooksEntry}
 use Rattle.atl_records.specs.declared.books.Thing.{Thing}
 use Rattle.atl_records.specs.Books.{account_cmp, amount_in, AreBooks, BooksValue, IsWithin, no_amounts, with_amount}
-use Rattle.atl_campaign.specs.Founding.{things_of}
+use Rattle.atl_campaign.specs.Founding.{thing_count}
 use Rattle.atl_campaign.specs.FromRows.{as_u32, faction_of, structure_of, unit_of, by_number, put_amounts, campaign_row_of, campaign_of}
 use Rattle.atl_campaign.specs.Good.{AreNamed, AreAmountsWithin, amount_bound}
 use Rattle.atl_campaign.specs.RowRules.{faction_named, books_in_range, books_bound, is_within, AreJoinedNamesDistinct, AreRowsNamed}
@@ -42,7 +42,7 @@ same_text a b = eq_by_cmp (slice_cmp nat_cmp) a b
 text_itself : (a : List ℕ) → same_text a a ≡ true
 text_itself a = (eq_by_cmp_equiv nat_list_cmp_total).refl a
 
--- if Some f and Some g are equal, the factions f and g are
+-- the factions f and g are equal, if Some f and Some g are
 some_same : (f g : Faction) → Some f ≡ Some g → f ≡ g
 some_same f g e = cc
 
@@ -84,30 +84,30 @@ module _ (m : FinMap nat_cmp Faction) where
 -- ---- amounts
 
 -- an amount that passes the test is_within is from -bound to bound (IsWithin)
-is_in : (bound : ℕ) (z : ℤ) → is_within bound z ≡ true → IsWithin bound z
-is_in bound (pos n) h = let most : n ≤ bound = from_le n bound h in record { most = omega (arith, ints); least = omega (arith, ints) }
-is_in bound (negsuc n) h = let most : suc n ≤ bound = from_le (suc n) bound h in record { most = omega (arith, ints); least = omega (arith, ints) }
+passing_is_within : (bound : ℕ) (z : ℤ) → is_within bound z ≡ true → IsWithin bound z
+passing_is_within bound (pos n) h = let most : n ≤ bound = from_le n bound h in record { most = omega (arith, ints); least = omega (arith, ints) }
+passing_is_within bound (negsuc n) h = let most : suc n ≤ bound = from_le (suc n) bound h in record { most = omega (arith, ints); least = omega (arith, ints) }
 
 -- each amount of the books is from -bound to bound (IsWithin)
-abbrev AreBelow : ℕ → BooksValue → Type 0
-AreBelow bound books = (e : BooksEntry) (t : Thing) → IsWithin bound (amount_in books e t)
+abbrev AreAllWithin : ℕ → BooksValue → Type 0
+AreAllWithin bound books = (e : BooksEntry) (t : Thing) → IsWithin bound (amount_in books e t)
 
 -- if the amounts of books and an amount z are from -bound to bound, so are those of the books once z is set
-below-with : (bound : ℕ) (books : BooksValue) (e : BooksEntry) (t : Thing) (z : ℤ) → IsWithin bound z → AreBelow bound books → AreBelow bound (with_amount books e t z)
-below-with bound books e t z here old f u =
+within-with_amount : (bound : ℕ) (books : BooksValue) (e : BooksEntry) (t : Thing) (z : ℤ) → IsWithin bound z → AreAllWithin bound books → AreAllWithin bound (with_amount books e t z)
+within-with_amount bound books e t z here old f u =
     subst (IsWithin bound) (sym (amount-with_amount books e t z f u)) (elim (eq_by_cmp account_cmp (f, u) (e, t)) as (λ b. IsWithin bound (cond b z (amount_in books f u))) [ true ↦ here | false ↦ old f u ])
 
 -- if the amounts of books and of rows are from -bound to bound, so are those of the books once the rows are put in
-below-put : (things bound : ℕ) (rows : List StoredBooks) (books : BooksValue) → AreBooks things books → AllByRecursion (IsBooked things) rows → AllByRecursion (λ r. IsWithin bound r.amount) rows → AreBelow bound books → AreBelow bound (put_amounts rows books)
-below-put things bound [] books are booked here old = old
-below-put things bound (r ∷ rows) books are booked here old =
+within-put : (things bound : ℕ) (rows : List StoredBooks) (books : BooksValue) → AreBooks things books → AllByRecursion (IsBooked things) rows → AllByRecursion (λ r. IsWithin bound r.amount) rows → AreAllWithin bound books → AreAllWithin bound (put_amounts rows books)
+within-put things bound [] books are booked here old = old
+within-put things bound (r ∷ rows) books are booked here old =
     let a = booked.0.account in
-    subst (λ b. AreBelow bound (put_amounts rows b)) (sym (with_booked_row things books r are booked.0))
-    (below-put things bound rows (with_amount books a.0 a.1 r.amount) (AreBooks-with_amount books a.0 a.1 r.amount things are (account_there things r booked.0)) booked.1 here.1 (below-with bound books a.0 a.1 r.amount here.0 old))
+    subst (λ b. AreAllWithin bound (put_amounts rows b)) (sym (with_booked_row things books r are booked.0))
+    (within-put things bound rows (with_amount books a.0 a.1 r.amount) (AreBooks-with_amount books a.0 a.1 r.amount things are (account_there things r booked.0)) booked.1 here.1 (within-with_amount bound books a.0 a.1 r.amount here.0 old))
 
 -- the amounts of books that were just made (`no_amounts`), which are 0, are from -bound to bound for each bound
-below-none : (things bound : ℕ) → AreBelow bound (no_amounts things)
-below-none things bound e t = subst (IsWithin bound) (sym (amount-no_amounts things e t)) (record { most = omega (arith, ints); least = omega (arith, ints) })
+within-no_amounts : (things bound : ℕ) → AreAllWithin bound (no_amounts things)
+within-no_amounts things bound e t = subst (IsWithin bound) (sym (amount-no_amounts things e t)) (record { most = omega (arith, ints); least = omega (arith, ints) })
 
 module _ (f : Format) (w : WorldValue) (p : Parts) (k : RowsKeep f w p) where
   -- the factions assembled from the rows
@@ -143,13 +143,13 @@ module _ (f : Format) (w : WorldValue) (p : Parts) (k : RowsKeep f w p) where
   same_bound = ap (λ n. most_in_month * (as_u32 (campaign_row_of p).month + 1) + most_in_joining * n) (same_count (λ r. as_u32 r.number) faction_of p.factions (factions_apart f w p k))
 
   -- the amounts of the books assembled from rows are within the bound that the rows give (`books_bound`)
-  below : AreBelow (books_bound p) (put_amounts p.books (no_amounts (things_of w)))
+  below : AreAllWithin (books_bound p) (put_amounts p.books (no_amounts (thing_count w)))
   below =
-      below-put (things_of w) (books_bound p) p.books (no_amounts (things_of w)) (AreBooks-no_amounts (things_of w)) (all_booked f w p k)
-      (each_passes (books_in_range (books_bound p)) (λ r. IsWithin (books_bound p) r.amount) (λ r h. is_in (books_bound p) r.amount (and_parts (not (is_zero r.amount)) (is_within (books_bound p) r.amount) h).1) p.books (ranges f w p k).books)
-      (below-none (things_of w) (books_bound p))
+      within-put (thing_count w) (books_bound p) p.books (no_amounts (thing_count w)) (AreBooks-no_amounts (thing_count w)) (all_booked f w p k)
+      (each_passes (books_in_range (books_bound p)) (λ r. IsWithin (books_bound p) r.amount) (λ r h. passing_is_within (books_bound p) r.amount (and_parts (not (is_zero r.amount)) (is_within (books_bound p) r.amount) h).1) p.books (ranges f w p k).books)
+      (within-no_amounts (thing_count w) (books_bound p))
 
   -- the amounts of the books of the campaign assembled from rows are within their bound (`amount_bound`)
   pub AreAmountsWithin-said : AreAmountsWithin (campaign_of w p)
   unfolding campaign_of
-  AreAmountsWithin-said e t = subst (λ bound. IsWithin bound (amount_in (put_amounts p.books (no_amounts (things_of w))) e t)) (sym same_bound) (below e t)
+  AreAmountsWithin-said e t = subst (λ bound. IsWithin bound (amount_in (put_amounts p.books (no_amounts (thing_count w))) e t)) (sym same_bound) (below e t)

@@ -31,7 +31,7 @@ use Rattle.atl_campaign.specs.declared.parts.StoredMarket.{StoredMarket}
 use Rattle.atl_records.specs.declared.records.Region.{Region}
 use Rattle.atl_records.specs.declared.records.Unit.{Unit}
 use Rattle.atl_records.specs.Books.{no_amounts}
-use Rattle.atl_campaign.specs.Founding.{things_of}
+use Rattle.atl_campaign.specs.Founding.{thing_count}
 use Rattle.atl_campaign.specs.FromRows.{as_u32, as_u16, is_set, is_of_unit_and_sort, faction_of, region_of, structure_of, unit_of, things_had, by_number, put_amounts, no_campaign_row, campaign_row_of, campaign_of}
 use Rattle.atl_records.specs.Every.{Every, HasValue}
 use Rattle.atl_campaign.specs.Good.{IsPlaced, IsBuilt, AreKnown, AreDays}
@@ -40,14 +40,14 @@ use Rattle.atl_campaign.specs.RowRules.{one_key, is_from, is_one_campaign_row, a
 use Rattle.atl_campaign.specs.Rows.{flag, is_zero, rows_by, faction_row, region_row, unit_row, structure_row, mail_row, report_row, has_rows, books_rows, market_rows, AreRowsOf, rows_of}
 use Rattle.atl_campaign.specs.Stocks.{stock_limit}
 use Rattle.atl_campaign.proofs.AssemblyLaws.{from_range}
-use Rattle.atl_records.proofs.BookLaws.{not_zero}
-use Rattle.atl_state.proofs.BooksRowLaws.{IsBooked, booked_row, books_order}
+use Rattle.atl_records.proofs.BookLaws.{failing_is_nonzero}
+use Rattle.atl_state.proofs.BooksRowLaws.{IsBooked, booked_row, assembled_books_have_rows}
 use Rattle.atl_campaign.proofs.FromRowLaws.{in_range, from_le, by_number-every, unit_ranges, number_ranges, head_ranges, NumberRanges}
 use Rattle.atl_campaign.proofs.GroupLaws.{unkept}
-use Rattle.atl_campaign.proofs.HasLaws.{IsWhole, HasWholeKey, IsExact, IsOfUnits, same, ties_itself, things_apart, has_order}
+use Rattle.atl_campaign.proofs.HasLaws.{FitsU32, KeyFitsU32, IsExact, IsOfUnits, is_same_key, ties_itself, things_apart, has_rows_are_rewritten}
 use Rattle.atl_campaign.proofs.MarketLaws.{market_known}
 use Rattle.atl_state.proofs.StockRowLaws as market
-use Rattle.atl_campaign.proofs.MapOfRowsLaws.{HaveDistinctNumbers, HasNumber, HaveDistinctNumbers-keys, rows_order, rows_there, rows_found, each_row, row_of, each_passes, each_with, each_so}
+use Rattle.atl_campaign.proofs.MapOfRowsLaws.{HaveDistinctNumbers, HasNumber, HaveDistinctNumbers-keys, rows_order, rows_there, rows_found, each_row, row_of, each_passes, each_follows_from_two, each_follows}
 
 -- ---- numbers that are read as they are
 
@@ -56,7 +56,7 @@ min_less : (n m : ℕ) → min n m < m → min n m ≡ n
 min_less n m h = grind arith
 
 -- if reading a row's number gives less than most_u32, the number fits 32 bits and is read as it is (IsWhole)
-pub whole_below : (z : ℤ) → as_u32 z < most_u32 → IsWhole z
+pub whole_below : (z : ℤ) → as_u32 z < most_u32 → FitsU32 z
 whole_below (pos n) h = ap pos (sym (min_less n most_u32 h))
 whole_below (negsuc n) h = absurd (omega arith)
 
@@ -73,10 +73,10 @@ flag_whole (pos (suc (suc n))) h = let most = from_le (suc (suc n)) 1 (and_parts
 flag_whole (negsuc n) h = absurd (false≢true h)
 
 -- if two keys of one number each differ, and both numbers fit 32 bits (IsWhole), different numbers are read
-pub one_apart : (x y : ℤ) → IsWhole x → IsWhole y → same (one_key x) (one_key y) ≡ false → as_u32 y ≢ as_u32 x
+pub one_apart : (x y : ℤ) → FitsU32 x → FitsU32 y → is_same_key (one_key x) (one_key y) ≡ false → as_u32 y ≢ as_u32 x
 one_apart x y a b d e =
     let one : x ≡ y = a ∙ ap pos (sym e) ∙ sym b in
-    false≢true (sym (ap (λ z. same (one_key x) (one_key z)) one ∙ d) ∙ ties_itself (one_key x))
+    false≢true (sym (ap (λ z. is_same_key (one_key x) (one_key z)) one ∙ d) ∙ ties_itself (one_key x))
 
 -- a number that has a value in a map is at most `most`, if all numbers of the map are
 pub there_below : {V : Type 0} (m : FinMap nat_cmp V) (n most : ℕ) → Every (λ k v. k ≤ most) m → HasValue m n → n ≤ most
@@ -88,6 +88,7 @@ none_or_below m zero most every there = omega arith
 none_or_below m (suc n) most every there = there_below m (suc n) most every (there (λ e. absurd (omega arith)))
 
 -- ---- the rules that are needed
+
 -- rows keep the rules by which they are just the rows of the campaign assembled from them (`campaign_of`)
 pub record RowsKeep (f : Format) (w : WorldValue) (p : Parts) : Type 0 where
   -- the world keeps the rules of worlds (`IsWorld`)
@@ -112,8 +113,8 @@ pub record RowsKeep (f : Format) (w : WorldValue) (p : Parts) : Type 0 where
 -- ---- the campaign's own row
 
 -- a number of a row in the range from k to k is k
-exactly : (k : ℕ) (z : ℤ) → k ≤ most_u32 → is_from k k z ≡ true → z ≡ pos k
-exactly k z few h = let range = from_range k k z few h in let n : as_u32 z ≡ k = omega (arith, range.1, range.2) in range.0 ∙ ap pos n
+range_of_one_number : (k : ℕ) (z : ℤ) → k ≤ most_u32 → is_from k k z ≡ true → z ≡ pos k
+range_of_one_number k z few h = let range = from_range k k z few h in let n : as_u32 z ≡ k = omega (arith, range.1, range.2) in range.0 ∙ ap pos n
 
 -- the number of a format fits 32 bits
 small_format : (f : Format) → format_number f ≤ most_u32
@@ -130,8 +131,8 @@ one_head f [] e r = absurd (false≢true e)
 one_head f (h ∷ []) e r =
     let both = and_parts (is_from 1 1 h.id) (is_from (format_number f) (format_number f) h.format) e in
     let parts = head_ranges h r in
-    let id = exactly 1 h.id (omega arith) both.0 in
-    let format = exactly (format_number f) h.format (small_format f) both.1 in
+    let id = range_of_one_number 1 h.id (omega arith) both.0 in
+    let format = range_of_one_number (format_number f) h.format (small_format f) both.1 in
     let month = (from_range 0 last_month h.month (omega arith) parts.month).0 in
     let faction = (from_range 1 (last_faction + 1) h.next_faction (omega arith) parts.next_faction).0 in
     let unit = (from_range 1 (last_unit + 1) h.next_unit (omega arith) parts.next_unit).0 in
@@ -141,7 +142,7 @@ one_head f (h ∷ other ∷ rows) e r = absurd (false≢true e)
 
 -- ---- lists of facts
 
--- if, for every n, P n holds of each row, then of each row P n holds for every n
+-- each row keeps all conditions P n, one for every number n, if each of these conditions holds of all rows
 all_forall : {R : Type 0} (P : ℕ → R → Type 0) (rows : List R) → ((n : ℕ) → AllByRecursion (P n) rows) → AllByRecursion (λ r. (n : ℕ) → P n r) rows
 all_forall P [] h = tt
 all_forall P (r ∷ rows) h = (λ n. (h n).0, all_forall P rows (λ n. (h n).1))
@@ -151,13 +152,13 @@ some_there : {V : Type 0} (o : Option V) → is_some o ≡ true → (v : V) × (
 some_there None h = absurd (false≢true h)
 some_there (Some v) h = (v, refl)
 
--- if an or is true, one of its parts is true
+-- if `b || c` is true, b or c is true
 or_cases : (b c : Bool) → (b || c) ≡ true → (b ≡ true) ⊎ (c ≡ true)
 or_cases true c h = inl refl
 or_cases false c h = inr h
 
 -- a number of a row that fits 32 bits (IsWhole), and is read as at least 1, is not 0
-whole_not_zero : (z : ℤ) → IsWhole z → 1 ≤ as_u32 z → is_zero z ≡ false
+whole_not_zero : (z : ℤ) → FitsU32 z → 1 ≤ as_u32 z → is_zero z ≡ false
 whole_not_zero (pos n) whole h = let apart : n ≢ 0 = λ e. let zero_read : as_u32 (pos n) ≡ 0 = ap (λ m. as_u32 (pos m)) e in omega arith in grind (arith, nat_tests)
 whole_not_zero (negsuc n) whole h = refl
 
@@ -217,12 +218,12 @@ module _ (f : Format) (w : WorldValue) (p : Parts) (k : RowsKeep f w p) where
 
   -- ---- factions
   -- the number in a faction's row in range fits 32 bits (IsWhole), and is at most last_faction
-  faction_number : (r : StoredFaction) → faction_in_range r ≡ true → (IsWhole r.number) × (as_u32 r.number ≤ last_faction)
+  faction_number : (r : StoredFaction) → faction_in_range r ≡ true → (FitsU32 r.number) × (as_u32 r.number ≤ last_faction)
   faction_number r h = let range = from_range 1 last_faction r.number (omega arith) (and_parts (is_from 1 last_faction r.number) (is_from 0 1 r.gone) h).0 in (range.0, range.2)
 
   -- no two rows of `faction` have the same number
   pub factions_apart : HaveDistinctNumbers (λ r. as_u32 r.number) p.factions
-  factions_apart = HaveDistinctNumbers-keys faction_key (λ r. as_u32 r.number) same (λ r. IsWhole r.number) (λ r s. one_apart r.number s.number) p.factions (each_passes faction_in_range (λ r. IsWhole r.number) (λ r h. (faction_number r h).0) p.factions ranges.factions) k.range.keys.factions
+  factions_apart = HaveDistinctNumbers-keys faction_key (λ r. as_u32 r.number) is_same_key (λ r. FitsU32 r.number) (λ r s. one_apart r.number s.number) p.factions (each_passes faction_in_range (λ r. FitsU32 r.number) (λ r h. (faction_number r h).0) p.factions ranges.factions) k.range.keys.factions
 
   -- the numbers of the factions assembled from the rows are at most last_faction
   few_factions : Every (λ n f. n ≤ last_faction) (by_number (λ r. as_u32 r.number) faction_of p.factions)
@@ -245,17 +246,17 @@ module _ (f : Format) (w : WorldValue) (p : Parts) (k : RowsKeep f w p) where
   few_regions n there = let known = (k.known.regions n).0 there in (k.world.regions n known.0 known.1).number_most
 
   -- the numbers in the rows of `region` fit 32 bits, so they are read as they are (IsWhole)
-  regions_whole : AllByRecursion (λ r. IsWhole r.number) p.regions
+  regions_whole : AllByRecursion (λ r. FitsU32 r.number) p.regions
   regions_whole =
-      each_so (λ r. HasValue (by_number (λ r. as_u32 r.number) (region_of p.markets) p.regions) (as_u32 r.number)) (λ r. IsWhole r.number) (λ r there. let few = few_regions (as_u32 r.number) there in whole_below r.number (omega arith)) p.regions
+      each_follows (λ r. HasValue (by_number (λ r. as_u32 r.number) (region_of p.markets) p.regions) (as_u32 r.number)) (λ r. FitsU32 r.number) (λ r there. let few = few_regions (as_u32 r.number) there in whole_below r.number (omega arith)) p.regions
       (rows_there (λ r. as_u32 r.number) (region_of p.markets) p.regions)
 
   -- no two rows of `region` have the same number
   regions_apart : HaveDistinctNumbers (λ r. as_u32 r.number) p.regions
-  regions_apart = HaveDistinctNumbers-keys region_key (λ r. as_u32 r.number) same (λ r. IsWhole r.number) (λ r s. one_apart r.number s.number) p.regions regions_whole k.range.keys.regions
+  regions_apart = HaveDistinctNumbers-keys region_key (λ r. as_u32 r.number) is_same_key (λ r. FitsU32 r.number) (λ r s. one_apart r.number s.number) p.regions regions_whole k.range.keys.regions
 
   -- the region read from a row in range is written as that row
-  same_region : (r : StoredRegion) → IsWhole r.number → region_in_range r ≡ true → region_row (as_u32 r.number) (region_of p.markets r) ≡ r
+  same_region : (r : StoredRegion) → FitsU32 r.number → region_in_range r ≡ true → region_row (as_u32 r.number) (region_of p.markets r) ≡ r
   same_region r number h =
       let parts = and_parts (is_from 0 most_amount r.peasants) (is_from 0 most_amount r.money) h in
       let peasants = (from_range 0 most_amount r.peasants (omega arith) parts.0).0 in
@@ -266,29 +267,29 @@ module _ (f : Format) (w : WorldValue) (p : Parts) (k : RowsKeep f w p) where
   regions_said : IsPermutation (rows_by region_row (entries (by_number (λ r. as_u32 r.number) (region_of p.markets) p.regions))) p.regions
   regions_said =
       rows_order (λ r. as_u32 r.number) (region_of p.markets) region_row p.regions regions_apart
-      (each_with (λ r. IsWhole r.number) (λ r. region_in_range r ≡ true) (λ r. region_row (as_u32 r.number) (region_of p.markets r) ≡ r) same_region p.regions regions_whole (each_passes region_in_range (λ r. region_in_range r ≡ true) (λ r h. h) p.regions ranges.regions))
+      (each_follows_from_two (λ r. FitsU32 r.number) (λ r. region_in_range r ≡ true) (λ r. region_row (as_u32 r.number) (region_of p.markets r) ≡ r) same_region p.regions regions_whole (each_passes region_in_range (λ r. region_in_range r ≡ true) (λ r h. h) p.regions ranges.regions))
 
   -- ---- units and structures: their numbers
   -- the number in a unit's row in range fits 32 bits (IsWhole), and is at most last_unit
-  unit_number : (r : StoredUnit) → unit_in_range r ≡ true → (IsWhole r.number) × (as_u32 r.number ≤ last_unit)
+  unit_number : (r : StoredUnit) → unit_in_range r ≡ true → (FitsU32 r.number) × (as_u32 r.number ≤ last_unit)
   unit_number r h = let range = from_range 1 last_unit r.number (omega arith) (unit_ranges r h).number in (range.0, range.2)
 
   -- no two rows of `unit` have the same number
   units_apart : HaveDistinctNumbers (λ r. as_u32 r.number) p.units
-  units_apart = HaveDistinctNumbers-keys unit_key (λ r. as_u32 r.number) same (λ r. IsWhole r.number) (λ r s. one_apart r.number s.number) p.units (each_passes unit_in_range (λ r. IsWhole r.number) (λ r h. (unit_number r h).0) p.units ranges.units) k.range.keys.units
+  units_apart = HaveDistinctNumbers-keys unit_key (λ r. as_u32 r.number) is_same_key (λ r. FitsU32 r.number) (λ r s. one_apart r.number s.number) p.units (each_passes unit_in_range (λ r. FitsU32 r.number) (λ r h. (unit_number r h).0) p.units ranges.units) k.range.keys.units
 
   -- the numbers of the units assembled from the rows are at most last_unit
   few_units : Every (λ n u. n ≤ last_unit) (by_number (λ r. as_u32 r.number) (unit_of p.has) p.units)
   few_units = by_number-every (λ r. as_u32 r.number) (unit_of p.has) (λ n u. n ≤ last_unit) unit_in_range (λ r h. (unit_number r h).1) p.units ranges.units
 
   -- the number in a structure's row in range fits 32 bits (IsWhole), and is at most most_structures
-  structure_number : (r : StoredStructure) → structure_in_range w r ≡ true → (IsWhole r.number) × (as_u32 r.number ≤ most_structures)
+  structure_number : (r : StoredStructure) → structure_in_range w r ≡ true → (FitsU32 r.number) × (as_u32 r.number ≤ most_structures)
   structure_number r h = let range = from_range 1 most_structures r.number (omega arith) (and_parts (is_from 1 most_structures r.number) (is_from 1 (size_of w (as_u16 r.kind)) r.done) h).0 in (range.0, range.2)
 
   -- no two rows of `structure` have the same number
   structures_apart : HaveDistinctNumbers (λ r. as_u32 r.number) p.structures
   structures_apart =
-      HaveDistinctNumbers-keys structure_key (λ r. as_u32 r.number) same (λ r. IsWhole r.number) (λ r s. one_apart r.number s.number) p.structures (each_passes (structure_in_range w) (λ r. IsWhole r.number) (λ r h. (structure_number r h).0) p.structures ranges.structures)
+      HaveDistinctNumbers-keys structure_key (λ r. as_u32 r.number) is_same_key (λ r. FitsU32 r.number) (λ r s. one_apart r.number s.number) p.structures (each_passes (structure_in_range w) (λ r. FitsU32 r.number) (λ r h. (structure_number r h).0) p.structures ranges.structures)
       k.range.keys.structures
 
   -- the numbers of the structures assembled from the rows are at most most_structures
@@ -321,7 +322,7 @@ module _ (f : Format) (w : WorldValue) (p : Parts) (k : RowsKeep f w p) where
   units_said : IsPermutation (rows_by unit_row (entries (by_number (λ r. as_u32 r.number) (unit_of p.has) p.units))) p.units
   units_said =
       rows_order (λ r. as_u32 r.number) (unit_of p.has) unit_row p.units units_apart
-      (each_with (λ r. unit_in_range r ≡ true) (λ r. IsPlaced w (campaign_of w p) (unit_of p.has r)) (λ r. unit_row (as_u32 r.number) (unit_of p.has r) ≡ r) same_unit p.units (each_passes unit_in_range (λ r. unit_in_range r ≡ true) (λ r h. h) p.units ranges.units) units_placed)
+      (each_follows_from_two (λ r. unit_in_range r ≡ true) (λ r. IsPlaced w (campaign_of w p) (unit_of p.has r)) (λ r. unit_row (as_u32 r.number) (unit_of p.has r) ≡ r) same_unit p.units (each_passes unit_in_range (λ r. unit_in_range r ≡ true) (λ r h. h) p.units ranges.units) units_placed)
 
   -- ---- structures
   -- the structure read from a row in range, if all that it names exists, is written as that row
@@ -348,15 +349,15 @@ module _ (f : Format) (w : WorldValue) (p : Parts) (k : RowsKeep f w p) where
   structures_said : IsPermutation (rows_by structure_row (entries (by_number (λ r. as_u32 r.number) structure_of p.structures))) p.structures
   structures_said =
       rows_order (λ r. as_u32 r.number) structure_of structure_row p.structures structures_apart
-      (each_with (λ r. structure_in_range w r ≡ true) (λ r. IsBuilt w (campaign_of w p) (structure_of r)) (λ r. structure_row (as_u32 r.number) (structure_of r) ≡ r) same_structure p.structures
+      (each_follows_from_two (λ r. structure_in_range w r ≡ true) (λ r. IsBuilt w (campaign_of w p) (structure_of r)) (λ r. structure_row (as_u32 r.number) (structure_of r) ≡ r) same_structure p.structures
       (each_passes (structure_in_range w) (λ r. structure_in_range w r ≡ true) (λ r h. h) p.structures ranges.structures) structures_built)
 
   -- ---- mail and reports
   -- the faction numbers in the rows of `mail` fit 32 bits, so they are read as they are (IsWhole)
-  mail_whole : AllByRecursion (λ r. IsWhole r.faction) p.mail
+  mail_whole : AllByRecursion (λ r. FitsU32 r.faction) p.mail
   unfolding campaign_of
   mail_whole =
-      each_so (λ r. HasValue (by_number (λ r. as_u32 r.faction) (λ r. r.text) p.mail) (as_u32 r.faction)) (λ r. IsWhole r.faction)
+      each_follows (λ r. HasValue (by_number (λ r. as_u32 r.faction) (λ r. r.text) p.mail) (as_u32 r.faction)) (λ r. FitsU32 r.faction)
       (λ r there. let few = there_below (by_number (λ r. as_u32 r.number) faction_of p.factions) (as_u32 r.faction) last_faction few_factions (k.known.posts.mail (as_u32 r.faction) there.0 there.1) in whole_below r.faction (omega arith)) p.mail
       (rows_there (λ r. as_u32 r.faction) (λ r. r.text) p.mail)
 
@@ -364,14 +365,14 @@ module _ (f : Format) (w : WorldValue) (p : Parts) (k : RowsKeep f w p) where
   mail_said : IsPermutation (rows_by mail_row (entries (by_number (λ r. as_u32 r.faction) (λ r. r.text) p.mail))) p.mail
   mail_said =
       rows_order (λ r. as_u32 r.faction) (λ r. r.text) mail_row p.mail
-      (HaveDistinctNumbers-keys mail_key (λ r. as_u32 r.faction) same (λ r. IsWhole r.faction) (λ r s. one_apart r.faction s.faction) p.mail mail_whole k.range.keys.mail)
-      (each_so (λ r. IsWhole r.faction) (λ r. mail_row (as_u32 r.faction) r.text ≡ r) (λ r whole. λ i. record { faction = sym whole i; text = r.text }) p.mail mail_whole)
+      (HaveDistinctNumbers-keys mail_key (λ r. as_u32 r.faction) is_same_key (λ r. FitsU32 r.faction) (λ r s. one_apart r.faction s.faction) p.mail mail_whole k.range.keys.mail)
+      (each_follows (λ r. FitsU32 r.faction) (λ r. mail_row (as_u32 r.faction) r.text ≡ r) (λ r whole. λ i. record { faction = sym whole i; text = r.text }) p.mail mail_whole)
 
   -- the faction numbers in the rows of `report` fit 32 bits, so they are read as they are (IsWhole)
-  reports_whole : AllByRecursion (λ r. IsWhole r.faction) p.reports
+  reports_whole : AllByRecursion (λ r. FitsU32 r.faction) p.reports
   unfolding campaign_of
   reports_whole =
-      each_so (λ r. HasValue (by_number (λ r. as_u32 r.faction) (λ r. r.text) p.reports) (as_u32 r.faction)) (λ r. IsWhole r.faction)
+      each_follows (λ r. HasValue (by_number (λ r. as_u32 r.faction) (λ r. r.text) p.reports) (as_u32 r.faction)) (λ r. FitsU32 r.faction)
       (λ r there. let few = there_below (by_number (λ r. as_u32 r.number) faction_of p.factions) (as_u32 r.faction) last_faction few_factions (k.known.posts.reports (as_u32 r.faction) there.0 there.1) in whole_below r.faction (omega arith)) p.reports
       (rows_there (λ r. as_u32 r.faction) (λ r. r.text) p.reports)
 
@@ -379,8 +380,8 @@ module _ (f : Format) (w : WorldValue) (p : Parts) (k : RowsKeep f w p) where
   reports_said : IsPermutation (rows_by report_row (entries (by_number (λ r. as_u32 r.faction) (λ r. r.text) p.reports))) p.reports
   reports_said =
       rows_order (λ r. as_u32 r.faction) (λ r. r.text) report_row p.reports
-      (HaveDistinctNumbers-keys report_key (λ r. as_u32 r.faction) same (λ r. IsWhole r.faction) (λ r s. one_apart r.faction s.faction) p.reports reports_whole k.range.keys.reports)
-      (each_so (λ r. IsWhole r.faction) (λ r. report_row (as_u32 r.faction) r.text ≡ r) (λ r whole. λ i. record { faction = sym whole i; text = r.text }) p.reports reports_whole)
+      (HaveDistinctNumbers-keys report_key (λ r. as_u32 r.faction) is_same_key (λ r. FitsU32 r.faction) (λ r s. one_apart r.faction s.faction) p.reports reports_whole k.range.keys.reports)
+      (each_follows (λ r. FitsU32 r.faction) (λ r. report_row (as_u32 r.faction) r.text ≡ r) (λ r whole. λ i. record { faction = sym whole i; text = r.text }) p.reports reports_whole)
 
   -- ---- what units have
   -- the units assembled from the rows
@@ -392,7 +393,7 @@ module _ (f : Format) (w : WorldValue) (p : Parts) (k : RowsKeep f w p) where
   SortOf h = (as_u32 h.sort ≡ 1) ⊎ ((as_u32 h.sort ≡ 0) × (is_from 1 holding_limit h.amount ≡ true))
 
   -- a row of `has` in range has a sort of 32 bits, and is of skills, or of items with an amount in range (SortOf)
-  sort_of : (h : StoredHas) → has_in_range h ≡ true → IsWhole h.sort × SortOf h
+  sort_of : (h : StoredHas) → has_in_range h ≡ true → FitsU32 h.sort × SortOf h
   sort_of h e =
       elim (or_cases (is_from 1 1 h.sort) (is_from 0 0 h.sort && is_from 1 holding_limit h.amount) e) [
         | inl skill ↦ let range = from_range 1 1 h.sort (omega arith) skill in (range.0, inl (omega (arith, range.1, range.2)))
@@ -451,7 +452,7 @@ module _ (f : Format) (w : WorldValue) (p : Parts) (k : RowsKeep f w p) where
 
   -- The unit, sort and thing of a row of `has` fit 32 bits, if the row is in range, its unit exists, and its thing is
   -- read for its unit (ThingThere).
-  keyed : (h : StoredHas) → (HasValue units (as_u32 h.unit)) × (has_in_range h ≡ true) → ((n : ℕ) → (sort : ℕ) → is_of_unit_and_sort n sort h ≡ true → ThingThere n sort h) → HasWholeKey h
+  keyed : (h : StoredHas) → (HasValue units (as_u32 h.unit)) × (has_in_range h ≡ true) → ((n : ℕ) → (sort : ℕ) → is_of_unit_and_sort n sort h ≡ true → ThingThere n sort h) → KeyFitsU32 h
   keyed h (there, range) thing =
       let unit_few = there_below units (as_u32 h.unit) last_unit few_units there in
       let sort = sort_of h range in
@@ -464,11 +465,11 @@ module _ (f : Format) (w : WorldValue) (p : Parts) (k : RowsKeep f w p) where
 
   -- the unit of each row of `has` exists, and each row is in range (Placed)
   all_placed : AllByRecursion Placed p.has
-  all_placed = each_with (λ h. HasValue units (as_u32 h.unit)) (λ h. has_in_range h ≡ true) Placed (λ h a b. (a, b)) p.has held_units (each_passes has_in_range (λ h. has_in_range h ≡ true) (λ h e. e) p.has ranges.has)
+  all_placed = each_follows_from_two (λ h. HasValue units (as_u32 h.unit)) (λ h. has_in_range h ≡ true) Placed (λ h a b. (a, b)) p.has held_units (each_passes has_in_range (λ h. has_in_range h ≡ true) (λ h e. e) p.has ranges.has)
 
   -- the unit, sort and thing of each row of `has` fit 32 bits (HasWholeKey)
-  all_keyed : AllByRecursion HasWholeKey p.has
-  all_keyed = each_with Placed (λ h. (n : ℕ) → (sort : ℕ) → is_of_unit_and_sort n sort h ≡ true → ThingThere n sort h) HasWholeKey keyed p.has all_placed things_there
+  all_keyed : AllByRecursion KeyFitsU32 p.has
+  all_keyed = each_follows_from_two Placed (λ h. (n : ℕ) → (sort : ℕ) → is_of_unit_and_sort n sort h ≡ true → ThingThere n sort h) KeyFitsU32 keyed p.has all_placed things_there
 
   -- the amount of a row of `has` is found under its item or skill among what all rows of this sort give unit n
   abbrev IsFound : ℕ → ℕ → StoredHas → Type 0
@@ -481,7 +482,7 @@ module _ (f : Format) (w : WorldValue) (p : Parts) (k : RowsKeep f w p) where
 
   -- The amount of a row of `has` fits 32 bits and isn't 0, if the row's unit exists, the row is in range (SortOf), and
   -- its amount is found (IsFound).
-  exact_of : (h : StoredHas) → HasValue units (as_u32 h.unit) → SortOf h → ((n : ℕ) → (sort : ℕ) → is_of_unit_and_sort n sort h ≡ true → IsFound n sort h) → IsWhole h.amount × (is_zero h.amount ≡ false)
+  exact_of : (h : StoredHas) → HasValue units (as_u32 h.unit) → SortOf h → ((n : ℕ) → (sort : ℕ) → is_of_unit_and_sort n sort h ≡ true → IsFound n sort h) → FitsU32 h.amount × (is_zero h.amount ≡ false)
   unfolding campaign_of
   exact_of h there (inl skill) found =
       let n = as_u32 h.unit in
@@ -496,7 +497,7 @@ module _ (f : Format) (w : WorldValue) (p : Parts) (k : RowsKeep f w p) where
 
   -- the unit of a row of `has` exists, the row is in range (Placed), and its key fits 32 bits (HasWholeKey)
   abbrev KeyedPlaced : StoredHas → Type 0
-  KeyedPlaced h = HasWholeKey h × Placed h
+  KeyedPlaced h = KeyFitsU32 h × Placed h
 
   -- A row of `has` that is in range, has a unit that exists and a key of 32 bits (`KeyedPlaced`), and whose amount is
   -- found (`IsFound`) is exact (`IsExact`). The numbers of an exact row fit 32 bits, and its amount is not 0.
@@ -505,7 +506,7 @@ module _ (f : Format) (w : WorldValue) (p : Parts) (k : RowsKeep f w p) where
 
   -- the unit, sort, thing and amount of each row of `has` fit 32 bits, and the amount is not 0 (IsExact)
   all_exact : AllByRecursion IsExact p.has
-  all_exact = each_with KeyedPlaced (λ h. (n : ℕ) → (sort : ℕ) → is_of_unit_and_sort n sort h ≡ true → IsFound n sort h) IsExact exact p.has (each_with HasWholeKey Placed KeyedPlaced (λ h a b. (a, b)) p.has all_keyed all_placed) all_found
+  all_exact = each_follows_from_two KeyedPlaced (λ h. (n : ℕ) → (sort : ℕ) → is_of_unit_and_sort n sort h ≡ true → IsFound n sort h) IsExact exact p.has (each_follows_from_two KeyFitsU32 Placed KeyedPlaced (λ h a b. (a, b)) p.has all_keyed all_placed) all_found
 
   -- a row of `has` in range is of a unit that has a row, and of sort 0 (items) or 1 (skills)
   of_units : (h : StoredHas) → Placed h → IsOfUnits p.units h
@@ -518,7 +519,7 @@ module _ (f : Format) (w : WorldValue) (p : Parts) (k : RowsKeep f w p) where
 
   -- the goods of the units assembled from the rows are written as just the rows of `has`, in some order
   has_said : IsPermutation (has_rows (entries units)) p.has
-  has_said = has_order p.has p.units units_apart (each_so Placed (IsOfUnits p.units) of_units p.has all_placed) all_exact k.range.keys.has
+  has_said = has_rows_are_rewritten p.has p.units units_apart (each_follows Placed (IsOfUnits p.units) of_units p.has all_placed) all_exact k.range.keys.has
 
   -- ---- what regions have in stock
   -- the regions assembled from the rows
@@ -541,7 +542,7 @@ module _ (f : Format) (w : WorldValue) (p : Parts) (k : RowsKeep f w p) where
   -- the region, item and stock of each row of `market` fit 32 bits, and the stock is not 0 (IsExact)
   exact_markets : AllByRecursion market.IsExact p.markets
   exact_markets =
-      each_with (λ m. is_of_market w m ≡ true) (λ m. market_in_range w m ≡ true) market.IsExact exact_market p.markets (each_passes (is_of_market w) (λ m. is_of_market w m ≡ true) (λ m e. e) p.markets k.stocked)
+      each_follows_from_two (λ m. is_of_market w m ≡ true) (λ m. market_in_range w m ≡ true) market.IsExact exact_market p.markets (each_passes (is_of_market w) (λ m. is_of_market w m ≡ true) (λ m e. e) p.markets k.stocked)
       (each_passes (market_in_range w) (λ m. market_in_range w m ≡ true) (λ m e. e) p.markets ranges.markets)
 
   -- the region of each row of `market` has a row of `region`
@@ -561,7 +562,7 @@ module _ (f : Format) (w : WorldValue) (p : Parts) (k : RowsKeep f w p) where
   markets_said : IsPermutation (market_rows f (entries regions)) p.markets
   markets_said = elim f as (λ g. f ≡ g → IsPermutation (market_rows g (entries regions)) p.markets) [
     | First ↦ λ is. subst (λ rows. IsPermutation [] rows) (sym (none_in_first is)) (IsPermutation-refl [])
-    | Second ↦ λ is. market.market_order p.markets p.regions regions_apart markets_of_regions exact_markets k.range.keys.markets
+    | Second ↦ λ is. market.regions_are_written_as_rows p.markets p.regions regions_apart markets_of_regions exact_markets k.range.keys.markets
   ] refl
 
   -- ---- the books
@@ -584,26 +585,26 @@ module _ (f : Format) (w : WorldValue) (p : Parts) (k : RowsKeep f w p) where
       (from_le 1 n parts.0, omega (arith, few, most))
 
   -- a row of `books` that keeps the rules is read as an amount, not 0, of one of the world's things (IsBooked)
-  its_account : (r : StoredBooks) → is_booked f w r ≡ true → books_in_range (books_bound p) r ≡ true → IsBooked (things_of w) r
+  its_account : (r : StoredBooks) → is_booked f w r ≡ true → books_in_range (books_bound p) r ≡ true → IsBooked (thing_count w) r
   its_account r h range =
-      let parts = and_parts (is_entry_in f (as_u32 r.entry)) (nat_lt (as_u32 r.thing) (things_of w)) h in
+      let parts = and_parts (is_entry_in f (as_u32 r.entry)) (nat_lt (as_u32 r.thing) (thing_count w)) h in
       let entry = an_entry (as_u32 r.entry) parts.0 in
       let entry_few = entry.1 in
-      let there = below_of (as_u32 r.thing) (things_of w) parts.1 in
+      let there = below_of (as_u32 r.thing) (thing_count w) parts.1 in
       let few = k.world.few_items in
-      let some = not_zero r.amount (not-true (is_zero r.amount) (and_parts (not (is_zero r.amount)) (is_within (books_bound p) r.amount) range).0) in
-      booked_row (things_of w) r (whole_below r.entry (omega arith)) (whole_below r.thing (omega arith)) entry.0 entry.1 there some
+      let some = failing_is_nonzero r.amount (not-true (is_zero r.amount) (and_parts (not (is_zero r.amount)) (is_within (books_bound p) r.amount) range).0) in
+      booked_row (thing_count w) r (whole_below r.entry (omega arith)) (whole_below r.thing (omega arith)) entry.0 entry.1 there some
 
   -- each row of `books` is read as an amount, not 0, of one of the world's things (IsBooked)
-  pub all_booked : AllByRecursion (IsBooked (things_of w)) p.books
+  pub all_booked : AllByRecursion (IsBooked (thing_count w)) p.books
   all_booked =
-      each_with (λ r. is_booked f w r ≡ true) (λ r. books_in_range (books_bound p) r ≡ true) (IsBooked (things_of w)) its_account p.books (each_passes (is_booked f w) (λ r. is_booked f w r ≡ true) (λ r h. h) p.books k.booked)
+      each_follows_from_two (λ r. is_booked f w r ≡ true) (λ r. books_in_range (books_bound p) r ≡ true) (IsBooked (thing_count w)) its_account p.books (each_passes (is_booked f w) (λ r. is_booked f w r ≡ true) (λ r h. h) p.books k.booked)
       (each_passes (books_in_range (books_bound p)) (λ r. books_in_range (books_bound p) r ≡ true) (λ r h. h) p.books ranges.books)
 
   -- the books assembled from the rows are written as just the rows of `books`, in some order
-  pub books_said : IsPermutation (books_rows (put_amounts p.books (no_amounts (things_of w)))) p.books
+  pub books_said : IsPermutation (books_rows (put_amounts p.books (no_amounts (thing_count w)))) p.books
   books_said =
-      books_order (things_of w) p.books all_booked k.range.keys.books
+      assembled_books_have_rows (thing_count w) p.books all_booked k.range.keys.books
 
   -- the campaign assembled from the rows is written as just these rows, in some order
   pub rows_said : AreRowsOf f (campaign_of w p) p

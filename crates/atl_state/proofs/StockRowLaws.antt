@@ -15,22 +15,22 @@ use Rattle.atl_campaign.specs.Rows.{is_zero, market_row, stock_rows, market_rows
 use Rattle.atl_campaign.proofs.AssemblyLaws.{is_same}
 use Rattle.atl_campaign.proofs.GroupLaws as group
 use Rattle.atl_campaign.proofs.GroupLaws.{gathered, lines_order}
-use Rattle.atl_campaign.proofs.HasLaws.{IsWhole, same, ties_itself}
-use Rattle.atl_campaign.proofs.MapOfRowsLaws.{HaveDistinctNumbers, HasNumber, each_so, flat_order}
+use Rattle.atl_campaign.proofs.HasLaws.{FitsU32, is_same_key, ties_itself}
+use Rattle.atl_campaign.proofs.MapOfRowsLaws.{HaveDistinctNumbers, HasNumber, each_follows, flat_order}
 
 -- the region and the item of a row of `market` fit 32 bits, so both are read as they are
 pub record HasWholeKey (m : StoredMarket) : Type 0 where
   -- the number of the row's region fits 32 bits
-  pub region : IsWhole m.region
+  pub region : FitsU32 m.region
   -- the number of the row's item fits 32 bits
-  pub item : IsWhole m.item
+  pub item : FitsU32 m.item
 
 -- the region, the item and the stock of a row of `market` fit 32 bits, and the stock is not 0
 pub record IsExact (m : StoredMarket) : Type 0 where
   -- the region and the item of the row fit 32 bits
   pub keys : HasWholeKey m
   -- the stock of the row fits 32 bits
-  pub stock : IsWhole m.stock
+  pub stock : FitsU32 m.stock
   -- the stock of the row is not 0
   pub some : is_zero m.stock ≡ false
 
@@ -43,19 +43,19 @@ abbrev stock_of : StoredMarket → ℕ
 stock_of m = as_u32 m.stock
 
 -- whether a row of `market` is of region n
-abbrev pub is_in : ℕ → StoredMarket → Bool
-is_in n m = as_u32 m.region == n
+abbrev pub is_row_of_region : ℕ → StoredMarket → Bool
+is_row_of_region n m = as_u32 m.region == n
 
 -- a row of `market` is of region n, and its region and item fit 32 bits (HasWholeKey)
 abbrev IsStockIn : ℕ → StoredMarket → Type 0
-IsStockIn n m = HasWholeKey m × (is_in n m ≡ true)
+IsStockIn n m = HasWholeKey m × (is_row_of_region n m ≡ true)
 
 -- a row of `market` that is of region n (IsStockIn) has n as its region
 its_region : (n : ℕ) (m : StoredMarket) → IsStockIn n m → m.region ≡ pos n
 its_region n m (keys, of) = keys.region ∙ ap pos (is_same (as_u32 m.region) n of)
 
 -- a row of region n is the row that is written for n and the item and stock read from it, if its stock fits 32 bits
-same_row : (n : ℕ) (m : StoredMarket) → IsStockIn n m → IsWhole m.stock → market_row n (item_of m) (stock_of m) ≡ m
+same_row : (n : ℕ) (m : StoredMarket) → IsStockIn n m → FitsU32 m.stock → market_row n (item_of m) (stock_of m) ≡ m
 same_row n m here stock = λ i. record { region = sym (its_region n m here) i; item = sym here.0.item i; stock = sym stock i }
 
 -- rows of `market` of one region and item have the same key
@@ -66,15 +66,15 @@ same_key n m k a b e =
     λ i. (region i, item i, pos 0)
 
 -- no two rows of region n are of one item, if the keys of all rows differ and fit 32 bits
-pub items_apart : (n : ℕ) (markets : List StoredMarket) → AllByRecursion HasWholeKey markets → IsDistinct same (map market_key markets) → HaveDistinctNumbers item_of (filter (is_in n) markets)
-items_apart n = group.things_apart market_key same ties_itself item_of (is_in n) HasWholeKey (same_key n)
+pub items_apart : (n : ℕ) (markets : List StoredMarket) → AllByRecursion HasWholeKey markets → IsDistinct is_same_key (map market_key markets) → HaveDistinctNumbers item_of (filter (is_row_of_region n) markets)
+items_apart n = group.things_apart market_key is_same_key ties_itself item_of (is_row_of_region n) HasWholeKey (same_key n)
 
 -- if all rows are exact (`IsExact`) and their keys differ, the stocks read for region n are written as its rows, in
 -- some order
-stock_order : (n : ℕ) (markets : List StoredMarket) → AllByRecursion IsExact markets → IsDistinct same (map market_key markets) → IsPermutation (stock_rows n (entries (stocks_of n markets))) (filter (is_in n) markets)
-stock_order n markets all d =
-    lines_order item_of stock_of (market_row n) (λ m. not (is_zero m.stock)) (filter (is_in n) markets) (items_apart n markets (each_so IsExact HasWholeKey (λ m one. one.keys) markets all) d)
-    (each_so (λ m. IsExact m × (is_in n m ≡ true)) (λ m. (market_row n (item_of m) (stock_of m) ≡ m) × (not (is_zero m.stock) ≡ true)) (λ m here. (same_row n m (here.0.keys, here.1) here.0.stock, ap not here.0.some)) (filter (is_in n) markets) (group.all_mine market_key same ties_itself item_of (is_in n) IsExact markets all))
+stocks_are_written_as_rows : (n : ℕ) (markets : List StoredMarket) → AllByRecursion IsExact markets → IsDistinct is_same_key (map market_key markets) → IsPermutation (stock_rows n (entries (stocks_of n markets))) (filter (is_row_of_region n) markets)
+stocks_are_written_as_rows n markets all d =
+    lines_order item_of stock_of (market_row n) (λ m. not (is_zero m.stock)) (filter (is_row_of_region n) markets) (items_apart n markets (each_follows IsExact HasWholeKey (λ m one. one.keys) markets all) d)
+    (each_follows (λ m. IsExact m × (is_row_of_region n m ≡ true)) (λ m. (market_row n (item_of m) (stock_of m) ≡ m) × (not (is_zero m.stock) ≡ true)) (λ m here. (same_row n m (here.0.keys, here.1) here.0.stock, ap not here.0.some)) (filter (is_row_of_region n) markets) (group.all_mine market_key is_same_key ties_itself item_of (is_row_of_region n) IsExact markets all))
 
 -- the rows of `market` that are written for a region's stocks
 abbrev region_lines : ℕ × Region → List StoredMarket
@@ -82,11 +82,11 @@ region_lines e = stock_rows e.0 (entries e.1.stocks)
 
 -- if rows of `market` are exact (`IsExact`), of listed regions, and differ in keys, the regions read with them are
 -- written as these rows, in some order
-pub market_order : (markets : List StoredMarket) (regions : List StoredRegion) → HaveDistinctNumbers (λ r. as_u32 r.number) regions → AllByRecursion (λ m. HasNumber (λ r. as_u32 r.number) regions (as_u32 m.region)) markets → AllByRecursion IsExact markets → IsDistinct same (map market_key markets)
+pub regions_are_written_as_rows : (markets : List StoredMarket) (regions : List StoredRegion) → HaveDistinctNumbers (λ r. as_u32 r.number) regions → AllByRecursion (λ m. HasNumber (λ r. as_u32 r.number) regions (as_u32 m.region)) markets → AllByRecursion IsExact markets → IsDistinct is_same_key (map market_key markets)
     → IsPermutation (market_rows Second (entries (by_number (λ r. as_u32 r.number) (region_of markets) regions))) markets
-market_order markets regions apart of all d =
+regions_are_written_as_rows markets regions apart of all d =
     let lines = λ (r : StoredRegion). region_lines (as_u32 r.number, region_of markets r) in
     let said = flat_map lines regions in
     let listed = market_rows Second (entries (by_number (λ r. as_u32 r.number) (region_of markets) regions)) in
     IsPermutation-trans listed said markets (IsPermutation-sym said listed (flat_order (λ r. as_u32 r.number) (region_of markets) region_lines regions apart))
-    (gathered (λ m. as_u32 m.region) (λ r. as_u32 r.number) lines regions markets (λ r. stock_order (as_u32 r.number) markets all d) apart of)
+    (gathered (λ m. as_u32 m.region) (λ r. as_u32 r.number) lines regions markets (λ r. stocks_are_written_as_rows (as_u32 r.number) markets all d) apart of)

@@ -13,7 +13,7 @@ use Rattle.atl_state.specs.declared.checking.Rule.TheVariants.{OneRow, Ranges, N
 use Rattle.atl_campaign.specs.declared.parts.Parts.{Parts}
 use Rattle.atl_records.specs.Books.{amount_in, entry_index}
 use Rattle.atl_campaign.specs.FromRows.{campaign_of}
-use Rattle.atl_campaign.specs.Good.{AreKnown, AreNumbered, AreDays, GoneHaveNone, UnitlessAreGone, AreOwned, AreAfloat, AreOfOneFaction, guards, IsMail, AreReported, HasNoStocks, IsGood}
+use Rattle.atl_campaign.specs.Good.{AreKnown, AreNumbered, AreDays, GoneHaveNone, UnitlessAreGone, AreOwned, AreAfloat, AreOfOneFaction, guards, HasValidMail, AreReported, HasNoStocks, IsGood}
 use Rattle.atl_records.specs.Limits.{first_entry_count}
 use Rattle.atl_campaign.specs.Marks.{no_marks}
 use Rattle.atl_campaign.specs.RowRules.{is_one_campaign_row, are_of_format, AreRowsInRange, AreRowsNamed, is_of_unit, is_of_market, is_booked}
@@ -41,7 +41,10 @@ abbrev pub KeepsRule : Format → WorldValue → Parts → Rule → Type 0
 KeepsRule f w p OneRow = IsTrue (is_one_campaign_row f p.campaign) × IsTrue (are_of_format f p.markets)
 KeepsRule f w p Ranges = AreRowsInRange w p
 KeepsRule f w p Names = AreRowsNamed p
-KeepsRule f w p Known = AreKnown w (campaign_of w p) × IsTrue (list_all (is_of_unit (campaign_of w p)) p.has) × IsTrue (list_all (is_of_market w) p.markets)
+KeepsRule f w p Known =
+    AreKnown w (campaign_of w p)
+    × IsTrue (list_all (is_of_unit (campaign_of w p)) p.has)
+    × IsTrue (list_all (is_of_market w) p.markets)
 KeepsRule f w p Next = AreNumbered (campaign_of w p)
 KeepsRule f w p Days = AreDays (campaign_of w p)
 KeepsRule f w p Gone = GoneHaveNone (campaign_of w p) × UnitlessAreGone (campaign_of w p)
@@ -49,7 +52,7 @@ KeepsRule f w p Owners = AreOwned (campaign_of w p)
 KeepsRule f w p Water = AreAfloat w (campaign_of w p)
 KeepsRule f w p Guards = AreOfOneFaction guards (campaign_of w p)
 KeepsRule f w p Books = IsTrue (list_all (is_booked f w) p.books) × Balances (campaign_of w p)
-KeepsRule f w p Mail = IsMail (campaign_of w p) × AreReported (campaign_of w p)
+KeepsRule f w p Mail = HasValidMail (campaign_of w p) × AreReported (campaign_of w p)
 
 -- the rows keep each rule whose number is below n
 abbrev pub KeepsRulesBelow : Format → WorldValue → Parts → ℕ → Type 0
@@ -98,7 +101,8 @@ GivesBack f w p (Ok c) = (d : CampaignValue) → IsGood w d → Fits f d → Are
 GivesBack f w p (Err (Damaged r)) = (d : CampaignValue) → IsGood w d → Fits f d → ¬ (AreRowsOf f d p)
 GivesBack f w p (Err Memory) = ⊤
 
--- For proofs alone: Ok if the rows keep each rule below n, else the first rule that they break, or Memory.
+-- For proofs alone: what a check of the rules below number n may answer: Ok if the rows keep them all, the first rule
+-- that they break, or Memory.
 abbrev pub Passes : Format → WorldValue → Parts → ℕ → Result (Prim.Unit {0}) CheckFault → Type 0
 Passes f w p n (Ok u) = KeepsRulesBelow f w p n
 Passes f w p n (Err (Damaged r)) = IsFirstBroken f w p r

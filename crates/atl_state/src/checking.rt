@@ -7,7 +7,7 @@ ghost use Rattle.atl_world.specs.declared.format.Format.TheVariants.{Second};
 ghost use Rattle.atl_state.specs.declared.checking.Rule.TheVariants as rule;
 ghost use Rattle.atl_state.specs.Checking.{rule_number, KeepsRule, KeepsRulesBelow, Passes, Checks, GivesBack};
 ghost use Rattle.atl_campaign.specs.FromRows.{campaign_of};
-ghost use Rattle.atl_campaign.specs.Good.{AreKnown, IsMail, AreReported};
+ghost use Rattle.atl_campaign.specs.Good.{AreKnown, HasValidMail, AreReported};
 ghost use Rattle.atl_records.specs.Limits.{entries_in};
 ghost use Rattle.atl_campaign.specs.RowRules.{is_one_campaign_row, are_of_format, is_of_unit, is_of_market, is_booked};
 
@@ -198,14 +198,15 @@ fn keeps_books(format: Format, world: &World, parts: &Parts, campaign: &Campaign
 fn keeps_mail(world: &World, parts: &Parts, campaign: &Campaign) -> bool
     requires { campaign.now.value ≡ campaign_of world.now parts.now }
     ensures { IsTrue result ↔
-        (IsMail (campaign_of world.now parts.now) × AreReported (campaign_of world.now parts.now)) }
+        (HasValidMail (campaign_of world.now parts.now) × AreReported
+        (campaign_of world.now parts.now)) }
 {
     are_mailings(campaign) && are_reported(campaign)
 }
 
 /// Checks rules 4 to 7 (what rows name exists, next numbers, days of study, gone factions): Err is
 /// the first that is broken. The rows keep rules 1 to 3, and the campaign is read from them.
-fn check_places(
+fn check_rules_4_to_7(
     world: &World,
     parts: &Parts,
     format: Format,
@@ -232,7 +233,7 @@ fn check_places(
 
 /// Checks rules 8 to 12 (owners, water, guards, books, mail): Err is the first that is broken. The
 /// rows keep rules 1 to 7, and the campaign is read from them.
-fn check_holders(
+fn check_rules_8_to_12(
     world: &World,
     parts: &Parts,
     format: Format,
@@ -275,8 +276,8 @@ fn check_parts(
         Ok(campaign) => campaign,
         Err(_) => return Err(CheckFault::Memory),
     };
-    check_places(world, &parts, format, &campaign)?;
-    check_holders(world, &parts, format, &campaign)?;
+    check_rules_4_to_7(world, &parts, format, &campaign)?;
+    check_rules_8_to_12(world, &parts, format, &campaign)?;
     Ok(campaign)
 }
 

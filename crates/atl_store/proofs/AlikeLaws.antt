@@ -18,11 +18,11 @@ use Rattle.atl_records.specs.declared.records.Faction.{Faction}
 use Rattle.atl_records.specs.declared.records.Region.{Region}
 use Rattle.atl_records.specs.declared.records.Structure.{Structure}
 use Rattle.atl_records.specs.declared.records.Unit.{Unit}
-use Rattle.atl_campaign.proofs.ReadBackLaws.{agree}
+use Rattle.atl_campaign.proofs.ReadBackLaws.{equal_by_values}
 use Rattle.atl_records.proofs.AccountLaws.{same_account}
 use Rattle.atl_records.proofs.BookLaws.{same_books}
-use Rattle.atl_store.specs.OneCampaign.{HoldsOne}
-use Rattle.atl_sql.specs.Rows.{RowsOf, HasRowsOf, BooksRowsOf, MarketRowsOf, Holds, campaign_line, faction_line, region_line, unit_line, structure_line, things_of}
+use Rattle.atl_store.specs.OneCampaign.{HoldsOneCampaign}
+use Rattle.atl_sql.specs.Rows.{RowsOf, HasRowsOf, BooksRowsOf, MarketRowsOf, Holds, row_of_campaign, row_of_faction, row_of_region, row_of_unit, row_of_structure, things_of}
 use Rattle.atl_sql.specs.Sets.{HasExactly}
 use Rattle.atl_sql.specs.Tables.{Own, Factions, Regions, Units, Goods, Structures, Mail, Reports, Books, Markets}
 use Rattle.atl_sql.specs.Shown.{flag, mail_row, report_row, has_row, books_row, market_row}
@@ -34,46 +34,48 @@ use Rattle.atl_store.proofs.ThingLaws.{same_sort}
 
 -- ---- maps whose rows determine their numbers and values
 
--- `line` gives equal rows for entries of `m` and of `k` only if the entries have equal numbers and equal values.
+-- `Determines line m k` is the condition that rows determine entries: an entry of the map `m` and one of `k` with equal
+-- rows, by `line`, have equal numbers and equal values.
 abbrev Determines : {V : Type 0} → (ℕ → V → Row) → FinMap nat_cmp V → FinMap nat_cmp V → Type 0
 Determines {V} line m k = (n p : ℕ) (v u : V) → get m n ≡ Some v → get k p ≡ Some u → line n v ≡ line p u → (n ≡ p) × (v ≡ u)
 
 module _ {V : Type 0} (line : ℕ → V → Row) (rows : List Row) where
-  -- if one table has exactly the rows of each of the maps `m` and `k`, the row of each entry of `m` is a row of `k`
+  -- the row of each entry of map `m` is a row of map `k`, if one table has exactly the rows of each map
   other_line : (m k : FinMap nat_cmp V) → HasExactly rows (RowsOf line m) → HasExactly rows (RowsOf line k) → (n : ℕ) (v : V) → get m n ≡ Some v → RowsOf line k (line n v)
   other_line m k a b n v is = (b (line n v)).0 ((a (line n v)).1 (n, v, is, refl))
 
-  -- if one table has exactly the rows of each map, and rows determine number and value, each entry of `m` is in `k`
+  -- each entry of map `m` is an entry of map `k`, if one table has exactly the rows of each, and rows determine entries
+  -- (`Determines`)
   one_way : (m k : FinMap nat_cmp V) → Determines line m k → HasExactly rows (RowsOf line m) → HasExactly rows (RowsOf line k) → Every (λ n v. get k n ≡ Some v) m
-  one_way m k tells a b n v is =
+  one_way m k says a b n v is =
       let (p, u, there, same) = other_line m k a b n v is in
-      let at = tells n p v u is there same in
+      let at = says n p v u is there same in
       ap (get k) at.0 ∙ there ∙ sym (ap Some at.1)
 
-  -- two maps are equal if one table has exactly the rows of each, and the rows determine number and value
+  -- two maps are equal, if one table has exactly the rows of each, and rows determine entries (`Determines`)
   same_values : (m k : FinMap nat_cmp V) → Determines line m k → Determines line k m → HasExactly rows (RowsOf line m) → HasExactly rows (RowsOf line k) → m ≡ k
-  same_values m k there back a b = agree m k (one_way m k there a b) (one_way k m back b a)
+  same_values m k there back a b = equal_by_values m k (one_way m k there a b) (one_way k m back b a)
 
--- for flags in rows, as `gone`: two booleans are equal if a row shows them as equal flags
-same_flag : (a b : Bool) → flag a ≡ flag b → a ≡ b
-same_flag true true is = refl
-same_flag true false is = cc
-same_flag false true is = cc
-same_flag false false is = refl
+-- two booleans are equal, if rows show them as equal flags, such as `gone`
+flag_determines_boolean : (a b : Bool) → flag a ≡ flag b → a ≡ b
+flag_determines_boolean true true is = refl
+flag_determines_boolean true false is = cc
+flag_determines_boolean false true is = cc
+flag_determines_boolean false false is = refl
 
 -- factions with equal rows have equal numbers and are equal (`Determines`), if each is stored under its own number
-faction_rows_determine : (m k : FinMap nat_cmp Faction) → Every (λ n f. f.number ≡ n) m → Every (λ n f. f.number ≡ n) k → Determines faction_line m k
+faction_rows_determine : (m k : FinMap nat_cmp Faction) → Every (λ n f. f.number ≡ n) m → Every (λ n f. f.number ≡ n) k → Determines row_of_faction m k
 faction_rows_determine m k a b n p f g is there same =
     let at : n ≡ p = cc in
     let number : f.number ≡ g.number = a n f is ∙ at ∙ sym (b p g there) in
     let joined : f.joined_as ≡ g.joined_as = cc in
     let name : f.name ≡ g.name = cc in
     let pass : f.pass ≡ g.pass = cc in
-    let gone : f.gone ≡ g.gone = same_flag f.gone g.gone (cc) in
+    let gone : f.gone ≡ g.gone = flag_determines_boolean f.gone g.gone (cc) in
     (at, λ i. record { number = number i; joined_as = joined i; name = name i; pass = pass i; gone = gone i })
 
 -- structures with equal rows have equal numbers and are equal (`Determines`)
-structure_rows_determine : (m k : FinMap nat_cmp Structure) → Determines structure_line m k
+structure_rows_determine : (m k : FinMap nat_cmp Structure) → Determines row_of_structure m k
 structure_rows_determine m k n p s t is there same =
     let kind : s.kind ≡ t.kind = cc in
     let name : s.name ≡ t.name = cc in
@@ -102,8 +104,8 @@ have_no_zero w c good n u is Item thing amount there = let range = (good.sound.s
 have_no_zero w c good n u is Skill thing amount there = let range = good.sound.steady.days n u is thing amount there in λ none. omega (arith, range.0, none)
 
 module _ (rows : List Row) (m k : FinMap nat_cmp Unit) (a : HasExactly rows (HasRowsOf m)) (b : HasExactly rows (HasRowsOf k)) where
-  -- each item or skill of unit `n` in `m` has the same amount in `k`, if one table `has` has the rows of each map, and
-  -- no amount in `m` is 0
+  -- each item or skill of unit `n` of map `m` has the same amount in map `k`, if one table `has` has the rows of each
+  -- map, and no amount in `m` is 0
   things_there : HaveNoZero m → (n : ℕ) (u v : Unit) → get m n ≡ Some u → get k n ≡ Some v → (sort : ThingKind) → Every (λ thing amount. get (things_of sort v.holding) thing ≡ Some amount) (things_of sort u.holding)
   things_there some n u v is there sort thing amount has =
       let row = has_row n (sort_number sort) thing amount in
@@ -116,11 +118,12 @@ module _ (rows : List Row) (m k : FinMap nat_cmp Unit) (a : HasExactly rows (Has
       let left : get (things_of sort v.holding) thing ≡ get (things_of other x.holding) object = λ i. get (things_of (kind i) (unit i).holding) (what i) in
       left ∙ got ∙ sym (ap Some count)
 
-module _ (rows goods : List Row) (m k : FinMap nat_cmp Unit) (a : HasExactly rows (RowsOf unit_line m)) (b : HasExactly rows (RowsOf unit_line k)) (h : HasExactly goods (HasRowsOf m)) (j : HasExactly goods (HasRowsOf k)) (some : HaveNoZero m) (more : HaveNoZero k) where
-  -- each unit of `m` is in `k`, if the tables `unit` and `has` have exactly the rows of each map, and no amount is 0
+module _ (rows goods : List Row) (m k : FinMap nat_cmp Unit) (a : HasExactly rows (RowsOf row_of_unit m)) (b : HasExactly rows (RowsOf row_of_unit k)) (h : HasExactly goods (HasRowsOf m)) (j : HasExactly goods (HasRowsOf k)) (some : HaveNoZero m) (more : HaveNoZero k) where
+  -- each unit of map `m` is a unit of map `k`, if the tables `unit` and `has` have exactly the rows of each map, and no
+  -- amount is 0
   units_there : Every (λ n u. get k n ≡ Some u) m
   units_there n u is =
-      let (p, v, there, same) = other_line unit_line rows m k a b n u is in
+      let (p, v, there, same) = other_line row_of_unit rows m k a b n u is in
       let at : n ≡ p = cc in
       let here : get k n ≡ Some v = ap (get k) at ∙ there in
       let faction : u.faction ≡ v.faction = cc in
@@ -129,8 +132,8 @@ module _ (rows goods : List Row) (m k : FinMap nat_cmp Unit) (a : HasExactly row
       let name : u.holding.name ≡ v.holding.name = cc in
       let men : u.holding.men ≡ v.holding.men = cc in
       let money : u.holding.money ≡ v.holding.money = cc in
-      let guard : u.holding.guard ≡ v.holding.guard = same_flag u.holding.guard v.holding.guard (cc) in
-      let things : (sort : ThingKind) → things_of sort u.holding ≡ things_of sort v.holding = λ sort. agree _ _ (things_there goods m k h j some n u v is here sort) (things_there goods k m j h more n v u here is sort) in
+      let guard : u.holding.guard ≡ v.holding.guard = flag_determines_boolean u.holding.guard v.holding.guard (cc) in
+      let things : (sort : ThingKind) → things_of sort u.holding ≡ things_of sort v.holding = λ sort. equal_by_values _ _ (things_there goods m k h j some n u v is here sort) (things_there goods k m j h more n v u here is sort) in
       let items : u.holding.items ≡ v.holding.items = things Item in
       let days : u.holding.days ≡ v.holding.days = things Skill in
       let unit : u ≡ v = λ i. record {
@@ -152,8 +155,8 @@ have_no_zero_stock : (w : WorldValue) (c : CampaignValue) → IsGood w c → Hav
 have_no_zero_stock w c good n r is item stock there = let range = (good.sound.steady.numbers.regions n r is).stocks item stock there in λ none. omega (arith, range.0, none)
 
 module _ (rows : List Row) (m k : FinMap nat_cmp Region) (a : HasExactly rows (MarketRowsOf m)) (b : HasExactly rows (MarketRowsOf k)) where
-  -- each stock of region `n` in `m` is the same in `k`, if one table `market` has exactly the rows of each map, and no
-  -- stock in `m` is 0
+  -- each stock of region `n` of map `m` is the same in map `k`, if one table `market` has exactly the rows of each map,
+  -- and no stock in `m` is 0
   stocks_there : HaveNoZeroStock m → (n : ℕ) (r s : Region) → get m n ≡ Some r → get k n ≡ Some s → Every (λ item stock. get s.stocks item ≡ Some stock) r.stocks
   stocks_there some n r s is there item stock has =
       let row = market_row n item stock in
@@ -165,17 +168,17 @@ module _ (rows : List Row) (m k : FinMap nat_cmp Region) (a : HasExactly rows (M
       let left : get s.stocks item ≡ get x.stocks object = λ i. get (region i).stocks (what i) in
       left ∙ got ∙ sym (ap Some count)
 
-module _ (rows stocks : List Row) (m k : FinMap nat_cmp Region) (a : HasExactly rows (RowsOf region_line m)) (b : HasExactly rows (RowsOf region_line k)) (h : HasExactly stocks (MarketRowsOf m)) (j : HasExactly stocks (MarketRowsOf k)) (some : HaveNoZeroStock m) (more : HaveNoZeroStock k) where
-  -- each region of `m` is in `k`, if the tables `region` and `market` have exactly the rows of each map, and no stock
-  -- is 0
+module _ (rows stocks : List Row) (m k : FinMap nat_cmp Region) (a : HasExactly rows (RowsOf row_of_region m)) (b : HasExactly rows (RowsOf row_of_region k)) (h : HasExactly stocks (MarketRowsOf m)) (j : HasExactly stocks (MarketRowsOf k)) (some : HaveNoZeroStock m) (more : HaveNoZeroStock k) where
+  -- each region of map `m` is a region of map `k`, if the tables `region` and `market` have exactly the rows of each
+  -- map, and no stock is 0
   regions_there : Every (λ n r. get k n ≡ Some r) m
   regions_there n r is =
-      let (p, s, there, same) = other_line region_line rows m k a b n r is in
+      let (p, s, there, same) = other_line row_of_region rows m k a b n r is in
       let at : n ≡ p = cc in
       let here : get k n ≡ Some s = ap (get k) at ∙ there in
       let peasants : r.peasants ≡ s.peasants = cc in
       let money : r.money ≡ s.money = cc in
-      let in_stock : r.stocks ≡ s.stocks = agree _ _ (stocks_there stocks m k h j some n r s is here) (stocks_there stocks k m j h more n s r here is) in
+      let in_stock : r.stocks ≡ s.stocks = equal_by_values _ _ (stocks_there stocks m k h j some n r s is here) (stocks_there stocks k m j h more n s r here is) in
       let region : r ≡ s = λ i. record { peasants = peasants i; money = money i; stocks = in_stock i } in
       here ∙ sym (ap Some region)
 
@@ -219,17 +222,17 @@ module _ (things : ℕ) (rows : List Row) (m k : BooksValue) (g : AreBooks thing
 
 module _ (db : Trees) (one other : List ℕ) (c d : CampaignValue) (h : Holds db one c) (j : Holds db other d) where
   -- two campaigns whose rows one database holds, each with its world text, have equal campaign rows
-  one_row : campaign_line one c ≡ campaign_line other d
-  one_row = (j.rows Own (campaign_line one c)).0 ((h.rows Own (campaign_line one c)).1 refl)
+  one_row : row_of_campaign one c ≡ row_of_campaign other d
+  one_row = (j.rows Own (row_of_campaign one c)).0 ((h.rows Own (row_of_campaign one c)).1 refl)
 
   -- two world texts whose rows one database holds are equal
   pub one_text : one ≡ other
   one_text = let own = one_row in cc
 
--- two world texts, and two good campaigns of one world, whose rows one database holds are equal (`HoldsOne`)
-pub holds_one : HoldsOne
+-- two world texts, and two good campaigns of one world, whose rows one database holds are equal (`HoldsOneCampaign`)
+pub holds_one : HoldsOneCampaign
 holds_one w db one other c d good sound h j =
-    let own : campaign_line one c ≡ campaign_line other d = one_row db one other c d h j in
+    let own : row_of_campaign one c ≡ row_of_campaign other d = one_row db one other c d h j in
     let text : one ≡ other = one_text db one other c d h j in
     let month : c.month ≡ d.month = cc in
     let pass : c.pass ≡ d.pass = cc in
@@ -238,17 +241,17 @@ holds_one w db one other c d good sound h j =
     let next_structure : c.next_structure ≡ d.next_structure = cc in
     let numbers = good.sound.steady.numbers in
     let others = sound.sound.steady.numbers in
-    let factions = same_values faction_line _ c.factions d.factions (faction_rows_determine _ _ numbers.factions others.factions) (faction_rows_determine _ _ others.factions numbers.factions) (h.rows Factions) (j.rows Factions) in
+    let factions = same_values row_of_faction _ c.factions d.factions (faction_rows_determine _ _ numbers.factions others.factions) (faction_rows_determine _ _ others.factions numbers.factions) (h.rows Factions) (j.rows Factions) in
     let stocks = have_no_zero_stock w c good in
     let others_stocks = have_no_zero_stock w d sound in
-    let regions = agree c.regions d.regions (regions_there _ _ c.regions d.regions (h.rows Regions) (j.rows Regions) (h.rows Markets) (j.rows Markets) stocks others_stocks) (regions_there _ _ d.regions c.regions (j.rows Regions) (h.rows Regions) (j.rows Markets) (h.rows Markets) others_stocks stocks) in
-    let structures = same_values structure_line _ c.structures d.structures (structure_rows_determine _ _) (structure_rows_determine _ _) (h.rows Structures) (j.rows Structures) in
+    let regions = equal_by_values c.regions d.regions (regions_there _ _ c.regions d.regions (h.rows Regions) (j.rows Regions) (h.rows Markets) (j.rows Markets) stocks others_stocks) (regions_there _ _ d.regions c.regions (j.rows Regions) (h.rows Regions) (j.rows Markets) (h.rows Markets) others_stocks stocks) in
+    let structures = same_values row_of_structure _ c.structures d.structures (structure_rows_determine _ _) (structure_rows_determine _ _) (h.rows Structures) (j.rows Structures) in
     let mail = same_values mail_row _ c.mail d.mail (mail_rows_determine _ _) (mail_rows_determine _ _) (h.rows Mail) (j.rows Mail) in
     let reports = same_values report_row _ c.reports d.reports (report_rows_determine _ _) (report_rows_determine _ _) (h.rows Reports) (j.rows Reports) in
     let some = have_no_zero w c good in
     let more = have_no_zero w d sound in
-    let units = agree c.units d.units (units_there _ _ c.units d.units (h.rows Units) (j.rows Units) (h.rows Goods) (j.rows Goods) some more) (units_there _ _ d.units c.units (j.rows Units) (h.rows Units) (j.rows Goods) (h.rows Goods) more some) in
-    let books = one_books (founding.things_of w) _ c.books d.books numbers.books others.books (h.rows Books) (j.rows Books) in (
+    let units = equal_by_values c.units d.units (units_there _ _ c.units d.units (h.rows Units) (j.rows Units) (h.rows Goods) (j.rows Goods) some more) (units_there _ _ d.units c.units (j.rows Units) (h.rows Units) (j.rows Goods) (h.rows Goods) more some) in
+    let books = one_books (founding.thing_count w) _ c.books d.books numbers.books others.books (h.rows Books) (j.rows Books) in (
       text,
       same_state c d month pass next_faction next_unit next_structure factions regions units structures mail reports books,
     )

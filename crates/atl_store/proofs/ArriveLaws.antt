@@ -21,17 +21,17 @@ use Rattle.atl_sql.specs.Tables.{Books, books_table}
 use Rattle.atl_sql.specs.Shown.{int, books_key, books_row}
 use Rattle.atl_sql.specs.Rows.{RowsOf, HasRowsOf, BooksRowsOf, things_of}
 use Rattle.atl_store.specs.GroupedRows.{amount_lines}
-use Rattle.atl_store.specs.Arriving.{settled, WritesAmount}
+use Rattle.atl_store.specs.Arriving.{rows_with_amount, WritesAmount}
 use Rattle.atl_sql.specs.Statements.{deletion, upsert}
 use Rattle.atl_store.specs.OwnStatements.{OfAmount, puts_amount, drops_amount, OfChange, changes_row, puts_row, drops_row}
 use Rattle.atl_store.proofs.EntryLaws.{same_number}
 use Rattle.atl_store.proofs.HasTableLaws.{optional_has, has_optional}
-use Rattle.atl_store.proofs.LedgerLaws.{two_same, differs_zero, is_differing, amount_is}
+use Rattle.atl_store.proofs.LedgerLaws.{books_key_determines_numbers, differs_zero, is_differing, amount_is}
 use Rattle.atl_sql.specs.Inside.{Puts, Drops}
 
 -- ---- one entry more in a map
 
--- for `get_beside`: if two numbers aren't equal, comparing them (`nat_cmp`) doesn't give Equal
+-- for `get_others`: if two numbers aren't equal, comparing them (`nat_cmp`) doesn't give Equal
 other : (k n : ℕ) → k ≢ n → is_eq (nat_cmp k n) ≡ false
 other k n apart = elim (nat_cmp k n) as (λ o. nat_cmp k n ≡ o → is_eq o ≡ false) [
   | Less ↦ λ _. refl
@@ -53,8 +53,8 @@ module _ {V : Type 0} where
   get_inserted m n v = get-insert nat_cmp_total m n v n ∙ ap (λ b. cond b (Some v) (get m n)) (ap is_eq (tied_itself nat_cmp_total n))
 
   -- inserting a number leaves what the map gives under each other number
-  pub get_beside : (m : FinMap nat_cmp V) (n : ℕ) (v : V) (k : ℕ) → k ≢ n → get (insert m n v) k ≡ get m k
-  get_beside m n v k apart = get-insert nat_cmp_total m n v k ∙ ap (λ b. cond b (Some v) (get m k)) (other k n apart)
+  pub get_others : (m : FinMap nat_cmp V) (n : ℕ) (v : V) (k : ℕ) → k ≢ n → get (insert m n v) k ≡ get m k
+  get_others m n v k apart = get-insert nat_cmp_total m n v k ∙ ap (λ b. cond b (Some v) (get m k)) (other k n apart)
 
 -- putting an entry's row into a table of a map's rows gives the rows of the map with the entry inserted
 pub put_rows : {V : Type 0} (line : ℕ → V → Row) (numbered : (n : ℕ) (v : V) → take 1 (line n v) ≡ int n ∷ []) (rows news : List Row) (m : FinMap nat_cmp V) (n : ℕ) (v : V) → HasExactly rows (RowsOf line m) → HasExactly news (put 1 (line n v) (Has rows)) → HasExactly news (RowsOf line (insert m n v))
@@ -63,14 +63,14 @@ put_rows line numbered rows news m n v was made r = (
     | inl same ↦ (n, v, get_inserted m n v, same)
     | inr kept ↦
         let old = (was r).0 kept.0 in
-        (old.0, old.1, get_beside m n v old.0 (λ e. kept.1 (ap (take 1) old.3 ∙ numbered old.0 old.1 ∙ ap (λ k. int k ∷ []) e ∙ sym (numbered n v))) ∙ old.2, old.3)
+        (old.0, old.1, get_others m n v old.0 (λ e. kept.1 (ap (take 1) old.3 ∙ numbered old.0 old.1 ∙ ap (λ k. int k ∷ []) e ∙ sym (numbered n v))) ∙ old.2, old.3)
   ],
   λ of. (made r).1 (elim (cases_eq of.0 n) [
     | inl same ↦
         let value : v ≡ of.1 = some_is v of.1 (sym (ap (get (insert m n v)) same ∙ get_inserted m n v) ∙ of.2) in
         inl (of.3 ∙ ap (λ k. line k of.1) same ∙ ap (line n) (sym value))
     | inr apart ↦ inr (
-      (was r).1 (of.0, of.1, sym (get_beside m n v of.0 apart) ∙ of.2, of.3),
+      (was r).1 (of.0, of.1, sym (get_others m n v of.0 apart) ∙ of.2, of.3),
       λ e. apart (same_number of.0 n (sym (numbered of.0 of.1) ∙ ap (take 1) (sym of.3) ∙ e ∙ numbered n v)),
     )
   ]),
@@ -82,13 +82,13 @@ no_goods rows units n u fresh bare was r = (
   λ there.
       let old = (was r).0 there in
       let apart : old.0 ≢ n = λ same. nothing_is old.1 (sym fresh ∙ ap (get units) (sym same) ∙ old.2) in
-      (old.0, old.1, get_beside units n u old.0 apart ∙ old.2, old.3, old.4, old.5, old.6, old.7, old.8),
+      (old.0, old.1, get_others units n u old.0 apart ∙ old.2, old.3, old.4, old.5, old.6, old.7, old.8),
   λ of. (was r).1 (elim (cases_eq of.0 n) [
     | inl same ↦
         let value : u ≡ of.1 = some_is u of.1 (sym (ap (get (insert units n u)) same ∙ get_inserted units n u) ∙ of.2) in
         let none : get (things_of of.3 of.1.holding) of.4 ≡ None = ap (λ (x : Unit). get (things_of of.3 x.holding) of.4) (sym value) ∙ ap (λ (m : FinMap nat_cmp ℕ). get m of.4) (bare of.3) ∙ get-empty nat_cmp of.4 in
         absurd (nothing_is of.5 (sym none ∙ of.6))
-    | inr apart ↦ (of.0, of.1, sym (get_beside units n u of.0 apart) ∙ of.2, of.3, of.4, of.5, of.6, of.7, of.8)
+    | inr apart ↦ (of.0, of.1, sym (get_others units n u of.0 apart) ∙ of.2, of.3, of.4, of.5, of.6, of.7, of.8)
   ]),
 )
 
@@ -101,17 +101,17 @@ module _ (c : CampaignValue) (e : BooksEntry) (t : Thing) where
 
   -- writing the campaign's amount of entry `e` and thing `t` turns the rows of books `A` into those of `B`, if `B` is
   -- `A` with this amount
-  pub settled_rows : (A B : BooksValue) (S : Set) → amount_in B e t ≡ amount_in c.books e t
+  pub written_amount_changes_books : (A B : BooksValue) (S : Set) → amount_in B e t ≡ amount_in c.books e t
       → ((f : BooksEntry) (u : Thing) → (entry_index f ≢ entry_index e) ⊎ (thing_index u ≢ thing_index t) → amount_in B f u ≡ amount_in A f u)
-      → ((r : Row) → S r ↔ BooksRowsOf A r) → (r : Row) → settled c e t S r ↔ BooksRowsOf B r
-  settled_rows A B S here beside was r = (
+      → ((r : Row) → S r ↔ BooksRowsOf A r) → (r : Row) → rows_with_amount c e t S r ↔ BooksRowsOf B r
+  written_amount_changes_books A B S here aside was r = (
     λ there. elim there [
       | inl new ↦
           let is = optional_has (int_eq (amount_in c.books e t) (pos 0)) row r new in
           (e, t, λ none. differs_zero (amount_in c.books e t) is.0 (sym here ∙ none), is.1 ∙ ap (books_row (entry_index e + 1) (thing_index t)) (sym here))
       | inr kept ↦
           let old = (was r).0 kept.0 in
-          let same = beside old.0 old.1 (apart old.0 old.1 (λ q. kept.1 (ap (take 2) old.3 ∙ q))) in
+          let same = aside old.0 old.1 (apart old.0 old.1 (λ q. kept.1 (ap (take 2) old.3 ∙ q))) in
           (old.0, old.1, λ none. old.2 (sym same ∙ none), old.3 ∙ ap (books_row (entry_index old.0 + 1) (thing_index old.1)) (sym same))
     ],
     λ of. elim (cases_eq (entry_index of.0) (entry_index e)) [
@@ -126,21 +126,22 @@ module _ (c : CampaignValue) (e : BooksEntry) (t : Thing) where
     ],
   )
     where
-      -- for `settled_rows`: two amounts of the books with different keys differ in their entry or in their thing
+      -- for `written_amount_changes_books`: two amounts of the books with different keys differ in their entry or in
+      -- their thing
       apart : (f : BooksEntry) (u : Thing) → ◌≢◌ {A = Row} (books_key (entry_index f + 1) (thing_index u)) (books_key (entry_index e + 1) (thing_index t)) → (entry_index f ≢ entry_index e) ⊎ (thing_index u ≢ thing_index t)
       apart f u differs = elim (cases_eq (entry_index f) (entry_index e)) [
         | inl entries ↦ inr (λ things. differs (ap (λ k. books_key (k + 1) (thing_index u)) entries ∙ ap (books_key (entry_index e + 1)) things))
         | inr entries ↦ inl entries
       ]
 
-      -- for `settled_rows`: a row of `B` of another entry or thing than `e` and `t` was among the rows `S` of `A`, and
-      -- has another key
+      -- for `written_amount_changes_books`: a row of `B` of another entry or thing than `e` and `t` was among the rows
+      -- `S` of `A`, and has another key
       kept_row : (f : BooksEntry) (u : Thing) → amount_in B f u ≢ pos 0 → r ≡ books_row (entry_index f + 1) (thing_index u) (amount_in B f u) → (entry_index f ≢ entry_index e) ⊎ (thing_index u ≢ thing_index t)
           → S r × (take 2 r ≢ books_key (entry_index e + 1) (thing_index t))
       kept_row f u some is far = (
-        (was r).1 (f, u, λ none. some (beside f u far ∙ none), is ∙ ap (books_row (entry_index f + 1) (thing_index u)) (beside f u far)),
+        (was r).1 (f, u, λ none. some (aside f u far ∙ none), is ∙ ap (books_row (entry_index f + 1) (thing_index u)) (aside f u far)),
         λ q.
-            let keys = two_same (entry_index f + 1) (thing_index u) (entry_index e + 1) (thing_index t) (ap (take 2) (sym is) ∙ q) in
+            let keys = books_key_determines_numbers (entry_index f + 1) (thing_index u) (entry_index e + 1) (thing_index t) (ap (take 2) (sym is) ∙ q) in
             elim far [ inl entries ↦ entries (omega (arith, keys.0)) | inr things ↦ things keys.1 ],
       )
 
@@ -161,7 +162,7 @@ amount_changes c e t sql params (puts_amount some) = changes_row (puts_row Books
 amount_changes c e t sql params (drops_amount zero) = drops_row Books (
   refl,
   λ own row of key.
-      let keys = two_same (entry_index of.0 + 1) (thing_index of.1) (entry_index e + 1) (thing_index t) (ap (take 2) (sym of.3) ∙ key) in
+      let keys = books_key_determines_numbers (entry_index of.0 + 1) (thing_index of.1) (entry_index e + 1) (thing_index t) (ap (take 2) (sym of.3) ∙ key) in
       let entry : entry_index of.0 ≡ entry_index e = omega (arith, keys.0) in
       of.2 (ap (λ (a : Account). amount_in c.books a.0 a.1) (same_account of.0 e of.1 t entry keys.1) ∙ zero),
 )
@@ -169,8 +170,8 @@ amount_changes c e t sql params (drops_amount zero) = drops_row Books (
 -- an amount is written: its row is put, or deleted if the amount is 0
 module _ (c : CampaignValue) (e : BooksEntry) (t : Thing) (n k : ℕ) (entry : n ≡ entry_index e + 1) (thing : k ≡ thing_index t) (old new : Database) where
   -- putting the row of an amount of the books that is not 0 writes the amount (`WritesAmount`)
-  pub settles_by_put : (z : ℤ) → z ≡ amount_in c.books e t → z ≢ pos 0 → Puts books_table 2 (books_row n k z) old new → WritesAmount c e t old new
-  settles_by_put z amount some did =
+  pub put_writes_amount : (z : ℤ) → z ≡ amount_in c.books e t → z ≢ pos 0 → Puts books_table 2 (books_row n k z) old new → WritesAmount c e t old new
+  put_writes_amount z amount some did =
       let lines : amount_lines c e t ≡ books_row n k z ∷ [] = amount_is c e t n k z entry thing amount some in
       let keys : take 2 (books_row n k z) ≡ books_key (entry_index e + 1) (thing_index t) = rw (entry, thing) refl in
       record {
@@ -182,8 +183,8 @@ module _ (c : CampaignValue) (e : BooksEntry) (t : Thing) (n k : ℕ) (entry : n
       }
 
   -- deleting the row of an amount of the books that is 0 writes the amount (`WritesAmount`)
-  pub settles_by_drop : amount_in c.books e t ≡ pos 0 → Drops books_table 2 (books_key n k) old new → WritesAmount c e t old new
-  settles_by_drop none did =
+  pub drop_writes_amount : amount_in c.books e t ≡ pos 0 → Drops books_table 2 (books_key n k) old new → WritesAmount c e t old new
+  drop_writes_amount none did =
       let keys : books_key n k ≡ books_key (entry_index e + 1) (thing_index t) = rw (entry, thing) refl in
       let lines : amount_lines c e t ≡ [] = rw none refl in
       record {

@@ -21,11 +21,12 @@ nothing_in_stock c bare n r is i amount there = let e = sym (get-empty {X = ℕ}
 
 module _ (v : WorldValue) (regions : FinMap nat_cmp RegionPlan) (c : CampaignValue) (bare : HasNoStocks c) where
   -- the world `v` with `regions` in place of its own regions
-  abbrev w : WorldValue
-  w = record v { regions = regions }
+  abbrev changed_world : WorldValue
+  changed_world = record v { regions = regions }
 
-  -- with nothing in stock, a campaign good in `v` is good in `w`, if both have regions and land under the same numbers
-  good_with : ((n : ℕ) → is_land_at w n ≡ is_land_at v n) → ((n : ℕ) → HasValue v.regions n → HasValue regions n) → ((n : ℕ) → HasValue regions n → HasValue v.regions n) → IsGood v c → IsGood w c
+  -- a campaign that is good in world `v` is good in world `changed_world`, if nothing is in stock, and both worlds have
+  -- regions and land under the same numbers
+  good_with : ((n : ℕ) → is_land_at changed_world n ≡ is_land_at v n) → ((n : ℕ) → HasValue v.regions n → HasValue regions n) → ((n : ℕ) → HasValue regions n → HasValue v.regions n) → IsGood v c → IsGood changed_world c
   good_with land ahead back good =
       let steady = good.sound.steady in
       record {
@@ -108,6 +109,6 @@ module _ (w : WorldValue) where
     with_good : IsGood (without_markets w) c → IsGood w c
     with_good good = good_with (without_markets w) w.regions c bare (λ n. sym (land_same n)) is_of_world stays_without_markets good
 
--- a good campaign with nothing in stock is good in both of two worlds that differ in markets alone
+-- a campaign with nothing in stock that is good in a world is good in each world that differs from it in markets alone
 pub good_either : (v w : WorldValue) (c : CampaignValue) → without_markets w ≡ without_markets v → HasNoStocks c → IsGood v c → IsGood w c
 good_either v w c same bare good = with_good w c bare (subst (λ x. IsGood x c) (sym same) (without_good v c bare good))

@@ -23,11 +23,11 @@ use Rattle.atl_sql.specs.Shown.{int, books_key, books_row}
 use Rattle.atl_sql.specs.Rows.{BooksRowsOf}
 use Rattle.atl_store.specs.GroupedRows.{amount_lines}
 use Rattle.atl_store.specs.Arriving.{WritesAmount}
-use Rattle.atl_sql.specs.Inside.{Inside, HasTables}
+use Rattle.atl_sql.specs.Inside.{DoesInside, HasTables}
 use Rattle.atl_sql.specs.Marked.{entry_and_thing_pass, amount_marked, is_marked_amount}
-use Rattle.atl_store.specs.Rewriting.{RewritesAmounts, RewritesBooks, is_number, is_among, of_amounts}
+use Rattle.atl_store.specs.Rewriting.{RewritesAmounts, RewritesBooks, equals_number, is_among, is_of_marked_amount}
 use Rattle.atl_store.proofs.HasTableLaws.{optional_has, has_optional}
-use Rattle.atl_store.proofs.LedgerLaws.{two_same, differs_zero, is_differing}
+use Rattle.atl_store.proofs.LedgerLaws.{books_key_determines_numbers, differs_zero, is_differing}
 use Rattle.atl_store.proofs.RewriteLaws.{Remaining, one_less_remaining, all_rewritten, equal_by_order, is_itself, rewrites_key}
 use Rattle.atl_store.proofs.WholeLaws.{inside_weaker}
 
@@ -55,32 +55,32 @@ and_or p a b c = ap (λ q. p && q) (and-or_distrib_right a b c) ∙ and-or_distr
 
 module _ (marks : FinSet nat_cmp) where
   -- whether the amount is marked whose entry has index `e` and whose thing has index `t`
-  abbrev marked : ℕ → ℕ → Bool
-  marked e t = contains marks (entry_count * t + e)
+  abbrev is_marked_at : ℕ → ℕ → Bool
+  is_marked_at e t = contains marks (entry_count * t + e)
 
   -- a row of a marked amount has an entry in `e ∷ es` exactly if its entry is `e` or is in `es`
   pub next_entry : (e : ℕ) (es : List ℕ) (things : ℕ → Bool) (r : Row)
-      → of_amounts marks (is_among (e ∷ es)) things r ≡ (of_amounts marks (is_number e) things r || of_amounts marks (is_among es) things r)
+      → is_of_marked_amount marks (is_among (e ∷ es)) things r ≡ (is_of_marked_amount marks (equals_number e) things r || is_of_marked_amount marks (is_among es) things r)
   next_entry e es things r =
-      let one : ℕ → ℕ → Bool = λ k t. is_number e k && (things t && marked k t) in
-      let rest : ℕ → ℕ → Bool = λ k t. is_among es k && (things t && marked k t) in
-      accounts_same (λ k t. is_among (e ∷ es) k && (things t && marked k t)) (λ k t. one k t || rest k t) (λ k t. and-or_distrib_right (is_number e k) (is_among es k) (things t && marked k t)) r ∙ accounts_either one rest r
+      let one : ℕ → ℕ → Bool = λ k t. equals_number e k && (things t && is_marked_at k t) in
+      let rest : ℕ → ℕ → Bool = λ k t. is_among es k && (things t && is_marked_at k t) in
+      accounts_same (λ k t. is_among (e ∷ es) k && (things t && is_marked_at k t)) (λ k t. one k t || rest k t) (λ k t. and-or_distrib_right (equals_number e k) (is_among es k) (things t && is_marked_at k t)) r ∙ accounts_either one rest r
 
   -- a row of a marked amount has a thing in `t ∷ ts` exactly if its thing is `t` or is in `ts`
   pub next_thing : (entries : ℕ → Bool) (t : ℕ) (ts : List ℕ) (r : Row)
-      → of_amounts marks entries (is_among (t ∷ ts)) r ≡ (of_amounts marks entries (is_number t) r || of_amounts marks entries (is_among ts) r)
+      → is_of_marked_amount marks entries (is_among (t ∷ ts)) r ≡ (is_of_marked_amount marks entries (equals_number t) r || is_of_marked_amount marks entries (is_among ts) r)
   next_thing entries t ts r =
-      let one : ℕ → ℕ → Bool = λ e k. entries e && (is_number t k && marked e k) in
-      let rest : ℕ → ℕ → Bool = λ e k. entries e && (is_among ts k && marked e k) in
-      accounts_same (λ e k. entries e && (is_among (t ∷ ts) k && marked e k)) (λ e k. one e k || rest e k) (λ e k. and_or (entries e) (is_number t k) (is_among ts k) (marked e k)) r ∙ accounts_either one rest r
+      let one : ℕ → ℕ → Bool = λ e k. entries e && (equals_number t k && is_marked_at e k) in
+      let rest : ℕ → ℕ → Bool = λ e k. entries e && (is_among ts k && is_marked_at e k) in
+      accounts_same (λ e k. entries e && (is_among (t ∷ ts) k && is_marked_at e k)) (λ e k. one e k || rest e k) (λ e k. and_or (entries e) (equals_number t k) (is_among ts k) (is_marked_at e k)) r ∙ accounts_either one rest r
 
   -- if the list of entries `es` is empty, no row is of a marked amount of these entries
-  pub no_entry : (es : List ℕ) (things : ℕ → Bool) → es ≡ [] → (r : Row) → of_amounts marks (is_among es) things r ≡ false
-  no_entry es things none r = ap (λ l. of_amounts marks (is_among l) things r) none ∙ accounts_none (λ e t. false) (λ e t. refl) r
+  pub no_entry : (es : List ℕ) (things : ℕ → Bool) → es ≡ [] → (r : Row) → is_of_marked_amount marks (is_among es) things r ≡ false
+  no_entry es things none r = ap (λ l. is_of_marked_amount marks (is_among l) things r) none ∙ accounts_none (λ e t. false) (λ e t. refl) r
 
   -- if the list of things `ts` is empty, no row is of a marked amount of these things
-  pub no_thing : (entries : ℕ → Bool) (ts : List ℕ) → ts ≡ [] → (r : Row) → of_amounts marks entries (is_among ts) r ≡ false
-  no_thing entries ts none r = ap (λ l. of_amounts marks entries (is_among l) r) none ∙ accounts_none (λ e t. entries e && false) (λ e t. and-false (entries e)) r
+  pub no_thing : (entries : ℕ → Bool) (ts : List ℕ) → ts ≡ [] → (r : Row) → is_of_marked_amount marks entries (is_among ts) r ≡ false
+  no_thing entries ts none r = ap (λ l. is_of_marked_amount marks entries (is_among l) r) none ∙ accounts_none (λ e t. entries e && false) (λ e t. and-false (entries e)) r
 
   -- ---- all entries and all things
 
@@ -125,8 +125,8 @@ module _ (marks : FinSet nat_cmp) where
 
   -- if all marks are of the first `things` things, the test for their marked amounts finds the marked rows of `books`
   pub all_amounts : (things : ℕ) → AreOfThings things marks → (r : Row)
-      → of_amounts marks (is_among (map entry_index all_entries)) (is_among (range_with_len 0 things)) r ≡ amount_marked marks r
-  all_amounts things few r = accounts_same (λ e t. is_among (map entry_index all_entries) e && (is_among (range_with_len 0 things) t && marked e t)) (is_marked_amount marks) same r
+      → is_of_marked_amount marks (is_among (map entry_index all_entries)) (is_among (range_with_len 0 things)) r ≡ amount_marked marks r
+  all_amounts things few r = accounts_same (λ e t. is_among (map entry_index all_entries) e && (is_among (range_with_len 0 things) t && is_marked_at e t)) (is_marked_amount marks) same r
     where
       -- for `all_amounts`: if an amount's number, `entry_count * t + e`, is below `entry_count * n`, the index `t` of
       -- its thing is below `n`
@@ -136,12 +136,12 @@ module _ (marks : FinSet nat_cmp) where
       -- for `all_amounts`: `is_marked_amount` chooses `e` and `t` exactly if `e` is an entry's index, `t` is below
       -- `things`, and their amount is marked
       same : (e t : ℕ)
-          → (is_among (map entry_index all_entries) e && (is_among (range_with_len 0 things) t && marked e t)) ≡ is_marked_amount marks e t
-      same e t = elim (cases_Bool (marked e t)) [
+          → (is_among (map entry_index all_entries) e && (is_among (range_with_len 0 things) t && is_marked_at e t)) ≡ is_marked_amount marks e t
+      same e t = elim (cases_Bool (is_marked_at e t)) [
         | inl is ↦
             let there : is_among (range_with_len 0 things) t ≡ true = in_range 0 things t (omega arith) (omega (arith, inside e t things (few (entry_count * t + e) is))) in
-            ap (λ b. b && (is_among (range_with_len 0 things) t && marked e t)) (each_entry e) ∙ ap (λ b. nat_le (suc e) entry_count && (b && marked e t)) there
-        | inr unmarked ↦ ap (λ b. b && (is_among (range_with_len 0 things) t && marked e t)) (each_entry e) ∙ ap (λ b. nat_le (suc e) entry_count && (is_among (range_with_len 0 things) t && b)) unmarked ∙ ap (λ b. nat_le (suc e) entry_count && b) (and-false (is_among (range_with_len 0 things) t)) ∙ ap (λ b. nat_le (suc e) entry_count && b) (sym unmarked)
+            ap (λ b. b && (is_among (range_with_len 0 things) t && is_marked_at e t)) (each_entry e) ∙ ap (λ b. nat_le (suc e) entry_count && (b && is_marked_at e t)) there
+        | inr unmarked ↦ ap (λ b. b && (is_among (range_with_len 0 things) t && is_marked_at e t)) (each_entry e) ∙ ap (λ b. nat_le (suc e) entry_count && (is_among (range_with_len 0 things) t && b)) unmarked ∙ ap (λ b. nat_le (suc e) entry_count && b) (and-false (is_among (range_with_len 0 things) t)) ∙ ap (λ b. nat_le (suc e) entry_count && b) (sym unmarked)
       ]
 
 -- ---- one amount
@@ -149,7 +149,7 @@ module _ (marks : FinSet nat_cmp) where
 module _ (c : MarkedCampaign) (e : BooksEntry) (t : Thing) where
   -- whether a row of `books` is of entry `e` and thing `t`, and their amount is marked
   abbrev is_here : Row → Bool
-  is_here r = of_amounts c.marks.books (is_number (entry_index e)) (is_number (thing_index t)) r
+  is_here r = is_of_marked_amount c.marks.books (equals_number (entry_index e)) (equals_number (thing_index t)) r
 
   -- the row of `books` with the campaign's amount of entry `e` and thing `t`
   abbrev row : Row
@@ -164,7 +164,7 @@ module _ (c : MarkedCampaign) (e : BooksEntry) (t : Thing) where
       let row_is : r ≡ row = is ∙ ap (λ k. books_row (k + 1) (thing_index u) (amount_in books f u)) entries ∙ ap (λ k. books_row (entry_index e + 1) k (amount_in books f u)) things ∙ ap (books_row (entry_index e + 1) (thing_index t)) same in
       subst (Has (amount_lines c.value e t)) (sym row_is) (has_optional (int_eq (amount_in books e t) (pos 0)) row (is_differing (amount_in books e t) (λ none. some (same ∙ none))))
 
-  -- if the amount of entry `e` and thing `t` isn't marked, no row of `books` is to be written for it (`is_here`)
+  -- no row of `books` is to be written for entry `e` and thing `t` (`is_here`), if their amount isn't marked
   pub unmarked_none : contains c.marks.books (amount_number e t) ≡ false → (r : Row) → is_here r ≡ false
   unmarked_none unmarked r = accounts_none _ (λ k j. false_from_ne_true _ (λ is.
       let one = and_parts _ _ is in
@@ -173,10 +173,10 @@ module _ (c : MarkedCampaign) (e : BooksEntry) (t : Thing) where
 
   -- a row of entry `e` and thing `t`, whose amount is marked (`is_here`), has the key of `e` and `t`
   key_of : (r : Row) → is_here r ≡ true → take 2 r ≡ books_key (entry_index e + 1) (thing_index t)
-  key_of (Int (pos (suc place)) ∷ Int (pos thing) ∷ row) is =
+  key_of (Int (pos (suc index)) ∷ Int (pos thing) ∷ row) is =
       let one = and_parts _ _ is in
       let two = and_parts _ _ one.1 in
-      ap (λ k. books_key k thing) (next place (entry_index e) (equal_by_order place (entry_index e) one.0)) ∙ ap (books_key (entry_index e + 1)) (equal_by_order thing (thing_index t) two.0)
+      ap (λ k. books_key k thing) (next index (entry_index e) (equal_by_order index (entry_index e) one.0)) ∙ ap (books_key (entry_index e + 1)) (equal_by_order thing (thing_index t) two.0)
     where
       -- for `key_of`: if `a` is `b`, the successor of `a` is `b + 1`; a row of `books` has an entry's index plus 1
       next : (a b : ℕ) → a ≡ b → suc a ≡ b + 1
@@ -191,24 +191,24 @@ module _ (c : MarkedCampaign) (e : BooksEntry) (t : Thing) where
     of_key (v ∷ w ∷ row) key =
         let first : v ≡ int (entry_index e + 1) = cc in
         let second : w ≡ int (thing_index t) = cc in
-        let place : entry_index e + 1 ≡ suc (entry_index e) = omega arith in
-        ap (λ x. is_here (x ∷ w ∷ row)) (first ∙ ap int place) ∙ ap (λ x. is_here (int (suc (entry_index e)) ∷ x ∷ row)) second
-        ∙ ap (λ b. b && (is_number (thing_index t) (thing_index t) && contains c.marks.books (amount_number e t))) (is_itself (entry_index e)) ∙ ap (λ b. b && contains c.marks.books (amount_number e t)) (is_itself (thing_index t)) ∙ marked
+        let index : entry_index e + 1 ≡ suc (entry_index e) = omega arith in
+        ap (λ x. is_here (x ∷ w ∷ row)) (first ∙ ap int index) ∙ ap (λ x. is_here (int (suc (entry_index e)) ∷ x ∷ row)) second
+        ∙ ap (λ b. b && (equals_number (thing_index t) (thing_index t) && contains c.marks.books (amount_number e t))) (is_itself (entry_index e)) ∙ ap (λ b. b && contains c.marks.books (amount_number e t)) (is_itself (thing_index t)) ∙ marked
 
     -- writing a marked amount (`WritesAmount`) rewrites the row of its entry and thing and no other (`RewritesAmounts`)
-    settle_rewrite : (old new : Database) → WritesAmount c.value e t old new
-        → RewritesAmounts c (is_number (entry_index e)) (is_number (thing_index t)) old new
-    settle_rewrite old new did = rewrites_key is_here (λ r. take 2 r ≡ books_key (entry_index e + 1) (thing_index t)) (Has (amount_lines c.value e t)) (BooksRowsOf c.value.books) key_of of_key
+    written_amount_is_rewritten : (old new : Database) → WritesAmount c.value e t old new
+        → RewritesAmounts c (equals_number (entry_index e)) (equals_number (thing_index t)) old new
+    written_amount_is_rewritten old new did = rewrites_key is_here (λ r. take 2 r ≡ books_key (entry_index e + 1) (thing_index t)) (Has (amount_lines c.value e t)) (BooksRowsOf c.value.books) key_of of_key
         (λ r here. let is = optional_has (int_eq (amount_in c.value.books e t) (pos 0)) row r here in (ap (take 2) is.1, (e, t, differs_zero (amount_in c.value.books e t) is.0, is.1)))
         (λ r is of.
-        let keys = two_same (entry_index of.0 + 1) (thing_index of.1) (entry_index e + 1) (thing_index t) (ap (take 2) (sym of.3) ∙ key_of r is) in
+        let keys = books_key_determines_numbers (entry_index of.0 + 1) (thing_index of.1) (entry_index e + 1) (thing_index t) (ap (take 2) (sym of.3) ∙ key_of r is) in
         same_place of.0 of.1 of.2 (omega (arith, keys.0)) keys.1 r of.3)
         books_table old new did.rows did.others
 
     -- inside a transaction, writing a marked amount (`WritesAmount`) rewrites the row of its entry and thing alone
-    pub settle_done : (old new : State) → Inside HasTables (WritesAmount c.value e t) old new
-        → Inside HasTables (RewritesAmounts c (is_number (entry_index e)) (is_number (thing_index t))) old new
-    settle_done old new did = inside_weaker HasTables (WritesAmount c.value e t) (RewritesAmounts c (is_number (entry_index e)) (is_number (thing_index t))) old new (λ has settles. settle_rewrite old.now new.now settles) did
+    pub amount_is_rewritten_inside : (old new : State) → DoesInside HasTables (WritesAmount c.value e t) old new
+        → DoesInside HasTables (RewritesAmounts c (equals_number (entry_index e)) (equals_number (thing_index t))) old new
+    amount_is_rewritten_inside old new did = inside_weaker HasTables (WritesAmount c.value e t) (RewritesAmounts c (equals_number (entry_index e)) (equals_number (thing_index t))) old new (λ has settles. written_amount_is_rewritten old.now new.now settles) did
 
 -- ---- one entry after another, and one thing after another
 
@@ -219,39 +219,39 @@ module _ (c : MarkedCampaign) where
 
   -- Of the entries `all`, `rest` are left to rewrite: once their marked amounts are rewritten, those of all are
   -- (`Remaining`).
-  abbrev pub NearingEntries : (ℕ → Bool) → List BooksEntry → List BooksEntry → Database → Database → Type 0
-  NearingEntries things rest all old new = Remaining books_table wanted (λ r. of_amounts c.marks.books (is_among (map entry_index rest)) things r) (λ r. of_amounts c.marks.books (is_among (map entry_index all)) things r) old new
+  abbrev pub RemainingEntries : (ℕ → Bool) → List BooksEntry → List BooksEntry → Database → Database → Type 0
+  RemainingEntries things rest all old new = Remaining books_table wanted (λ r. is_of_marked_amount c.marks.books (is_among (map entry_index rest)) things r) (λ r. is_of_marked_amount c.marks.books (is_among (map entry_index all)) things r) old new
 
   -- once the marked amounts of the first entry left to rewrite are rewritten, only the entries `rest` after it are left
-  pub entry_nearer : (things : ℕ → Bool) (x : BooksEntry) (now rest all : List BooksEntry) → now ≡ x ∷ rest → (old mid new : State)
-      → Inside HasTables (NearingEntries things now all) old mid → Inside HasTables (RewritesAmounts c (is_number (entry_index x)) things) mid new
-      → Inside HasTables (NearingEntries things rest all) old new
-  entry_nearer things x now rest all is = one_less_remaining books_table wanted (λ r. of_amounts c.marks.books (is_number (entry_index x)) things r) (λ r. of_amounts c.marks.books (is_among (map entry_index now)) things r) (λ r. of_amounts c.marks.books (is_among (map entry_index rest)) things r) (λ r. of_amounts c.marks.books (is_among (map entry_index all)) things r)
-      (λ r. ap (λ es. of_amounts c.marks.books (is_among (map entry_index es)) things r) is ∙ next_entry c.marks.books (entry_index x) (map entry_index rest) things r)
+  pub one_less_entry : (things : ℕ → Bool) (x : BooksEntry) (now rest all : List BooksEntry) → now ≡ x ∷ rest → (old mid new : State)
+      → DoesInside HasTables (RemainingEntries things now all) old mid → DoesInside HasTables (RewritesAmounts c (equals_number (entry_index x)) things) mid new
+      → DoesInside HasTables (RemainingEntries things rest all) old new
+  one_less_entry things x now rest all is = one_less_remaining books_table wanted (λ r. is_of_marked_amount c.marks.books (equals_number (entry_index x)) things r) (λ r. is_of_marked_amount c.marks.books (is_among (map entry_index now)) things r) (λ r. is_of_marked_amount c.marks.books (is_among (map entry_index rest)) things r) (λ r. is_of_marked_amount c.marks.books (is_among (map entry_index all)) things r)
+      (λ r. ap (λ es. is_of_marked_amount c.marks.books (is_among (map entry_index es)) things r) is ∙ next_entry c.marks.books (entry_index x) (map entry_index rest) things r)
 
   -- when no entry is left to rewrite, the marked amounts of all entries of `all` are rewritten
   pub entries_rewritten : (things : ℕ → Bool) (rest all : List BooksEntry) → rest ≡ [] → (old new : State)
-      → Inside HasTables (NearingEntries things rest all) old new
-      → Inside HasTables (RewritesAmounts c (is_among (map entry_index all)) things) old new
-  entries_rewritten things rest all none = all_rewritten books_table wanted (λ r. of_amounts c.marks.books (is_among (map entry_index rest)) things r) (λ r. of_amounts c.marks.books (is_among (map entry_index all)) things r) (λ r. of_amounts c.marks.books (is_among (map entry_index all)) things r)
+      → DoesInside HasTables (RemainingEntries things rest all) old new
+      → DoesInside HasTables (RewritesAmounts c (is_among (map entry_index all)) things) old new
+  entries_rewritten things rest all none = all_rewritten books_table wanted (λ r. is_of_marked_amount c.marks.books (is_among (map entry_index rest)) things r) (λ r. is_of_marked_amount c.marks.books (is_among (map entry_index all)) things r) (λ r. is_of_marked_amount c.marks.books (is_among (map entry_index all)) things r)
       (no_entry c.marks.books (map entry_index rest) things (ap (map entry_index) none)) (λ r. refl)
 
   -- Of the things `all`, `rest` are left to rewrite: once their marked amounts are rewritten, those of all are
   -- (`Remaining`).
-  abbrev pub NearingThings : List ℕ → List ℕ → Database → Database → Type 0
-  NearingThings rest all old new = Remaining books_table wanted (λ r. of_amounts c.marks.books (is_among (map entry_index all_entries)) (is_among rest) r) (λ r. of_amounts c.marks.books (is_among (map entry_index all_entries)) (is_among all) r) old new
+  abbrev pub RemainingThings : List ℕ → List ℕ → Database → Database → Type 0
+  RemainingThings rest all old new = Remaining books_table wanted (λ r. is_of_marked_amount c.marks.books (is_among (map entry_index all_entries)) (is_among rest) r) (λ r. is_of_marked_amount c.marks.books (is_among (map entry_index all_entries)) (is_among all) r) old new
 
   -- once the marked amounts of the first thing left to rewrite are rewritten, only the things `rest` after it are left
-  pub thing_nearer : (t : ℕ) (now rest all : List ℕ) → now ≡ t ∷ rest → (old mid new : State) → Inside HasTables (NearingThings now all) old mid
-      → Inside HasTables (RewritesAmounts c (is_among (map entry_index all_entries)) (is_number t)) mid new
-      → Inside HasTables (NearingThings rest all) old new
-  thing_nearer t now rest all is = one_less_remaining books_table wanted (λ r. of_amounts c.marks.books (is_among (map entry_index all_entries)) (is_number t) r) (λ r. of_amounts c.marks.books (is_among (map entry_index all_entries)) (is_among now) r)
-      (λ r. of_amounts c.marks.books (is_among (map entry_index all_entries)) (is_among rest) r) (λ r. of_amounts c.marks.books (is_among (map entry_index all_entries)) (is_among all) r)
-      (λ r. ap (λ ts. of_amounts c.marks.books (is_among (map entry_index all_entries)) (is_among ts) r) is ∙ next_thing c.marks.books (is_among (map entry_index all_entries)) t rest r)
+  pub one_less_thing : (t : ℕ) (now rest all : List ℕ) → now ≡ t ∷ rest → (old mid new : State) → DoesInside HasTables (RemainingThings now all) old mid
+      → DoesInside HasTables (RewritesAmounts c (is_among (map entry_index all_entries)) (equals_number t)) mid new
+      → DoesInside HasTables (RemainingThings rest all) old new
+  one_less_thing t now rest all is = one_less_remaining books_table wanted (λ r. is_of_marked_amount c.marks.books (is_among (map entry_index all_entries)) (equals_number t) r) (λ r. is_of_marked_amount c.marks.books (is_among (map entry_index all_entries)) (is_among now) r)
+      (λ r. is_of_marked_amount c.marks.books (is_among (map entry_index all_entries)) (is_among rest) r) (λ r. is_of_marked_amount c.marks.books (is_among (map entry_index all_entries)) (is_among all) r)
+      (λ r. ap (λ ts. is_of_marked_amount c.marks.books (is_among (map entry_index all_entries)) (is_among ts) r) is ∙ next_thing c.marks.books (is_among (map entry_index all_entries)) t rest r)
 
   -- when no thing is left to rewrite, all marked amounts of the books are rewritten, if they are of the first `count`
   -- things
   pub things_rewritten : (rest : List ℕ) (count : ℕ) → AreOfThings count c.marks.books → rest ≡ [] → (old new : State)
-      → Inside HasTables (NearingThings rest (range_with_len 0 count)) old new → Inside HasTables (RewritesBooks c) old new
-  things_rewritten rest count few none = all_rewritten books_table wanted (λ r. of_amounts c.marks.books (is_among (map entry_index all_entries)) (is_among rest) r) (λ r. of_amounts c.marks.books (is_among (map entry_index all_entries)) (is_among (range_with_len 0 count)) r) (λ r. amount_marked c.marks.books r)
+      → DoesInside HasTables (RemainingThings rest (range_with_len 0 count)) old new → DoesInside HasTables (RewritesBooks c) old new
+  things_rewritten rest count few none = all_rewritten books_table wanted (λ r. is_of_marked_amount c.marks.books (is_among (map entry_index all_entries)) (is_among rest) r) (λ r. is_of_marked_amount c.marks.books (is_among (map entry_index all_entries)) (is_among (range_with_len 0 count)) r) (λ r. amount_marked c.marks.books r)
       (no_thing c.marks.books (is_among (map entry_index all_entries)) rest none) (all_amounts c.marks.books count few)

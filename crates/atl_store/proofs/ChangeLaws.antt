@@ -10,7 +10,7 @@ use Rattle.sqlite.specs.Effect.{Database}
 use Rattle.sqlite.specs.Order.{Row}
 use Rattle.sqlite_trees.specs.Tree.{Trees}
 use Rattle.sqlite_rules.specs.Lists.{Has}
-use Rattle.atl_campaign.specs.Covers.{SameBut, SameThings, Covers, bare, said_by_campaign_row, unstocked}
+use Rattle.atl_campaign.specs.Covers.{SameBut, SameThings, Covers, without_goods, said_by_campaign_row, unstocked}
 use Rattle.atl_records.specs.Books.{BooksValue, amount_in, entry_index, thing_index, amount_number}
 use Rattle.atl_campaign.specs.Marks.{Marks, is_thing_marked}
 use Rattle.atl_campaign.specs.Campaign.{CampaignValue, MarkedCampaign}
@@ -27,9 +27,9 @@ use Rattle.atl_sql.specs.Sets.{HasExactly, rows_in}
 use Rattle.atl_sql.specs.Tables.{Part, Own, Factions, Regions, Units, Goods, Structures, Mail, Reports, Books, Markets, table_of}
 use Rattle.atl_sql.specs.Shown.{CampaignRowValue, campaign_row, has_row, mail_row, report_row, books_row}
 use Rattle.atl_sql.specs.Written.{sort_number}
-use Rattle.atl_sql.specs.Rows.{RowsOf, HasRowsOf, BooksRowsOf, MarketRowsOf, rows_for, campaign_row_of, campaign_line, faction_line, region_line, unit_line, structure_line, things_under, amount_under, Holds}
+use Rattle.atl_sql.specs.Rows.{RowsOf, HasRowsOf, BooksRowsOf, MarketRowsOf, rows_for, campaign_row_of, row_of_campaign, row_of_faction, row_of_region, row_of_unit, row_of_structure, things_under, amount_under, Holds}
 use Rattle.atl_sql.specs.Marked.{begins_marked, has_thing, goods_marked, stocks_marked, amount_marked, is_marked}
-use Rattle.atl_store.specs.Changing.{Chosen, rows_after_rewrite, campaign_row_after, HasUnmarked, WritesChanges, HoldsUnmarked}
+use Rattle.atl_store.specs.Changing.{IfElse, rows_after_rewrite, campaign_row_after, HasUnmarked, WritesChanges, HoldsUnmarked}
 use Rattle.atl_store.specs.Rewriting.{marked_things}
 use Rattle.atl_store.proofs.HasTableLaws.{row_has_amount, amount_has_row}
 use Rattle.atl_store.proofs.MarketLaws.{row_has_stock, stock_has_row}
@@ -42,19 +42,19 @@ all_held : (is_marked : Row → Bool) (After : Row → Type 0) (old new : List R
 all_held is_marked After old new rest now r = (λ there. written_is_wanted (is_marked r) refl ((now r).0 there), λ of. (now r).1 (wanted_is_written (is_marked r) refl of))
   where
     -- for `all_held`: a row that the rewrite puts (it is marked) or keeps (it isn't) is a wanted row (`After`)
-    written_is_wanted : (b : Bool) → is_marked r ≡ b → Chosen b (After r) (Has old r) → After r
+    written_is_wanted : (b : Bool) → is_marked r ≡ b → IfElse b (After r) (Has old r) → After r
     written_is_wanted true is h = h
     written_is_wanted false is h = (rest r is).0 h
 
     -- for `all_held`: a wanted row (`After`) is one that the rewrite puts (if it is marked) or keeps (if not)
-    wanted_is_written : (b : Bool) → is_marked r ≡ b → After r → Chosen b (After r) (Has old r)
+    wanted_is_written : (b : Bool) → is_marked r ≡ b → After r → IfElse b (After r) (Has old r)
     wanted_is_written true is of = of
     wanted_is_written false is of = (rest r is).1 of
 
--- if `Before` and `After` have the same unmarked rows, a table with the rows `Before` has the unmarked rows of `After`
-rest_of : (is_marked : Row → Bool) (Before After : Row → Type 0) (old : List Row) → ((r : Row) → is_marked r ≡ false → Before r → After r) → ((r : Row) → is_marked r ≡ false → After r → Before r) → HasExactly old Before
+-- a table with the rows `Before` has the unmarked rows of `After`, if both sets have the same unmarked rows
+unmarked_rows_agree : (is_marked : Row → Bool) (Before After : Row → Type 0) (old : List Row) → ((r : Row) → is_marked r ≡ false → Before r → After r) → ((r : Row) → is_marked r ≡ false → After r → Before r) → HasExactly old Before
     → (r : Row) → is_marked r ≡ false → Has old r ↔ After r
-rest_of is_marked Before After old ahead back was r is = (λ there. ahead r is ((was r).0 there), λ of. (was r).1 (back r is of))
+unmarked_rows_agree is_marked Before After old ahead back was r is = (λ there. ahead r is ((was r).0 there), λ of. (was r).1 (back r is of))
 
 -- ---- one row for each number
 
@@ -64,17 +64,17 @@ module _ {V : Type 0} (line : ℕ → V → Row) (marks : FinSet nat_cmp) (heads
   Follows one other = (n : ℕ) (v : V) → contains marks n ≡ false → get one n ≡ Some v → (w : V) × (get other n ≡ Some w) × (line n w ≡ line n v)
 
   -- the number of an unmarked row is not marked
-  unmarked : (n : ℕ) (v : V) (r : Row) → r ≡ line n v → begins_marked marks r ≡ false → contains marks n ≡ false
-  unmarked n v r is not_marked = sym (heads n v) ∙ ap (begins_marked marks) (sym is) ∙ not_marked
+  unmarked_row_has_unmarked_number : (n : ℕ) (v : V) (r : Row) → r ≡ line n v → begins_marked marks r ≡ false → contains marks n ≡ false
+  unmarked_row_has_unmarked_number n v r is not_marked = sym (heads n v) ∙ ap (begins_marked marks) (sym is) ∙ not_marked
 
   -- an unmarked row of one map is a row of the other, if the other has the same rows under unmarked numbers (`Follows`)
   follow : (one other : FinMap nat_cmp V) (r : Row) → begins_marked marks r ≡ false → Follows one other → RowsOf line one r → RowsOf line other r
-  follow one other r not_marked follows of = let found = follows of.0 of.1 (unmarked of.0 of.1 r of.3 not_marked) of.2 in (of.0, found.0, found.1, of.3 ∙ sym found.2)
+  follow one other r not_marked follows of = let found = follows of.0 of.1 (unmarked_row_has_unmarked_number of.0 of.1 r of.3 not_marked) of.2 in (of.0, found.0, found.1, of.3 ∙ sym found.2)
 
   -- a table with the rows of map `before` has the unmarked rows of `after`, if both maps have the same unmarked rows
   -- (`Follows`)
   rest_numbered : (before after : FinMap nat_cmp V) (old : List Row) → Follows before after → Follows after before → HasExactly old (RowsOf line before) → (r : Row) → begins_marked marks r ≡ false → Has old r ↔ RowsOf line after r
-  rest_numbered before after old ahead back = rest_of (begins_marked marks) (RowsOf line before) (RowsOf line after) old (λ r is. follow before after r is ahead) (λ r is. follow after before r is back)
+  rest_numbered before after old ahead back = unmarked_rows_agree (begins_marked marks) (RowsOf line before) (RowsOf line after) old (λ r is. follow before after r is ahead) (λ r is. follow after before r is back)
 
   -- if maps differ only under marked numbers, each unmarked number of `before` has in `after` the same row (`Follows`)
   same_follows : (before after : FinMap nat_cmp V) → SameBut marks before after → Follows before after
@@ -90,17 +90,19 @@ module _ {V : Type 0} (line : ℕ → V → Row) (marks : FinSet nat_cmp) (heads
 
 -- ---- regions, whose stocks are in the table `market`
 
--- if the look-ups `o` and `p` differ in stocks alone, and `o` gives region `v`, `p` gives one with the same row
-unstocked_same : (n : ℕ) (o p : Option Region) (v : Region) → option_map unstocked p ≡ option_map unstocked o → o ≡ Some v → (w : Region) × (p ≡ Some w) × (region_line n w ≡ region_line n v)
+-- the look-up `p` gives a region with the same row as region `v`, which the look-up `o` gives, if the two differ in
+-- stocks alone
+unstocked_same : (n : ℕ) (o p : Option Region) (v : Region) → option_map unstocked p ≡ option_map unstocked o → o ≡ Some v → (w : Region) × (p ≡ Some w) × (row_of_region n w ≡ row_of_region n v)
 unstocked_same n o None v same there = absurd (let e = same ∙ ap (option_map unstocked) there in cc)
-unstocked_same n o (Some w) v same there = (w, refl, let e : unstocked w ≡ unstocked v = (let s = same ∙ ap (option_map unstocked) there in cc) in ap (region_line n) e)
+unstocked_same n o (Some w) v same there = (w, refl, let e : unstocked w ≡ unstocked v = (let s = same ∙ ap (option_map unstocked) there in cc) in ap (row_of_region n) e)
 
 -- ---- units, whose items and skills are in the table `has`
 
--- if the look-ups `o` and `p` differ in items and skills alone, and `o` gives unit `v`, `p` gives one with the same row
-bare_same : (n : ℕ) (o p : Option Unit) (v : Unit) → option_map bare p ≡ option_map bare o → o ≡ Some v → (w : Unit) × (p ≡ Some w) × (unit_line n w ≡ unit_line n v)
-bare_same n o None v same there = absurd (let e = same ∙ ap (option_map bare) there in cc)
-bare_same n o (Some w) v same there = (w, refl, let e : bare w ≡ bare v = (let s = same ∙ ap (option_map bare) there in cc) in ap (unit_line n) e)
+-- the look-up `p` gives a unit with the same row as unit `v`, which the look-up `o` gives, if the two differ in items
+-- and skills alone
+bare_same : (n : ℕ) (o p : Option Unit) (v : Unit) → option_map without_goods p ≡ option_map without_goods o → o ≡ Some v → (w : Unit) × (p ≡ Some w) × (row_of_unit n w ≡ row_of_unit n v)
+bare_same n o None v same there = absurd (let e = same ∙ ap (option_map without_goods) there in cc)
+bare_same n o (Some w) v same there = (w, refl, let e : without_goods w ≡ without_goods v = (let s = same ∙ ap (option_map without_goods) there in cc) in ap (row_of_unit n) e)
 
 -- ---- goods
 
@@ -109,7 +111,7 @@ goods_row_marked : (marks : Marks) (n : ℕ) (sort : ThingKind) (thing amount : 
 goods_row_marked marks n Item thing amount = or-false (is_thing_marked marks.goods marks.items n thing)
 goods_row_marked marks n Skill thing amount = ap (λ b. b || has_thing marks.skills n thing) (or-false (contains marks.goods n))
 
--- if the marks cover all changes, items that aren't marked have their amounts of before, and so have skills
+-- items and skills that aren't marked have the amounts that they had before, if the marks cover all changes
 goods_same : (m : Marks) (before after : CampaignValue) → Covers m before after → (sort : ThingKind) → SameThings m.goods (marked_things m sort) (things_under sort) before.units after.units
 goods_same m before after covers Item = covers.items
 goods_same m before after covers Skill = covers.days
@@ -171,7 +173,7 @@ pub unmarked_held : (c : MarkedCampaign) (old new : Database) → WritesChanges 
 unmarked_held c old new changes text rest =
     let did = changes rest.before text rest.campaign in
     record {
-      rows = λ part. all_held (is_marked c.marks part) (rows_for (campaign_line text c.value) c.value part) _ _ (rest.rest part)
+      rows = λ part. all_held (is_marked c.marks part) (rows_for (row_of_campaign text c.value) c.value part) _ _ (rest.rest part)
           (subst (λ (h : CampaignRowValue). HasExactly (rows_in (table_of part) new.trees) (rows_after_rewrite (is_marked c.marks part) (rows_for (campaign_row h text) c.value part) (Has (rows_in (table_of part) old.trees)))) rest.head (did.rows part));
     }
 
@@ -180,27 +182,27 @@ pub covers_unmarked : (c : MarkedCampaign) (db : Trees) (text : List ℕ) (befor
 covers_unmarked c db text before covers held = record { before = campaign_row_of before; campaign = held.rows Own; head = head_held c.marks.row before c.value covers.row; rest = rest }
   where
     -- for `covers_unmarked`: in each part's table the unmarked rows are those of the campaign after
-    rest : (part : Part) → HasUnmarked (table_of part) (is_marked c.marks part) (rows_for (campaign_line text c.value) c.value part) db
+    rest : (part : Part) → HasUnmarked (table_of part) (is_marked c.marks part) (rows_for (row_of_campaign text c.value) c.value part) db
     rest Own = λ r is. absurd (true≢false is)
-    rest Factions = rest_same faction_line c.marks.factions (λ n v. refl) before.factions c.value.factions _ covers.factions (held.rows Factions)
+    rest Factions = rest_same row_of_faction c.marks.factions (λ n v. refl) before.factions c.value.factions _ covers.factions (held.rows Factions)
     rest Regions =
-        rest_numbered region_line c.marks.regions (λ n v. refl) before.regions c.value.regions _
+        rest_numbered row_of_region c.marks.regions (λ n v. refl) before.regions c.value.regions _
         (λ n v not_marked there. unstocked_same n (get before.regions n) (get c.value.regions n) v (covers.regions n not_marked) there)
         (λ n v not_marked there. unstocked_same n (get c.value.regions n) (get before.regions n) v (sym (covers.regions n not_marked)) there) (held.rows Regions)
     rest Units =
-        rest_numbered unit_line c.marks.rows (λ n v. refl) before.units c.value.units _
+        rest_numbered row_of_unit c.marks.rows (λ n v. refl) before.units c.value.units _
         (λ n v not_marked there. bare_same n (get before.units n) (get c.value.units n) v (covers.units n not_marked) there) (λ n v not_marked there. bare_same n (get c.value.units n) (get before.units n) v (sym (covers.units n not_marked)) there) (held.rows Units)
     rest Goods =
         let same = goods_same c.marks before c.value covers in
-        rest_of (goods_marked c.marks) (HasRowsOf before.units) (HasRowsOf c.value.units) _ (λ r is. goods_follow before.units c.value.units c.marks r same is)
+        unmarked_rows_agree (goods_marked c.marks) (HasRowsOf before.units) (HasRowsOf c.value.units) _ (λ r is. goods_follow before.units c.value.units c.marks r same is)
         (λ r is. goods_follow c.value.units before.units c.marks r (λ sort n thing not_marked. sym (same sort n thing not_marked)) is) (held.rows Goods)
-    rest Structures = rest_same structure_line c.marks.structures (λ n v. refl) before.structures c.value.structures _ covers.structures (held.rows Structures)
+    rest Structures = rest_same row_of_structure c.marks.structures (λ n v. refl) before.structures c.value.structures _ covers.structures (held.rows Structures)
     rest Mail = rest_same mail_row c.marks.mail (λ n v. refl) before.mail c.value.mail _ covers.mail (held.rows Mail)
     rest Reports = rest_same report_row c.marks.reports (λ n v. refl) before.reports c.value.reports _ covers.reports (held.rows Reports)
     rest Books =
-        rest_of (amount_marked c.marks.books) (BooksRowsOf before.books) (BooksRowsOf c.value.books) _ (λ r is. amounts_follow before.books c.value.books c.marks.books r covers.books is) (λ r is. amounts_follow c.value.books before.books c.marks.books r (λ e t not_marked. sym (covers.books e t not_marked)) is) (held.rows Books)
+        unmarked_rows_agree (amount_marked c.marks.books) (BooksRowsOf before.books) (BooksRowsOf c.value.books) _ (λ r is. amounts_follow before.books c.value.books c.marks.books r covers.books is) (λ r is. amounts_follow c.value.books before.books c.marks.books r (λ e t not_marked. sym (covers.books e t not_marked)) is) (held.rows Books)
     rest Markets =
-        rest_of (stocks_marked c.marks) (MarketRowsOf before.regions) (MarketRowsOf c.value.regions) _ (λ r is. stocks_follow before.regions c.value.regions c.marks r covers.stocks is)
+        unmarked_rows_agree (stocks_marked c.marks) (MarketRowsOf before.regions) (MarketRowsOf c.value.regions) _ (λ r is. stocks_follow before.regions c.value.regions c.marks r covers.stocks is)
         (λ r is. stocks_follow c.value.regions before.regions c.marks r (λ n item not_marked. sym (covers.stocks n item not_marked)) is) (held.rows Markets)
 
 -- tables that hold the campaign before hold the one after once all marked rows are written, if the marks cover all

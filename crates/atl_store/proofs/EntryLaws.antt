@@ -13,7 +13,7 @@ use Rattle.sqlite_rules.specs.Lists.{Has}
 use Rattle.sqlite_rules.proofs.ListLemmas.{has_either, has_left, has_right}
 use Rattle.atl_sql.specs.Sets.{Set, HasExactly, put, puts}
 use Rattle.atl_sql.specs.Shown.{int}
-use Rattle.atl_sql.specs.Rows.{RowsOf, lines_of}
+use Rattle.atl_sql.specs.Rows.{RowsOf, rows_in_order}
 use Rattle.atl_store.specs.GroupedRows.{DifferInKey}
 use Rattle.atl_sql.proofs.ListLaws.{has_map, map_has}
 
@@ -113,8 +113,8 @@ puts_has key (x ∷ xs) S apart free r =
     )
 
 -- an empty table has exactly the put rows, once rows with different keys are put
-pub filled : (key : ℕ) (rows news old : List Row) → old ≡ [] → DifferInKey key news → HasExactly rows (puts key news (Has old)) → HasExactly rows (Has news)
-filled key rows news old none apart made r =
+pub empty_table_has_put_rows : (key : ℕ) (rows news old : List Row) → old ≡ [] → DifferInKey key news → HasExactly rows (puts key news (Has old)) → HasExactly rows (Has news)
+empty_table_has_put_rows key rows news old none apart made r =
     let empty : (s : Row) → Has old s → ⊥ = λ s there. subst (λ l. Has l s) none there in
     let all = puts_has key news (Has old) apart (λ s there x _ _. empty s there) r in (
       λ there. elim (all.0 ((made r).0 there)) [ inl put_in ↦ put_in | inr was ↦ absurd (empty r was) ],
@@ -136,14 +136,14 @@ pub same_number : (m n : ℕ) → ◌≡◌ {A = Row} (int m ∷ []) (int n ∷ 
 same_number m n e = cc
 
 -- each row that `line` gives for an entry of the map is a row of the map (`RowsOf`)
-pub lines_rows : {V : Type 0} (line : ℕ → V → Row) (m : FinMap nat_cmp V) (es : List (ℕ × V)) → es ≡ entries m → (r : Row) → Has (lines_of line es) r → RowsOf line m r
+pub lines_rows : {V : Type 0} (line : ℕ → V → Row) (m : FinMap nat_cmp V) (es : List (ℕ × V)) → es ≡ entries m → (r : Row) → Has (rows_in_order line es) r → RowsOf line m r
 lines_rows {V} line m es same r there =
     let x = map_has (λ (x : ℕ × V). line x.0 x.1) es r there in
     (x.0.0, x.0.1, entry_got m x.0.0 x.0.1 (subst (λ (l : List (ℕ × V)). Has l x.0) same x.1), x.2)
 
 module _ {V : Type 0} (line : ℕ → V → Row) (numbered : (n : ℕ) (v : V) → take 1 (line n v) ≡ int n ∷ []) where
   -- the rows that `line` gives for sorted entries have different keys
-  lines_apart : (es : List (ℕ × V)) → is_sorted nat_cmp es ≡ true → DifferInKey 1 (lines_of line es)
+  lines_apart : (es : List (ℕ × V)) → is_sorted nat_cmp es ≡ true → DifferInKey 1 (rows_in_order line es)
   lines_apart [] sorted = tt
   lines_apart (e ∷ es) sorted = (
     λ y there same.
@@ -154,9 +154,9 @@ module _ {V : Type 0} (line : ℕ → V → Row) (numbered : (n : ℕ) (v : V) �
   )
 
   -- an empty table filled with the rows of the map's entries has exactly the map's rows (`RowsOf`)
-  pub rows_filled : (rows old : List Row) (m : FinMap nat_cmp V) → old ≡ [] → HasExactly rows (puts 1 (lines_of line (entries m)) (Has old)) → HasExactly rows (RowsOf line m)
+  pub rows_filled : (rows old : List Row) (m : FinMap nat_cmp V) → old ≡ [] → HasExactly rows (puts 1 (rows_in_order line (entries m)) (Has old)) → HasExactly rows (RowsOf line m)
   rows_filled rows old m none made r =
-      let is = filled 1 rows (lines_of line (entries m)) old none (lines_apart (entries m) (in_order m)) made r in (
+      let is = empty_table_has_put_rows 1 rows (rows_in_order line (entries m)) old none (lines_apart (entries m) (in_order m)) made r in (
         λ there. lines_rows line m (entries m) refl r (is.0 there),
-        λ of. is.1 (subst (Has (lines_of line (entries m))) (sym of.3) (has_map (λ (x : ℕ × V). line x.0 x.1) (entries m) (of.0, of.1) (got_entry m of.0 of.1 of.2))),
+        λ of. is.1 (subst (Has (rows_in_order line (entries m))) (sym of.3) (has_map (λ (x : ℕ × V). line x.0 x.1) (entries m) (of.0, of.1) (got_entry m of.0 of.1 of.2))),
       )

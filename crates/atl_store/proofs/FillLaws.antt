@@ -11,11 +11,11 @@ use Rattle.atl_campaign.specs.Campaign.{CampaignValue}
 use Rattle.atl_sql.specs.Sets.{HasExactly, put, puts, rows_in}
 use Rattle.atl_sql.specs.Tables.{Part, Own, Books, table_of, all_parts, campaign_table, books_table}
 use Rattle.atl_sql.specs.Shown.{int}
-use Rattle.atl_sql.specs.Rows.{campaign_row_of, campaign_line, RowsOf, rows_for, lines_of}
+use Rattle.atl_sql.specs.Rows.{campaign_row_of, row_of_campaign, RowsOf, rows_for, rows_in_order}
 use Rattle.atl_store.specs.GroupedRows.{AreGroups, groups_of, things_lines}
 use Rattle.atl_sql.specs.PutsCampaignRow.{PutsCampaignRow}
 use Rattle.atl_sql.specs.Making.{AreEmpty}
-use Rattle.atl_sql.specs.Inside.{Inside, HasTables, IsBlank, Both, PutsRows}
+use Rattle.atl_sql.specs.Inside.{DoesInside, HasTables, IsBlank, DoesBoth, PutsRows}
 use Rattle.atl_store.specs.Filling.{Fills, FillsParts, FillsWithOwn, WritesFounding}
 use Rattle.atl_sql.proofs.PartLaws.{is_among, are_apart, all_among, listed}
 use Rattle.atl_store.proofs.TurnLaws.{one_changed, both_changed}
@@ -26,8 +26,8 @@ use Rattle.atl_store.proofs.LedgerLaws.{books_filled}
 use Rattle.atl_store.proofs.WholeLaws.{inside_then, inside_weaker}
 
 -- an empty table into which one row is put has exactly this row
-one_row : (rows old : List Row) (row : Row) → old ≡ [] → HasExactly rows (put 1 row (Has old)) → HasExactly rows (λ r. r ≡ row)
-one_row rows old row none made r = (
+empty_table_has_put_row : (rows old : List Row) (row : Row) → old ≡ [] → HasExactly rows (put 1 row (Has old)) → HasExactly rows (λ r. r ≡ row)
+empty_table_has_put_row rows old row none made r = (
   λ there. elim ((made r).0 there) [ inl same ↦ same | inr was ↦ absurd (subst (λ l. Has l r) none was.0) ],
   λ same. (made r).1 (inl same),
 )
@@ -37,15 +37,15 @@ module _ (c : CampaignValue) where
 
   -- putting the campaign row fills the table `campaign`, if it was empty
   pub own_filled : (text : List ℕ) (old new : Database) → PutsCampaignRow (campaign_row_of c) text old new → FillsWithOwn text c (Own ∷ []) old new
-  own_filled text old new did none = one_changed (Fills c (campaign_line text c)) Own _ old new (did.first none) (λ rows empty. one_row _ _ (campaign_line text c) empty rows)
+  own_filled text old new did none = one_changed (Fills c (row_of_campaign text c)) Own _ old new (did.first none) (λ rows empty. empty_table_has_put_row _ _ (row_of_campaign text c) empty rows)
 
   -- putting the rows of all entries of a map fills a table that has one row for each number, if it was empty
   pub numbered_filled : {V : Type 0} (part : Part) (line : ℕ → V → Row) → ((n : ℕ) (v : V) → take 1 (line n v) ≡ int n ∷ []) → (m : FinMap nat_cmp V) → ((own : Row) (rows : List Row) → HasExactly rows (RowsOf line m) → HasExactly rows (rows_for own c part)) → (es : List (ℕ × V))
-      → es ≡ entries m → (old new : Database) → PutsRows (table_of part) 1 (lines_of line es) old new → FillsParts c (part ∷ []) old new
+      → es ≡ entries m → (old new : Database) → PutsRows (table_of part) 1 (rows_in_order line es) old new → FillsParts c (part ∷ []) old new
   numbered_filled {V} part line numbered m are es same old new did own = one_changed (Fills c own) part _ old new did (λ made none.
       let was = rows_in (table_of part) old.trees in
       let now = rows_in (table_of part) new.trees in
-      are own now (rows_filled line numbered now was m none (subst (λ (l : List (ℕ × V)). HasExactly now (puts 1 (lines_of line l) (Has was))) same made)))
+      are own now (rows_filled line numbered now was m none (subst (λ (l : List (ℕ × V)). HasExactly now (puts 1 (rows_in_order line l) (Has was))) same made)))
 
   -- putting the groups of rows of all units, or of all regions, fills the part's table, if it was empty
   pub groups_fill : {V : Type 0} (part : Part) (lines : ℕ → V → List Row) (more : ℕ) (m : FinMap nat_cmp V) → ((own : Row) → AreGroups lines (suc more) m (rows_for own c part)) → (es : List (ℕ × V)) → es ≡ entries m → (old new : Database)
@@ -64,14 +64,14 @@ module _ (c : CampaignValue) where
 
   -- filling some parts, the campaign row among them, and then others fills all of them, if no part is in both lists
   pub own_then_filled : (text : List ℕ) (ps qs : List Part) → are_apart ps qs ≡ true → (old mid new : Database) → FillsWithOwn text c ps old mid → FillsParts c qs mid new → FillsWithOwn text c (ps ++ qs) old new
-  own_then_filled text ps qs apart old mid new first second none = both_changed (Fills c (campaign_line text c)) ps qs apart old mid new (first none) (second (campaign_line text c))
+  own_then_filled text ps qs apart old mid new first second none = both_changed (Fills c (row_of_campaign text c)) ps qs apart old mid new (first none) (second (row_of_campaign text c))
 
   -- ---- the whole
 
   -- making the empty tables in a blank database, and then filling all parts, writes the founding (`WritesFounding`)
-  pub founding_done : (text : List ℕ) (parts : List Part) → list_all (is_among parts) all_parts ≡ true → (start mid end : State) → Inside IsBlank AreEmpty start mid → Inside HasTables (FillsWithOwn text c parts) mid end → Inside IsBlank (WritesFounding text c) start end
+  pub founding_done : (text : List ℕ) (parts : List Part) → list_all (is_among parts) all_parts ≡ true → (start mid end : State) → DoesInside IsBlank AreEmpty start mid → DoesInside HasTables (FillsWithOwn text c parts) mid end → DoesInside IsBlank (WritesFounding text c) start end
   founding_done text parts all start mid end first second =
       let fills = FillsWithOwn text c parts in
-      inside_weaker IsBlank (Both AreEmpty fills) (WritesFounding text c) start end
+      inside_weaker IsBlank (DoesBoth AreEmpty fills) (WritesFounding text c) start end
       (λ blank did. record { rows = λ part. (did.2 (did.1 campaign_table (listed Own))).done part (all_among parts all part) (did.1 (table_of part) (listed part)) })
       (inside_then IsBlank AreEmpty fills start mid end first second)

@@ -12,8 +12,8 @@ use Rattle.sqlite_rules.specs.Lists.{Has}
 use Rattle.sqlite_rules.proofs.ListLemmas.{has_left, has_right, has_either, test_has}
 use Rattle.atl_world.specs.declared.format.Format.{Format}
 use Rattle.atl_world.specs.declared.format.Format.TheVariants.{First, Second}
-use Rattle.atl_store.specs.Gathering.{IsSettled, rows_or_none, ReadRows, AreRows, AreAllRows, AreOfFormat, AreNone, second_format_parts, selects_by, Found, AnswersOne, FailsToRead, ReadsSome}
-use Rattle.atl_store.specs.Loading.{Stays, AfterReads, SelectShows, AllSelectsShow, AllSelectsShowTyped, HasOtherType, RefusesOne, other_parts, other_selects}
+use Rattle.atl_store.specs.Gathering.{IsCommitted, rows_or_none, ReadRows, AreRows, AreAllRows, AreOfFormat, AreNone, second_format_parts, selects_by, FoundBySelects, AnswersOne, FailsToRead, ReadsSome}
+use Rattle.atl_store.specs.Loading.{TablesStay, AfterReads, SelectShows, AllSelectsShow, AllSelectsShowTyped, HasOtherType, RefusesOne, other_parts, other_selects}
 use Rattle.atl_sql.specs.Reading.{ReadsRows, GivesTable, Rests, Selects, RefusesToSelect, select_of_part}
 use Rattle.atl_sql.specs.Stored.{Form, AreTyped}
 use Rattle.atl_sql.specs.Tables.{Part, parts_in}
@@ -91,16 +91,16 @@ module _ {S : Type 0} (g : Ghosts S) where
     idle = two.idle;
   }
 
-  -- a connection on which all is committed (`IsSettled`) stays so after reads
-  pub settled_then : (old new : Held S) → IsSettled (state g old) → AfterReads g old new → IsSettled (state g new)
+  -- a connection on which all is committed (`IsCommitted`) stays so after reads
+  pub settled_then : (old new : Held S) → IsCommitted (state g old) → AfterReads g old new → IsCommitted (state g new)
   settled_then old new settled leaves clean up =
       let stays = leaves.stays clean in
       let same = stays.same up in
       same.0 ∙ settled (omega (arith, leaves.survives.clean, clean)) (stays.was_open up) ∙ sym same.1
 
   -- on a clean disk, tables that are as before or as last committed (`Rests`) are as before, if all was committed
-  -- (`IsSettled`)
-  rests_stays : (old new : State) → IsSettled old → HasCleanDisk old → Rests old new → Stays old new
+  -- (`IsCommitted`)
+  rests_stays : (old new : State) → IsCommitted old → HasCleanDisk old → Rests old new → TablesStay old new
   rests_stays old new settled clean rests = record {
     was_open = rests.was_open;
     same = λ up. let back = rests.same up in (elim back.0 [ inl last ↦ last ∙ sym (settled clean (rests.was_open up)) | inr same ↦ same ], back.1);
@@ -108,34 +108,34 @@ module _ {S : Type 0} (g : Ghosts S) where
 
   -- ---- one table
 
-  module _ {A : Type 0} (sql : List ℕ) (forms : List Form) (shown : A → Row) (part : Part) (old new : Held S) (settled : IsSettled (state g old)) (idle : old.in_transaction ≡ false) where
+  module _ {A : Type 0} (sql : List ℕ) (forms : List Form) (shown : A → Row) (part : Part) (old new : Held S) (settled : IsCommitted (state g old)) (idle : old.in_transaction ≡ false) where
     -- the list of one SELECT, with the forms of its columns
     abbrev this_select : List (List ℕ × List Form)
     this_select = (sql, forms) ∷ []
 
     -- the rows that a SELECT showed (`Selects`) are those that it shows of the tables of `old` (`SelectShows`)
     shows_rows : (rows : List Row) → Selects g sql old rows → SelectShows g old sql rows
-    shows_rows rows told = record { before = told.0; during = told.1; same = told.2.same; shown = told.3 }
+    shows_rows rows says = record { before = says.0; during = says.1; same = says.2.same; shown = says.3 }
 
     -- a connection whose SELECT showed rows was open
     selects_open : (rows : List Row) → Selects g sql old rows → IsTrue (state g old).is_open
-    selects_open rows told = told.2.was_open (shown_open sql _ _ rows told.3)
+    selects_open rows says = says.2.was_open (shown_open sql _ _ rows says.3)
 
     -- on a clean disk, a read of one table without a fault found all rows, or a value of another type than its column
-    -- (`Found`)
-    found_one : {Z : Type 0} (r : Result (Vec A Z) ReadFault) → ReadsRows g sql old forms shown r new → GivesTable g (select_of_part part).since (select_of_part part).in_table shown r old new → HasCleanDisk (state g new) → IfOk (rows_or_none r) (Found g old this_select (λ all. AreAllRows (state g old).now ((part, map shown all.items) ∷ [])))
+    -- (`FoundBySelects`)
+    found_one : {Z : Type 0} (r : Result (Vec A Z) ReadFault) → ReadsRows g sql old forms shown r new → GivesTable g (select_of_part part).since (select_of_part part).in_table shown r old new → HasCleanDisk (state g new) → IfOk (rows_or_none r) (FoundBySelects g old this_select (λ all. AreAllRows (state g old).now ((part, map shown all.items) ∷ [])))
     found_one (Ok all) reads gives clean =
-        let told = reads.rows clean in
-        (each_of_one (λ s. (rows : List Row) × SelectShows g old s.0 rows × AreTyped s.1 rows) (sql, forms) (told.0, shows_rows told.0 told.1, told.3), each_of_one (λ read. AreRows (state g old).now read.0 read.1) (part, map shown all.items) (gives clean))
+        let says = reads.rows clean in
+        (each_of_one (λ s. (rows : List Row) × SelectShows g old s.0 rows × AreTyped s.1 rows) (sql, forms) (says.0, shows_rows says.0 says.1, says.3), each_of_one (λ read. AreRows (state g old).now read.0 read.1) (part, map shown all.items) (gives clean))
     found_one (Err read.OtherType) reads gives clean =
-        let told = reads.other clean refl in
+        let says = reads.other clean refl in
         record {
-          all = each_of_one (λ s. (rows : List Row) × SelectShows g old s.0 rows) (sql, forms) (told.0, shows_rows told.0 told.1);
+          all = each_of_one (λ s. (rows : List Row) × SelectShows g old s.0 rows) (sql, forms) (says.0, shows_rows says.0 says.1);
           select = (sql, forms);
           one = inl refl;
-          rows = told.0;
-          told = shows_rows told.0 told.1;
-          other = told.2;
+          rows = says.0;
+          shows = shows_rows says.0 says.1;
+          other = says.2;
         }
     found_one (Err read.Memory) reads gives clean = tt
     found_one (Err read.Store) reads gives clean = tt
@@ -143,8 +143,8 @@ module _ {S : Type 0} (g : Ghosts S) where
 
     -- on a clean disk, if the read of one table gave no fault, the connection was open before it
     open_one : {Z : Type 0} (r : Result (Vec A Z) ReadFault) → ReadsRows g sql old forms shown r new → HasCleanDisk (state g new) → IfOk (rows_or_none r) (λ _. IsTrue (state g old).is_open)
-    open_one (Ok all) reads clean = let told = reads.rows clean in selects_open told.0 told.1
-    open_one (Err read.OtherType) reads clean = let told = reads.other clean refl in selects_open told.0 told.1
+    open_one (Ok all) reads clean = let says = reads.rows clean in selects_open says.0 says.1
+    open_one (Err read.OtherType) reads clean = let says = reads.other clean refl in selects_open says.0 says.1
     open_one (Err read.Memory) reads clean = tt
     open_one (Err read.Store) reads clean = tt
     open_one (Err read.Refused) reads clean = tt
@@ -156,7 +156,7 @@ module _ {S : Type 0} (g : Ghosts S) where
     -- if a SELECT is refused for lack of memory, or is answered, reading its table may return Memory
     may_lack_memory : RefusesToSelect g sql old read.Memory ⊎ ((rows : List Row) × Selects g sql old rows) → FailsToRead g old this_select Memory
     may_lack_memory (inl refused) = inl (refuses read.Memory refused)
-    may_lack_memory (inr told) = inr (record { select = (sql, forms); one = inl refl; before = old; leaves = leaves_none old idle; rows = told.0; answered = told.1 })
+    may_lack_memory (inr says) = inr (record { select = (sql, forms); one = inl refl; before = old; leaves = leaves_none old idle; rows = says.0; answered = says.1 })
 
     -- on a clean disk, a fault of reading one table is one that reading by its SELECT alone may return (`FailsToRead`)
     fails_one : {Z : Type 0} (r : Result (Vec A Z) ReadFault) → ReadsRows g sql old forms shown r new → HasCleanDisk (state g new) → IfErr (rows_or_none r) (FailsToRead g old this_select)
@@ -171,7 +171,7 @@ module _ {S : Type 0} (g : Ghosts S) where
         → ReadsSome g old this_select (λ all. AreAllRows (state g old).now ((part, map shown all.items) ∷ [])) kept new
     reads_one r reads gives kept is = record {
       was_open = λ clean. subst (λ k. IfOk k (λ _. IsTrue (state g old).is_open)) (sym is) (open_one r reads clean);
-      found = λ clean. subst (λ k. IfOk k (Found g old this_select (λ all. AreAllRows (state g old).now ((part, map shown all.items) ∷ [])))) (sym is) (found_one r reads gives clean);
+      found = λ clean. subst (λ k. IfOk k (FoundBySelects g old this_select (λ all. AreAllRows (state g old).now ((part, map shown all.items) ∷ [])))) (sym is) (found_one r reads gives clean);
       fails = λ clean. subst (λ k. IfErr k (FailsToRead g old this_select)) (sym is) (fails_one r reads clean);
       leaves = record {
         stays = λ clean. rests_stays (state g old) (state g new) settled (omega (arith, reads.survives.clean, clean)) (reads.rests clean);
@@ -185,22 +185,22 @@ module _ {S : Type 0} (g : Ghosts S) where
   module _ (old mid : Held S) (same : (state g mid).now ≡ (state g old).now) where
     -- rows that a SELECT shows of the tables of `mid` it shows of those of `old`, which are equal
     shows_then : (sql : List ℕ) (rows : List Row) → SelectShows g mid sql rows → SelectShows g old sql rows
-    shows_then sql rows told = record { before = told.before; during = told.during; same = told.same ∙ same; shown = told.shown }
+    shows_then sql rows says = record { before = says.before; during = says.during; same = says.same ∙ same; shown = says.shown }
 
     -- if SELECTs each show rows of the tables of `mid`, they each show rows of those of `old`, which are equal
     all_show_then : (selects : List (List ℕ × List Form)) → AllSelectsShow g mid selects → AllSelectsShow g old selects
-    all_show_then selects all select one = let told = all select one in (told.0, shows_then select.0 told.0 told.1)
+    all_show_then selects all select one = let says = all select one in (says.0, shows_then select.0 says.0 says.1)
 
     -- what SELECTs found with `P` in the tables of `mid`, they found with `Q` in the equal tables of `old`, if `P`
     -- implies `Q`
-    found_then : {A : Type 0} (selects : List (List ℕ × List Form)) (P Q : A → Type 0) (o : Option A) → ((a : A) → P a → Q a) → Found g mid selects P o → Found g old selects Q o
-    found_then selects P Q (Some a) weaker found = (λ select one. let told = found.0 select one in (told.0, shows_then select.0 told.0 told.1, told.2), weaker a found.1)
+    found_then : {A : Type 0} (selects : List (List ℕ × List Form)) (P Q : A → Type 0) (o : Option A) → ((a : A) → P a → Q a) → FoundBySelects g mid selects P o → FoundBySelects g old selects Q o
+    found_then selects P Q (Some a) weaker found = (λ select one. let says = found.0 select one in (says.0, shows_then select.0 says.0 says.1, says.2), weaker a found.1)
     found_then selects P Q None weaker found = record {
       all = all_show_then selects found.all;
       select = found.select;
       one = found.one;
       rows = found.rows;
-      told = shows_then found.select.0 found.rows found.told;
+      shows = shows_then found.select.0 found.rows found.shows;
       other = found.other;
     }
 
@@ -256,46 +256,46 @@ module _ {S : Type 0} (g : Ghosts S) where
 
     -- if `few` show a value of another type, so do `more`, which has all of them, if each of `more` shows rows
     other_within : AllSelectsShow g old more → HasOtherType g old few → HasOtherType g old more
-    other_within all other = record { all = all; select = other.select; one = within other.select other.one; rows = other.rows; told = other.told; other = other.other }
+    other_within all other = record { all = all; select = other.select; one = within other.select other.one; rows = other.rows; shows = other.shows; other = other.other }
 
   -- SELECTs that each showed rows with values of their columns' forms each showed rows (`AllSelectsShow`)
   typed_shows : (old : Held S) (selects : List (List ℕ × List Form)) → AllSelectsShowTyped g old selects → AllSelectsShow g old selects
-  typed_shows old selects typed select one = let told = typed select one in (told.0, told.1)
+  typed_shows old selects typed select one = let says = typed select one in (says.0, says.1)
 
   -- what two reads on one connection found is found by all their SELECTs together
-  found_both : {A B : Type 0} (xs ys : List (List ℕ × List Form)) (P : A → Type 0) (Q : B → Type 0) (old : Held S) (a : Option A) (b : Option B) → Found g old xs P a → Found g old ys Q b → Found g old (xs ++ ys) (λ x. P x.0 × Q x.1) (option_zip a b)
+  found_both : {A B : Type 0} (xs ys : List (List ℕ × List Form)) (P : A → Type 0) (Q : B → Type 0) (old : Held S) (a : Option A) (b : Option B) → FoundBySelects g old xs P a → FoundBySelects g old ys Q b → FoundBySelects g old (xs ++ ys) (λ x. P x.0 × Q x.1) (option_zip a b)
   found_both xs ys P Q old (Some a) (Some b) p q = (each_of_both (λ s. (rows : List Row) × SelectShows g old s.0 rows × AreTyped s.1 rows) xs ys p.0 q.0, (p.1, q.1))
   found_both xs ys P Q old (Some a) None p q = other_within old ys (xs ++ ys) (has_right xs ys) (each_of_both (λ s. (rows : List Row) × SelectShows g old s.0 rows) xs ys (typed_shows old xs p.0) q.all) q
   found_both xs ys P Q old None (Some b) p q = other_within old xs (xs ++ ys) (has_left xs ys) (each_of_both (λ s. (rows : List Row) × SelectShows g old s.0 rows) xs ys p.all (typed_shows old ys q.0)) p
   found_both xs ys P Q old None None p q = other_within old xs (xs ++ ys) (has_left xs ys) (each_of_both (λ s. (rows : List Row) × SelectShows g old s.0 rows) xs ys p.all q.all) p
 
-  -- on a clean disk, what reads after `mid` found with `P` was found with `Q` in the tables of `old` (`Found`), if `P`
-  -- implies `Q`
+  -- on a clean disk, what reads after `mid` found with `P` was found with `Q` in the tables of `old`
+  -- (`FoundBySelects`), if `P` implies `Q`
   found_before : {A : Type 0} (old mid new : Held S) → AfterReads g old mid → (selects : List (List ℕ × List Form)) (P Q : A → Type 0) (r : Result (Option A) LoadFault) → ReadsSome g mid selects P r new → (o : Option A) → r ≡ Ok o
-      → ((state g mid).now ≡ (state g old).now → (a : A) → P a → Q a) → HasCleanDisk (state g new) → Found g old selects Q o
+      → ((state g mid).now ≡ (state g old).now → (a : A) → P a → Q a) → HasCleanDisk (state g new) → FoundBySelects g old selects Q o
   found_before old mid new before selects P Q r reads o was weaker clean =
       let up = subst (λ r. IfOk r (λ _. IsTrue (state g mid).is_open)) was (reads.was_open clean) in
       let same = ((before.stays (omega (arith, reads.leaves.survives.clean, clean))).same up).0 in
-      found_then old mid same selects P Q o (weaker same) (subst (λ r. IfOk r (Found g mid selects P)) was (reads.found clean))
+      found_then old mid same selects P Q o (weaker same) (subst (λ r. IfOk r (FoundBySelects g mid selects P)) was (reads.found clean))
 
   -- if `P` holds of what a read gave, and implies `Q`, then `Q` holds of it (`ReadsSome`)
   reads_as : {A : Type 0} (selects : List (List ℕ × List Form)) (P Q : A → Type 0) (old new : Held S) (r : Result (Option A) LoadFault) → ((a : A) → P a → Q a) → ReadsSome g old selects P r new → ReadsSome g old selects Q r new
   reads_as {A} selects P Q old new r weaker reads = record { was_open = reads.was_open; found = λ clean. found r (reads.found clean); fails = reads.fails; leaves = reads.leaves }
     where
-      -- for `reads_as`: since `P` implies `Q`, `Q` holds too of what SELECTs found, if `P` does (`Found`)
-      found : (r : Result (Option A) LoadFault) → IfOk r (Found g old selects P) → IfOk r (Found g old selects Q)
+      -- for `reads_as`: since `P` implies `Q`, `Q` holds too of what SELECTs found, if `P` does (`FoundBySelects`)
+      found : (r : Result (Option A) LoadFault) → IfOk r (FoundBySelects g old selects P) → IfOk r (FoundBySelects g old selects Q)
       found (Ok (Some a)) h = (h.0, weaker a h.1)
       found (Ok None) h = h
       found (Err fault) h = tt
 
   -- if the reads of the tables are in two stages, a fault of the first stage is a fault of both together
   pub first_fails : {A B : Type 0} (xs ys : List (List ℕ × List Form)) (P : A → Type 0) (Q : B → Type 0) (old new : Held S) (fault : LoadFault) (one : Result (Option A) LoadFault) (r : Result (Option B) LoadFault)
-      → ReadsSome g old xs P one new → one ≡ Err fault → IsErrAnd r (λ told. told ≡ fault) → ReadsSome g old (xs ++ ys) Q r new
-  first_fails xs ys P Q old new fault one (Ok o) first was told = absurd told
-  first_fails xs ys P Q old new fault one (Err f) first was told = record {
+      → ReadsSome g old xs P one new → one ≡ Err fault → IsErrAnd r (λ says. says ≡ fault) → ReadsSome g old (xs ++ ys) Q r new
+  first_fails xs ys P Q old new fault one (Ok o) first was says = absurd says
+  first_fails xs ys P Q old new fault one (Err f) first was says = record {
     was_open = λ _. tt;
     found = λ _. tt;
-    fails = λ clean. subst (FailsToRead g old (xs ++ ys)) (sym told) (fails_within old xs (xs ++ ys) (has_left xs ys) fault (subst (λ r. IfErr r (FailsToRead g old xs)) was (first.fails clean)));
+    fails = λ clean. subst (FailsToRead g old (xs ++ ys)) (sym says) (fails_within old xs (xs ++ ys) (has_left xs ys) fault (subst (λ r. IfErr r (FailsToRead g old xs)) was (first.fails clean)));
     leaves = first.leaves;
   }
 
@@ -303,13 +303,13 @@ module _ {S : Type 0} (g : Ghosts S) where
   module _ {A B : Type 0} (xs ys : List (List ℕ × List Form)) (P : A → Type 0) (Q : B → Type 0) (old mid new : Held S) (one : Result (Option A) LoadFault) (two : Result (Option B) LoadFault)
       (first : ReadsSome g old xs P one mid) (second : ReadsSome g mid ys Q two new) (a : Option A) (was_first : one ≡ Ok a) where
     -- if the reads of the tables are in two stages, a fault of the second stage is a fault of both together
-    pub second_fails : {C : Type 0} (R : C → Type 0) (fault : LoadFault) (r : Result (Option C) LoadFault) → two ≡ Err fault → IsErrAnd r (λ told. told ≡ fault) → ReadsSome g old (xs ++ ys) R r new
-    second_fails R fault (Ok o) was told = absurd told
-    second_fails R fault (Err f) was told = record {
+    pub second_fails : {C : Type 0} (R : C → Type 0) (fault : LoadFault) (r : Result (Option C) LoadFault) → two ≡ Err fault → IsErrAnd r (λ says. says ≡ fault) → ReadsSome g old (xs ++ ys) R r new
+    second_fails R fault (Ok o) was says = absurd says
+    second_fails R fault (Err f) was says = record {
       was_open = λ _. tt;
       found = λ _. tt;
       fails = λ clean.
-          subst (FailsToRead g old (xs ++ ys)) (sym told)
+          subst (FailsToRead g old (xs ++ ys)) (sym says)
           (fails_within old ys (xs ++ ys) (has_right xs ys) fault (fails_then old mid first.leaves ys fault (subst (λ r. IfErr r (FailsToRead g mid ys)) was (second.fails clean))));
       leaves = leaves_then old mid new first.leaves second.leaves;
     }
@@ -319,8 +319,8 @@ module _ {S : Type 0} (g : Ghosts S) where
     reads_both Q2 b was weaker o is = record {
       was_open = λ clean. subst (λ r. IfOk r (λ _. IsTrue (state g old).is_open)) was_first (first.was_open (clean_mid clean));
       found = λ clean.
-          subst (Found g old (xs ++ ys) _) (sym is) (found_both xs ys P Q2 old a b
-          (subst (λ r. IfOk r (Found g old xs P)) was_first (first.found (clean_mid clean)))
+          subst (FoundBySelects g old (xs ++ ys) _) (sym is) (found_both xs ys P Q2 old a b
+          (subst (λ r. IfOk r (FoundBySelects g old xs P)) was_first (first.found (clean_mid clean)))
           (found_before old mid new first.leaves ys Q Q2 two second b was weaker clean));
       fails = λ _. tt;
       leaves = leaves_then old mid new first.leaves second.leaves;
@@ -341,9 +341,9 @@ module _ {S : Type 0} (g : Ghosts S) where
 
   -- ---- by the format
 
-  -- for `reads_first`: what SELECTs found with `P` (`Found`), they found with `Q` once paired with `b`, if `P a`
-  -- implies `Q (a, b)`
-  found_with : {A B : Type 0} (old : Held S) (selects : List (List ℕ × List Form)) (P : A → Type 0) (Q : A × B → Type 0) (b : B) → ((a : A) → P a → Q (a, b)) → (o : Option A) → Found g old selects P o → Found g old selects Q (option_zip o (Some b))
+  -- for `reads_first`: what SELECTs found with `P` (`FoundBySelects`), they found with `Q` once paired with `b`, if `P
+  -- a` implies `Q (a, b)`
+  found_with : {A B : Type 0} (old : Held S) (selects : List (List ℕ × List Form)) (P : A → Type 0) (Q : A × B → Type 0) (b : B) → ((a : A) → P a → Q (a, b)) → (o : Option A) → FoundBySelects g old selects P o → FoundBySelects g old selects Q (option_zip o (Some b))
   found_with old selects P Q b weaker (Some a) found = (found.0, weaker a found.1)
   found_with old selects P Q b weaker None found = found
 
@@ -377,9 +377,9 @@ module _ {S : Type 0} (g : Ghosts S) where
   reads_first selects some others old new one first a was b none early late o is = record {
     was_open = λ clean. subst (λ r. IfOk r (λ _. IsTrue (state g old).is_open)) was (first.was_open clean);
     found = λ clean.
-        subst (Found g old selects (λ x. AreOfFormat First (state g old).now (some x.0 ++ others x.1))) (sym is)
+        subst (FoundBySelects g old selects (λ x. AreOfFormat First (state g old).now (some x.0 ++ others x.1))) (sym is)
         (found_with old selects (λ a. AreAllRows (state g old).now (some a)) (λ x. AreOfFormat First (state g old).now (some x.0 ++ others x.1)) b
-        (λ a are. of_first (state g old).now (some a) (others b) are (early a) none late) a (subst (λ r. IfOk r (Found g old selects (λ a. AreAllRows (state g old).now (some a)))) was (first.found clean)));
+        (λ a are. of_first (state g old).now (some a) (others b) are (early a) none late) a (subst (λ r. IfOk r (FoundBySelects g old selects (λ a. AreAllRows (state g old).now (some a)))) was (first.found clean)));
     fails = λ _. tt;
     leaves = first.leaves;
   }
@@ -390,12 +390,12 @@ module _ {S : Type 0} (g : Ghosts S) where
 
   -- if a read by `selects` ended with a fault, each result with this fault is one of reading by them (`ReadsSome`)
   pub fails_as : {A B : Type 0} (selects : List (List ℕ × List Form)) (P : A → Type 0) (Q : B → Type 0) (old new : Held S) (fault : LoadFault) (one : Result (Option A) LoadFault) (r : Result (Option B) LoadFault)
-      → ReadsSome g old selects P one new → one ≡ Err fault → IsErrAnd r (λ told. told ≡ fault) → ReadsSome g old selects Q r new
-  fails_as selects P Q old new fault one (Ok o) first was told = absurd told
-  fails_as selects P Q old new fault one (Err f) first was told = record {
+      → ReadsSome g old selects P one new → one ≡ Err fault → IsErrAnd r (λ says. says ≡ fault) → ReadsSome g old selects Q r new
+  fails_as selects P Q old new fault one (Ok o) first was says = absurd says
+  fails_as selects P Q old new fault one (Err f) first was says = record {
     was_open = λ _. tt;
     found = λ _. tt;
-    fails = λ clean. subst (FailsToRead g old selects) (sym told) (subst (λ r. IfErr r (FailsToRead g old selects)) was (first.fails clean));
+    fails = λ clean. subst (FailsToRead g old selects) (sym says) (subst (λ r. IfErr r (FailsToRead g old selects)) was (first.fails clean));
     leaves = first.leaves;
   }
 
@@ -406,15 +406,16 @@ module _ {S : Type 0} (g : Ghosts S) where
 
   -- on a clean disk, rows of a format that reads after `mid` found were also in the tables of `old` (`AreOfFormat`)
   pub format_before : {A : Type 0} (f : Format) (rows : A → ReadRows) (old mid new : Held S) → AfterReads g old mid → (selects : List (List ℕ × List Form)) (r : Result (Option A) LoadFault) → ReadsSome g mid selects (λ a. AreOfFormat f (state g mid).now (rows a)) r new → (o : Option A) → r ≡ Ok o
-      → HasCleanDisk (state g new) → Found g old selects (λ a. AreOfFormat f (state g old).now (rows a)) o
+      → HasCleanDisk (state g new) → FoundBySelects g old selects (λ a. AreOfFormat f (state g old).now (rows a)) o
   format_before f rows old mid new before selects r reads o was clean =
       found_before old mid new before selects (λ a. AreOfFormat f (state g mid).now (rows a)) (λ a. AreOfFormat f (state g old).now (rows a)) r reads o was (λ same a are. subst (λ (db : Database). AreOfFormat f db (rows a)) same are) clean
 
--- if no row was read of some parts, and none of others, no row was read of all of them (`AreNone`)
+-- no row was read of two lists of parts together (`AreNone`), if none was read of either list
 pub both_none : (some others : ReadRows) → AreNone some → AreNone others → AreNone (some ++ others)
 both_none some others first second = each_of_both (λ read. read.1 ≡ []) some others first second
 
--- `selects_by` gives a format's SELECTs, if `some` are those of the first, and with `others` those of the second
+-- `selects_by` gives the SELECTs of all tables of a format but `campaign`, if `some` are those of the first format, and
+-- `some` with `others` those of the second
 same_selects : (some others : List (List ℕ × List Form)) → some ≡ other_selects First → some ++ others ≡ other_selects Second → (f : Format) → selects_by f some others ≡ other_selects f
 same_selects some others first second First = first
 same_selects some others first second Second = second

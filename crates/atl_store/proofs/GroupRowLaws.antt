@@ -12,16 +12,16 @@ use Rattle.sqlite.specs.Table.{Table}
 use Rattle.sqlite_rules.specs.Lists.{Has}
 use Rattle.atl_campaign.specs.Campaign.{CampaignValue}
 use Rattle.atl_sql.specs.Sets.{Set, HasExactly, puts, rows_in}
-use Rattle.atl_sql.specs.Tables.{Part, key_of, table_of}
+use Rattle.atl_sql.specs.Tables.{Part, key_width_of, table_of}
 use Rattle.atl_sql.specs.Shown.{int}
 use Rattle.atl_store.specs.GroupedRows.{DifferInKey, AreGroups, groups_of}
 use Rattle.atl_sql.specs.Rows.{rows_for}
 use Rattle.atl_sql.specs.Statements.{upsert}
 use Rattle.atl_store.specs.OwnStatements.{OfRow, puts_row}
-use Rattle.atl_sql.specs.Inside.{Inside, HasTables, Both, Drops, PutsRows}
+use Rattle.atl_sql.specs.Inside.{DoesInside, HasTables, DoesBoth, Drops, PutsRows}
 use Rattle.atl_sql.specs.Marked.{first_column_passes}
-use Rattle.atl_store.specs.Rewriting.{RewritesGroup, is_number}
-use Rattle.atl_store.proofs.EntryLaws.{apart_append, filled, puts_has, below_has, less_apart, got_entry, entry_got, in_order, same_number, flat_has, has_flat}
+use Rattle.atl_store.specs.Rewriting.{RewritesGroup, equals_number}
+use Rattle.atl_store.proofs.EntryLaws.{apart_append, empty_table_has_put_rows, puts_has, below_has, less_apart, got_entry, entry_got, in_order, same_number, flat_has, has_flat}
 use Rattle.atl_store.proofs.RewriteLaws.{begins_key, key_begins, kept_only, rewrites_key}
 use Rattle.atl_store.proofs.WholeLaws.{inside_then, inside_weaker}
 
@@ -56,7 +56,7 @@ module _ {V : Type 0} (lines : ℕ → V → List Row) (more : ℕ) (values : Fi
   -- an empty table filled with the rows that `lines` gives for all entries has exactly the wanted rows
   pub groups_filled : (rows old : List Row) → old ≡ [] → HasExactly rows (puts (suc more) (groups_of lines (entries values)) (Has old)) → HasExactly rows Wanted
   groups_filled rows old none made r =
-      let is = filled (suc more) rows (groups_of lines (entries values)) old none (all_apart (entries values) (in_order values)) made r in (
+      let is = empty_table_has_put_rows (suc more) rows (groups_of lines (entries values)) old none (all_apart (entries values) (in_order values)) made r in (
         λ there. groups_rows (entries values) refl r (is.0 there),
         λ of. let line = are.lined r of in is.1 (has_flat (λ (v : ℕ × V). lines v.0 v.1) (entries values) (line.0, line.1) r (got_entry values line.0 line.1 line.2) line.3),
       )
@@ -65,7 +65,7 @@ module _ {V : Type 0} (lines : ℕ → V → List Row) (more : ℕ) (values : Fi
 
   module _ (table : Table) (n : ℕ) where
     -- a wanted row that begins with the number `n` is one of the rows of the map's value under `n`
-    lined_at : (r : Row) → first_column_passes (is_number n) r ≡ true → Wanted r → (v : V) × (get values n ≡ Some v) × Has (lines n v) r
+    lined_at : (r : Row) → first_column_passes (equals_number n) r ≡ true → Wanted r → (v : V) × (get values n ≡ Some v) × Has (lines n v) r
     lined_at r is of =
         let line = are.lined r of in
         let number : line.0 ≡ n = same_number line.0 n (sym (are.numbered line.0 line.1 r line.3) ∙ begins_key n r is) in
@@ -74,7 +74,7 @@ module _ {V : Type 0} (lines : ℕ → V → List Row) (more : ℕ) (values : Fi
     -- for `lines_done`, of the databases alone: deleting a number's rows and putting those of its value rewrites them
     lines_rewrite : (old mid new : Database) → Drops table 1 (int n ∷ []) old mid → (v : V) → get values n ≡ Some v
         → PutsRows table (suc more) (lines n v) mid new → RewritesGroup table Wanted n old new
-    lines_rewrite old mid new dropped v there did = rewrites_key (first_column_passes (is_number n)) (λ r. take 1 r ≡ int n ∷ []) (Has (lines n v)) Wanted (begins_key n) (key_begins n)
+    lines_rewrite old mid new dropped v there did = rewrites_key (first_column_passes (equals_number n)) (λ r. take 1 r ≡ int n ∷ []) (Has (lines n v)) Wanted (begins_key n) (key_begins n)
         (λ r here. (are.numbered n v r here, are.wanted n v there r here))
         (λ r is of. let line = lined_at r is of in subst (λ u. Has (lines n u) r) (same_Some line.0 v (sym line.1 ∙ there)) line.2)
         table old new rows (λ t listed other. did.others t listed other ∙ dropped.others t listed other)
@@ -89,24 +89,24 @@ module _ {V : Type 0} (lines : ℕ → V → List Row) (more : ℕ) (values : Fi
 
     -- for `bare_done`, of the databases alone: deleting the rows of a number that the map lacks rewrites them
     bare_rewrite : (old new : Database) → Drops table 1 (int n ∷ []) old new → get values n ≡ None → RewritesGroup table Wanted n old new
-    bare_rewrite old new dropped none = rewrites_key (first_column_passes (is_number n)) (λ r. take 1 r ≡ int n ∷ []) (λ r. ⊥) Wanted (begins_key n) (key_begins n) (λ r never. absurd never)
+    bare_rewrite old new dropped none = rewrites_key (first_column_passes (equals_number n)) (λ r. take 1 r ≡ int n ∷ []) (λ r. ⊥) Wanted (begins_key n) (key_begins n) (λ r never. absurd never)
         (λ r is of. let line = lined_at r is of in none-some line.0 (sym none ∙ line.1))
         table old new (λ r. let so = dropped.rows r in (λ h. inr (so.0 h), λ h. so.1 (kept_only h))) dropped.others
 
     -- inside a transaction, deleting the rows of a number and putting those of its value rewrites the number's rows
-    pub lines_done : (v : V) → get values n ≡ Some v → (old mid new : State) → Inside HasTables (Drops table 1 (int n ∷ [])) old mid
-        → Inside HasTables (PutsRows table (suc more) (lines n v)) mid new → Inside HasTables (RewritesGroup table Wanted n) old new
+    pub lines_done : (v : V) → get values n ≡ Some v → (old mid new : State) → DoesInside HasTables (Drops table 1 (int n ∷ [])) old mid
+        → DoesInside HasTables (PutsRows table (suc more) (lines n v)) mid new → DoesInside HasTables (RewritesGroup table Wanted n) old new
     lines_done v there old mid new one two =
         let drops = Drops table 1 (int n ∷ []) in
         let puts = PutsRows table (suc more) (lines n v) in
-        inside_weaker HasTables (Both drops puts) (RewritesGroup table Wanted n) old new (λ has did. lines_rewrite old.now did.0 new.now did.1 v there did.2) (inside_then HasTables drops puts old mid new one two)
+        inside_weaker HasTables (DoesBoth drops puts) (RewritesGroup table Wanted n) old new (λ has did. lines_rewrite old.now did.0 new.now did.1 v there did.2) (inside_then HasTables drops puts old mid new one two)
 
     -- inside a transaction, deleting the rows of a number that the map lacks rewrites the rows of the number
-    pub bare_done : get values n ≡ None → (old new : State) → Inside HasTables (Drops table 1 (int n ∷ [])) old new
-        → Inside HasTables (RewritesGroup table Wanted n) old new
+    pub bare_done : get values n ≡ None → (old new : State) → DoesInside HasTables (Drops table 1 (int n ∷ [])) old new
+        → DoesInside HasTables (RewritesGroup table Wanted n) old new
     bare_done none old new did = inside_weaker HasTables (Drops table 1 (int n ∷ [])) (RewritesGroup table Wanted n) old new (λ has drops. bare_rewrite old.now new.now drops none) did
 
--- if all rows that are wanted (`Wanted`) are rows of a part, the upsert of one puts a row of the campaign (`OfRow`)
-pub puts_wanted : (part : Part) (more : ℕ) → key_of part ≡ suc more → (Wanted : CampaignValue → Row → Type 0) → ((own : Row) (c : CampaignValue) (r : Row) → Wanted c r → rows_for own c part r) → (c : CampaignValue) (r : Row) → Wanted c r
+-- the upsert of a wanted row puts a row of the campaign (`OfRow`), if each wanted row (`Wanted`) is a row of the part
+pub puts_wanted : (part : Part) (more : ℕ) → key_width_of part ≡ suc more → (Wanted : CampaignValue → Row → Type 0) → ((own : Row) (c : CampaignValue) (r : Row) → Wanted c r → rows_for own c part r) → (c : CampaignValue) (r : Row) → Wanted c r
     → OfRow c (upsert (table_of part) (suc more)) r
 puts_wanted part more key Wanted are c r is = subst (λ k. OfRow c (upsert (table_of part) k) r) key (puts_row part (λ own. are own c r is))

@@ -14,18 +14,18 @@ use Rattle.atl_sql.specs.declared.rows.has.ThingKind.TheVariants.{Item, Skill}
 use Rattle.atl_sql.specs.Shown.{int, has_key, has_row}
 use Rattle.atl_sql.specs.Written.{sort_number}
 use Rattle.atl_sql.specs.Rows.{things_of, things_under, amount_under, HasRowsOf}
-use Rattle.atl_store.specs.GroupedRows.{DifferInKey, AreGroups, amount_rows, kind_lines, goods_lines, unit_lines}
+use Rattle.atl_store.specs.GroupedRows.{DifferInKey, AreGroups, amount_rows, kind_lines, goods_lines, unit_goods_lines}
 use Rattle.atl_store.proofs.EntryLaws.{apart_append, below_has, less_apart, got_entry, entry_got, in_order, flat_has, has_flat}
 
 -- ---- one amount
 
--- a row of a list that is empty if `b`, and else has one row, is that row, and `b` is false
+-- a row in a list that has one row if the flag `b` is false, and else none, is that row, and `b` is false
 pub optional_has : (b : Bool) (row r : Row) → Has (if b then [] else row ∷ []) r → (b ≡ false) × (r ≡ row)
 optional_has true row r there = absurd there
 optional_has false row r (inl same) = (refl, same)
 optional_has false row r (inr none) = absurd none
 
--- a list that is empty if `b`, and else has one row, has that row if `b` is false
+-- a list that has one row if the flag `b` is false, and else none, has that row, if `b` is false
 pub has_optional : (b : Bool) (row : Row) → b ≡ false → Has (if b then [] else row ∷ []) row
 has_optional true row is = absurd (true≢false is)
 has_optional false row is = inl refl
@@ -60,13 +60,13 @@ module _ (row : ℕ → ℕ → Row) where
 
   -- the rows made of a sorted list of amounts have different keys, if rows with equal keys are of equal numbers
   pub amounts_apart : (key : ℕ) → ((m a n b : ℕ) → take key (row m a) ≡ take key (row n b) → m ≡ n) → (es : List (ℕ × ℕ)) → is_sorted nat_cmp es ≡ true → DifferInKey key (amount_rows row es)
-  amounts_apart key tells [] sorted = tt
-  amounts_apart key tells (e ∷ es) sorted =
-      apart_append key (if e.1 == 0 then [] else row e.0 e.1 ∷ []) (amount_rows row es) (optional_apart key (e.1 == 0) (row e.0 e.1)) (amounts_apart key tells es (and_parts _ _ sorted).1)
+  amounts_apart key says [] sorted = tt
+  amounts_apart key says (e ∷ es) sorted =
+      apart_append key (if e.1 == 0 then [] else row e.0 e.1 ∷ []) (amount_rows row es) (optional_apart key (e.1 == 0) (row e.0 e.1)) (amounts_apart key says es (and_parts _ _ sorted).1)
       (λ x y early late same.
       let one = optional_has (e.1 == 0) (row e.0 e.1) x early in
       let two = amounts_have es y late in
-      less_apart e.0 two.0.0 (below_has e.0 es two.0 (and_parts _ _ sorted).0 two.1) (tells e.0 e.1 two.0.0 two.0.1 (ap (take key) (sym one.1) ∙ same ∙ ap (take key) two.3)))
+      less_apart e.0 two.0.0 (below_has e.0 es two.0 (and_parts _ _ sorted).0 two.1) (says e.0 e.1 two.0.0 two.0.1 (ap (take key) (sym one.1) ∙ same ∙ ap (take key) two.3)))
 
 -- ---- the things of one kind: items or skills
 
@@ -124,7 +124,7 @@ goods_rows units n u got r there =
     (n, u, got, row.0, row.1.0, row.1.1, entry_got (things_of row.0 u.holding) row.1.0 row.1.1 row.2, row.3, row.4)
 
 -- the rows of `has` come in groups, one for each unit, whose rows begin with its number (`AreGroups`)
-pub goods_grouped : (units : FinMap nat_cmp Unit) → AreGroups unit_lines 3 units (HasRowsOf units)
+pub goods_grouped : (units : FinMap nat_cmp Unit) → AreGroups unit_goods_lines 3 units (HasRowsOf units)
 goods_grouped units = record {
   numbered = λ n u. goods_begin n u.holding;
   apart = λ n u. goods_apart n u.holding;
@@ -139,7 +139,7 @@ goods_grouped units = record {
 
 -- ---- how much a unit has of a thing
 
--- the items, or the skills, of a unit that is there (`things_under`) are those that the unit's holding has
+-- the items, or the skills, of a unit that exists (`things_under`) are those of the unit's holding
 under_unit : (sort : ThingKind) (u : Unit) → things_under sort (Some u) ≡ things_of sort u.holding
 under_unit Item u = refl
 under_unit Skill u = refl
@@ -173,7 +173,8 @@ module _ (units : FinMap nat_cmp Unit) where
       got None zero = absurd (some zero)
       got (Some x) same = ap Some (sym same)
 
-      -- for `amount_has_row`: by the look-up `o` of the unit the amount's row is there; with no unit it would be 0
+      -- for `amount_has_row`: if the look-up `o` finds the unit, the amount's row is in `has`; without a unit the
+      -- amount would be 0
       there : (o : Option Unit) → get units n ≡ o → HasRowsOf units (has_row n (sort_number sort) thing amount)
       there None none = absurd (some (is ∙ amount_none n sort thing none))
       there (Some u) found = (n, u, found, sort, thing, amount, got (get (things_of sort u.holding) thing) (is ∙ amount_some n sort thing u found), some, refl)

@@ -13,7 +13,7 @@ use Rattle.atl_campaign.specs.Campaign.{CampaignValue, with_mail}
 use Rattle.atl_records.specs.Books.{BooksValue, amount_in, after_booking, entry_index, thing_index}
 use Rattle.atl_records.proofs.AccountLaws.{apart_entries, apart_things}
 use Rattle.atl_records.proofs.BookLaws.{other_amount}
-use Rattle.atl_campaign.specs.Joining.{joined, new_faction, first_unit}
+use Rattle.atl_campaign.specs.Joining.{after_join, new_faction, first_unit}
 use Rattle.atl_records.specs.declared.books.BooksEntry.{BooksEntry}
 use Rattle.atl_records.specs.declared.books.BooksEntry.TheVariants.{Joining}
 use Rattle.atl_records.specs.declared.books.Thing.{Thing}
@@ -22,28 +22,29 @@ use Rattle.atl_records.specs.declared.records.Faction.{Faction}
 use Rattle.atl_records.specs.declared.records.Unit.{Unit}
 use Rattle.atl_sql.specs.declared.rows.has.ThingKind.{ThingKind}
 use Rattle.atl_sql.specs.declared.rows.has.ThingKind.TheVariants.{Item, Skill}
-use Rattle.atl_sql.specs.Sets.{HasExactly, Set, put, visible, rows_in}
+use Rattle.atl_sql.specs.Sets.{HasExactly, Set, put, visible_row, rows_in}
 use Rattle.atl_sql.specs.Tables.{Part, Own, Factions, Units, Goods, Mail, Reports, Books, table_of, campaign_table, faction_table, unit_table, has_table, mail_table, report_table, books_table, all_tables}
 use Rattle.atl_sql.specs.Shown.{CampaignRowValue, campaign_row, mail_row, report_row}
-use Rattle.atl_sql.specs.Rows.{campaign_row_of, campaign_line, faction_line, unit_line, RowsOf, HasRowsOf, rows_for, things_of, Holds}
+use Rattle.atl_sql.specs.Rows.{campaign_row_of, row_of_campaign, row_of_faction, row_of_unit, RowsOf, HasRowsOf, rows_for, things_of, Holds}
 use Rattle.atl_sql.specs.PutsCampaignRow.{PutsCampaignRow}
-use Rattle.atl_sql.specs.Inside.{Inside, HasTables, Both, Puts}
+use Rattle.atl_sql.specs.Inside.{DoesInside, HasTables, DoesBoth, Puts}
 use Rattle.atl_store.specs.Keeps.{IsJoining}
-use Rattle.atl_store.specs.Arriving.{IsFound, AddsJoin, settled, WritesAmount, HasPut, WritesJoin, WritesMail}
+use Rattle.atl_store.specs.Arriving.{HasArrivalWith, AddsJoin, rows_with_amount, WritesAmount, HasPut, WritesJoin, WritesMail}
 use Rattle.atl_sql.proofs.PartLaws.{listed, same_part, is_among, not_among}
 use Rattle.atl_store.proofs.TurnLaws.{stays_is}
-use Rattle.atl_store.proofs.ArriveLaws.{get_inserted, put_rows, no_goods, settled_rows}
+use Rattle.atl_store.proofs.ArriveLaws.{get_inserted, put_rows, no_goods, written_amount_changes_books}
 use Rattle.atl_store.proofs.WholeLaws.{inside_then, inside_weaker}
 
 -- ---- one booking changes one amount
 
 -- booking an amount leaves the amount of each other entry or thing as it is
-beside_booked : (books : BooksValue) (e : BooksEntry) (t : Thing) (n : ℤ) (f : BooksEntry) (u : Thing) → (entry_index f ≢ entry_index e) ⊎ (thing_index u ≢ thing_index t) → amount_in (after_booking books e t n) f u ≡ amount_in books f u
-beside_booked books e t n f u far = other_amount books e t (amount_in books e t +ℤ n) f u (elim far [ inl entries ↦ apart_entries (f, u) (e, t) entries | inr things ↦ apart_things (f, u) (e, t) things ])
+others_booked : (books : BooksValue) (e : BooksEntry) (t : Thing) (n : ℤ) (f : BooksEntry) (u : Thing) → (entry_index f ≢ entry_index e) ⊎ (thing_index u ≢ thing_index t) → amount_in (after_booking books e t n) f u ≡ amount_in books f u
+others_booked books e t n f u far = other_amount books e t (amount_in books e t +ℤ n) f u (elim far [ inl entries ↦ apart_entries (f, u) (e, t) entries | inr things ↦ apart_things (f, u) (e, t) things ])
 
 -- ---- how the campaign after a joining differs
 
--- The campaign after a join: that before it with this faction, unit and report, and with money and people booked.
+-- The campaign `after` is that after a join: `before` with this faction, unit and report, and with money and people
+-- booked.
 record IsArrival (n : ℕ) (f : Faction) (m : ℕ) (u : Unit) (report : List ℕ) (before after : CampaignValue) : Type 0 where
   -- the join adds the faction `f` under the number `n`
   factions : after.factions ≡ insert before.factions n f
@@ -69,8 +70,8 @@ found_is : {V : Type 0} (m after : FinMap nat_cmp V) (n k : ℕ) (v w : V) → a
 found_is {V} m after n k v w is same got = same_Some v w (sym (get_inserted m n v) ∙ ap (λ (x : FinMap nat_cmp V). get x n) (sym is) ∙ ap (get after) (sym same) ∙ got)
 
 -- a join after which the first report is stored adds faction, unit and report, and books two amounts (`IsArrival`)
-arrives : (n : ℕ) (f : Faction) (m : ℕ) (u : Unit) (report : List ℕ) (before after : CampaignValue) → IsFound after n f m u report → IsJoining before n after → IsArrival n f m u report before after
-unfolding joined
+arrives : (n : ℕ) (f : Faction) (m : ℕ) (u : Unit) (report : List ℕ) (before after : CampaignValue) → HasArrivalWith after n f m u report → IsJoining before n after → IsArrival n f m u report before after
+unfolding after_join
 arrives n f m u report before after found joining =
     let w = joining.0 in
     let good = joining.5 in
@@ -81,24 +82,24 @@ arrives n f m u report before after found joining =
     let half = after_booking before.books Joining Money start in
     let number : n ≡ before.next_faction = joining.6 in
     let next : after.next_unit ≡ before.next_unit + 1 = ap (λ (c : CampaignValue). c.next_unit) is in
-    let place : m ≡ before.next_unit = omega (arith, next, found.place_is) in
+    let unit_number : m ≡ before.next_unit = omega (arith, next, found.place_is) in
     let factions : after.factions ≡ insert before.factions before.next_faction member = ap (λ (c : CampaignValue). c.factions) is in
     let units : after.units ≡ insert before.units before.next_unit band = ap (λ (c : CampaignValue). c.units) is in
     let reports : after.reports ≡ insert before.reports n joining.4 = ap (λ (c : CampaignValue). c.reports) is in
     let books : after.books ≡ after_booking half Joining People (pos 1) = ap (λ (c : CampaignValue). c.books) is in
     let member_is : member ≡ f = found_is before.factions after.factions before.next_faction n member f factions number found.faction_is in
-    let band_is : band ≡ u = found_is before.units after.units before.next_unit m band u units place found.unit_is in
+    let band_is : band ≡ u = found_is before.units after.units before.next_unit m band u units unit_number found.unit_is in
     let report_is : joining.4 ≡ report = found_is before.reports after.reports n n joining.4 report reports refl found.report_is in
     record {
       factions = factions ∙ ap (λ k. insert before.factions k member) (sym number) ∙ ap (insert before.factions n) member_is;
-      units = units ∙ ap (λ k. insert before.units k band) (sym place) ∙ ap (insert before.units m) band_is;
+      units = units ∙ ap (λ k. insert before.units k band) (sym unit_number) ∙ ap (insert before.units m) band_is;
       reports = reports ∙ ap (insert before.reports n) report_is;
-      fresh = good.sound.steady.next.units m (omega (arith, place));
+      fresh = good.sound.steady.next.units m (omega (arith, unit_number));
       bare = λ sort. subst (λ (x : Unit). things_of sort x.holding ≡ empty) band_is (nothing sort);
       half = half;
-      money = sym (ap (λ (b : BooksValue). amount_in b Joining Money) books ∙ beside_booked half Joining People (pos 1) Joining Money (inr (λ e. absurd (omega (arith, e)))));
-      first = λ e t far. beside_booked before.books Joining Money start e t far;
-      second = λ e t far. ap (λ (b : BooksValue). amount_in b e t) books ∙ beside_booked half Joining People (pos 1) e t far;
+      money = sym (ap (λ (b : BooksValue). amount_in b Joining Money) books ∙ others_booked half Joining People (pos 1) Joining Money (inr (λ e. absurd (omega (arith, e)))));
+      first = λ e t far. others_booked before.books Joining Money start e t far;
+      second = λ e t far. ap (λ (b : BooksValue). amount_in b e t) books ∙ others_booked half Joining People (pos 1) e t far;
     }
   where
     -- for `arrives`: the first unit of a faction has no items and no skills
@@ -109,32 +110,33 @@ arrives n f m u report before after found joining =
 -- ---- the statements of a joining
 
 -- a table `campaign` with one row has only the new campaign row once the new one is put
-put_campaign_row : (rows news : List Row) (text : List ℕ) (before after : CampaignRowValue) → HasExactly rows (λ r. r ≡ campaign_row before text) → HasExactly news (put 1 (campaign_row after text) (Has rows)) → HasExactly news (λ r. r ≡ campaign_row after text)
-put_campaign_row rows news text before after was made r = (
+put_replaces_campaign_row : (rows news : List Row) (text : List ℕ) (before after : CampaignRowValue) → HasExactly rows (λ r. r ≡ campaign_row before text) → HasExactly news (put 1 (campaign_row after text) (Has rows)) → HasExactly news (λ r. r ≡ campaign_row after text)
+put_replaces_campaign_row rows news text before after was made r = (
   λ there. elim ((made r).0 there) [ inl same ↦ same | inr kept ↦ absurd (kept.1 (ap (take 1) ((was r).0 kept.0))) ],
   λ same. (made r).1 (inl same),
 )
 
 -- The campaign row, the row of the faction that joins, and that of its unit are put.
 abbrev PutsNewcomer : ℕ → Faction → ℕ → Unit → CampaignValue → List ℕ → Database → Database → Type 0
-PutsNewcomer n f m u after world = Both (PutsCampaignRow (campaign_row_of after) world) (Both (Puts faction_table 1 (faction_line n f)) (Puts unit_table 1 (unit_line m u)))
+PutsNewcomer n f m u after world = DoesBoth (PutsCampaignRow (campaign_row_of after) world) (DoesBoth (Puts faction_table 1 (row_of_faction n f)) (Puts unit_table 1 (row_of_unit m u)))
 
 -- The report's row is put, and the two amounts under joining, of money and people, are written into `books`.
 abbrev PutsReportAndAmounts : ℕ → List ℕ → CampaignValue → Database → Database → Type 0
-PutsReportAndAmounts n report after = Both (Puts report_table 1 (report_row n report)) (Both (WritesAmount after Joining Money) (WritesAmount after Joining People))
+PutsReportAndAmounts n report after = DoesBoth (Puts report_table 1 (report_row n report)) (DoesBoth (WritesAmount after Joining Money) (WritesAmount after Joining People))
 
--- a table that the steps from `a` to `b` and `c` to `d` leave alone changes (by `F`) as the step from `b` to `c` does
-rows_moved : (t : Table) (F : List Row → Set) (a b c d : Database) → b.trees t.tree ≡ a.trees t.tree → d.trees t.tree ≡ c.trees t.tree → HasExactly (rows_in t c.trees) (F (rows_in t b.trees)) → HasExactly (rows_in t d.trees) (F (rows_in t a.trees))
-rows_moved t F a b c d first last is = subst (λ rows. HasExactly rows (F (rows_in t a.trees))) (sym (ap (map (visible t)) last)) (subst (λ rows. HasExactly (rows_in t c.trees) (F rows)) (ap (map (visible t)) first) is)
+-- a table that the first and the last of three steps leave alone changes over all three (by `F`) as it does in the step
+-- from `b` to `c`
+middle_step_changes_rows : (t : Table) (F : List Row → Set) (a b c d : Database) → b.trees t.tree ≡ a.trees t.tree → d.trees t.tree ≡ c.trees t.tree → HasExactly (rows_in t c.trees) (F (rows_in t b.trees)) → HasExactly (rows_in t d.trees) (F (rows_in t a.trees))
+middle_step_changes_rows t F a b c d first last is = subst (λ rows. HasExactly rows (F (rows_in t a.trees))) (sym (ap (map (visible_row t)) last)) (subst (λ rows. HasExactly (rows_in t c.trees) (F rows)) (ap (map (visible_row t)) first) is)
 
--- if a table has the rows `S`, writing an amount into it makes them the rows `S` with this amount (`settled`)
-settled_on : (c : CampaignValue) (e : BooksEntry) (t : Thing) (rows news : List Row) (S : Set) → HasExactly rows S → HasExactly news (settled c e t (Has rows)) → HasExactly news (settled c e t S)
-settled_on c e t rows news S was is r = (
+-- if a table has the rows `S`, writing an amount into it makes them the rows `S` with this amount (`rows_with_amount`)
+amount_is_written_on_rows : (c : CampaignValue) (e : BooksEntry) (t : Thing) (rows news : List Row) (S : Set) → HasExactly rows S → HasExactly news (rows_with_amount c e t (Has rows)) → HasExactly news (rows_with_amount c e t S)
+amount_is_written_on_rows c e t rows news S was is r = (
   λ there. elim ((is r).0 there) [ inl new ↦ inl new | inr kept ↦ inr ((was r).0 kept.0, kept.1) ],
   λ h. (is r).1 (elim h [ inl new ↦ inl new | inr kept ↦ inr ((was r).1 kept.0, kept.1) ]),
 )
 
-module _ (n : ℕ) (f : Faction) (m : ℕ) (u : Unit) (report : List ℕ) (after : CampaignValue) (found : IsFound after n f m u report) where
+module _ (n : ℕ) (f : Faction) (m : ℕ) (u : Unit) (report : List ℕ) (after : CampaignValue) (found : HasArrivalWith after n f m u report) where
   -- `PutsNewcomer` and then `PutsReportAndAmounts` are together the write of a join (`WritesJoin`)
   joins : (world : List ℕ) (a b d : Database) → PutsNewcomer n f m u after world a b → PutsReportAndAmounts n report after b d → WritesJoin n after a d
   joins world a b d enrolls reports before text was =
@@ -152,24 +154,24 @@ module _ (n : ℕ) (f : Faction) (m : ℕ) (u : Unit) (report : List ℕ) (after
       let from_books : (t : Table) → Has all_tables t → t.tree ≢ 9 → t.tree ≢ 10 → d.trees t.tree ≡ b.trees t.tree = λ t listed h9 h10. people.others t listed h10 ∙ money.others t listed h10 ∙ welcome.others t listed h9 in
       let alone : (t : Table) → Has all_tables t → t.tree ≢ 0 → t.tree ≢ 1 → t.tree ≢ 4 → t.tree ≢ 9 → t.tree ≢ 10 → d.trees t.tree ≡ a.trees t.tree = λ t listed h0 h1 h4 h9 h10. from_books t listed h9 h10 ∙ to_books t listed h0 h1 h4 in
       record {
-        campaign = stays_is campaign_table (λ r. r ≡ campaign_line text after) x d
+        campaign = stays_is campaign_table (λ r. r ≡ row_of_campaign text after) x d
             (from_books campaign_table (listed Own) (λ e. absurd (omega (arith, e))) (λ e. absurd (omega (arith, e))) ∙ unit.others campaign_table (listed Own) (λ e. absurd (omega (arith, e))) ∙ member.others campaign_table (listed Own) (λ e. absurd (omega (arith, e))))
-            (put_campaign_row (rows_in campaign_table a.trees) (rows_in campaign_table x.trees) text before (campaign_row_of after) was head.rows);
-        member = λ g is. subst (λ (row : Faction). HasPut faction_table (faction_line n row) a d) (same_Some f g (sym found.faction_is ∙ is))
-            (rows_moved faction_table (λ rows. put 1 (faction_line n f) (Has rows)) a x y d (head.others faction_table (listed Factions) (λ e. absurd (omega (arith, e))))
+            (put_replaces_campaign_row (rows_in campaign_table a.trees) (rows_in campaign_table x.trees) text before (campaign_row_of after) was head.rows);
+        member = λ g is. subst (λ (row : Faction). HasPut faction_table (row_of_faction n row) a d) (same_Some f g (sym found.faction_is ∙ is))
+            (middle_step_changes_rows faction_table (λ rows. put 1 (row_of_faction n f) (Has rows)) a x y d (head.others faction_table (listed Factions) (λ e. absurd (omega (arith, e))))
             (from_books faction_table (listed Factions) (λ e. absurd (omega (arith, e))) (λ e. absurd (omega (arith, e))) ∙ unit.others faction_table (listed Factions) (λ e. absurd (omega (arith, e)))) member.rows);
-        unit = λ place v at is.
-            let here : m ≡ place = omega (arith, at, found.place_is) in
-            let row : unit_line m u ≡ unit_line place v = ap (λ k. unit_line k u) here ∙ ap (unit_line place) (same_Some u v (sym found.unit_is ∙ ap (get after.units) here ∙ is)) in
+        unit = λ unit_number v at is.
+            let here : m ≡ unit_number = omega (arith, at, found.place_is) in
+            let row : row_of_unit m u ≡ row_of_unit unit_number v = ap (λ k. row_of_unit k u) here ∙ ap (row_of_unit unit_number) (same_Some u v (sym found.unit_is ∙ ap (get after.units) here ∙ is)) in
             subst (λ (l : Row). HasPut unit_table l a d) row
-            (rows_moved unit_table (λ rows. put 1 (unit_line m u) (Has rows)) a y b d
+            (middle_step_changes_rows unit_table (λ rows. put 1 (row_of_unit m u) (Has rows)) a y b d
             (member.others unit_table (listed Units) (λ e. absurd (omega (arith, e))) ∙ head.others unit_table (listed Units) (λ e. absurd (omega (arith, e))))
             (from_books unit_table (listed Units) (λ e. absurd (omega (arith, e))) (λ e. absurd (omega (arith, e)))) unit.rows);
-        report = λ told is. subst (λ (l : List ℕ). HasPut report_table (report_row n l) a d) (same_Some report told (sym found.report_is ∙ is))
-            (rows_moved report_table (λ rows. put 1 (report_row n report) (Has rows)) a b z d (to_books report_table (listed Reports) (λ e. absurd (omega (arith, e))) (λ e. absurd (omega (arith, e))) (λ e. absurd (omega (arith, e))))
+        report = λ says is. subst (λ (l : List ℕ). HasPut report_table (report_row n l) a d) (same_Some report says (sym found.report_is ∙ is))
+            (middle_step_changes_rows report_table (λ rows. put 1 (report_row n report) (Has rows)) a b z d (to_books report_table (listed Reports) (λ e. absurd (omega (arith, e))) (λ e. absurd (omega (arith, e))) (λ e. absurd (omega (arith, e))))
             (people.others report_table (listed Reports) (λ e. absurd (omega (arith, e))) ∙ money.others report_table (listed Reports) (λ e. absurd (omega (arith, e)))) welcome.rows);
-        books = settled_on after Joining People (rows_in books_table w.trees) (rows_in books_table d.trees) (settled after Joining Money (Has (rows_in books_table a.trees)))
-            (rows_moved books_table (λ rows. settled after Joining Money (Has rows)) a z w w
+        books = amount_is_written_on_rows after Joining People (rows_in books_table w.trees) (rows_in books_table d.trees) (rows_with_amount after Joining Money (Has (rows_in books_table a.trees)))
+            (middle_step_changes_rows books_table (λ rows. rows_with_amount after Joining Money (Has rows)) a z w w
             (welcome.others books_table (listed Books) (λ e. absurd (omega (arith, e))) ∙ to_books books_table (listed Books) (λ e. absurd (omega (arith, e))) (λ e. absurd (omega (arith, e))) (λ e. absurd (omega (arith, e)))) refl money.rows)
             people.rows;
         others = λ part free.
@@ -179,7 +181,7 @@ module _ (n : ℕ) (f : Faction) (m : ℕ) (u : Unit) (report : List ℕ) (after
 
   -- tables that held the campaign before the join hold the one after it
   pub join_held : (a d : Database) → WritesJoin n after a d → (text : List ℕ) (before : CampaignValue) → IsJoining before n after → Holds a.trees text before → Holds d.trees text after
-  unfolding joined
+  unfolding after_join
   join_held a d did text before joining holds = record { rows = rows }
     where
       -- for `join_held`: the join adds the faction, unit and report, and books two amounts (`IsArrival`)
@@ -191,44 +193,45 @@ module _ (n : ℕ) (f : Faction) (m : ℕ) (u : Unit) (report : List ℕ) (after
       enters = did (campaign_row_of before) text (holds.rows Own)
 
       -- for `join_held`: a part that no statement of a join writes has the rows that it had
-      stays : (part : Part) → is_among (Own ∷ Factions ∷ Units ∷ Reports ∷ Books ∷ []) part ≡ false → HasExactly (rows_in (table_of part) d.trees) (rows_for (campaign_line text before) before part)
-      stays part free = stays_is (table_of part) (rows_for (campaign_line text before) before part) a d (enters.others part (not_among (Own ∷ Factions ∷ Units ∷ Reports ∷ Books ∷ []) part free)) (holds.rows part)
+      stays : (part : Part) → is_among (Own ∷ Factions ∷ Units ∷ Reports ∷ Books ∷ []) part ≡ false → HasExactly (rows_in (table_of part) d.trees) (rows_for (row_of_campaign text before) before part)
+      stays part free = stays_is (table_of part) (rows_for (row_of_campaign text before) before part) a d (enters.others part (not_among (Own ∷ Factions ∷ Units ∷ Reports ∷ Books ∷ []) part free)) (holds.rows part)
 
       -- for `join_held`: each part's table has the rows of the campaign after the join
-      rows : (part : Part) → HasExactly (rows_in (table_of part) d.trees) (rows_for (campaign_line text after) after part)
+      rows : (part : Part) → HasExactly (rows_in (table_of part) d.trees) (rows_for (row_of_campaign text after) after part)
       rows Own = enters.campaign
-      rows Factions = subst (λ (x : FinMap nat_cmp Faction). HasExactly (rows_in faction_table d.trees) (RowsOf faction_line x)) (sym arrival.factions) (put_rows faction_line (λ k v. refl) (rows_in faction_table a.trees) (rows_in faction_table d.trees) before.factions n f (holds.rows Factions) (enters.member f found.faction_is))
-      rows Units = subst (λ (x : FinMap nat_cmp Unit). HasExactly (rows_in unit_table d.trees) (RowsOf unit_line x)) (sym arrival.units) (put_rows unit_line (λ k v. refl) (rows_in unit_table a.trees) (rows_in unit_table d.trees) before.units m u (holds.rows Units) (enters.unit m u found.place_is found.unit_is))
+      rows Factions = subst (λ (x : FinMap nat_cmp Faction). HasExactly (rows_in faction_table d.trees) (RowsOf row_of_faction x)) (sym arrival.factions) (put_rows row_of_faction (λ k v. refl) (rows_in faction_table a.trees) (rows_in faction_table d.trees) before.factions n f (holds.rows Factions) (enters.member f found.faction_is))
+      rows Units = subst (λ (x : FinMap nat_cmp Unit). HasExactly (rows_in unit_table d.trees) (RowsOf row_of_unit x)) (sym arrival.units) (put_rows row_of_unit (λ k v. refl) (rows_in unit_table a.trees) (rows_in unit_table d.trees) before.units m u (holds.rows Units) (enters.unit m u found.place_is found.unit_is))
       rows Goods = subst (λ x. HasExactly (rows_in has_table d.trees) (HasRowsOf x)) (sym arrival.units) (no_goods (rows_in has_table d.trees) before.units m u arrival.fresh arrival.bare (stays Goods refl))
       rows Reports = subst (λ (x : FinMap nat_cmp (List ℕ)). HasExactly (rows_in report_table d.trees) (RowsOf report_row x)) (sym arrival.reports) (put_rows report_row (λ k v. refl) (rows_in report_table a.trees) (rows_in report_table d.trees) before.reports n report (holds.rows Reports) (enters.report report found.report_is))
       rows Books = λ r.
-          let money = settled_rows after Joining Money before.books arrival.half (Has (rows_in books_table a.trees)) arrival.money arrival.first (holds.rows Books) in
-          let people = settled_rows after Joining People arrival.half after.books (settled after Joining Money (Has (rows_in books_table a.trees))) refl arrival.second money r in
+          let money = written_amount_changes_books after Joining Money before.books arrival.half (Has (rows_in books_table a.trees)) arrival.money arrival.first (holds.rows Books) in
+          let people = written_amount_changes_books after Joining People arrival.half after.books (rows_with_amount after Joining Money (Has (rows_in books_table a.trees))) refl arrival.second money r in
           (λ there. people.0 ((enters.books r).0 there), λ of. (enters.books r).1 (people.1 of))
-      rows part = subst (λ (c : CampaignValue). HasExactly (rows_in (table_of part) d.trees) (rows_for (campaign_line text c) c part)) (sym joining.7) (stays part refl)
+      rows part = subst (λ (c : CampaignValue). HasExactly (rows_in (table_of part) d.trees) (rows_for (row_of_campaign text c) c part)) (sym joining.7) (stays part refl)
 
 -- inside a transaction, the rows of campaign, faction and unit, put one after another, are all put (`PutsNewcomer`)
-pub enrolling_done : (n : ℕ) (f : Faction) (m : ℕ) (u : Unit) (after : CampaignValue) (world : List ℕ) (start one two three : State) → Inside HasTables (PutsCampaignRow (campaign_row_of after) world) start one → Inside HasTables (Puts faction_table 1 (faction_line n f)) one two
-    → Inside HasTables (Puts unit_table 1 (unit_line m u)) two three → Inside HasTables (Both (PutsCampaignRow (campaign_row_of after) world) (Both (Puts faction_table 1 (faction_line n f)) (Puts unit_table 1 (unit_line m u)))) start three
+pub enrolling_done : (n : ℕ) (f : Faction) (m : ℕ) (u : Unit) (after : CampaignValue) (world : List ℕ) (start one two three : State) → DoesInside HasTables (PutsCampaignRow (campaign_row_of after) world) start one → DoesInside HasTables (Puts faction_table 1 (row_of_faction n f)) one two
+    → DoesInside HasTables (Puts unit_table 1 (row_of_unit m u)) two three → DoesInside HasTables (DoesBoth (PutsCampaignRow (campaign_row_of after) world) (DoesBoth (Puts faction_table 1 (row_of_faction n f)) (Puts unit_table 1 (row_of_unit m u)))) start three
 enrolling_done n f m u after world start one two three first second third =
-    let factions = Puts faction_table 1 (faction_line n f) in
-    let units = Puts unit_table 1 (unit_line m u) in
-    inside_then HasTables (PutsCampaignRow (campaign_row_of after) world) (Both factions units) start one three first (inside_then HasTables factions units one two three second third)
+    let factions = Puts faction_table 1 (row_of_faction n f) in
+    let units = Puts unit_table 1 (row_of_unit m u) in
+    inside_then HasTables (PutsCampaignRow (campaign_row_of after) world) (DoesBoth factions units) start one three first (inside_then HasTables factions units one two three second third)
 
--- inside a transaction, the report's row and the two amounts, one after another, are all written (`PutsReportAndAmounts`)
-pub reporting_done : (n : ℕ) (report : List ℕ) (after : CampaignValue) (start one two three : State) → Inside HasTables (Puts report_table 1 (report_row n report)) start one → Inside HasTables (WritesAmount after Joining Money) one two
-    → Inside HasTables (WritesAmount after Joining People) two three → Inside HasTables (Both (Puts report_table 1 (report_row n report)) (Both (WritesAmount after Joining Money) (WritesAmount after Joining People))) start three
+-- inside a transaction, the report's row and the two amounts, one after another, are all written
+-- (`PutsReportAndAmounts`)
+pub reporting_done : (n : ℕ) (report : List ℕ) (after : CampaignValue) (start one two three : State) → DoesInside HasTables (Puts report_table 1 (report_row n report)) start one → DoesInside HasTables (WritesAmount after Joining Money) one two
+    → DoesInside HasTables (WritesAmount after Joining People) two three → DoesInside HasTables (DoesBoth (Puts report_table 1 (report_row n report)) (DoesBoth (WritesAmount after Joining Money) (WritesAmount after Joining People))) start three
 reporting_done n report after start one two three first second third =
     let money = WritesAmount after Joining Money in
     let people = WritesAmount after Joining People in
-    inside_then HasTables (Puts report_table 1 (report_row n report)) (Both money people) start one three first (inside_then HasTables money people one two three second third)
+    inside_then HasTables (Puts report_table 1 (report_row n report)) (DoesBoth money people) start one three first (inside_then HasTables money people one two three second third)
 
 -- inside a transaction, putting campaign row, faction and unit, then report and amounts, is the write of a join
-pub joining_done : (n : ℕ) (f : Faction) (m : ℕ) (u : Unit) (report : List ℕ) (after : CampaignValue) (world : List ℕ) (start one two : State) → IsFound after n f m u report
-    → Inside HasTables (Both (PutsCampaignRow (campaign_row_of after) world) (Both (Puts faction_table 1 (faction_line n f)) (Puts unit_table 1 (unit_line m u)))) start one
-    → Inside HasTables (Both (Puts report_table 1 (report_row n report)) (Both (WritesAmount after Joining Money) (WritesAmount after Joining People))) one two → Inside HasTables (WritesJoin n after) start two
+pub joining_done : (n : ℕ) (f : Faction) (m : ℕ) (u : Unit) (report : List ℕ) (after : CampaignValue) (world : List ℕ) (start one two : State) → HasArrivalWith after n f m u report
+    → DoesInside HasTables (DoesBoth (PutsCampaignRow (campaign_row_of after) world) (DoesBoth (Puts faction_table 1 (row_of_faction n f)) (Puts unit_table 1 (row_of_unit m u)))) start one
+    → DoesInside HasTables (DoesBoth (Puts report_table 1 (report_row n report)) (DoesBoth (WritesAmount after Joining Money) (WritesAmount after Joining People))) one two → DoesInside HasTables (WritesJoin n after) start two
 joining_done n f m u report after world start one two found first second =
-    inside_weaker HasTables (Both (PutsNewcomer n f m u after world) (PutsReportAndAmounts n report after)) (WritesJoin n after) start two (λ has did. joins n f m u report after found world start.now did.0 two.now did.1 did.2)
+    inside_weaker HasTables (DoesBoth (PutsNewcomer n f m u after world) (PutsReportAndAmounts n report after)) (WritesJoin n after) start two (λ has did. joins n f m u report after found world start.now did.0 two.now did.1 did.2)
     (inside_then HasTables (PutsNewcomer n f m u after world) (PutsReportAndAmounts n report after) start one two first second)
 
 -- ---- a mailing
@@ -238,6 +241,6 @@ pub mail_held : (faction : ℕ) (mail : List ℕ) (a b : Database) → WritesMai
 mail_held faction mail a b did text before holds = record { rows = rows }
   where
     -- for `mail_held`: each part's table has the rows of the campaign with the mailing
-    rows : (part : Part) → HasExactly (rows_in (table_of part) b.trees) (rows_for (campaign_line text before) (with_mail before faction mail) part)
+    rows : (part : Part) → HasExactly (rows_in (table_of part) b.trees) (rows_for (row_of_campaign text before) (with_mail before faction mail) part)
     rows Mail = put_rows mail_row (λ k v. refl) (rows_in mail_table a.trees) (rows_in mail_table b.trees) before.mail faction mail (holds.rows Mail) did.rows
-    rows part = stays_is (table_of part) (rows_for (campaign_line text before) before part) a b (did.others (table_of part) (listed part) (λ e. absurd (omega (arith, e)))) (holds.rows part)
+    rows part = stays_is (table_of part) (rows_for (row_of_campaign text before) before part) a b (did.others (table_of part) (listed part) (λ e. absurd (omega (arith, e)))) (holds.rows part)

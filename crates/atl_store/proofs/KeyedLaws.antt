@@ -19,11 +19,11 @@ use Rattle.sqlite_rules.proofs.ListLemmas.{all_from, all_has}
 use Rattle.atl_world.specs.declared.format.Format.TheVariants.{Second}
 use Rattle.atl_campaign.specs.declared.parts.Parts.{Parts}
 use Rattle.atl_campaign.specs.declared.parts.StoredCampaignRow.{StoredCampaignRow}
-use Rattle.atl_store.specs.Gathering.{AreApart, AreAllApart, HaveKeys, IsMadeOf, FailsWithout, ReadRows, without_ids, width}
-use Rattle.atl_store.specs.Loading.{shows_rowids, has_values, books_values, market_values, other_parts, rows_read}
+use Rattle.atl_store.specs.Gathering.{HaveDistinctRowids, AllHaveDistinctRowids, HaveDistinctIntegers, IsMadeOf, FailsWithout, ReadRows, without_ids, column_count}
+use Rattle.atl_store.specs.Loading.{shows_rowids, has_row_values, books_values, market_values, other_parts, rows_read}
 use Rattle.atl_sql.specs.Reading.{select_of_part}
-use Rattle.atl_sql.specs.Rows.{lines_of}
-use Rattle.atl_sql.specs.Sets.{AreKeyedByRowid, visible, rows_in}
+use Rattle.atl_sql.specs.Rows.{rows_in_order}
+use Rattle.atl_sql.specs.Sets.{AreKeyedByRowid, visible_row, rows_in}
 use Rattle.atl_sql.specs.Shown.{has_stored, books_stored, market_stored}
 use Rattle.atl_sql.specs.Tables.{Part, Own, Goods, Books, Markets, table_of}
 use Rattle.atl_store.specs.declared.fault.LoadFault.{LoadFault}
@@ -56,8 +56,8 @@ module _ {A : Type 0} (shown : A → Row) (number : A → ℤ) (at : ℕ) (is : 
   are_ints [] = tt
   are_ints (x ∷ xs) = (ap is_int (is x), are_ints xs)
 
-  -- if the numbers of `xs` all differ, their rows have different integers in the column `at` (`HaveKeys`)
-  numbers_keys : (xs : List A) → IsDistinct int_eq (map number xs) → HaveKeys at (map shown xs)
+  -- if the numbers of `xs` all differ, their rows have different integers in the column `at` (`HaveDistinctIntegers`)
+  numbers_keys : (xs : List A) → IsDistinct int_eq (map number xs) → HaveDistinctIntegers at (map shown xs)
   numbers_keys xs apart = record { apart = columns_apart xs apart; ints = are_ints xs }
 
   -- if the row of `a` differs from those of all of `xs` in the column `at`, its number differs from theirs
@@ -89,11 +89,11 @@ entries_apart {V} (e ∷ es) sorted = (
 )
 
 -- rows made of a map's entries, each with the entry's number first, have different numbers in the first column
-pub lines_keys : {V : Type 0} (line : ℕ → V → Row) → ((n : ℕ) (v : V) → column (line n v) 0 ≡ Int (pos n)) → (m : FinMap nat_cmp V) → HaveKeys 0 (lines_of line (entries m))
+pub lines_keys : {V : Type 0} (line : ℕ → V → Row) → ((n : ℕ) (v : V) → column (line n v) 0 ≡ Int (pos n)) → (m : FinMap nat_cmp V) → HaveDistinctIntegers 0 (rows_in_order line (entries m))
 lines_keys {V} line numbered m = numbers_keys (λ (e : ℕ × V). line e.0 e.1) (λ (e : ℕ × V). pos e.0) 0 (λ e. numbered e.0 e.1) (entries m) (entries_apart (entries m) (in_order m))
 
--- a list of one row with an integer in its first column has different integers there (`HaveKeys`)
-pub one_keys : (row : Row) (n : ℤ) → column row 0 ≡ Int n → HaveKeys 0 (row ∷ [])
+-- a list of one row with an integer in its first column has different integers there (`HaveDistinctIntegers`)
+pub one_keys : (row : Row) (n : ℤ) → column row 0 ≡ Int n → HaveDistinctIntegers 0 (row ∷ [])
 unfolding IsDistinct
 one_keys row n is = record { apart = (tt, tt); ints = (ap is_int is, tt) }
 
@@ -104,50 +104,51 @@ pub mapped_twice : {X Y Z : Type 0} (f : X → Y) (g : Y → Z) (h : X → Z) �
 mapped_twice f g h same [] = refl
 mapped_twice f g h same (x ∷ xs) = ap (λ y. y ∷ map g (map f xs)) (same x) ∙ ap (λ ys. h x ∷ ys) (mapped_twice f g h same xs)
 
--- a row as the listing of a part shows it with its rowid as the last column
+-- a row of a part's table, as the part's SELECT shows it, with the rowid as the last column
 abbrev placed_row : Part → Row → Row
-placed_row part r = visible (table_of part) r ++ rowid r ∷ []
+placed_row part r = visible_row (table_of part) r ++ rowid r ∷ []
 
--- a row that is shown with its rowid is, without the rowid, the row as its table shows it (`visible`)
-cut_row : (part : Part) (r : Row) → take (width part) (placed_row part r) ≡ visible (table_of part) r
+-- a row shown with its rowid (`placed_row`) is, without the rowid, the row as its table shows it (`visible_row`)
+cut_row : (part : Part) (r : Row) → take (column_count part) (placed_row part r) ≡ visible_row (table_of part) r
 cut_row Own r = refl
 cut_row part r = refl
 
 -- the last column of a row shown with its rowid is the rowid
-row_place : (part : Part) (r : Row) → column (placed_row part r) (width part) ≡ rowid r
+row_place : (part : Part) (r : Row) → column (placed_row part r) (column_count part) ≡ rowid r
 row_place Own r = refl
 row_place part r = refl
 
--- A part's listing shows all rows with their rowids or, where the first column is the rowid, without them.
+-- The rows that a part's SELECT shows (its listing) are all rows with their rowids or, where the first column is the
+-- rowid, without them.
 shown_by : (part : Part) → ((shows_rowids part ≡ true) × ((db : Trees) → (select_of_part part).in_table db ≡ map (placed_row part) (db (table_of part).tree)))
-    ⊎ ((shows_rowids part ≡ false) × ((db : Trees) → (select_of_part part).in_table db ≡ rows_in (table_of part) db) × ((r : Row) → column (visible (table_of part) r) 0 ≡ rowid r))
+    ⊎ ((shows_rowids part ≡ false) × ((db : Trees) → (select_of_part part).in_table db ≡ rows_in (table_of part) db) × ((r : Row) → column (visible_row (table_of part) r) 0 ≡ rowid r))
 shown_by Goods = inl (refl, λ db. refl)
 shown_by Books = inl (refl, λ db. refl)
 shown_by Markets = inl (refl, λ db. refl)
 shown_by part = inr (refl, λ db. refl, λ r. refl)
 
--- if a part is shown with rowids, its listing shows each row with its rowid
+-- the rows that a part's SELECT shows (its listing) are all rows with their rowids, if the part is shown with rowids
 in_places : (part : Part) → shows_rowids part ≡ true → (db : Trees) → (select_of_part part).in_table db ≡ map (placed_row part) (db (table_of part).tree)
-in_places part is = elim (shown_by part) [ inl places ↦ places.1 | inr whole ↦ absurd (true≢false (sym is ∙ whole.0)) ]
+in_places part is = elim (shown_by part) [ inl positions ↦ positions.1 | inr whole ↦ absurd (true≢false (sym is ∙ whole.0)) ]
 
--- if a part is shown without rowids, the first column of each row is the rowid
-row_number : (part : Part) → shows_rowids part ≡ false → (r : Row) → column (visible (table_of part) r) 0 ≡ rowid r
-row_number part is = elim (shown_by part) [ inl places ↦ absurd (true≢false (sym places.0 ∙ is)) | inr whole ↦ whole.2 ]
+-- the first column of each row is the rowid, if the part is shown without rowids
+row_number : (part : Part) → shows_rowids part ≡ false → (r : Row) → column (visible_row (table_of part) r) 0 ≡ rowid r
+row_number part is = elim (shown_by part) [ inl positions ↦ absurd (true≢false (sym positions.0 ∙ is)) | inr whole ↦ whole.2 ]
 
 -- removing the rowids from the rows of a part that shows them leaves the first columns
-pub cut_places : (part : Part) (rows : List Row) → shows_rowids part ≡ true → without_ids part rows ≡ map (take (width part)) rows
-cut_places part rows is = ap (λ b. if b then map (take (width part)) rows else rows) is
+pub cut_places : (part : Part) (rows : List Row) → shows_rowids part ≡ true → without_ids part rows ≡ map (take (column_count part)) rows
+cut_places part rows is = ap (λ b. if b then map (take (column_count part)) rows else rows) is
 
 -- removing the rowids from the rows of a part that shows none leaves the rows as they are
 pub cut_nothing : (part : Part) (rows : List Row) → shows_rowids part ≡ false → without_ids part rows ≡ rows
-cut_nothing part rows is = ap (λ b. if b then map (take (width part)) rows else rows) is
+cut_nothing part rows is = ap (λ b. if b then map (take (column_count part)) rows else rows) is
 
 module _ (part : Part) (db : Trees) (rows : List Row) where
   -- all rows shown with rowids are, without the rowids, all rows of the table
-  without_places : IsPermutation (map (placed_row part) (db (table_of part).tree)) rows → IsPermutation (rows_in (table_of part) db) (map (take (width part)) rows)
+  without_places : IsPermutation (map (placed_row part) (db (table_of part).tree)) rows → IsPermutation (rows_in (table_of part) db) (map (take (column_count part)) rows)
   without_places same =
-      subst (λ l. IsPermutation l (map (take (width part)) rows)) (mapped_twice (placed_row part) (take (width part)) (visible (table_of part)) (cut_row part) (db (table_of part).tree))
-      (IsPermutation-map (take (width part)) (map (placed_row part) (db (table_of part).tree)) rows same)
+      subst (λ l. IsPermutation l (map (take (column_count part)) rows)) (mapped_twice (placed_row part) (take (column_count part)) (visible_row (table_of part)) (cut_row part) (db (table_of part).tree))
+      (IsPermutation-map (take (column_count part)) (map (placed_row part) (db (table_of part).tree)) rows same)
 
   module _ (is : shows_rowids part ≡ true) (same : IsPermutation ((select_of_part part).in_table db) rows) where
     -- the rows that the listing shows are a permutation of all rows with their rowids
@@ -155,22 +156,22 @@ module _ (part : Part) (db : Trees) (rows : List Row) where
     same_placed = subst (λ l. IsPermutation l rows) (in_places part is db) same
 
     -- if the rowids that are shown are different integers, so are the rowids in the table's tree
-    pub places_keyed : HaveKeys (width part) rows → AreKeyedByRowid (db (table_of part).tree)
-    places_keyed keys = keyed_by (placed_row part) (width part) (db (table_of part).tree) rows (row_place part) same_placed keys
+    pub places_keyed : HaveDistinctIntegers (column_count part) rows → AreKeyedByRowid (db (table_of part).tree)
+    places_keyed keys = keyed_by (placed_row part) (column_count part) (db (table_of part).tree) rows (row_place part) same_placed keys
 
     -- if the rowids in the table's tree are different integers, so are the rowids that are shown
-    pub keyed_places : AreKeyedByRowid (db (table_of part).tree) → HaveKeys (width part) rows
-    keyed_places keyed = keyed_shown (placed_row part) (width part) (db (table_of part).tree) rows (row_place part) same_placed keyed
+    pub keyed_places : AreKeyedByRowid (db (table_of part).tree) → HaveDistinctIntegers (column_count part) rows
+    keyed_places keyed = keyed_shown (placed_row part) (column_count part) (db (table_of part).tree) rows (row_place part) same_placed keyed
 
-  -- if the first column shows the rowids, and as different integers, the rowids in the table's tree are different
+  -- the rowids in the table's tree are different integers, if the first column shows the rowids, and as different
   -- integers
-  pub numbers_keyed : shows_rowids part ≡ false → IsPermutation (rows_in (table_of part) db) rows → HaveKeys 0 rows → AreKeyedByRowid (db (table_of part).tree)
-  numbers_keyed is same keys = keyed_by (visible (table_of part)) 0 (db (table_of part).tree) rows (row_number part is) same keys
+  pub numbers_keyed : shows_rowids part ≡ false → IsPermutation (rows_in (table_of part) db) rows → HaveDistinctIntegers 0 rows → AreKeyedByRowid (db (table_of part).tree)
+  numbers_keyed is same keys = keyed_by (visible_row (table_of part)) 0 (db (table_of part).tree) rows (row_number part is) same keys
 
   -- all rows that the listing shows, without their rowids, are all rows of the table
   pub unplaced_all : IsPermutation ((select_of_part part).in_table db) rows → IsPermutation (rows_in (table_of part) db) (without_ids part rows)
   unplaced_all same = elim (shown_by part) [
-    | inl places ↦ subst (IsPermutation (rows_in (table_of part) db)) (sym (cut_places part rows places.0)) (without_places (same_placed places.0 same))
+    | inl positions ↦ subst (IsPermutation (rows_in (table_of part) db)) (sym (cut_places part rows positions.0)) (without_places (same_placed positions.0 same))
     | inr whole ↦ subst (IsPermutation (rows_in (table_of part) db)) (sym (cut_nothing part rows whole.0)) (subst (λ l. IsPermutation l rows) (whole.1 db) same)
   ]
 
@@ -179,26 +180,26 @@ module _ (part : Part) (db : Trees) (rows : List Row) where
 -- A row that was read with its rowid is shown as its values and after them the rowid.
 pub record IsPlacedAs {A : Type 0} (part : Part) (stored : RowWithId A → Row) (values : A → Row) : Type 0 where
   -- the first columns of a row as it is shown are the values of the row that was read
-  pub values_are : (s : RowWithId A) → take (width part) (stored s) ≡ values s.row
+  pub values_are : (s : RowWithId A) → take (column_count part) (stored s) ≡ values s.row
   -- the column after the values is the rowid of the row that was read
-  pub place_is : (s : RowWithId A) → column (stored s) (width part) ≡ Int s.rowid
+  pub place_is : (s : RowWithId A) → column (stored s) (column_count part) ≡ Int s.rowid
 
 module _ {A : Type 0} {part : Part} {stored : RowWithId A → Row} {values : A → Row} (is : IsPlacedAs part stored values) (placed : List (RowWithId A)) where
   -- the values of rows read with rowids are the first columns of what was shown
-  pub placed_values : map values (map (λ s. s.row) placed) ≡ map (take (width part)) (map stored placed)
+  pub placed_values : map values (map (λ s. s.row) placed) ≡ map (take (column_count part)) (map stored placed)
   placed_values =
-      mapped_twice (λ (s : RowWithId A). s.row) values (λ (s : RowWithId A). values s.row) (λ s. refl) placed ∙ sym (mapped_twice stored (take (width part)) (λ (s : RowWithId A). values s.row) is.values_are placed)
+      mapped_twice (λ (s : RowWithId A). s.row) values (λ (s : RowWithId A). values s.row) (λ s. refl) placed ∙ sym (mapped_twice stored (take (column_count part)) (λ (s : RowWithId A). values s.row) is.values_are placed)
 
   -- if the rowids that were read differ, the shown rows have different integers after their values
-  pub placed_keys : AreApart placed → HaveKeys (width part) (map stored placed)
-  placed_keys apart = numbers_keys stored (λ s. s.rowid) (width part) is.place_is placed apart
+  pub placed_keys : HaveDistinctRowids placed → HaveDistinctIntegers (column_count part) (map stored placed)
+  placed_keys apart = numbers_keys stored (λ s. s.rowid) (column_count part) is.place_is placed apart
 
   -- if the shown rows have different integers after their values, the rowids that were read differ
-  pub placed_apart : HaveKeys (width part) (map stored placed) → AreApart placed
-  placed_apart keys = numbers_apart stored (λ s. s.rowid) (width part) is.place_is placed keys.apart
+  pub placed_apart : HaveDistinctIntegers (column_count part) (map stored placed) → HaveDistinctRowids placed
+  placed_apart keys = numbers_apart stored (λ s. s.rowid) (column_count part) is.place_is placed keys.apart
 
 -- a row of `has` that was read is shown as its values and after them its rowid
-pub has_placed : IsPlacedAs Goods has_stored has_values
+pub has_placed : IsPlacedAs Goods has_stored has_row_values
 has_placed = record { values_are = λ s. refl; place_is = λ s. refl }
 
 -- a row of `books` that was read is shown as its values and after them its rowid
@@ -217,7 +218,7 @@ pub record IsMadeAs (p : Parts) (read : Part × List Row) : Type 0 where
   -- the rows to be checked are those that were read, without their rowids
   pub rows : (text : List ℕ) → rows_read text p read.0 ≡ without_ids read.0 read.1
   -- if the part is shown with rowids, these are integers, no two alike
-  pub apart : shows_rowids read.0 ≡ true → HaveKeys (width read.0) read.1
+  pub apart : shows_rowids read.0 ≡ true → HaveDistinctIntegers (column_count read.0) read.1
 
 -- a part that is shown without rowids is made of what was read (`IsMadeAs`), if `p` has its rows as they were read
 pub made_whole : {p : Parts} {rows : List Row} (part : Part) → shows_rowids part ≡ false → ((text : List ℕ) → rows_read text p part ≡ rows) → IsMadeAs p (part, rows)
@@ -229,14 +230,14 @@ made_whole {p} {rows} part free are = record {
 -- a part that is shown with rowids is made of what was read (`IsMadeAs`), if `p` has its rows without the rowids, and
 -- the rowids differ
 pub made_placed : {p : Parts} {A : Type 0} {part : Part} {stored : RowWithId A → Row} {values : A → Row} → IsPlacedAs part stored values → shows_rowids part ≡ true → (placed : List (RowWithId A))
-    → ((text : List ℕ) → rows_read text p part ≡ map values (map (λ s. s.row) placed)) → AreApart placed → IsMadeAs p (part, map stored placed)
+    → ((text : List ℕ) → rows_read text p part ≡ map values (map (λ s. s.row) placed)) → HaveDistinctRowids placed → IsMadeAs p (part, map stored placed)
 made_placed {p} {A} {part} {stored} {values} is has placed are apart = record {
   rows = λ text. are text ∙ placed_values is placed ∙ sym (cut_places part (map stored placed) has);
   apart = λ _. placed_keys is placed apart;
 }
 
--- if each part but the campaign row is made of what was read, and `head` is the only campaign row of `p`, all parts are
--- made of what was read (`IsMadeOf`)
+-- all parts are made of what was read (`IsMadeOf`), if each part but the campaign row is, and `head` is the only
+-- campaign row of `p`
 pub made_of : {head : StoredCampaignRow} {reads : ReadRows} {p : Parts} → map (λ read. read.0) reads ≡ other_parts Second → p.campaign ≡ head ∷ [] → AllByRecursion (IsMadeAs p) reads → IsMadeOf head reads p
 made_of {head} {reads} {p} parts campaign all = record {
   parts = parts;
@@ -245,15 +246,15 @@ made_of {head} {reads} {p} parts campaign all = record {
   apart = record { each = λ read there. (all_has (IsMadeAs p) reads read all there).apart };
 }
 
--- if a step fails because two rowids of one part are alike (Store), or because memory ran out (Memory), then reading
--- all parts, each of which needs distinct rowids, may give this fault too (`FailsWithout`)
+-- a fault of testing the rowids of one part, Store if two are alike, or Memory, is a fault of testing those of all
+-- parts (`FailsWithout`)
 pub part_fault_is_of_all : {A B : Type 0} {part : Part} {stored : RowWithId A → Row} {values : A → Row} → IsPlacedAs part stored values → shows_rowids part ≡ true → (placed : List (RowWithId A)) (reads : ReadRows) → Has reads (part, map stored placed)
-    → (fault : LoadFault) → FailsWithout (AreApart placed) fault → (r : Result B LoadFault) → IsErrAnd r (λ told. told ≡ fault) → IfErr r (FailsWithout (AreAllApart reads))
-part_fault_is_of_all is has placed reads there fault lacks (Ok b) told = tt
-part_fault_is_of_all {A} {B} {part} {stored} is has placed reads there fault lacks (Err f) told = subst (FailsWithout (AreAllApart reads)) (sym told) (all fault lacks)
+    → (fault : LoadFault) → FailsWithout (HaveDistinctRowids placed) fault → (r : Result B LoadFault) → IsErrAnd r (λ says. says ≡ fault) → IfErr r (FailsWithout (AllHaveDistinctRowids reads))
+part_fault_is_of_all is has placed reads there fault lacks (Ok b) says = tt
+part_fault_is_of_all {A} {B} {part} {stored} is has placed reads there fault lacks (Err f) says = subst (FailsWithout (AllHaveDistinctRowids reads)) (sym says) (all fault lacks)
   where
     -- for `part_fault_is_of_all`: each fault of testing the rowids of this part is one of testing those of all parts
-    all : (fault : LoadFault) → FailsWithout (AreApart placed) fault → FailsWithout (AreAllApart reads) fault
+    all : (fault : LoadFault) → FailsWithout (HaveDistinctRowids placed) fault → FailsWithout (AllHaveDistinctRowids reads) fault
     all Store lacks = λ apart. lacks (placed_apart is placed (apart.each (part, map stored placed) there has))
     all (Damaged rule) lacks = lacks
     all NotACampaign lacks = lacks

@@ -20,7 +20,7 @@ use Rattle.atl_sql.specs.Sets.{HasExactly, puts}
 use Rattle.atl_sql.specs.Shown.{books_key, books_row}
 use Rattle.atl_sql.specs.Rows.{BooksRowsOf}
 use Rattle.atl_store.specs.GroupedRows.{DifferInKey, amount_lines, entries_lines, things_lines}
-use Rattle.atl_store.proofs.EntryLaws.{apart_append, filled, flat_has, has_flat}
+use Rattle.atl_store.proofs.EntryLaws.{apart_append, empty_table_has_put_rows, flat_has, has_flat}
 use Rattle.atl_store.proofs.HasTableLaws.{optional_has, has_optional, optional_apart}
 
 -- ---- entries by their indexes
@@ -54,14 +54,14 @@ is_differing z apart = elim (cases_Bool (int_eq z (pos 0))) [ inl same ↦ absur
 -- number `t`
 pub amount_is : (c : CampaignValue) (entry : BooksEntry) (thing : Thing) (e t : ℕ) (z : ℤ) → e ≡ entry_index entry + 1 → t ≡ thing_index thing → z ≡ amount_in c.books entry thing → z ≢ pos 0 → amount_lines c entry thing ≡ books_row e t z ∷ []
 amount_is c entry thing e t z entry_is thing_is amount some =
-    let place = entry_index entry + 1 in
+    let index = entry_index entry + 1 in
     let value = amount_in c.books entry thing in
-    ap (λ (zero : Bool). if zero then [] else books_row place (thing_index thing) value ∷ []) (is_differing value (λ zero. some (amount ∙ zero)))
+    ap (λ (zero : Bool). if zero then [] else books_row index (thing_index thing) value ∷ []) (is_differing value (λ zero. some (amount ∙ zero)))
     ∙ ap (λ n. books_row n (thing_index thing) value ∷ []) (sym entry_is) ∙ ap (λ n. books_row e n value ∷ []) (sym thing_is) ∙ ap (λ n. books_row e t n ∷ []) (sym amount)
 
 -- two keys of `books` are equal only if both numbers are
-pub two_same : (a b c d : ℕ) → ◌≡◌ {A = Row} (books_key a b) (books_key c d) → (a ≡ c) × (b ≡ d)
-two_same a b c d same = (cc, cc)
+pub books_key_determines_numbers : (a b c d : ℕ) → ◌≡◌ {A = Row} (books_key a b) (books_key c d) → (a ≡ c) × (b ≡ d)
+books_key_determines_numbers a b c d same = (cc, cc)
 
 -- ---- indexes within bounds
 
@@ -80,8 +80,8 @@ has_range from (suc count) i least most = elim (cases_lt from i) [
 ]
 
 -- an amount that is not 0 is of a thing that the books have
-within : (books : BooksValue) → AreBooks books.things books → (e : BooksEntry) (t : Thing) → amount_in books e t ≢ pos 0 → thing_index t < books.things
-within books are e t some = elim (cases_lt (thing_index t) books.things) [
+amount_is_of_known_thing : (books : BooksValue) → AreBooks books.things books → (e : BooksEntry) (t : Thing) → amount_in books e t ≢ pos 0 → thing_index t < books.things
+amount_is_of_known_thing books are e t some = elim (cases_lt (thing_index t) books.things) [
   | inl inside ↦ inside
   | inr past ↦ absurd (some (none_past books.things books are e t past))
 ]
@@ -112,7 +112,7 @@ module _ (c : CampaignValue) where
       (λ x y early late same.
       let one = optional_has (int_eq (amount_in c.books e t) (pos 0)) (row_at e t) x early in
       let two = entries_has t es y late in
-      let keys = two_same (entry_index e + 1) (thing_index t) (entry_index two.0 + 1) (thing_index t) (ap (take 2) (sym one.1) ∙ same ∙ ap (take 2) two.3) in
+      let keys = books_key_determines_numbers (entry_index e + 1) (thing_index t) (entry_index two.0 + 1) (thing_index t) (ap (take 2) (sym one.1) ∙ same ∙ ap (take 2) two.3) in
       let less = test_has (λ f. nat_lt (entry_index e) (entry_index f)) es two.0 (and_parts _ _ rising).0 two.1 in
       grind (arith, nat_tests, keys.0, less))
 
@@ -125,16 +125,16 @@ module _ (c : CampaignValue) where
       apart_append 2 (entries_lines c (thing_at from) all_entries) (things_lines c (range_with_len (from + 1) count)) (entries_apart (thing_at from) all_entries refl) (things_apart (from + 1) count)
       (λ x y early late same.
       let one = entries_has (thing_at from) all_entries x early in
-      let found = flat_has (λ place. entries_lines c (thing_at place) all_entries) (range_with_len (from + 1) count) y late in
+      let found = flat_has (λ index. entries_lines c (thing_at index) all_entries) (range_with_len (from + 1) count) y late in
       let two = entries_has (thing_at found.0) all_entries y found.2 in
-      let keys = two_same (entry_index one.0 + 1) (thing_index (thing_at from)) (entry_index two.0 + 1) (thing_index (thing_at found.0)) (ap (take 2) (sym one.3) ∙ same ∙ ap (take 2) two.3) in
-      let places : from ≡ found.0 = sym (index_of_thing_at from) ∙ keys.1 ∙ index_of_thing_at found.0 in
-      absurd (omega (arith, places, (range_has (from + 1) count found.0 found.1).0)))
+      let keys = books_key_determines_numbers (entry_index one.0 + 1) (thing_index (thing_at from)) (entry_index two.0 + 1) (thing_index (thing_at found.0)) (ap (take 2) (sym one.3) ∙ same ∙ ap (take 2) two.3) in
+      let indices : from ≡ found.0 = sym (index_of_thing_at from) ∙ keys.1 ∙ index_of_thing_at found.0 in
+      absurd (omega (arith, indices, (range_has (from + 1) count found.0 found.1).0)))
 
-  -- each row that is made for the things numbered `places` is a row of `books` for the campaign
-  pub things_rows : (places : List ℕ) (r : Row) → Has (things_lines c places) r → BooksRowsOf c.books r
-  things_rows places r there =
-      let found = flat_has (λ place. entries_lines c (thing_at place) all_entries) places r there in
+  -- each row that is made for the things numbered `indices` is a row of `books` for the campaign
+  pub things_rows : (indices : List ℕ) (r : Row) → Has (things_lines c indices) r → BooksRowsOf c.books r
+  things_rows indices r there =
+      let found = flat_has (λ index. entries_lines c (thing_at index) all_entries) indices r there in
       let row = entries_has (thing_at found.0) all_entries r found.2 in
       (row.0, thing_at found.0, row.2, row.3)
 
@@ -142,11 +142,11 @@ module _ (c : CampaignValue) where
   -- the books' things
   pub books_filled : AreBooks c.books.things c.books → (rows old : List Row) → old ≡ [] → HasExactly rows (puts 2 (things_lines c (range_with_len 0 c.books.things)) (Has old)) → HasExactly rows (BooksRowsOf c.books)
   books_filled are rows old none made r =
-      let places = range_with_len 0 c.books.things in
-      let is = filled 2 rows (things_lines c places) old none (things_apart 0 c.books.things) made r in (
-        λ there. things_rows places r (is.0 there),
+      let indices = range_with_len 0 c.books.things in
+      let is = empty_table_has_put_rows 2 rows (things_lines c indices) old none (things_apart 0 c.books.things) made r in (
+        λ there. things_rows indices r (is.0 there),
         λ of.
-            let inside = has_range 0 c.books.things (thing_index of.1) (omega arith) (omega (arith, within c.books are of.0 of.1 of.2)) in
+            let inside = has_range 0 c.books.things (thing_index of.1) (omega arith) (omega (arith, amount_is_of_known_thing c.books are of.0 of.1 of.2)) in
             let here : Has (entries_lines c (thing_at (thing_index of.1)) all_entries) (row_at of.0 of.1) = subst (λ t. Has (entries_lines c t all_entries) (row_at of.0 of.1)) (sym (thing_at_index of.1)) (has_entries of.1 all_entries of.0 (every_entry of.0) of.2) in
-            is.1 (subst (Has (things_lines c places)) (sym of.3) (has_flat (λ place. entries_lines c (thing_at place) all_entries) places (thing_index of.1) (row_at of.0 of.1) inside here)),
+            is.1 (subst (Has (things_lines c indices)) (sym of.3) (has_flat (λ index. entries_lines c (thing_at index) all_entries) indices (thing_index of.1) (row_at of.0 of.1) inside here)),
       )

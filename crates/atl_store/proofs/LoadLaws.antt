@@ -10,7 +10,7 @@ use Rattle.sqlite_value.proofs.OrderLemmas.{value_cmp_total}
 use Rattle.sqlite_trees.specs.Tree.{rowid, IsAscending}
 use Rattle.sqlite_trees.specs.View.{is_int}
 use Rattle.sqlite_trees.proofs.ListLemmas.{all-permutation}
-use Rattle.atl_store.specs.Gathering.{HaveKeys}
+use Rattle.atl_store.specs.Gathering.{HaveDistinctIntegers}
 use Rattle.atl_sql.specs.Sets.{AreKeyedByRowid}
 
 -- if `P` is true of each row mapped by `f`, `Q` is true of each row, as `P` of a mapped row implies `Q` of the row
@@ -35,10 +35,10 @@ ascending_from [] apart = tt
 ascending_from (r ∷ rows) apart = (apart.0, ascending_from rows apart.1)
 
 -- equality of two rows in one column is symmetric
-flips : (at : ℕ) (a b : Row) → is_eq (value_cmp (column a at) (column b at)) ≡ is_eq (value_cmp (column b at) (column a at))
-flips at a b = ap is_eq (value_cmp_total.antisymm (column a at) (column b at)) ∙ reversed (value_cmp (column b at) (column a at))
+row_equality_is_symmetric : (at : ℕ) (a b : Row) → is_eq (value_cmp (column a at) (column b at)) ≡ is_eq (value_cmp (column b at) (column a at))
+row_equality_is_symmetric at a b = ap is_eq (value_cmp_total.antisymm (column a at) (column b at)) ∙ reversed (value_cmp (column b at) (column a at))
   where
-    -- for `flips`: the reverse of a comparison's result is Equal exactly if the result is
+    -- for `row_equality_is_symmetric`: the reverse of a comparison's result is Equal exactly if the result is
     reversed : (o : Ordering) → is_eq (ordering_reverse o) ≡ is_eq o
     reversed Less = refl
     reversed Equal = refl
@@ -60,17 +60,17 @@ mapped_distinct f at (r ∷ rows) is apart = (
 )
 
 -- if the rowids of a tree are different integers, so are the values of the column that shows the rowids
-pub keyed_shown : (f : Row → Row) (at : ℕ) (tree shown : List Row) → ((r : Row) → column (f r) at ≡ rowid r) → IsPermutation (map f tree) shown → AreKeyedByRowid tree → HaveKeys at shown
+pub keyed_shown : (f : Row → Row) (at : ℕ) (tree shown : List Row) → ((r : Row) → column (f r) at ≡ rowid r) → IsPermutation (map f tree) shown → AreKeyedByRowid tree → HaveDistinctIntegers at shown
 keyed_shown f at tree shown is same keyed = record {
-  apart = IsDistinct-IsPermutation _ (flips at) (map f tree) shown same (mapped_distinct f at tree is keyed.apart);
+  apart = IsDistinct-IsPermutation _ (row_equality_is_symmetric at) (map f tree) shown same (mapped_distinct f at tree is keyed.apart);
   ints = all-permutation _ (map f tree) shown same (mapped_all f _ _ tree (λ r h. ap is_int (is r) ∙ h) keyed.ints);
 }
 
 -- if the values of the column that shows the rowids are different integers, so are the rowids of the tree
-pub keyed_by : (f : Row → Row) (at : ℕ) (tree shown : List Row) → ((r : Row) → column (f r) at ≡ rowid r) → IsPermutation (map f tree) shown → HaveKeys at shown → AreKeyedByRowid tree
+pub keyed_by : (f : Row → Row) (at : ℕ) (tree shown : List Row) → ((r : Row) → column (f r) at ≡ rowid r) → IsPermutation (map f tree) shown → HaveDistinctIntegers at shown → AreKeyedByRowid tree
 keyed_by f at tree shown is same have =
     let back = IsPermutation-sym (map f tree) shown same in
     record {
-      apart = ascending_from tree (distinct_mapped f at tree is (IsDistinct-IsPermutation _ (flips at) shown (map f tree) back have.apart));
+      apart = ascending_from tree (distinct_mapped f at tree is (IsDistinct-IsPermutation _ (row_equality_is_symmetric at) shown (map f tree) back have.apart));
       ints = all_mapped f _ _ tree (λ r h. ap is_int (sym (is r)) ∙ h) (all-permutation _ shown (map f tree) back have.ints);
     }

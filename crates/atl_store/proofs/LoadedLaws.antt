@@ -16,7 +16,7 @@ use Rattle.sqlite.specs.Table.{Table}
 use Rattle.atl_world.specs.declared.format.Format.{Format}
 use Rattle.atl_world.specs.declared.format.Format.TheVariants.{First, Second}
 use Rattle.atl_world.specs.Worlds.{WorldValue}
-use Rattle.atl_tables.specs.World.{world_by}
+use Rattle.atl_tables.specs.World.{world_of_text}
 use Rattle.atl_state.specs.Checking.{Checks, IsFirstBroken}
 use Rattle.atl_campaign.specs.Campaign.{CampaignValue, MarkedCampaign}
 use Rattle.atl_state.specs.declared.checking.CheckFault.{CheckFault}
@@ -26,9 +26,9 @@ use Rattle.atl_state.specs.declared.checking.Rule.TheVariants.{OneRow, Ranges, N
 use Rattle.atl_campaign.specs.declared.parts.Parts.{Parts}
 use Rattle.atl_campaign.specs.declared.parts.StoredCampaignRow.{StoredCampaignRow}
 use Rattle.atl_store.specs.Faults.{fault_of_check}
-use Rattle.atl_store.specs.Gathering.{IsSettled, FailsWithout, Found, FailsToRead, FailsToConfirm, ReadRows, AreOfFormat, AreAllApart, HaveKeys, without_ids, width, OwnRead, IsMadeOf, ReadsSome, Gathered, IsConfirmed, IsLoaded}
+use Rattle.atl_store.specs.Gathering.{IsCommitted, FailsWithout, FoundBySelects, FailsToRead, FailsToConfirm, ReadRows, AreOfFormat, AllHaveDistinctRowids, HaveDistinctIntegers, without_ids, column_count, OwnRead, IsMadeOf, ReadsSome, GathersAll, IsConfirmed, IsLoaded}
 use Rattle.atl_store.specs.Keeps.{Keeps, Stores}
-use Rattle.atl_store.specs.Loading.{HaveRows, rows_read, own_stored, KeepsOneRow, BreaksRule, MayReturnDamaged, RefusesToLoadIn, StandsIn, LoadsIn, Loads, LeavesAlone, AfterReads, AreMade, AllSelectsShowTyped, MayReturnMemory, FailedMeanwhile, RefusesAgain, shows_rowids, tables_with_rowids, other_parts, other_selects}
+use Rattle.atl_store.specs.Loading.{HaveRows, rows_read, own_stored, KeepsOneRow, BreaksRule, MayReturnDamaged, RefusesToLoadIn, KeepsIn, LoadsIn, Loads, LeavesAlone, AfterReads, AreMade, AllSelectsShowTyped, MayReturnMemory, FailedMeanwhile, RefusesAgain, shows_rowids, tables_with_rowids, other_parts, other_selects}
 use Rattle.atl_sql.specs.Rows.{HoldsIn}
 use Rattle.atl_sql.specs.Statements.{selection}
 use Rattle.atl_sql.specs.Reading.{select_of_part}
@@ -43,7 +43,7 @@ use Rattle.atl_store.proofs.GatherLaws.{shown_open, fails_then, format_before}
 use Rattle.atl_sql.proofs.ListLaws.{has_map, map_has}
 use Rattle.atl_store.proofs.PartsLaws.{every_part, keeps_one_row, rows_hold, rows_keyed, holds_all}
 use Rattle.atl_sql.proofs.SelectLaws.{has_first}
-use Rattle.atl_store.proofs.WorldTextLaws.{standing_text_is}
+use Rattle.atl_store.proofs.WorldTextLaws.{kept_text_is}
 
 module _ (f : Format) {S : Type 0} (g : Ghosts S) where
   -- a campaign row that was read (`OwnRead`) keeps the first rule (`KeepsOneRow`)
@@ -106,7 +106,7 @@ module _ (f : Format) {S : Type 0} (g : Ghosts S) (old : Held S) (reads : ReadRo
   all_of read there has begins = elim (are.each read there) [ inl all ↦ all.1 (has_since f old.schema begins read.0 has) | inr none ↦ absurd (none.0 has) ]
 
   -- if the rowids that were read are different integers, so are those of the tables, if the schema is the format's
-  all_keyed : map (λ read. read.0) reads ≡ other_parts Second → AreAllApart reads → HasTablesOf f old.schema → (table : Table) → Has (tables_with_rowids f) table → AreKeyedByRowid (db table.tree)
+  all_keyed : map (λ read. read.0) reads ≡ other_parts Second → AllHaveDistinctRowids reads → HasTablesOf f old.schema → (table : Table) → Has (tables_with_rowids f) table → AreKeyedByRowid (db table.tree)
   all_keyed parts apart begins table there =
       let part = map_has table_of (filter shows_rowids (parts_in f)) table there in
       let kept = has_filtered shows_rowids (parts_in f) part.0 part.1 in
@@ -115,12 +115,12 @@ module _ (f : Format) {S : Type 0} (g : Ghosts S) (old : Held S) (reads : ReadRo
       (places_keyed read.0.0 db read.0.1 (subst (λ p. shows_rowids p ≡ true) read.2 kept.1) (all_of read.0 read.1 (subst (Has (parts_in f)) read.2 kept.0) begins) (apart.each read.0 read.1 (subst (λ p. shows_rowids p ≡ true) read.2 kept.1)))
 
   -- the rowids that were read are different integers, if the tables are made as the format has them (`AreMade`)
-  all_apart : AreMade f g old → AreAllApart reads
+  all_apart : AreMade f g old → AllHaveDistinctRowids reads
   unfolding IsDistinct
   all_apart made = record {
     each = λ read there is. elim (are.each read there) [
       | inl all ↦ keyed_places read.0 db read.1 is (all_of read there all.0 made.begins) (made.keyed (table_of read.0) (has_map table_of (filter shows_rowids (parts_in f)) read.0 (has_kept shows_rowids (parts_in f) read.0 all.0 is)))
-      | inr none ↦ subst (HaveKeys (width read.0)) (sym none.1) (record { apart = tt; ints = tt })
+      | inr none ↦ subst (HaveDistinctIntegers (column_count read.0)) (sym none.1) (record { apart = tt; ints = tt })
     ];
   }
 
@@ -153,9 +153,9 @@ module _ (f : Format) {S : Type 0} (g : Ghosts S) (old : Held S) (reads : ReadRo
     have_rows text begins own = record { rows = rows_of_part text begins own; none = none_read text }
 
 module _ (f : Format) {S : Type 0} (g : Ghosts S) where
-  -- if the campaign row was read, and all other tables without a value of another type, and `p` is made of these rows,
-  -- all tables were read into `p` (`Gathered`)
-  gathered_of : (old : Held S) (own : StoredCampaign) (w : WorldValue) (reads : ReadRows) (p : Parts) → OwnRead g old f own w → AllSelectsShowTyped g old (other_selects f) → AreOfFormat f (state g old).now reads → (head : StoredCampaignRow) → head ≡ own.head → IsMadeOf head reads p → Gathered f g old w p
+  -- all tables were read into `p` (`GathersAll`), if the campaign row was read, and all other tables without a value of
+  -- another type, and `p` is made of these rows
+  gathered_of : (old : Held S) (own : StoredCampaign) (w : WorldValue) (reads : ReadRows) (p : Parts) → OwnRead g old f own w → AllSelectsShowTyped g old (other_selects f) → AreOfFormat f (state g old).now reads → (head : StoredCampaignRow) → head ≡ own.head → IsMadeOf head reads p → GathersAll f g old w p
   gathered_of old own w reads p row typed are head same made = record {
     one = own_kept f g old own w row;
     first = keeps_one_row f w p head (ap (λ (h : StoredCampaignRow). h.id) same ∙ row.row.id) (ap (λ (h : StoredCampaignRow). h.format) same ∙ row.row.format) made.campaign (none_read f g old reads are head p made);
@@ -168,26 +168,26 @@ module _ (f : Format) {S : Type 0} (g : Ghosts S) where
 
   -- ---- what the check of the rows refuses
 
-  -- if a rule is the first that the gathered rows break, and the schema is the format's, the tables break it
-  -- (`BreaksRule`)
-  breaks : (old : Held S) (w : WorldValue) (p : Parts) → Gathered f g old w p → HasTablesOf f old.schema → (rule : Rule) → IsFirstBroken f w p rule → BreaksRule f g old rule
+  -- the tables break a rule (`BreaksRule`), if it is the first that the gathered rows break, and the schema is the
+  -- format's
+  breaks : (old : Held S) (w : WorldValue) (p : Parts) → GathersAll f g old w p → HasTablesOf f old.schema → (rule : Rule) → IsFirstBroken f w p rule → BreaksRule f g old rule
   breaks old w p all begins rule first = record { made = record { begins = begins; keyed = all.keyed begins }; world = w; text = all.text; is_world = all.world; parts = p; rows = all.rows begins; first = first }
 
-  -- if a rule is the first that the gathered rows break, and the schema is the format's, Damaged with this rule may be
-  -- returned
-  damaged : (old : Held S) (w : WorldValue) (p : Parts) → Gathered f g old w p → HasTablesOf f old.schema → (rule : Rule) → IsFirstBroken f w p rule → MayReturnDamaged f g old rule
-  damaged old w p all begins OneRow first = absurd (first.broken all.first)
-  damaged old w p all begins Ranges first = inr (breaks old w p all begins Ranges first)
-  damaged old w p all begins Names first = breaks old w p all begins Names first
-  damaged old w p all begins Known first = breaks old w p all begins Known first
-  damaged old w p all begins Next first = breaks old w p all begins Next first
-  damaged old w p all begins Days first = breaks old w p all begins Days first
-  damaged old w p all begins Gone first = breaks old w p all begins Gone first
-  damaged old w p all begins Owners first = breaks old w p all begins Owners first
-  damaged old w p all begins Water first = breaks old w p all begins Water first
-  damaged old w p all begins Guards first = breaks old w p all begins Guards first
-  damaged old w p all begins Books first = breaks old w p all begins Books first
-  damaged old w p all begins Mail first = breaks old w p all begins Mail first
+  -- Damaged with a rule may be returned, if it is the first rule that the gathered rows break, and the schema is the
+  -- format's
+  damaged_may_be_returned : (old : Held S) (w : WorldValue) (p : Parts) → GathersAll f g old w p → HasTablesOf f old.schema → (rule : Rule) → IsFirstBroken f w p rule → MayReturnDamaged f g old rule
+  damaged_may_be_returned old w p all begins OneRow first = absurd (first.broken all.first)
+  damaged_may_be_returned old w p all begins Ranges first = inr (breaks old w p all begins Ranges first)
+  damaged_may_be_returned old w p all begins Names first = breaks old w p all begins Names first
+  damaged_may_be_returned old w p all begins Known first = breaks old w p all begins Known first
+  damaged_may_be_returned old w p all begins Next first = breaks old w p all begins Next first
+  damaged_may_be_returned old w p all begins Days first = breaks old w p all begins Days first
+  damaged_may_be_returned old w p all begins Gone first = breaks old w p all begins Gone first
+  damaged_may_be_returned old w p all begins Owners first = breaks old w p all begins Owners first
+  damaged_may_be_returned old w p all begins Water first = breaks old w p all begins Water first
+  damaged_may_be_returned old w p all begins Guards first = breaks old w p all begins Guards first
+  damaged_may_be_returned old w p all begins Books first = breaks old w p all begins Books first
+  damaged_may_be_returned old w p all begins Mail first = breaks old w p all begins Mail first
 
   -- Memory may be returned, if the campaign row keeps the first rule and the connection is in no transaction
   may_return_memory : (old : Held S) → old.in_transaction ≡ false → KeepsOneRow f g old → MayReturnMemory g old
@@ -195,8 +195,8 @@ module _ (f : Format) {S : Type 0} (g : Ghosts S) where
 
   -- outside a transaction, with the format's schema, a fault of checking the rows refuses the load: Damaged with the
   -- first broken rule, or Memory
-  pub judged_damaged : (old : Held S) → old.in_transaction ≡ false → (w : WorldValue) (p : Parts) → Gathered f g old w p → HasTablesOf f old.schema → (fault : CheckFault) → Checks f w p (Err fault) → RefusesToLoadIn f g old (fault_of_check fault)
-  judged_damaged old idle w p all begins (check.Damaged rule) first = damaged old w p all begins rule first
+  pub judged_damaged : (old : Held S) → old.in_transaction ≡ false → (w : WorldValue) (p : Parts) → GathersAll f g old w p → HasTablesOf f old.schema → (fault : CheckFault) → Checks f w p (Err fault) → RefusesToLoadIn f g old (fault_of_check fault)
+  judged_damaged old idle w p all begins (check.Damaged rule) first = damaged_may_be_returned old w p all begins rule first
   judged_damaged old idle w p all begins check.Memory none = may_return_memory old idle all.one
 
   -- ---- what else refuses the load after the first rule holds
@@ -250,12 +250,12 @@ module _ (f : Format) {S : Type 0} (g : Ghosts S) where
 -- what was read of the other tables after the campaign row was read
 module _ (f : Format) {S : Type 0} (g : Ghosts S) {A : Type 0} (rows : A → ReadRows) (old mid new : Held S) (own : StoredCampaign) (w : WorldValue) (row : OwnRead g old f own w) (before : AfterReads g old mid) (r : Result (Option A) LoadFault)
     (reads : ReadsSome g mid (other_selects f) (λ a. AreOfFormat f (state g mid).now (rows a)) r new) (o : Option A) (was : r ≡ Ok o) (clean : HasCleanDisk (state g new)) where
-  -- what was read of all tables but `campaign` was in them already before `campaign` was read (`Found`)
-  found : (told : Option A) → o ≡ told → Found g old (other_selects f) (λ a. AreOfFormat f (state g old).now (rows a)) told
-  found told is = subst (Found g old (other_selects f) (λ a. AreOfFormat f (state g old).now (rows a))) is (format_before g f rows old mid new before (other_selects f) r reads o was clean)
+  -- what was read of all tables but `campaign` was in them already before `campaign` was read (`FoundBySelects`)
+  found : (says : Option A) → o ≡ says → FoundBySelects g old (other_selects f) (λ a. AreOfFormat f (state g old).now (rows a)) says
+  found says is = subst (FoundBySelects g old (other_selects f) (λ a. AreOfFormat f (state g old).now (rows a))) is (format_before g f rows old mid new before (other_selects f) r reads o was clean)
 
-  -- if `p` is put together of what was read (`IsMadeOf`), all tables were read into it (`Gathered`)
-  pub gathered_with : (a : A) → o ≡ Some a → (p : Parts) (head : StoredCampaignRow) → head ≡ own.head → IsMadeOf head (rows a) p → Gathered f g old w p
+  -- if `p` is put together of what was read (`IsMadeOf`), all tables were read into it (`GathersAll`)
+  pub gathered_with : (a : A) → o ≡ Some a → (p : Parts) (head : StoredCampaignRow) → head ≡ own.head → IsMadeOf head (rows a) p → GathersAll f g old w p
   gathered_with a is p head same made = let all = found (Some a) is in gathered_of f g old own w (rows a) p row all.0 all.1 head same made
 
   -- a value of another type than its column in a table but `campaign` refuses the load with Damaged, rule Ranges
@@ -263,11 +263,11 @@ module _ (f : Format) {S : Type 0} (g : Ghosts S) {A : Type 0} (rows : A → Rea
   mistyped_refuses is = inl (own_kept f g old own w row, found None is)
 
   -- outside a transaction, a fault of putting the rows together, which tests that rowids differ, refuses the load
-  pub unmade_refuses : old.in_transaction ≡ false → (a : A) → o ≡ Some a → (fault : LoadFault) → FailsWithout (AreAllApart (rows a)) fault → RefusesToLoadIn f g old fault
+  pub unmade_refuses : old.in_transaction ≡ false → (a : A) → o ≡ Some a → (fault : LoadFault) → FailsWithout (AllHaveDistinctRowids (rows a)) fault → RefusesToLoadIn f g old fault
   unmade_refuses idle a is fault = refused fault
     where
       -- for `unmade_refuses`: each fault of testing the rowids refuses the load
-      refused : (fault : LoadFault) → FailsWithout (AreAllApart (rows a)) fault → RefusesToLoadIn f g old fault
+      refused : (fault : LoadFault) → FailsWithout (AllHaveDistinctRowids (rows a)) fault → RefusesToLoadIn f g old fault
       refused Store lacks = let all = found (Some a) is in inr (inr (own_kept f g old own w row, inr (all.0, inl (λ made. lacks (all_apart f g old (rows a) all.1 made)))))
       refused (Damaged rule) lacks = absurd lacks
       refused NotACampaign lacks = absurd lacks
@@ -276,9 +276,9 @@ module _ (f : Format) {S : Type 0} (g : Ghosts S) {A : Type 0} (rows : A → Rea
 
 module _ {S : Type 0} (g : Ghosts S) where
   -- if a result is an error with this fault, what holds of the fault (`P`) holds of the result's error
-  pub holds_of_error : {A : Type 0} (P : LoadFault → Type 0) (fault : LoadFault) (r : Result A LoadFault) → IsErrAnd r (λ told. told ≡ fault) → P fault → IfErr r P
-  holds_of_error P fault (Ok a) told p = tt
-  holds_of_error P fault (Err f) told p = subst P (sym told) p
+  pub holds_of_error : {A : Type 0} (P : LoadFault → Type 0) (fault : LoadFault) (r : Result A LoadFault) → IsErrAnd r (λ says. says ≡ fault) → P fault → IfErr r P
+  holds_of_error P fault (Ok a) says p = tt
+  holds_of_error P fault (Err f) says p = subst P (sym says) p
 
   -- ---- the whole
 
@@ -301,7 +301,7 @@ module _ {S : Type 0} (g : Ghosts S) where
   -- reads outside a transaction (`AfterReads`) change nothing of the connection (`LeavesAlone`)
   pub leaves_alone : (old new : Held S) → old.in_transaction ≡ false → AfterReads g old new → LeavesAlone g old new
   leaves_alone old new idle leaves = record {
-    spares = λ clean. record {
+    unchanged = λ clean. record {
       same = λ up. let same = (leaves.stays clean).same up in (same.0, same.1, leaves.idle ∙ sym idle);
       shuts = leaves.survives.closes clean;
     };
@@ -311,10 +311,10 @@ module _ {S : Type 0} (g : Ghosts S) where
 
 -- ---- the campaign that the tables hold
 
-module _ (f : Format) {S : Type 0} (g : Ghosts S) (old new : Held S) (w : WorldValue) (c : MarkedCampaign) (loaded : IsLoaded f g old new w c) (leaves : AfterReads g old new) (settled : IsSettled (state g old)) where
-  -- if the disk is clean, the tables hold the loaded campaign in this format (`StandsIn`)
-  new_stands : (clean : HasCleanDisk (state g new)) → StandsIn f (state g new) (loaded.gathered clean).text c.value
-  new_stands clean =
+module _ (f : Format) {S : Type 0} (g : Ghosts S) (old new : Held S) (w : WorldValue) (c : MarkedCampaign) (loaded : IsLoaded f g old new w c) (leaves : AfterReads g old new) (settled : IsCommitted (state g old)) where
+  -- if the disk is clean, the tables hold the loaded campaign in this format (`KeepsIn`)
+  new_is_there : (clean : HasCleanDisk (state g new)) → KeepsIn f (state g new) (loaded.gathered clean).text c.value
+  new_is_there clean =
       let all = loaded.gathered clean in
       let confirmed = loaded.confirmed clean in
       let up = confirmed.is_open in
@@ -336,8 +336,8 @@ module _ (f : Format) {S : Type 0} (g : Ghosts S) (old new : Held S) (w : WorldV
   -- a campaign loaded in a format is good and unmarked, and the tables hold it with a text of its world (`LoadsIn`)
   pub loads_in : LoadsIn f g old new w c
   loads_in = record {
-    world = λ clean. subst (λ t. world_by f t ≡ Ok w) (sym (standing_text_is f (state g new) (loaded.gathered clean).text c.value (new_stands clean))) (loaded.gathered clean).world;
-    stands = λ clean. subst (λ t. StandsIn f (state g new) t c.value) (sym (standing_text_is f (state g new) (loaded.gathered clean).text c.value (new_stands clean))) (new_stands clean);
+    world = λ clean. subst (λ t. world_of_text f t ≡ Ok w) (sym (kept_text_is f (state g new) (loaded.gathered clean).text c.value (new_is_there clean))) (loaded.gathered clean).world;
+    keeps = λ clean. subst (λ t. KeepsIn f (state g new) t c.value) (sym (kept_text_is f (state g new) (loaded.gathered clean).text c.value (new_is_there clean))) (new_is_there clean);
     fits = loaded.checked.fits;
     good = loaded.checked.good;
     unmarked = loaded.checked.marks;
@@ -345,24 +345,24 @@ module _ (f : Format) {S : Type 0} (g : Ghosts S) (old new : Held S) (w : WorldV
 
 module _ {S : Type 0} (g : Ghosts S) (old new : Held S) where
   -- a connection whose tables hold a campaign in the second format keeps it, if a crash leaves what was committed
-  keeps_second : (text : List ℕ) (c : CampaignValue) → ((db : Trees) → IsTrue (state g new).is_open → (state g new).may_leave db → db ≡ (state g new).committed.trees) → StandsIn Second (state g new) text c → Keeps (state g new) text c
-  keeps_second text c store stands =
-      let sound : IsSoundDatabase (state g new).now.schema (state g new).now.trees = record { keyed = stands.keyed; listed = stands.listed } in
-      let rows = holds_all (state g new).now.trees text c stands.rows in
+  keeps_second : (text : List ℕ) (c : CampaignValue) → ((db : Trees) → IsTrue (state g new).is_open → (state g new).may_leave db → db ≡ (state g new).committed.trees) → KeepsIn Second (state g new) text c → Keeps (state g new) text c
+  keeps_second text c store keeps =
+      let sound : IsSoundDatabase (state g new).now.schema (state g new).now.trees = record { keyed = keeps.keyed; listed = keeps.listed } in
+      let rows = holds_all (state g new).now.trees text c keeps.rows in
       record {
-        idle = stands.idle;
-        is_open = stands.is_open;
-        settled = stands.settled;
-        tables = record { begins = stands.begins; sound = sound };
+        idle = keeps.idle;
+        is_open = keeps.is_open;
+        settled = keeps.settled;
+        tables = record { begins = keeps.begins; sound = sound };
         rows = rows;
-        crash = λ db may. subst (λ t. Stores t text c) (sym (store db stands.is_open may ∙ ap (λ (d : Database). d.trees) stands.settled)) (record { schema = (state g new).now.schema; begins = stands.begins; sound = sound; rows = rows });
+        crash = λ db may. subst (λ t. Stores t text c) (sym (store db keeps.is_open may ∙ ap (λ (d : Database). d.trees) keeps.settled)) (record { schema = (state g new).now.schema; begins = keeps.begins; sound = sound; rows = rows });
       }
 
   -- a campaign loaded in the second format is good, and the connection keeps it with a text of its world (`Loads`)
   pub loads : ((db : Trees) → IsTrue (state g new).is_open → (state g new).may_leave db → db ≡ (state g new).committed.trees) → (w : WorldValue) (c : MarkedCampaign) → LoadsIn Second g old new w c → Loads g old new w c
   loads store w c loaded = record {
     world = loaded.world;
-    tables = λ clean. keeps_second (world_text (state g new)) c.value store (loaded.stands clean);
+    tables = λ clean. keeps_second (world_text (state g new)) c.value store (loaded.keeps clean);
     good = loaded.good;
     unmarked = loaded.unmarked;
   }

@@ -13,13 +13,13 @@ use Rattle.sqlite_value.specs.declared.value.Value.TheVariants.{Int}
 use Rattle.atl_campaign.specs.Campaign.{CampaignValue}
 use Rattle.atl_sql.specs.Shown.{int, market_key, market_row}
 use Rattle.atl_sql.specs.Tables.{market_table}
-use Rattle.atl_sql.specs.Inside.{Inside, HasTables, Puts, Drops}
-use Rattle.atl_sql.specs.Marked.{of_stock}
-use Rattle.atl_store.specs.Rewriting.{FindsByNumbers, RewritesChosenStocks, is_thing}
+use Rattle.atl_sql.specs.Inside.{DoesInside, HasTables, Puts, Drops}
+use Rattle.atl_sql.specs.Marked.{region_and_item_pass}
+use Rattle.atl_store.specs.Rewriting.{FindsByNumbers, RewritesChosenStocks, is_owner_and_thing}
 use Rattle.atl_store.proofs.RewriteLaws.{equal_by_order, is_itself, rewrites_key, kept_only}
 use Rattle.atl_store.proofs.WholeLaws.{inside_weaker}
 use Rattle.atl_sql.specs.Rows.{MarketRowsOf}
-use Rattle.atl_store.specs.GroupedRows.{AreGroups, region_lines}
+use Rattle.atl_store.specs.GroupedRows.{AreGroups, region_stock_lines}
 use Rattle.atl_store.proofs.EntryLaws.{got_entry, entry_got, in_order}
 use Rattle.atl_store.proofs.HasTableLaws.{amounts_have, have_amount, amounts_apart}
 use Rattle.sqlite.specs.Order.{Row}
@@ -29,7 +29,7 @@ one_item : (region m a n b : ℕ) → ◌≡◌ {A = Row} (take 2 (market_row re
 one_item region m a n b same = cc
 
 -- the rows of `market` come in groups, one for each region, whose rows begin with its number (`AreGroups`)
-pub stocks_grouped : (regions : FinMap nat_cmp Region) → AreGroups region_lines 2 regions (MarketRowsOf regions)
+pub stocks_grouped : (regions : FinMap nat_cmp Region) → AreGroups region_stock_lines 2 regions (MarketRowsOf regions)
 stocks_grouped regions = record {
   numbered = λ n region r there. ap (take 1) (amounts_have (market_row n) (entries region.stocks) r there).3;
   apart = λ n region. amounts_apart (market_row n) 2 (one_item n) (entries region.stocks) (in_order region.stocks);
@@ -40,7 +40,7 @@ stocks_grouped regions = record {
     of.0,
     of.1,
     of.2,
-    subst (Has (region_lines of.0 of.1)) (sym of.7) (have_amount (market_row of.0) (entries of.1.stocks) of.3 of.4 (got_entry of.1.stocks of.3 of.4 of.5) of.6),
+    subst (Has (region_stock_lines of.0 of.1)) (sym of.7) (have_amount (market_row of.0) (entries of.1.stocks) of.3 of.4 (got_entry of.1.stocks of.3 of.4 of.5) of.6),
   );
 }
 
@@ -66,36 +66,37 @@ module _ (regions : FinMap nat_cmp Region) where
       got None zero = absurd (some zero)
       got (Some x) same = ap Some (sym same)
 
-      -- for `stock_has_row`: by the look-up `o` of the region the stock's row is there; with no region it would be 0
+      -- for `stock_has_row`: if the look-up `o` finds the region, the stock's row is in `market`; without a region the
+      -- stock would be 0
       there : (o : Option Region) → get regions n ≡ o → MarketRowsOf regions (market_row n item amount)
       there None none = absurd (some (is ∙ ap (in_stock item) none))
       there (Some region) found = (n, region, found, item, amount, got (get region.stocks item) (is ∙ ap (in_stock item) found), some, refl)
 
 -- ---- the row of one stock
 
--- `of_stock` finds rows of `market` by region and item: a test "`f` or `g`" finds what `f` or `g` finds, and a test
--- that is always false finds nothing (`FindsByNumbers`)
-pub finds_stocks : FindsByNumbers of_stock
+-- `region_and_item_pass` finds rows of `market` by region and item: a test "`f` or `g`" finds what `f` or `g` finds,
+-- and a test that is always false finds nothing (`FindsByNumbers`)
+pub finds_stocks : FindsByNumbers region_and_item_pass
 finds_stocks = record { either = either; none = none }
   where
     -- for `finds_stocks`: the test "`f` or `g`" finds a row of `market` exactly if `f` or `g` finds it
-    either : (f g : ℕ → ℕ → Bool) (r : Row) → of_stock (λ n t. f n t || g n t) r ≡ (of_stock f r || of_stock g r)
+    either : (f g : ℕ → ℕ → Bool) (r : Row) → region_and_item_pass (λ n t. f n t || g n t) r ≡ (region_and_item_pass f r || region_and_item_pass g r)
     either f g (Int (pos region) ∷ Int (pos item) ∷ row) = refl
     either f g row = refl
 
     -- for `finds_stocks`: a test that is always false finds no row of `market`
-    none : (r : Row) → of_stock (λ n t. false) r ≡ false
+    none : (r : Row) → region_and_item_pass (λ n t. false) r ≡ false
     none (Int (pos region) ∷ Int (pos item) ∷ row) = refl
     none row = refl
 
 -- two keys of `market` are equal only if both numbers are
-pub two_same : (a b c d : ℕ) → ◌≡◌ {A = Row} (market_key a b) (market_key c d) → (a ≡ c) × (b ≡ d)
-two_same a b c d same = (cc, cc)
+pub market_key_determines_numbers : (a b c d : ℕ) → ◌≡◌ {A = Row} (market_key a b) (market_key c d) → (a ≡ c) × (b ≡ d)
+market_key_determines_numbers a b c d same = (cc, cc)
 
 module _ (region item : ℕ) where
   -- whether a row of `market` is that of the region `region` and the item `item`
   abbrev is_here : Row → Bool
-  is_here r = of_stock (is_thing region item) r
+  is_here r = region_and_item_pass (is_owner_and_thing region item) r
 
   -- a row of this region and item has the key of the region and the item
   key_of : (r : Row) → is_here r ≡ true → take 2 r ≡ market_key region item
@@ -122,18 +123,18 @@ module _ (region item : ℕ) where
     wanted_here : (r : Row) → is_here r ≡ true → MarketRowsOf c.regions r → (stock ≢ 0) × (r ≡ row)
     wanted_here r here of =
         let had = row_has_stock c.regions r of in
-        let keys = two_same had.0 had.1 region item (ap (take 2) (sym had.3) ∙ key_of r here) in
+        let keys = market_key_determines_numbers had.0 had.1 region item (ap (take 2) (sym had.3) ∙ key_of r here) in
         let Determines : ℕ → ℕ → Type 0 = λ n t. (stock_in c.regions n t ≢ 0) × (r ≡ market_row n t (stock_in c.regions n t)) in
-        let told : Determines region item = subst (λ n. Determines n item) keys.0 (subst (Determines had.0) keys.1 (had.2, had.3)) in
-        (λ none. told.0 (sym is ∙ none), told.1 ∙ ap (market_row region item) (sym is))
+        let says : Determines region item = subst (λ n. Determines n item) keys.0 (subst (Determines had.0) keys.1 (had.2, had.3)) in
+        (λ none. says.0 (sym is ∙ none), says.1 ∙ ap (market_row region item) (sym is))
 
     -- if the stock of this region and item is 0, no row of the campaign has their key
     pub no_stock : stock ≡ 0 → (r : Row) → MarketRowsOf c.regions r → take 2 r ≢ market_key region item
     no_stock none r of key = (wanted_here r (of_key r key) of).0 none
 
     -- putting the row of a stock that isn't 0 rewrites that stock
-    pub stock_put : stock ≢ 0 → (old new : State) → Inside HasTables (Puts market_table 2 row) old new → Inside HasTables (RewritesChosenStocks c (is_thing region item)) old new
-    stock_put some old new did = inside_weaker HasTables (Puts market_table 2 row) (RewritesChosenStocks c (is_thing region item)) old new
+    pub stock_put : stock ≢ 0 → (old new : State) → DoesInside HasTables (Puts market_table 2 row) old new → DoesInside HasTables (RewritesChosenStocks c (is_owner_and_thing region item)) old new
+    stock_put some old new did = inside_weaker HasTables (Puts market_table 2 row) (RewritesChosenStocks c (is_owner_and_thing region item)) old new
         (λ has puts. rewrites_key is_here (λ r. take 2 r ≡ market_key region item) (λ r. r ≡ row) (MarketRowsOf c.regions) key_of of_key
         (λ r same. (ap (take 2) same, subst (MarketRowsOf c.regions) (sym same) (stock_has_row c.regions region item stock is some)))
         (λ r here of. (wanted_here r here of).1)
@@ -141,8 +142,8 @@ module _ (region item : ℕ) where
         did
 
     -- deleting the row of a stock that is 0 rewrites that stock
-    pub stock_dropped : stock ≡ 0 → (old new : State) → Inside HasTables (Drops market_table 2 (market_key region item)) old new → Inside HasTables (RewritesChosenStocks c (is_thing region item)) old new
-    stock_dropped none old new did = inside_weaker HasTables (Drops market_table 2 (market_key region item)) (RewritesChosenStocks c (is_thing region item)) old new
+    pub stock_dropped : stock ≡ 0 → (old new : State) → DoesInside HasTables (Drops market_table 2 (market_key region item)) old new → DoesInside HasTables (RewritesChosenStocks c (is_owner_and_thing region item)) old new
+    stock_dropped none old new did = inside_weaker HasTables (Drops market_table 2 (market_key region item)) (RewritesChosenStocks c (is_owner_and_thing region item)) old new
         (λ has drops. rewrites_key is_here (λ r. take 2 r ≡ market_key region item) (λ r. ⊥) (MarketRowsOf c.regions) key_of of_key (λ r never. absurd never)
         (λ r here of. (wanted_here r here of).0 none)
         market_table old.now new.now (λ r. let so = drops.rows r in (λ h. inr (so.0 h), λ h. so.1 (kept_only h))) drops.others)

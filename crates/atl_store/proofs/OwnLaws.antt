@@ -7,11 +7,11 @@ use Rattle.sqlite.specs.Order.{Row, column}
 use Rattle.sqlite_rules.specs.Lists.{Has}
 use Rattle.sqlite_trees.specs.declared.store.Store.{Ghosts}
 use Rattle.atl_world.specs.Worlds.{WorldValue}
-use Rattle.atl_tables.specs.World.{world_by}
+use Rattle.atl_tables.specs.World.{world_of_text}
 use Rattle.atl_world.specs.declared.format.Format.{Format}
 use Rattle.atl_state.specs.declared.checking.Rule.TheVariants.{OneRow, Ranges, Names, Known, Next, Days, Gone, Owners, Water, Guards, Books, Mail}
 use Rattle.atl_campaign.specs.declared.parts.StoredCampaignRow.{StoredCampaignRow}
-use Rattle.atl_store.specs.Gathering.{own_fault, IsOwn, Judges, JudgesOwn, JudgesRows, JudgesFormat, OwnRead}
+use Rattle.atl_store.specs.Gathering.{campaign_row_fault, IsOwnRow, Judges, JudgesOwn, JudgesRows, JudgesFormat, OwnRead}
 use Rattle.atl_store.specs.Loading.{own_stored, AreOwnRow, RefusesToLoadIn}
 use Rattle.atl_sql.specs.Reading.{Selects, RefusesToSelect}
 use Rattle.atl_sql.specs.Statements.{selection}
@@ -56,7 +56,7 @@ module _ (own : StoredCampaign) (h : StoredCampaignRow) (text : List ℕ) (is : 
 -- if the shown rows keep the first rule (`AreOwnRow`), the parsed row keeps it too
 pub own_read : (f : Format) (items : List StoredCampaign) (rows : List Row) (h : StoredCampaignRow) (text : List ℕ) (w : WorldValue)
     → map campaign_stored items ≡ map (first_columns (length campaign_forms)) rows → AreOwnRow f rows h text w
-    → (own : StoredCampaign) × IsOwn f items own w
+    → (own : StoredCampaign) × IsOwnRow f items own w
 own_read f items rows h text w shown own =
     let one = one_mapped campaign_stored items (own_stored text h) (shown ∙ own.shown) in (
       one.0,
@@ -64,7 +64,7 @@ own_read f items rows h text w shown own =
         only = one.1;
         id = same_id one.0 h text one.2 ∙ own.id;
         format = same_format one.0 h text one.2 ∙ own.format;
-        world = subst (λ t. world_by f t ≡ Ok w) (sym (same_text one.0 h text one.2)) own.world;
+        world = subst (λ t. world_of_text f t ≡ Ok w) (sym (same_text one.0 h text one.2)) own.world;
       },
     )
 
@@ -116,12 +116,12 @@ module _ (f : Format) where
   pub judged_rows : (items : List StoredCampaign) (rows : List Row) (r : Result (StoredCampaign × WorldValue) LoadFault)
       → map campaign_stored items ≡ map (first_columns (length campaign_forms)) rows → JudgesOwn f items r → JudgesRows f rows r
   judged_rows items rows r shown =
-      judged_as (λ both. IsOwn f items both.0 both.1) ((own : StoredCampaign) (w : WorldValue) → ¬ IsOwn f items own w) (JudgesRows f rows) (λ both own. record { shown = sym shown ∙ ap (map campaign_stored) own.only; id = own.id; format = own.format; utf8 = IsUtf8-string_bytes both.0.world; world = own.world }) tt
+      judged_as (λ both. IsOwnRow f items both.0 both.1) ((own : StoredCampaign) (w : WorldValue) → ¬ IsOwnRow f items own w) (JudgesRows f rows) (λ both own. record { shown = sym shown ∙ ap (map campaign_stored) own.only; id = own.id; format = own.format; utf8 = IsUtf8-string_bytes both.0.world; world = own.world }) tt
       (λ none h text w own. let was = own_read f items rows h text w shown own in none was.0 w was.1) r
 
   -- if the rows weren't parsed (a value of another type, or no memory), the fault is one of judging them (`JudgesRows`)
   pub unread_rows : (rows : List Row) (fault : ReadFault) → (fault ≡ read.OtherType → ¬ AreTyped campaign_forms rows)
-      → ((fault ≡ read.OtherType → ⊥) → fault ≡ read.Memory) → JudgesRows f rows (Err (own_fault fault))
+      → ((fault ≡ read.OtherType → ⊥) → fault ≡ read.Memory) → JudgesRows f rows (Err (campaign_row_fault fault))
   unread_rows rows read.OtherType other which = λ h text w own. other refl (own_typed f rows h text w own)
   unread_rows rows read.Memory other which = tt
   unread_rows rows read.Store other which = absurd (let e = which (λ e. cc) in cc)
@@ -131,23 +131,23 @@ module _ (f : Format) {S : Type 0} (g : Ghosts S) (old : Held S) where
   -- a fault of judging the rows of `campaign` (`JudgesFormat`) refuses the load, outside a transaction
   pub refuses_own : old.in_transaction ≡ false → (rows : List Row) (r : Result (StoredCampaign × WorldValue) LoadFault) → JudgesFormat f rows r → Selects g (selection campaign_table 1) old rows
       → IfErr r (RefusesToLoadIn f g old)
-  refuses_own idle rows r (inl other) told = subst (λ answer. IfErr answer (RefusesToLoadIn f g old)) (sym other.1) (rows, told, other.0)
-  refuses_own idle rows r (inr judged) told =
-      judged_as (λ both. AreOwnRow f rows both.0.head (string_bytes both.0.world) both.1) ((h : StoredCampaignRow) (text : List ℕ) (w : WorldValue) → ¬ AreOwnRow f rows h text w) (λ answer. IfErr answer (RefusesToLoadIn f g old)) (λ both own. tt) (idle, inr (rows, told)) (λ none. record { rows = rows; selects = told; broken = none; of_format = judged.0 }) r judged.1
+  refuses_own idle rows r (inl other) says = subst (λ answer. IfErr answer (RefusesToLoadIn f g old)) (sym other.1) (rows, says, other.0)
+  refuses_own idle rows r (inr judged) says =
+      judged_as (λ both. AreOwnRow f rows both.0.head (string_bytes both.0.world) both.1) ((h : StoredCampaignRow) (text : List ℕ) (w : WorldValue) → ¬ AreOwnRow f rows h text w) (λ answer. IfErr answer (RefusesToLoadIn f g old)) (λ both own. tt) (idle, inr (rows, says)) (λ none. record { rows = rows; selects = says; broken = none; of_format = judged.0 }) r judged.1
 
   -- if judging the shown rows by the first rule gives Ok, the campaign row was read (`OwnRead`)
   rows_own : (rows : List Row) (r : Result (StoredCampaign × WorldValue) LoadFault) → JudgesRows f rows r → Selects g (selection campaign_table 1) old rows → IfOk r (λ both. OwnRead g old f both.0 both.1)
-  rows_own rows (Err fault) judged told = tt
-  rows_own rows (Ok both) judged told = record { rows = rows; selects = told; row = judged; table = λ begins. subst (IsPermutation (rows_in campaign_table (state g old).now.trees)) judged.shown (asked_rows First (selection campaign_table 1) (rows_in campaign_table) 8 (reads_part Own 8 refl) (state g old) (state g told.0) (state g told.1) rows told.2 told.3 begins) }
+  rows_own rows (Err fault) judged says = tt
+  rows_own rows (Ok both) judged says = record { rows = rows; selects = says; row = judged; table = λ begins. subst (IsPermutation (rows_in campaign_table (state g old).now.trees)) judged.shown (asked_rows First (selection campaign_table 1) (rows_in campaign_table) 8 (reads_part Own 8 refl) (state g old) (state g says.0) (state g says.1) rows says.2 says.3 begins) }
 
   -- if judging the rows gives Ok, the campaign row and its world were read (`OwnRead`)
   pub own_is : (rows : List Row) (r : Result (StoredCampaign × WorldValue) LoadFault) → JudgesFormat f rows r → Selects g (selection campaign_table 1) old rows
       → IfOk r (λ both. OwnRead g old f both.0 both.1)
-  own_is rows r (inl other) told = subst (λ answer. IfOk answer (λ both. OwnRead g old f both.0 both.1)) (sym other.1) tt
-  own_is rows r (inr judged) told = rows_own rows r judged.1 told
+  own_is rows r (inl other) says = subst (λ answer. IfOk answer (λ both. OwnRead g old f both.0 both.1)) (sym other.1) tt
+  own_is rows r (inr judged) says = rows_own rows r judged.1 says
 
   -- if the SELECT of the campaign row is refused, its fault refuses the load, outside a transaction
-  pub unasked_own : old.in_transaction ≡ false → (fault : ReadFault) → RefusesToSelect g (selection campaign_table 1) old fault → RefusesToLoadIn f g old (own_fault fault)
+  pub unasked_own : old.in_transaction ≡ false → (fault : ReadFault) → RefusesToSelect g (selection campaign_table 1) old fault → RefusesToLoadIn f g old (campaign_row_fault fault)
   unasked_own idle read.Store refused = inr (inl refused)
   unasked_own idle read.Memory refused = (idle, inl refused)
   unasked_own idle read.Refused refused = refused

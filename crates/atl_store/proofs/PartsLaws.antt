@@ -32,13 +32,13 @@ use Rattle.atl_campaign.specs.declared.parts.StoredMarket.{StoredMarket}
 use Rattle.atl_records.specs.declared.records.Faction.{Faction}
 use Rattle.atl_records.specs.declared.records.Region.{Region}
 use Rattle.atl_records.specs.declared.records.Unit.{Unit}
-use Rattle.atl_records.proofs.BookLaws.{get-listed, zero_not}
+use Rattle.atl_records.proofs.BookLaws.{get-listed, nonzero_fails_is_zero}
 use Rattle.atl_records.proofs.AmountListLaws.{each_amount, amount_of_each}
 use Rattle.atl_sql.specs.declared.rows.has.ThingKind.{ThingKind}
 use Rattle.atl_sql.specs.declared.rows.has.ThingKind.TheVariants.{Item, Skill}
-use Rattle.atl_store.specs.Gathering.{HaveKeys}
-use Rattle.atl_store.specs.Loading.{HaveRows, rows_read, own_stored, has_values, books_values, market_values, shows_rowids, tables_with_rowids}
-use Rattle.atl_sql.specs.Rows.{RowsOf, lines_of, HasRowsOf, BooksRowsOf, MarketRowsOf, rows_for, Holds, HoldsIn, campaign_row_of, faction_line, region_line, unit_line, structure_line, things_of}
+use Rattle.atl_store.specs.Gathering.{HaveDistinctIntegers}
+use Rattle.atl_store.specs.Loading.{HaveRows, rows_read, own_stored, has_row_values, books_values, market_values, shows_rowids, tables_with_rowids}
+use Rattle.atl_sql.specs.Rows.{RowsOf, rows_in_order, HasRowsOf, BooksRowsOf, MarketRowsOf, rows_for, Holds, HoldsIn, campaign_row_of, row_of_faction, row_of_region, row_of_unit, row_of_structure, things_of}
 use Rattle.atl_sql.specs.Sets.{HasExactly, AreKeyedByRowid, rows_in}
 use Rattle.atl_sql.specs.Shown.{flag, campaign_row_in, mail_row, report_row, faction_stored, region_stored, unit_stored, structure_stored, mail_stored, report_stored}
 use Rattle.atl_sql.specs.Tables.{Part, Own, Factions, Regions, Units, Goods, Structures, Mail, Reports, Books, Markets, table_of, all_parts, parts_in}
@@ -68,45 +68,45 @@ module _ {A : Type 0} (shown : A → Row) (rows : List Row) (read made : List A)
 
 -- The rows, in some order, have different integers in the first column.
 abbrev HasKeys : List Row → Type 0
-HasKeys rows = (shown : List Row) × IsPermutation rows shown × HaveKeys 0 shown
+HasKeys rows = (shown : List Row) × IsPermutation rows shown × HaveDistinctIntegers 0 shown
 
--- if the rows read of a table are made of a map's entries, it has exactly the map's rows, with different numbers
-by_number : {A V : Type 0} {Q : Type 0} (shown : A → Row) (row : ℕ → V → A) (line : ℕ → V → Row) → ((n : ℕ) (v : V) → shown (row n v) ≡ line n v) → ((n : ℕ) (v : V) → column (line n v) 0 ≡ Int (pos n))
+-- a table has exactly the rows of a map, with different numbers, if the rows read of it are made of the map's entries
+table_has_rows_of_map : {A V : Type 0} {Q : Type 0} (shown : A → Row) (row : ℕ → V → A) (line : ℕ → V → Row) → ((n : ℕ) (v : V) → shown (row n v) ≡ line n v) → ((n : ℕ) (v : V) → column (line n v) 0 ≡ Int (pos n))
     → (rows : List Row) (read : List A) (m : FinMap nat_cmp V) → IsPermutation rows (map shown read) → IsPermutation (rows_by row (entries m)) read → HasExactly rows (RowsOf line m) × (Q → HasKeys rows)
-by_number {A} {V} shown row line same numbered rows read m in_table of_them = (held, λ _. (lines, is, lines_keys line numbered m))
+table_has_rows_of_map {A} {V} shown row line same numbered rows read m in_table of_them = (held, λ _. (lines, is, lines_keys line numbered m))
   where
-    -- for `by_number`: the campaign's rows for the entries of the map
+    -- for `table_has_rows_of_map`: the campaign's rows for the entries of the map
     lines : List Row
-    lines = lines_of line (entries m)
+    lines = rows_in_order line (entries m)
 
-    -- for `by_number`: the table's rows are the campaign's rows for the entries, in some order
+    -- for `table_has_rows_of_map`: the table's rows are the campaign's rows for the entries, in some order
     is : IsPermutation rows lines
     is = subst (IsPermutation rows) (mapped_twice (λ (e : ℕ × V). row e.0 e.1) shown (λ (e : ℕ × V). line e.0 e.1) (λ e. same e.0 e.1) (entries m)) (rows_made shown rows read (rows_by row (entries m)) in_table of_them)
 
-    -- for `by_number`: the table has exactly the map's rows
+    -- for `table_has_rows_of_map`: the table has exactly the map's rows
     held : HasExactly rows (RowsOf line m)
     held r = (
       λ there. let e = map_has (λ (e : ℕ × V). line e.0 e.1) (entries m) r (has_permuted rows lines r is there) in (e.0.0, e.0.1, entry_got m e.0.0 e.0.1 e.1, e.2),
       λ of. has_permuted lines rows r (IsPermutation-sym rows lines is) (subst (Has lines) (sym of.3) (has_map (λ (e : ℕ × V). line e.0 e.1) (entries m) (of.0, of.1) (got_entry m of.0 of.1 of.2))),
     )
 
--- a flag in a row that is made of a campaign is shown as the flag of the campaign's row
-same_flag : (b : Bool) → Int (made.flag b) ≡ flag b
-same_flag true = refl
-same_flag false = refl
+-- a flag as the code stores it in a column, 0 or 1, is the flag as the definitions of rows have it
+stored_flag_is_flag : (b : Bool) → Int (made.flag b) ≡ flag b
+stored_flag_is_flag true = refl
+stored_flag_is_flag false = refl
 
 -- the row made of a faction is shown as the campaign's row of the faction
-faction_row_is_line : (n : ℕ) (f : Faction) → faction_stored (made.faction_row n f) ≡ faction_line n f
-faction_row_is_line n f = ap (λ v. Int (pos n) ∷ Text f.joined_as ∷ Text f.name ∷ Text f.pass ∷ v ∷ []) (same_flag f.gone)
+faction_row_is_line : (n : ℕ) (f : Faction) → faction_stored (made.faction_row n f) ≡ row_of_faction n f
+faction_row_is_line n f = ap (λ v. Int (pos n) ∷ Text f.joined_as ∷ Text f.name ∷ Text f.pass ∷ v ∷ []) (stored_flag_is_flag f.gone)
 
 -- the row made of a unit is shown as the campaign's row of the unit
-unit_row_is_line : (n : ℕ) (u : Unit) → unit_stored (made.unit_row n u) ≡ unit_line n u
+unit_row_is_line : (n : ℕ) (u : Unit) → unit_stored (made.unit_row n u) ≡ row_of_unit n u
 unit_row_is_line n u =
-    ap (λ v. Int (pos n) ∷ Int (pos u.faction) ∷ Text u.holding.name ∷ Int (pos u.region) ∷ Int (pos u.structure) ∷ Int (pos u.holding.men) ∷ Int (pos u.holding.money) ∷ v ∷ []) (same_flag u.holding.guard)
+    ap (λ v. Int (pos n) ∷ Int (pos u.faction) ∷ Text u.holding.name ∷ Int (pos u.region) ∷ Int (pos u.structure) ∷ Int (pos u.holding.men) ∷ Int (pos u.holding.money) ∷ v ∷ []) (stored_flag_is_flag u.holding.guard)
 
 -- ---- the campaign's own row
 
--- if the row read of the table `campaign` is made of the campaign, the table has exactly the campaign's row
+-- the table `campaign` has exactly the campaign's row, if the row that was read of it is made of the campaign
 own_held : {Q : Type 0} (f : Format) (text : List ℕ) (c : CampaignValue) (rows : List Row) (read : List StoredCampaignRow) → IsPermutation rows (map (own_stored text) read) → IsPermutation (made.campaign_row f c ∷ []) read → HasExactly rows (λ r. r ≡ campaign_row_in f (campaign_row_of c) text) × (Q → HasKeys rows)
 own_held f text c rows read in_table of_them = (
   λ r.
@@ -155,13 +155,13 @@ entry_has_goods_row n held Item thing amount there some = has_left (made.rows_of
 entry_has_goods_row n held Skill thing amount there some = has_right (made.rows_of_sort n 0 (entries held.items)) (made.rows_of_sort n 1 (entries held.days)) _ (entry_has_kind_row n 1 (entries held.days) thing amount there some)
 
 -- the row made of an item or skill of a unit, whose amount is not 0, is a row of `has` for the campaign
-row_of_goods : (units : FinMap nat_cmp Unit) (r : Row) (n : ℕ) (unit : Unit) → Has (entries units) (n, unit) → (a : StoredHas) → r ≡ has_values a → (sort : ThingKind) (e : ℕ × ℕ) → Has (entries (things_of sort unit.holding)) e → e.1 ≢ 0 → a ≡ made.has_row n (sort_number sort) e.0 e.1 → HasRowsOf units r
-row_of_goods units r n unit there a is sort e has some made_is = (n, unit, entry_got units n unit there, sort, e.0, e.1, entry_got (things_of sort unit.holding) e.0 e.1 has, some, is ∙ ap has_values made_is)
+row_of_goods : (units : FinMap nat_cmp Unit) (r : Row) (n : ℕ) (unit : Unit) → Has (entries units) (n, unit) → (a : StoredHas) → r ≡ has_row_values a → (sort : ThingKind) (e : ℕ × ℕ) → Has (entries (things_of sort unit.holding)) e → e.1 ≢ 0 → a ≡ made.has_row n (sort_number sort) e.0 e.1 → HasRowsOf units r
+row_of_goods units r n unit there a is sort e has some made_is = (n, unit, entry_got units n unit there, sort, e.0, e.1, entry_got (things_of sort unit.holding) e.0 e.1 has, some, is ∙ ap has_row_values made_is)
 
 -- the table `has` has exactly the rows of what the units have, if the rows that were read of it are made of the units
-goods_held : (rows : List Row) (read : List StoredHas) (units : FinMap nat_cmp Unit) → IsPermutation rows (map has_values read) → IsPermutation (made.has_rows (entries units)) read → HasExactly rows (HasRowsOf units)
+goods_held : (rows : List Row) (read : List StoredHas) (units : FinMap nat_cmp Unit) → IsPermutation rows (map has_row_values read) → IsPermutation (made.has_rows (entries units)) read → HasExactly rows (HasRowsOf units)
 goods_held rows read units in_table of_them r =
-    let is = are_made has_values rows read (made.has_rows (entries units)) in_table of_them r in (
+    let is = are_made has_row_values rows read (made.has_rows (entries units)) in_table of_them r in (
       λ there.
           let a = is.0 there in
           let found = flat_has (λ (e : ℕ × Unit). made.held_rows e.0 e.1.holding) (entries units) a.0 a.1 in
@@ -214,7 +214,7 @@ all_has : {A : Type 0} (xs ys : List A) → ((x : A) → Has ys x → Has xs x) 
 all_has xs [] within = tt
 all_has xs (y ∷ ys) within = (within y (inl refl), all_has xs ys (λ x there. within x (inr there)))
 
--- the row of `books` that is made of one account and its amount
+-- the row of `books` that is made of an amount and of its entry and thing (`Account`)
 abbrev made_line : Account × ℤ → StoredBooks
 made_line x = made.books_row x.0.0 x.0.1 x.1
 
@@ -232,7 +232,7 @@ books_held things books are rows read in_table of_them r =
           (x.0.0.0, x.0.0.1, λ none. some (sym amount ∙ none), a.2 ∙ ap books_values x.2 ∙ ap (λ z. books_values (made.books_row x.0.0.0 x.0.0.1 z)) (sym amount)),
       λ of.
           let z = amount_in books of.0 of.1 in
-          let got : get m (of.0, of.1) ≡ Some z = get-listed things books are of.0 of.1 ∙ ap (λ b. cond b None (Some z)) (zero_not z of.2) in
+          let got : get m (of.0, of.1) ≡ Some z = get-listed things books are of.0 of.1 ∙ ap (λ b. cond b None (Some z)) (nonzero_fails_is_zero z of.2) in
           let there = amount_of_each (λ c y. Has (entries m) (c, y)) m (all_has (entries m) (entries m) (λ x h. h)) (of.0, of.1) z got in
           is.1 (made.books_row of.0 of.1 z, has_map made_line (entries m) ((of.0, of.1), z) there, of.3),
     )
@@ -254,13 +254,13 @@ module _ (f : Format) (db : Trees) (text : List ℕ) (p : Parts) (c : CampaignVa
   by_part : (part : Part) → Has (parts_in f) part → HasExactly (rows_in (table_of part) db) (rows_for (campaign_row_in f (campaign_row_of c) text) c part) × (shows_rowids part ≡ false → HasKeys (rows_in (table_of part) db))
   unfolding rows_of
   by_part Own there = own_held f text c _ p.campaign (have.rows Own there) are.campaign
-  by_part Factions there = by_number faction_stored made.faction_row faction_line faction_row_is_line (λ n v. refl) _ p.factions c.factions (have.rows Factions there) are.factions
-  by_part Regions there = by_number region_stored made.region_row region_line (λ n v. refl) (λ n v. refl) _ p.regions c.regions (have.rows Regions there) are.regions
-  by_part Units there = by_number unit_stored made.unit_row unit_line unit_row_is_line (λ n v. refl) _ p.units c.units (have.rows Units there) are.units
+  by_part Factions there = table_has_rows_of_map faction_stored made.faction_row row_of_faction faction_row_is_line (λ n v. refl) _ p.factions c.factions (have.rows Factions there) are.factions
+  by_part Regions there = table_has_rows_of_map region_stored made.region_row row_of_region (λ n v. refl) (λ n v. refl) _ p.regions c.regions (have.rows Regions there) are.regions
+  by_part Units there = table_has_rows_of_map unit_stored made.unit_row row_of_unit unit_row_is_line (λ n v. refl) _ p.units c.units (have.rows Units there) are.units
   by_part Goods there = (goods_held _ p.has c.units (have.rows Goods there) are.has, λ number. absurd (true≢false number))
-  by_part Structures there = by_number structure_stored made.structure_row structure_line (λ n v. refl) (λ n v. refl) _ p.structures c.structures (have.rows Structures there) are.structures
-  by_part Mail there = by_number mail_stored made.mail_row mail_row (λ n v. refl) (λ n v. refl) _ p.mail c.mail (have.rows Mail there) are.mail
-  by_part Reports there = by_number report_stored made.report_row report_row (λ n v. refl) (λ n v. refl) _ p.reports c.reports (have.rows Reports there) are.reports
+  by_part Structures there = table_has_rows_of_map structure_stored made.structure_row row_of_structure (λ n v. refl) (λ n v. refl) _ p.structures c.structures (have.rows Structures there) are.structures
+  by_part Mail there = table_has_rows_of_map mail_stored made.mail_row mail_row (λ n v. refl) (λ n v. refl) _ p.mail c.mail (have.rows Mail there) are.mail
+  by_part Reports there = table_has_rows_of_map report_stored made.report_row report_row (λ n v. refl) (λ n v. refl) _ p.reports c.reports (have.rows Reports there) are.reports
   by_part Books there = (books_held things c.books books _ p.books (have.rows Books there) are.books, λ number. absurd (true≢false number))
   by_part Markets there = (stocks_held _ p.markets c.regions (have.rows Markets there) (subst (λ f. IsPermutation (made.market_rows f (entries c.regions)) p.markets) (second_by_late_part f Markets refl there) are.markets), λ number. absurd (true≢false number))
 
@@ -288,7 +288,7 @@ one_head : (f : Format) (h : StoredCampaignRow) (rows : List StoredCampaignRow) 
 one_head First h rows id format is = rw (is, id, format) refl
 one_head Second h rows id format is = rw (is, id, format) refl
 
--- if no row was read of parts that the format lacks, there are no stocks in the first format
+-- no stock was read in the first format, if no row was read of parts that the format lacks
 no_markets : (f : Format) (p : Parts) → ((text : List ℕ) (part : Part) → ¬ Has (parts_in f) part → rows_read text p part ≡ []) → IsTrue (are_of_format f p.markets)
 no_markets First p none = nothing p.markets (none [] Markets (not_among (parts_in First) Markets refl))
   where

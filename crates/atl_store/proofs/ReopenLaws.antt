@@ -31,7 +31,8 @@ module _ {S : Type 0} (g : Ghosts S) where
     pub kept_again : (text : List ℕ) (c : CampaignValue) → HoldsCampaign g old text c → HoldsCampaign g new text c
     kept_again text c holds clean = reopens.keeps clean text c ((holds (reopens.clean clean)).crash (state g new).now.trees (reopens.found clean))
 
-    -- after a command that failed, a connection opened again keeps the campaign before or after it, if the disk is clean
+    -- after a command that failed, a connection opened again keeps the campaign before or after it, if the disk is
+    -- clean
     pub stopped_again : HasCleanDisk (state g new) → (faults : ℕ) (text : List ℕ) (before after : CampaignValue) → LeavesAfterFault faults (state g old) text before after → Keeps (state g new) text before ⊎ Keeps (state g new) text after
     stopped_again clean faults text before after stops = elim (stops.crash (state g new).now.trees (reopens.found clean)) [
       | inl is ↦ inl (reopens.keeps clean text before is)

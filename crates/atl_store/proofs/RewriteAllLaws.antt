@@ -11,7 +11,7 @@ use Rattle.atl_sql.specs.Tables.{Part, Own, table_of, all_parts, campaign_table}
 use Rattle.atl_sql.specs.Shown.{campaign_row}
 use Rattle.atl_sql.specs.Rows.{campaign_row_of, rows_for}
 use Rattle.atl_sql.specs.PutsCampaignRow.{PutsCampaignRow}
-use Rattle.atl_sql.specs.Inside.{Inside, HasTables, Alters}
+use Rattle.atl_sql.specs.Inside.{DoesInside, HasTables, Alters}
 use Rattle.atl_sql.specs.Marked.{is_marked}
 use Rattle.atl_store.specs.Changing.{campaign_row_after, own_after, WritesChanges}
 use Rattle.atl_store.specs.Rewriting.{Becomes, Rewrites, RewritesCampaignRow, RewritesParts, RewritesWithOwn}
@@ -39,11 +39,11 @@ module _ (c : MarkedCampaign) where
       only r (inr kept) = absurd (kept.1 (ap (take 1) ((was r).0 kept.0)))
 
   -- putting the campaign row rewrites it (`RewritesCampaignRow`), if it is marked
-  pub head_done : c.marks.row ≡ true → (old new : State) → Inside HasTables (PutsCampaignRow (campaign_row_of c.value) []) old new → Inside HasTables (RewritesCampaignRow c) old new
+  pub head_done : c.marks.row ≡ true → (old new : State) → DoesInside HasTables (PutsCampaignRow (campaign_row_of c.value) []) old new → DoesInside HasTables (RewritesCampaignRow c) old new
   head_done is old new did = inside_weaker HasTables (PutsCampaignRow (campaign_row_of c.value) []) (RewritesCampaignRow c) old new (λ has puts. head_put true is refl old.now new.now puts) did
 
   -- doing nothing rewrites the campaign row (`RewritesCampaignRow`), if it is not marked
-  pub head_left : c.marks.row ≡ false → (s : State) → Inside HasTables (RewritesCampaignRow c) s s
+  pub head_left : c.marks.row ≡ false → (s : State) → DoesInside HasTables (RewritesCampaignRow c) s s
   head_left is s = (
     refl,
     λ has. record {

@@ -18,19 +18,19 @@ use Rattle.atl_sql.specs.Sets.{Set, rows_in}
 use Rattle.atl_sql.specs.Tables.{all_tables}
 use Rattle.atl_sql.specs.Shown.{int}
 use Rattle.atl_sql.specs.Rows.{RowsOf}
-use Rattle.atl_sql.specs.Inside.{Inside, HasTables, Puts, Drops}
+use Rattle.atl_sql.specs.Inside.{DoesInside, HasTables, Puts, Drops}
 use Rattle.atl_sql.specs.Marked.{first_column_passes, begins_marked}
-use Rattle.atl_store.specs.Changing.{Chosen}
-use Rattle.atl_store.specs.Rewriting.{Rewrites, RewritesNumber, is_number, is_among}
+use Rattle.atl_store.specs.Changing.{IfElse}
+use Rattle.atl_store.specs.Rewriting.{Rewrites, RewritesNumber, equals_number, is_among}
 use Rattle.atl_sql.proofs.CarryLaws.{carries_then, carries_none}
 use Rattle.atl_store.proofs.EntryLaws.{same_number}
 use Rattle.atl_store.proofs.WholeLaws.{inside_weaker}
 
 -- ---- one step after another
 
--- for one row: if `N` is `W` or `M` by the test `p`, then `W` or `N` by the test `q` is `W` or `M` by "`p` or `q`"
--- (`Chosen`)
-chosen_step : (p q : Bool) (W M N : Type 0) → N ↔ Chosen p W M → Chosen q W N ↔ Chosen (p || q) W M
+-- for one row: to rewrite it if the test `p` is true, and then if `q` is, is to rewrite it if "`p` or `q`" is true
+-- (`IfElse`)
+chosen_step : (p q : Bool) (W M N : Type 0) → N ↔ IfElse p W M → IfElse q W N ↔ IfElse (p || q) W M
 chosen_step true true W M N same = (λ h. h, λ h. h)
 chosen_step false true W M N same = (λ h. h, λ h. h)
 chosen_step true false W M N same = same
@@ -40,18 +40,18 @@ chosen_step false false W M N same = same
 -- The other tables are unchanged.
 pub record Remaining (table : Table) (Wanted : Set) (rest all : Row → Bool) (old now : Database) : Type 0 where
   -- once the rows that `rest` chooses are the wanted ones, all that `all` chooses are
-  pub rows : (r : Row) → Chosen (rest r) (Wanted r) (Has (rows_in table now.trees) r) ↔ Chosen (all r) (Wanted r) (Has (rows_in table old.trees) r)
+  pub rows : (r : Row) → IfElse (rest r) (Wanted r) (Has (rows_in table now.trees) r) ↔ IfElse (all r) (Wanted r) (Has (rows_in table old.trees) r)
   -- every table but `table` is unchanged
   pub others : (t : Table) → Has all_tables t → t.tree ≢ table.tree → now.trees t.tree ≡ old.trees t.tree
 
 module _ (table : Table) (Wanted : Set) where
   -- before any step all rows that `all` chooses are left to rewrite: `rest` chooses the same rows
-  pub none_nearer : (rest all : Row → Bool) → ((r : Row) → rest r ≡ all r) → (s : State) → Inside HasTables (Remaining table Wanted rest all) s s
-  none_nearer rest all same s = (
+  pub all_remaining : (rest all : Row → Bool) → ((r : Row) → rest r ≡ all r) → (s : State) → DoesInside HasTables (Remaining table Wanted rest all) s s
+  all_remaining rest all same s = (
     refl,
     λ has. record {
       does = record {
-        rows = λ r. let there = Has (rows_in table s.now.trees) r in subst (λ b. Chosen (rest r) (Wanted r) there ↔ Chosen b (Wanted r) there) (same r) (λ h. h, λ h. h);
+        rows = λ r. let there = Has (rows_in table s.now.trees) r in subst (λ b. IfElse (rest r) (Wanted r) there ↔ IfElse b (Wanted r) there) (same r) (λ h. h, λ h. h);
         others = λ t listed other. refl;
       };
       tables = has;
@@ -62,8 +62,8 @@ module _ (table : Table) (Wanted : Set) where
   -- where `rest` is "`step` or `next`": after the rows that `step` chooses, only those that `next` chooses are left to
   -- rewrite
   pub one_less_remaining : (step rest next all : Row → Bool) → ((r : Row) → rest r ≡ (step r || next r)) → (old mid new : State)
-      → Inside HasTables (Remaining table Wanted rest all) old mid → Inside HasTables (Rewrites table step Wanted) mid new
-      → Inside HasTables (Remaining table Wanted next all) old new
+      → DoesInside HasTables (Remaining table Wanted rest all) old mid → DoesInside HasTables (Rewrites table step Wanted) mid new
+      → DoesInside HasTables (Remaining table Wanted next all) old new
   one_less_remaining step rest next all parts old mid new so_far more = (
     more.0 ∙ so_far.0,
     λ has.
@@ -73,8 +73,8 @@ module _ (table : Table) (Wanted : Set) where
           does = record {
             rows = λ r.
                 let before = Has (rows_in table mid.now.trees) r in
-                let goal = Chosen (all r) (Wanted r) (Has (rows_in table old.now.trees) r) in
-                let so = subst (λ b. Chosen b (Wanted r) before ↔ goal) (parts r) (was.does.rows r) in
+                let goal = IfElse (all r) (Wanted r) (Has (rows_in table old.now.trees) r) in
+                let so = subst (λ b. IfElse b (Wanted r) before ↔ goal) (parts r) (was.does.rows r) in
                 let one = chosen_step (step r) (next r) (Wanted r) before (Has (rows_in table new.now.trees) r) (now.does.rows r) in
                 (λ h. so.0 (one.0 h), λ h. one.1 (so.1 h));
             others = λ t listed other. now.does.others t listed other ∙ was.does.others t listed other;
@@ -86,7 +86,7 @@ module _ (table : Table) (Wanted : Set) where
 
   -- once `rest` chooses no row any more, the rows that `goal` chooses, as `all` does, are rewritten (`Rewrites`)
   pub all_rewritten : (rest all goal : Row → Bool) → ((r : Row) → rest r ≡ false) → ((r : Row) → all r ≡ goal r) → (old new : State)
-      → Inside HasTables (Remaining table Wanted rest all) old new → Inside HasTables (Rewrites table goal Wanted) old new
+      → DoesInside HasTables (Remaining table Wanted rest all) old new → DoesInside HasTables (Rewrites table goal Wanted) old new
   all_rewritten rest all goal none is old new did = (
     did.0,
     λ has.
@@ -96,7 +96,7 @@ module _ (table : Table) (Wanted : Set) where
             rows = λ r.
                 let now = Has (rows_in table new.now.trees) r in
                 let was = Has (rows_in table old.now.trees) r in
-                subst (λ b. now ↔ Chosen b (Wanted r) was) (is r) (subst (λ b. Chosen b (Wanted r) now ↔ Chosen (all r) (Wanted r) was) (none r) (made.does.rows r));
+                subst (λ b. now ↔ IfElse b (Wanted r) was) (is r) (subst (λ b. IfElse b (Wanted r) now ↔ IfElse (all r) (Wanted r) was) (none r) (made.does.rows r));
             others = made.does.others;
           };
           tables = made.tables;
@@ -114,8 +114,8 @@ module _ (table : Table) (Wanted : Set) where
   }
 
   -- doing nothing rewrites the rows of a test that chooses no row
-  pub none_chosen : (step : Row → Bool) → ((r : Row) → step r ≡ false) → (s : State) → Inside HasTables (Rewrites table step Wanted) s s
-  none_chosen step none s = all_rewritten step step step none (λ r. refl) s s (none_nearer step step (λ r. refl) s)
+  pub none_chosen : (step : Row → Bool) → ((r : Row) → step r ≡ false) → (s : State) → DoesInside HasTables (Rewrites table step Wanted) s s
+  none_chosen step none s = all_rewritten step step step none (λ r. refl) s s (all_remaining step step (λ r. refl) s)
 
 -- ---- numbers
 
@@ -144,45 +144,45 @@ begins_none (Int (pos n) ∷ row) = refl
 begins_none row = refl
 
 -- a row that passes the test for a number has the number as its first column
-pub begins_key : (n : ℕ) (r : Row) → first_column_passes (is_number n) r ≡ true → take 1 r ≡ int n ∷ []
+pub begins_key : (n : ℕ) (r : Row) → first_column_passes (equals_number n) r ≡ true → take 1 r ≡ int n ∷ []
 begins_key n (Int (pos k) ∷ row) is = ap (λ k. int k ∷ []) (equal_by_order k n is)
 begins_key n row is = absurd (true≢false (sym is))
 
 -- a row with a number as its first column passes the test for the number
-pub key_begins : (n : ℕ) (r : Row) → take 1 r ≡ int n ∷ [] → first_column_passes (is_number n) r ≡ true
+pub key_begins : (n : ℕ) (r : Row) → take 1 r ≡ int n ∷ [] → first_column_passes (equals_number n) r ≡ true
 key_begins n [] key = absurd cc
 key_begins n (v ∷ row) key =
     let value : v ≡ int n = cc in
-    ap (λ x. first_column_passes (is_number n) (x ∷ row)) value ∙ is_itself n
+    ap (λ x. first_column_passes (equals_number n) (x ∷ row)) value ∙ is_itself n
 
 -- a row begins with one of the numbers `n ∷ ns` exactly if it begins with `n` or with one of `ns`
-next_number : (n : ℕ) (ns : List ℕ) (r : Row) → first_column_passes (is_among (n ∷ ns)) r ≡ (first_column_passes (is_number n) r || first_column_passes (is_among ns) r)
-next_number n ns r = begins_either (is_number n) (is_among ns) r
+next_number : (n : ℕ) (ns : List ℕ) (r : Row) → first_column_passes (is_among (n ∷ ns)) r ≡ (first_column_passes (equals_number n) r || first_column_passes (is_among ns) r)
+next_number n ns r = begins_either (equals_number n) (is_among ns) r
 
 -- if the list `ns` is empty, no row begins with one of its numbers
 no_number : (ns : List ℕ) → ns ≡ [] → (r : Row) → first_column_passes (is_among ns) r ≡ false
 no_number ns none r = ap (λ l. first_column_passes (is_among l) r) none ∙ begins_none r
 
 -- a row begins with one of the listed numbers of a set exactly if it begins with a number of the set
-of_set : (marks : FinSet nat_cmp) (ns : List ℕ) → from_list ns ≡ marks → (r : Row) → first_column_passes (is_among ns) r ≡ begins_marked marks r
-of_set marks ns all r = ap (λ (f : ℕ → Bool). first_column_passes f r) (λ i n. (sym (contains-from_list nat_cmp_total ns n) ∙ ap (λ s. contains s n) all) i)
+listed_numbers_are_of_set : (marks : FinSet nat_cmp) (ns : List ℕ) → from_list ns ≡ marks → (r : Row) → first_column_passes (is_among ns) r ≡ begins_marked marks r
+listed_numbers_are_of_set marks ns all r = ap (λ (f : ℕ → Bool). first_column_passes f r) (λ i n. (sym (contains-from_list nat_cmp_total ns n) ∙ ap (λ s. contains s n) all) i)
 
 -- ---- the rows of all numbers of a set, one after another
 
 module _ (table : Table) (Wanted : Set) where
   -- Of the numbers `all`, `rest` are left to rewrite: once their rows are rewritten, the rows of all are (`Remaining`).
-  abbrev pub NearingNumbers : List ℕ → List ℕ → Database → Database → Type 0
-  NearingNumbers rest all = Remaining table Wanted (λ r. first_column_passes (is_among rest) r) (λ r. first_column_passes (is_among all) r)
+  abbrev pub RemainingNumbers : List ℕ → List ℕ → Database → Database → Type 0
+  RemainingNumbers rest all = Remaining table Wanted (λ r. first_column_passes (is_among rest) r) (λ r. first_column_passes (is_among all) r)
 
   -- once the rows of the first number left to rewrite are rewritten, only the numbers `rest` after it are left
-  pub number_nearer : (n : ℕ) (now rest all : List ℕ) → now ≡ n ∷ rest → (old mid new : State) → Inside HasTables (NearingNumbers now all) old mid
-      → Inside HasTables (Rewrites table (first_column_passes (is_number n)) Wanted) mid new → Inside HasTables (NearingNumbers rest all) old new
-  number_nearer n now rest all is = one_less_remaining table Wanted (λ r. first_column_passes (is_number n) r) (λ r. first_column_passes (is_among now) r) (λ r. first_column_passes (is_among rest) r) (λ r. first_column_passes (is_among all) r) (λ r. ap (λ ns. first_column_passes (is_among ns) r) is ∙ next_number n rest r)
+  pub one_less_number : (n : ℕ) (now rest all : List ℕ) → now ≡ n ∷ rest → (old mid new : State) → DoesInside HasTables (RemainingNumbers now all) old mid
+      → DoesInside HasTables (Rewrites table (first_column_passes (equals_number n)) Wanted) mid new → DoesInside HasTables (RemainingNumbers rest all) old new
+  one_less_number n now rest all is = one_less_remaining table Wanted (λ r. first_column_passes (equals_number n) r) (λ r. first_column_passes (is_among now) r) (λ r. first_column_passes (is_among rest) r) (λ r. first_column_passes (is_among all) r) (λ r. ap (λ ns. first_column_passes (is_among ns) r) is ∙ next_number n rest r)
 
   -- when no number is left to rewrite, the rows of all numbers of the set are rewritten (`Rewrites`)
   pub numbers_rewritten : (marks : FinSet nat_cmp) (rest all : List ℕ) → rest ≡ [] → from_list all ≡ marks → (old new : State)
-      → Inside HasTables (NearingNumbers rest all) old new → Inside HasTables (Rewrites table (begins_marked marks) Wanted) old new
-  numbers_rewritten marks rest all none is = all_rewritten table Wanted (λ r. first_column_passes (is_among rest) r) (λ r. first_column_passes (is_among all) r) (λ r. begins_marked marks r) (no_number rest none) (of_set marks all is)
+      → DoesInside HasTables (RemainingNumbers rest all) old new → DoesInside HasTables (Rewrites table (begins_marked marks) Wanted) old new
+  numbers_rewritten marks rest all none is = all_rewritten table Wanted (λ r. first_column_passes (is_among rest) r) (λ r. first_column_passes (is_among all) r) (λ r. begins_marked marks r) (no_number rest none) (listed_numbers_are_of_set marks all is)
 
 -- ---- new rows that replace those with a key
 
@@ -190,16 +190,16 @@ module _ (table : Table) (Wanted : Set) where
 module _ (p : Row → Bool) (Key New Wanted : Set) (found : (r : Row) → p r ≡ true → Key r) (finds : (r : Row) → Key r → p r ≡ true) (news : (r : Row) → New r → Key r × Wanted r) (olds : (r : Row) → p r ≡ true → Wanted r → New r) where
   -- for `rewrites_key`: a row is new, or old without the key, exactly if it is wanted and `p` finds it, or old and `p`
   -- doesn't
-  in_place : (Were : Type 0) (r : Row) → (New r ⊎ (Were × ¬ Key r)) ↔ Chosen (p r) (Wanted r) Were
+  in_place : (Were : Type 0) (r : Row) → (New r ⊎ (Were × ¬ Key r)) ↔ IfElse (p r) (Wanted r) Were
   in_place Were r = (ahead, back (p r) refl)
     where
       -- for `in_place`: a row that is new, or old without the key, is wanted if `p` finds it, and old if not
-      ahead : New r ⊎ (Were × ¬ Key r) → Chosen (p r) (Wanted r) Were
-      ahead (inl new) = let is = news r new in subst (λ b. Chosen b (Wanted r) Were) (sym (finds r is.0)) is.1
-      ahead (inr kept) = subst (λ b. Chosen b (Wanted r) Were) (sym (false_from_ne_true (p r) (λ is. kept.1 (found r is)))) kept.0
+      ahead : New r ⊎ (Were × ¬ Key r) → IfElse (p r) (Wanted r) Were
+      ahead (inl new) = let is = news r new in subst (λ b. IfElse b (Wanted r) Were) (sym (finds r is.0)) is.1
+      ahead (inr kept) = subst (λ b. IfElse b (Wanted r) Were) (sym (false_from_ne_true (p r) (λ is. kept.1 (found r is)))) kept.0
 
       -- for `in_place`: a row that is wanted if `p` finds it, and old if not, is new, or old without the key
-      back : (b : Bool) → p r ≡ b → Chosen b (Wanted r) Were → New r ⊎ (Were × ¬ Key r)
+      back : (b : Bool) → p r ≡ b → IfElse b (Wanted r) Were → New r ⊎ (Were × ¬ Key r)
       back true is wanted = inl (olds r is wanted)
       back false is was = inr (was, λ key. true≢false (sym (finds r key) ∙ is))
 
@@ -209,7 +209,8 @@ module _ (p : Row → Bool) (Key New Wanted : Set) (found : (r : Row) → p r �
       → ((t : Table) → Has all_tables t → t.tree ≢ table.tree → new.trees t.tree ≡ old.trees t.tree) → Rewrites table p Wanted old new
   rewrites_key table old new rows others = record { rows = λ r. let so = in_place (Has (rows_in table old.trees) r) r in (λ h. so.0 ((rows r).0 h), λ h. (rows r).1 (so.1 h)); others = others }
 
--- for tables after a deletion: since no row is new (the first case is impossible), the row was kept (the second holds)
+-- a row that is in a table after a deletion was kept: of the two cases, that it is new and that it was kept, the first
+-- is impossible
 pub kept_only : {P : Type 0} → ⊥ ⊎ P → P
 kept_only (inl never) = absurd never
 kept_only (inr kept) = kept
@@ -218,14 +219,14 @@ kept_only (inr kept) = kept
 
 module _ {V : Type 0} (table : Table) (line : ℕ → V → Row) (numbered : (n : ℕ) (v : V) → take 1 (line n v) ≡ int n ∷ []) (values : FinMap nat_cmp V) (n : ℕ) where
   -- a wanted row with the number `n` is the row of the map's value under `n`
-  wanted_at : (r : Row) → first_column_passes (is_number n) r ≡ true → RowsOf line values r → (v : V) × (get values n ≡ Some v) × (r ≡ line n v)
+  wanted_at : (r : Row) → first_column_passes (equals_number n) r ≡ true → RowsOf line values r → (v : V) × (get values n ≡ Some v) × (r ≡ line n v)
   wanted_at r is of =
       let number : of.0 ≡ n = same_number of.0 n (sym (numbered of.0 of.1) ∙ ap (take 1) (sym of.3) ∙ begins_key n r is) in
       (of.1, ap (get values) (sym number) ∙ of.2, of.3 ∙ ap (λ k. line k of.1) number)
 
   -- for `put_done`, of the databases alone: putting the row of a number that the map has rewrites its row
   put_rewrites : (old new : Database) (v : V) → get values n ≡ Some v → Puts table 1 (line n v) old new → RewritesNumber table line values n old new
-  put_rewrites old new v there did = rewrites_key (first_column_passes (is_number n)) (λ r. take 1 r ≡ take 1 (line n v)) (λ r. r ≡ line n v) (RowsOf line values)
+  put_rewrites old new v there did = rewrites_key (first_column_passes (equals_number n)) (λ r. take 1 r ≡ take 1 (line n v)) (λ r. r ≡ line n v) (RowsOf line values)
       (λ r is. begins_key n r is ∙ sym (numbered n v))
       (λ r key. key_begins n r (key ∙ numbered n v))
       (λ r same. (ap (take 1) same, (n, v, there, same)))
@@ -234,16 +235,16 @@ module _ {V : Type 0} (table : Table) (line : ℕ → V → Row) (numbered : (n 
 
   -- for `drop_done`, of the databases alone: deleting the row of a number that the map lacks rewrites its row
   drop_rewrites : (old new : Database) → get values n ≡ None → Drops table 1 (int n ∷ []) old new → RewritesNumber table line values n old new
-  drop_rewrites old new none did = rewrites_key (first_column_passes (is_number n)) (λ r. take 1 r ≡ int n ∷ []) (λ r. ⊥) (RowsOf line values) (begins_key n) (key_begins n) (λ r never. absurd never)
+  drop_rewrites old new none did = rewrites_key (first_column_passes (equals_number n)) (λ r. take 1 r ≡ int n ∷ []) (λ r. ⊥) (RowsOf line values) (begins_key n) (key_begins n) (λ r never. absurd never)
       (λ r is of. let w = wanted_at r is of in none-some w.0 (sym none ∙ w.1))
       table old new (λ r. let so = did.rows r in (λ h. inr (so.0 h), λ h. so.1 (kept_only h))) did.others
 
   -- inside a transaction, putting the row of a number that the map has rewrites the row of the number
-  pub put_done : (v : V) → get values n ≡ Some v → (old new : State) → Inside HasTables (Puts table 1 (line n v)) old new
-      → Inside HasTables (RewritesNumber table line values n) old new
+  pub put_done : (v : V) → get values n ≡ Some v → (old new : State) → DoesInside HasTables (Puts table 1 (line n v)) old new
+      → DoesInside HasTables (RewritesNumber table line values n) old new
   put_done v there old new did = inside_weaker HasTables (Puts table 1 (line n v)) (RewritesNumber table line values n) old new (λ has puts. put_rewrites old.now new.now v there puts) did
 
   -- inside a transaction, deleting the row of a number that the map lacks rewrites the row of the number
-  pub drop_done : get values n ≡ None → (old new : State) → Inside HasTables (Drops table 1 (int n ∷ [])) old new
-      → Inside HasTables (RewritesNumber table line values n) old new
+  pub drop_done : get values n ≡ None → (old new : State) → DoesInside HasTables (Drops table 1 (int n ∷ [])) old new
+      → DoesInside HasTables (RewritesNumber table line values n) old new
   drop_done none old new did = inside_weaker HasTables (Drops table 1 (int n ∷ [])) (RewritesNumber table line values n) old new (λ has drops. drop_rewrites old.now new.now none drops) did

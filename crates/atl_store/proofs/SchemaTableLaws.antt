@@ -26,8 +26,8 @@ same_tree m n is = let next : m + 1 ≡ n + 1 = cc in omega (arith, next)
 
 -- two tables of the same tree that one CREATE text defines are equal
 one_made : (sql : List ℕ) (a b : Table) → a.tree ≡ b.tree → DefinesTable sql a → DefinesTable sql b → a ≡ b
-one_made sql a b tree (made, given, is) (other, told, same) =
-    let both : made ≡ other = let e = sym given ∙ told in cc in
+one_made sql a b tree (made, given, is) (other, says, same) =
+    let both : made ≡ other = let e = sym given ∙ says in cc in
     is ∙ ap (λ (t : Table). record t { tree = a.tree }) both ∙ ap (λ n. record other { tree = n }) tree ∙ sym same
 
 -- two tables that one row of the schema table lists are equal
@@ -52,8 +52,8 @@ one_list R (r ∷ rows) (x ∷ xs) (y ∷ ys) same one two =
 -- ---- indexes
 
 -- two numbers below 65536 are equal, if the decimal texts of the numbers one above them are
-same_number : (m n : ℕ) → m < 65536 → n < 65536 → decimal (m + 1) ≡ decimal (n + 1) → m ≡ n
-same_number m n small low is =
+decimal_text_determines_number : (m n : ℕ) → m < 65536 → n < 65536 → decimal (m + 1) ≡ decimal (n + 1) → m ≡ n
+decimal_text_determines_number m n small low is =
     let first = (decimal_is_IsNumeral (m + 1) (omega (arith, small))).1 in
     let second = (decimal_is_IsNumeral (n + 1) (omega (arith, low))).1 in
     let next : m + 1 ≡ n + 1 = sym first ∙ ap (digits_value 10) is ∙ second in
@@ -67,15 +67,15 @@ same_made table k l a b name first second =
 
 -- two automatic indexes of a table with the same tree and name are equal
 one_automatic : (table : Table) (a b : Index) → a.tree ≡ b.tree → a.name ≡ b.name → IsDefined table a Null → IsDefined table b Null → a ≡ b
-one_automatic table a b tree name (k, key, at, is, small) (l, other, place, same, low) =
-    let number : k ≡ l = same_number k l small low (same_made table k l a b name (ap (λ (i : Index). i.name) is) (ap (λ (i : Index). i.name) same)) in
-    let keys : key ≡ other = let e : Some key ≡ Some other = sym at ∙ ap (slice_get table.uniques) number ∙ place in cc in
+one_automatic table a b tree name (k, key, at, is, small) (l, other, position, same, low) =
+    let number : k ≡ l = decimal_text_determines_number k l small low (same_made table k l a b name (ap (λ (i : Index). i.name) is) (ap (λ (i : Index). i.name) same)) in
+    let keys : key ≡ other = let e : Some key ≡ Some other = sym at ∙ ap (slice_get table.uniques) number ∙ position in cc in
     is ∙ ap (λ n. automatic table n key a.tree) number ∙ ap (λ k. automatic table l k a.tree) keys ∙ ap (automatic table l other) tree ∙ sym same
 
 -- two indexes of the same tree and name that one CREATE INDEX text defines are equal
 one_stated : (table : Table) (sql : List ℕ) (a b : Index) → a.tree ≡ b.tree → IsDefined table a (Text sql) → IsDefined table b (Text sql) → a ≡ b
-one_stated table sql a b tree (made, given, is) (other, told, same) =
-    let both : made ≡ other = let e = sym given ∙ told in cc in
+one_stated table sql a b tree (made, given, is) (other, says, same) =
+    let both : made ≡ other = let e = sym given ∙ says in cc in
     is ∙ ap (λ (i : Index). record i { tree = a.tree; table = table.tree }) both ∙ ap (λ n. record other { tree = n; table = table.tree }) tree ∙ sym same
 
 -- two indexes of a table with the same tree, name and definition are equal

@@ -12,9 +12,9 @@ use Rattle.sqlite.specs.State.{State}
 use Rattle.sqlite.specs.Table.{Table}
 use Rattle.atl_campaign.specs.Marks.{MarkedThings}
 use Rattle.atl_sql.specs.Sets.{Set}
-use Rattle.atl_sql.specs.Inside.{Inside, HasTables}
+use Rattle.atl_sql.specs.Inside.{DoesInside, HasTables}
 use Rattle.atl_sql.specs.Marked.{has_thing}
-use Rattle.atl_store.specs.Rewriting.{FindsByNumbers, Rewrites, is_number, is_among, is_thing, is_of}
+use Rattle.atl_store.specs.Rewriting.{FindsByNumbers, Rewrites, equals_number, is_among, is_owner_and_thing, is_owner_and_listed}
 use Rattle.atl_store.proofs.EntryLaws.{in_order}
 use Rattle.atl_store.proofs.RewriteLaws.{Remaining, one_less_remaining, all_rewritten, equal_by_order}
 
@@ -26,7 +26,7 @@ listed_key [] t = refl
 listed_key (e ∷ es) t = elim (eq_by_cmp nat_cmp t e.0) as (λ b. (b || is_among (map (λ x. x.0) es) t) ≡ is_some (cond b (Some e.1) (find nat_cmp t es))) [ true ↦ refl | false ↦ listed_key es t ]
 
 -- for `not_listed`: a number that is less than another is not that number
-differs : (k n : ℕ) → is_lt (nat_cmp k n) ≡ true → is_number n k ≡ false
+differs : (k n : ℕ) → is_lt (nat_cmp k n) ≡ true → equals_number n k ≡ false
 differs k n less = elim (nat_cmp k n) as (λ o. is_lt o ≡ true → is_eq o ≡ false) [
   | Less ↦ λ _. refl
   | Equal ↦ λ never. absurd (true≢false (sym never))
@@ -36,11 +36,11 @@ differs k n less = elim (nat_cmp k n) as (λ o. is_lt o ≡ true → is_eq o ≡
 module _ {V : Type 0} where
   -- whether a pair of numbers is an owner's number and the number of one of the owner's listed things
   abbrev pub is_key : ℕ → List (ℕ × V) → ℕ → ℕ → Bool
-  is_key owner es n t = is_number owner n && is_among (map (λ e. e.0) es) t
+  is_key owner es n t = equals_number owner n && is_among (map (λ e. e.0) es) t
 
   -- whether a pair of numbers is that of a listed owner, and of a thing in the map that is listed under this owner
   abbrev pub is_listed : List (ℕ × FinMap nat_cmp V) → ℕ → ℕ → Bool
-  is_listed es n t = list_any (λ e. is_of e.0 e.1 n t) es
+  is_listed es n t = list_any (λ e. is_owner_and_listed e.0 e.1 n t) es
 
   -- no thing is listed for an owner whose number is below those of all owners of the list
   not_listed : (es : List (ℕ × FinMap nat_cmp V)) (n t : ℕ) → below_all nat_cmp n es ≡ true → is_listed es n t ≡ false
@@ -62,8 +62,8 @@ module _ {V : Type 0} where
 module _ (table : Table) (Wanted : Set) (finds : (ℕ → ℕ → Bool) → Row → Bool) where
   -- the amounts that `rest` chooses are left to rewrite: once they are rewritten, all that `all` chooses are
   -- (`Remaining`)
-  abbrev pub NearingSingles : (ℕ → ℕ → Bool) → (ℕ → ℕ → Bool) → Database → Database → Type 0
-  NearingSingles rest all = Remaining table Wanted (λ r. finds rest r) (λ r. finds all r)
+  abbrev pub RemainingSingles : (ℕ → ℕ → Bool) → (ℕ → ℕ → Bool) → Database → Database → Type 0
+  RemainingSingles rest all = Remaining table Wanted (λ r. finds rest r) (λ r. finds all r)
 
   -- the rows that `finds` finds by this test of their numbers become those of `Wanted`; all others stay (`Rewrites`)
   abbrev RewritesFound : (ℕ → ℕ → Bool) → Database → Database → Type 0
@@ -80,40 +80,40 @@ module _ (table : Table) (Wanted : Set) (finds : (ℕ → ℕ → Bool) → Row 
 
     -- where `rest` is "`step` or `next`": after the amounts that `step` chooses, only those that `next` chooses are
     -- left to rewrite
-    nearer : (step rest next all : ℕ → ℕ → Bool) → ((n t : ℕ) → rest n t ≡ (step n t || next n t)) → (old mid new : State)
-        → Inside HasTables (NearingSingles rest all) old mid → Inside HasTables (RewritesFound step) mid new → Inside HasTables (NearingSingles next all) old new
-    nearer step rest next all parts = one_less_remaining table Wanted (λ r. finds step r) (λ r. finds rest r) (λ r. finds next r) (λ r. finds all r)
+    one_less_amount : (step rest next all : ℕ → ℕ → Bool) → ((n t : ℕ) → rest n t ≡ (step n t || next n t)) → (old mid new : State)
+        → DoesInside HasTables (RemainingSingles rest all) old mid → DoesInside HasTables (RewritesFound step) mid new → DoesInside HasTables (RemainingSingles next all) old new
+    one_less_amount step rest next all parts = one_less_remaining table Wanted (λ r. finds step r) (λ r. finds rest r) (λ r. finds next r) (λ r. finds all r)
         (λ r. finds_same rest (λ n t. step n t || next n t) parts r ∙ by_numbers.either step next r)
 
     -- once `rest` chooses no amount any more, the amounts that `goal` chooses, as `all` does, are rewritten
     none_remaining : (rest all goal : ℕ → ℕ → Bool) → ((n t : ℕ) → rest n t ≡ false) → ((n t : ℕ) → all n t ≡ goal n t) → (old new : State)
-        → Inside HasTables (NearingSingles rest all) old new → Inside HasTables (RewritesFound goal) old new
+        → DoesInside HasTables (RemainingSingles rest all) old new → DoesInside HasTables (RewritesFound goal) old new
     none_remaining rest all goal none same = all_rewritten table Wanted (λ r. finds rest r) (λ r. finds all r) (λ r. finds goal r) (finds_none rest none) (finds_same all goal same)
 
     module _ {V : Type 0} where
       -- once the first of an owner's amounts that are left is rewritten, only the amounts `rest` after it are left
-      pub single_nearer : (owner : ℕ) (x : ℕ × V) (now rest all : List (ℕ × V)) → now ≡ x ∷ rest → (old mid new : State)
-          → Inside HasTables (NearingSingles (is_key owner now) (is_key owner all)) old mid → Inside HasTables (RewritesFound (is_thing owner x.0)) mid new
-          → Inside HasTables (NearingSingles (is_key owner rest) (is_key owner all)) old new
-      single_nearer owner x now rest all is = nearer (is_thing owner x.0) (is_key owner now) (is_key owner rest) (is_key owner all)
-          (λ n t. ap (λ es. is_key owner es n t) is ∙ and-or_distrib_left (is_number owner n) (is_number x.0 t) (is_among (map (λ e. e.0) rest) t))
+      pub one_less_single : (owner : ℕ) (x : ℕ × V) (now rest all : List (ℕ × V)) → now ≡ x ∷ rest → (old mid new : State)
+          → DoesInside HasTables (RemainingSingles (is_key owner now) (is_key owner all)) old mid → DoesInside HasTables (RewritesFound (is_owner_and_thing owner x.0)) mid new
+          → DoesInside HasTables (RemainingSingles (is_key owner rest) (is_key owner all)) old new
+      one_less_single owner x now rest all is = one_less_amount (is_owner_and_thing owner x.0) (is_key owner now) (is_key owner rest) (is_key owner all)
+          (λ n t. ap (λ es. is_key owner es n t) is ∙ and-or_distrib_left (equals_number owner n) (equals_number x.0 t) (is_among (map (λ e. e.0) rest) t))
 
       -- when no amount is left to rewrite, all listed amounts of the owner are rewritten
       pub singles_rewritten : (owner : ℕ) (numbers : FinMap nat_cmp V) (rest all : List (ℕ × V)) → rest ≡ [] → all ≡ entries numbers → (old new : State)
-          → Inside HasTables (NearingSingles (is_key owner rest) (is_key owner all)) old new → Inside HasTables (RewritesFound (is_of owner numbers)) old new
-      singles_rewritten owner numbers rest all none is = none_remaining (is_key owner rest) (is_key owner all) (is_of owner numbers)
-          (λ n t. ap (λ es. is_key owner es n t) none ∙ and-false (is_number owner n))
-          (λ n t. ap (λ es. is_key owner es n t) is ∙ ap (λ b. is_number owner n && b) (listed_key (entries numbers) t ∙ ap is_some (sym (get-entries numbers t))))
+          → DoesInside HasTables (RemainingSingles (is_key owner rest) (is_key owner all)) old new → DoesInside HasTables (RewritesFound (is_owner_and_listed owner numbers)) old new
+      singles_rewritten owner numbers rest all none is = none_remaining (is_key owner rest) (is_key owner all) (is_owner_and_listed owner numbers)
+          (λ n t. ap (λ es. is_key owner es n t) none ∙ and-false (equals_number owner n))
+          (λ n t. ap (λ es. is_key owner es n t) is ∙ ap (λ b. equals_number owner n && b) (listed_key (entries numbers) t ∙ ap is_some (sym (get-entries numbers t))))
 
       -- once the amounts of the first owner left to rewrite are rewritten, only the owners `rest` after it are left
-      pub owner_nearer : (x : ℕ × FinMap nat_cmp V) (now rest all : List (ℕ × FinMap nat_cmp V)) → now ≡ x ∷ rest → (old mid new : State)
-          → Inside HasTables (NearingSingles (is_listed now) (is_listed all)) old mid → Inside HasTables (RewritesFound (is_of x.0 x.1)) mid new
-          → Inside HasTables (NearingSingles (is_listed rest) (is_listed all)) old new
-      owner_nearer x now rest all is = nearer (is_of x.0 x.1) (is_listed now) (is_listed rest) (is_listed all) (λ n t. ap (λ es. is_listed es n t) is)
+      pub one_less_owner : (x : ℕ × FinMap nat_cmp V) (now rest all : List (ℕ × FinMap nat_cmp V)) → now ≡ x ∷ rest → (old mid new : State)
+          → DoesInside HasTables (RemainingSingles (is_listed now) (is_listed all)) old mid → DoesInside HasTables (RewritesFound (is_owner_and_listed x.0 x.1)) mid new
+          → DoesInside HasTables (RemainingSingles (is_listed rest) (is_listed all)) old new
+      one_less_owner x now rest all is = one_less_amount (is_owner_and_listed x.0 x.1) (is_listed now) (is_listed rest) (is_listed all) (λ n t. ap (λ es. is_listed es n t) is)
 
     -- when no owner is left to rewrite, all single marked amounts are rewritten
     pub owners_rewritten : (things : MarkedThings) (rest all : List (ℕ × FinMap nat_cmp (Unit {0}))) → rest ≡ [] → all ≡ entries things → (old new : State)
-        → Inside HasTables (NearingSingles (is_listed rest) (is_listed all)) old new → Inside HasTables (RewritesFound (has_thing things)) old new
+        → DoesInside HasTables (RemainingSingles (is_listed rest) (is_listed all)) old new → DoesInside HasTables (RewritesFound (has_thing things)) old new
     owners_rewritten things rest all none is = none_remaining (is_listed rest) (is_listed all) (has_thing things)
         (λ n t. ap (λ es. is_listed es n t) none)
         (λ n t. ap (λ es. is_listed es n t) is ∙ listed_thing (entries things) n t (in_order things) ∙ ap (λ o. is_some (get (unwrap_or o empty) t)) (sym (get-entries things n)))

@@ -22,8 +22,8 @@ use Rattle.atl_store.specs.declared.fault.CreateFault.TheVariants as create
 use Rattle.atl_sql.proofs.CarryLaws.{carries_none}
 
 -- the trees of a database whose tables hold the campaign store it (`Stores`)
-stored : (db : Database) (text : List ℕ) (c : CampaignValue) → HasTables db → Holds db.trees text c → Stores db.trees text c
-stored db text c has rows = record { schema = db.schema; begins = has.begins; sound = has.sound; rows = rows }
+held_campaign_is_stored : (db : Database) (text : List ℕ) (c : CampaignValue) → HasTables db → Holds db.trees text c → Stores db.trees text c
+held_campaign_is_stored db text c has rows = record { schema = db.schema; begins = has.begins; sound = has.sound; rows = rows }
 
 module _ (old new : State) (text : List ℕ) (settled : (db : Trees) → IsTrue new.is_open → new.may_leave db → db ≡ new.committed.trees) where
   -- after a commit the connection keeps the campaign that the transaction wrote, if a crash leaves what was committed
@@ -37,7 +37,7 @@ module _ (old new : State) (text : List ℕ) (settled : (db : Trees) → IsTrue 
         settled = done.committed;
         tables = did.tables;
         rows = rows;
-        crash = λ db may. subst (λ t. Stores t text after) (sym (settled db done.is_open may ∙ ap (λ (d : Database). d.trees) done.committed)) (stored new.now text after did.tables rows);
+        crash = λ db may. subst (λ t. Stores t text after) (sym (settled db done.is_open may ∙ ap (λ (d : Database). d.trees) done.committed)) (held_campaign_is_stored new.now text after did.tables rows);
       }
 
   -- after a failed transaction the campaign before is kept, and a crash leaves that or the one after, on a clean disk
@@ -53,12 +53,12 @@ module _ (old new : State) (text : List ℕ) (settled : (db : Trees) → IsTrue 
           settled = back.1 ∙ sym back.0;
           tables = subst HasTables (sym same) keeps.tables;
           rows = subst (λ (d : Database). Holds d.trees text before) (sym same) keeps.rows;
-          crash = λ db may. subst (λ t. Stores t text before) (sym (settled db up may ∙ ap (λ (d : Database). d.trees) (back.1 ∙ keeps.settled))) (stored old.now text before keeps.tables keeps.rows);
+          crash = λ db may. subst (λ t. Stores t text before) (sym (settled db up may ∙ ap (λ (d : Database). d.trees) (back.1 ∙ keeps.settled))) (held_campaign_is_stored old.now text before keeps.tables keeps.rows);
         };
     shuts = survives.closes clean keeps.is_open;
     crash = λ db may. elim (survives.crash clean db may) [
       | inl was ↦ inl (keeps.crash db was)
-      | inr made ↦ let did = made.1 keeps.tables in inr (subst (λ t. Stores t text after) (sym made.2) (stored made.0 text after did.tables (holds made.0 did.does)))
+      | inr made ↦ let did = made.1 keeps.tables in inr (subst (λ t. Stores t text after) (sym made.2) (held_campaign_is_stored made.0 text after did.tables (holds made.0 did.does)))
     ];
   }
 
@@ -68,12 +68,12 @@ pub may_found : (old new : State) (text : List ℕ) (c : CampaignValue) (Before 
     → Survives old new (MayLeave Before Does old) → MayLeaveCampaign old text c new
 may_found old new text c Before Does before holds clean survives db may = elim (survives.crash clean db may) [
   | inl was ↦ inl was
-  | inr made ↦ let did = made.1 before in inr (subst (λ t. Stores t text c) (sym made.2) (stored made.0 text c did.tables (holds made.0 did.does)))
+  | inr made ↦ let did = made.1 before in inr (subst (λ t. Stores t text c) (sym made.2) (held_campaign_is_stored made.0 text c did.tables (holds made.0 did.does)))
 ]
 
 -- on a clean disk, a failed transaction changes nothing, if the connection was in no transaction and all was committed
-pub leaves_spares : (old new : State) (Commits : Trees → Type 0) → HasCleanDisk new → LeavesOff old new → Survives old new Commits → old.in_transaction ≡ false → (IsTrue old.is_open → old.now ≡ old.committed) → ChangesNothing old new
-leaves_spares old new Commits clean off survives idle settled = record {
+pub failed_changes_nothing : (old new : State) (Commits : Trees → Type 0) → HasCleanDisk new → LeavesOff old new → Survives old new Commits → old.in_transaction ≡ false → (IsTrue old.is_open → old.now ≡ old.committed) → ChangesNothing old new
+failed_changes_nothing old new Commits clean off survives idle settled = record {
   same = λ up.
       let back = off.undone up in
       let was = settled (off.was_open up) in
@@ -102,33 +102,33 @@ module _ {S : Type 0} (g : Ghosts S) (text : List ℕ) (c : CampaignValue) (old 
   -- if `create` ends with the fault of an error that the database gave, this is a fault that `create` may return
   -- (`RefusesToCreate`)
   pub refused_with : (e : Error) (r : Result (Unit {0}) CreateFault) → IsErrAnd r (λ f. f ≡ create_fault e) → (HasCleanDisk (state g new) → Gives g (OfFounding text c) e old new) → IfErr r (RefusesToCreate g text c old new)
-  refused_with e (Ok a) told gave = tt
-  refused_with e (Err f) told gave = refused_by_fault f (λ none. never_not_empty e (sym told ∙ none)) (record { ready = ready; told = λ clean. (e, told, gave clean) })
+  refused_with e (Ok a) says gave = tt
+  refused_with e (Err f) says gave = refused_by_fault f (λ none. never_not_empty e (sym says ∙ none)) (record { ready = ready; reports_error = λ clean. (e, says, gave clean) })
 
 -- if a write ends with the fault of an error of the database, this is the error of a statement of the write, or of its
 -- commit (`IsFaultOfError`)
-pub told_by : {S F A : Type 0} (g : Ghosts S) (own : Statements) (fault_of : Error → F) (old new : Held S) (e : Error) (r : Result A F) → IsErrAnd r (λ f. f ≡ fault_of e) → Gives g own e old new → IfErr r (IsFaultOfError g own fault_of old new)
-told_by g own fault_of old new e (Ok a) told gave = tt
-told_by g own fault_of old new e (Err f) told gave = (e, told, gave)
+pub error_of : {S F A : Type 0} (g : Ghosts S) (own : Statements) (fault_of : Error → F) (old new : Held S) (e : Error) (r : Result A F) → IsErrAnd r (λ f. f ≡ fault_of e) → Gives g own e old new → IfErr r (IsFaultOfError g own fault_of old new)
+error_of g own fault_of old new e (Ok a) says gave = tt
+error_of g own fault_of old new e (Err f) says gave = (e, says, gave)
 
 -- if the schema that a connection shows has no table `campaign`, the connection's schema has none
 pub not_there : {S : Type 0} (g : Ghosts S) (conn : Held S) (schema : Schema) (found : Bool) → schema ≡ (state g conn).now.schema → found ≡ has_campaign schema → found ≡ false → has_campaign conn.schema ≡ false
 not_there g conn schema found shown is none = ap has_campaign (sym shown) ∙ sym is ∙ none
 
 -- doing nothing leaves a connection as it was (`ChangesNothing`)
-pub spares_itself : (s : State) → ChangesNothing s s
-spares_itself s = record { same = λ up. (refl, refl, refl); shuts = λ up. inl up }
+pub unchanged_itself : (s : State) → ChangesNothing s s
+unchanged_itself s = record { same = λ up. (refl, refl, refl); shuts = λ up. inl up }
 
 -- after a call (`Survives`) a clean disk was clean before, no failure is forgotten, and reads tested by digests stay so
 -- (`IsLater`)
-pub later : (old new : State) (Commits : Trees → Type 0) → Survives old new Commits → IsLater old new
-later old new Commits survives = record { clean = λ clean. omega (arith, survives.clean); counts = survives.counts; shield = survives.shield }
+pub survives_is_later : (old new : State) (Commits : Trees → Type 0) → Survives old new Commits → IsLater old new
+survives_is_later old new Commits survives = record { clean = λ clean. omega (arith, survives.clean); counts = survives.counts; shield = survives.shield }
 
 -- ---- other tables
 
 -- a commit leaves the tables that aren't the campaign's as they are (`LeavesOthersAlone`)
-pub commits_spares : (old new : State) (Before : Database → Type 0) (Does : Database → Database → Type 0) → Commits Before Does old new → (HasTables old.now → Before old.now) → LeavesOthersAlone old new
-commits_spares old new Before Does done before up has settled = (done.does (before has)).carries
+pub commit_leaves_others : (old new : State) (Before : Database → Type 0) (Does : Database → Database → Type 0) → Commits Before Does old new → (HasTables old.now → Before old.now) → LeavesOthersAlone old new
+commit_leaves_others old new Before Does done before up has settled = (done.does (before has)).carries
 
 -- a transaction that failed leaves the tables that aren't the campaign's as they are (`LeavesOthersAlone`)
 pub leaves_others : (old new : State) → LeavesOff old new → LeavesOthersAlone old new

@@ -13,25 +13,25 @@ use Rattle.atl_sql.specs.Written.{sort_number}
 use Rattle.atl_sql.specs.Tables.{has_table}
 use Rattle.atl_sql.specs.Shown.{int, has_key, has_row}
 use Rattle.atl_sql.specs.Rows.{HasRowsOf, amount_under}
-use Rattle.atl_sql.specs.Inside.{Inside, HasTables, Puts, Drops}
-use Rattle.atl_sql.specs.Marked.{of_kind}
-use Rattle.atl_store.specs.Rewriting.{FindsByNumbers, RewritesThings, is_thing}
+use Rattle.atl_sql.specs.Inside.{DoesInside, HasTables, Puts, Drops}
+use Rattle.atl_sql.specs.Marked.{unit_and_thing_pass}
+use Rattle.atl_store.specs.Rewriting.{FindsByNumbers, RewritesThings, is_owner_and_thing}
 use Rattle.atl_store.proofs.HasTableLaws.{three_same, row_has_amount, amount_has_row}
 use Rattle.atl_store.proofs.RewriteLaws.{equal_by_order, is_itself, rewrites_key, kept_only}
 use Rattle.atl_store.proofs.WholeLaws.{inside_weaker}
 
--- `of_kind` finds rows of `has` by unit and thing: a test "`f` or `g`" finds what `f` or `g` finds, and a test that is
--- always false finds nothing (`FindsByNumbers`)
-pub finds_things : (sort : ThingKind) → FindsByNumbers (of_kind sort)
+-- `unit_and_thing_pass` finds rows of `has` by unit and thing: a test "`f` or `g`" finds what `f` or `g` finds, and a
+-- test that is always false finds nothing (`FindsByNumbers`)
+pub finds_things : (sort : ThingKind) → FindsByNumbers (unit_and_thing_pass sort)
 finds_things sort = record { either = either; none = none }
   where
     -- for `finds_things`: the test "`f` or `g`" finds a row of `has` exactly if `f` or `g` finds it
-    either : (f g : ℕ → ℕ → Bool) (r : Row) → of_kind sort (λ n t. f n t || g n t) r ≡ (of_kind sort f r || of_kind sort g r)
+    either : (f g : ℕ → ℕ → Bool) (r : Row) → unit_and_thing_pass sort (λ n t. f n t || g n t) r ≡ (unit_and_thing_pass sort f r || unit_and_thing_pass sort g r)
     either f g (Int (pos unit) ∷ Int (pos number) ∷ Int (pos thing) ∷ row) = and-or_distrib_left (number == sort_number sort) (f unit thing) (g unit thing)
     either f g row = refl
 
     -- for `finds_things`: a test that is always false finds no row of `has`
-    none : (r : Row) → of_kind sort (λ n t. false) r ≡ false
+    none : (r : Row) → unit_and_thing_pass sort (λ n t. false) r ≡ false
     none (Int (pos unit) ∷ Int (pos number) ∷ Int (pos thing) ∷ row) = and-false (number == sort_number sort)
     none row = refl
 
@@ -45,7 +45,7 @@ same_sort Skill Skill same = refl
 module _ (unit : ℕ) (sort : ThingKind) (thing : ℕ) where
   -- whether a row of `has` is that of the unit `unit`, the kind `sort` and the thing `thing`
   abbrev is_here : Row → Bool
-  is_here r = of_kind sort (is_thing unit thing) r
+  is_here r = unit_and_thing_pass sort (is_owner_and_thing unit thing) r
 
   -- a row of this unit, kind and thing has their key
   key_of : (r : Row) → is_here r ≡ true → take 3 r ≡ has_key unit (sort_number sort) thing
@@ -86,16 +86,16 @@ module _ (unit : ℕ) (sort : ThingKind) (thing : ℕ) where
         let had = row_has_amount c.units r of in
         let keys = three_same had.0 (sort_number had.1) had.2 unit (sort_number sort) thing (ap (take 3) (sym had.4) ∙ key_of r here) in
         let Determines : ℕ → ThingKind → ℕ → Type 0 = λ n s t. (amount_under c.units n s t ≢ 0) × (r ≡ has_row n (sort_number s) t (amount_under c.units n s t)) in
-        let told : Determines unit sort thing = subst (λ n. Determines n sort thing) keys.0 (subst (λ s. Determines had.0 s thing) (same_sort had.1 sort keys.1) (subst (Determines had.0 had.1) keys.2 (had.3, had.4))) in
-        (λ none. told.0 (sym is ∙ none), told.1 ∙ ap (has_row unit (sort_number sort) thing) (sym is))
+        let says : Determines unit sort thing = subst (λ n. Determines n sort thing) keys.0 (subst (λ s. Determines had.0 s thing) (same_sort had.1 sort keys.1) (subst (Determines had.0 had.1) keys.2 (had.3, had.4))) in
+        (λ none. says.0 (sym is ∙ none), says.1 ∙ ap (has_row unit (sort_number sort) thing) (sym is))
 
     -- if the unit's amount of the thing is 0, no row of the campaign has the key of unit, kind and thing
-    pub no_thing : amount ≡ 0 → (r : Row) → HasRowsOf c.units r → take 3 r ≢ has_key unit (sort_number sort) thing
-    no_thing none r of key = (wanted_here r (of_key r key) of).0 none
+    pub zero_amount_has_no_row : amount ≡ 0 → (r : Row) → HasRowsOf c.units r → take 3 r ≢ has_key unit (sort_number sort) thing
+    zero_amount_has_no_row none r of key = (wanted_here r (of_key r key) of).0 none
 
     -- putting the row of an amount that is not 0 rewrites this unit's item or skill
-    pub thing_put : amount ≢ 0 → (old new : State) → Inside HasTables (Puts has_table 3 row) old new → Inside HasTables (RewritesThings c sort (is_thing unit thing)) old new
-    thing_put some old new did = inside_weaker HasTables (Puts has_table 3 row) (RewritesThings c sort (is_thing unit thing)) old new
+    pub thing_put : amount ≢ 0 → (old new : State) → DoesInside HasTables (Puts has_table 3 row) old new → DoesInside HasTables (RewritesThings c sort (is_owner_and_thing unit thing)) old new
+    thing_put some old new did = inside_weaker HasTables (Puts has_table 3 row) (RewritesThings c sort (is_owner_and_thing unit thing)) old new
         (λ has puts. rewrites_key is_here (λ r. take 3 r ≡ has_key unit (sort_number sort) thing) (λ r. r ≡ row) (HasRowsOf c.units) key_of of_key
         (λ r same. (ap (take 3) same, subst (HasRowsOf c.units) (sym same) (amount_has_row c.units unit sort thing amount is some)))
         (λ r here of. (wanted_here r here of).1)
@@ -103,9 +103,9 @@ module _ (unit : ℕ) (sort : ThingKind) (thing : ℕ) where
         did
 
     -- deleting the row of an amount that is 0 rewrites this unit's item or skill
-    pub thing_dropped : amount ≡ 0 → (old new : State) → Inside HasTables (Drops has_table 3 (has_key unit (sort_number sort) thing)) old new
-        → Inside HasTables (RewritesThings c sort (is_thing unit thing)) old new
-    thing_dropped none old new did = inside_weaker HasTables (Drops has_table 3 (has_key unit (sort_number sort) thing)) (RewritesThings c sort (is_thing unit thing)) old new
+    pub thing_dropped : amount ≡ 0 → (old new : State) → DoesInside HasTables (Drops has_table 3 (has_key unit (sort_number sort) thing)) old new
+        → DoesInside HasTables (RewritesThings c sort (is_owner_and_thing unit thing)) old new
+    thing_dropped none old new did = inside_weaker HasTables (Drops has_table 3 (has_key unit (sort_number sort) thing)) (RewritesThings c sort (is_owner_and_thing unit thing)) old new
         (λ has drops. rewrites_key is_here (λ r. take 3 r ≡ has_key unit (sort_number sort) thing) (λ r. ⊥) (HasRowsOf c.units) key_of of_key (λ r never. absurd never)
         (λ r here of. (wanted_here r here of).0 none)
         has_table old.now new.now (λ r. let so = drops.rows r in (λ h. inr (so.0 h), λ h. so.1 (kept_only h))) drops.others)

@@ -5,7 +5,7 @@ use Rattle.sqlite.specs.Effect.{Database}
 use Rattle.sqlite.specs.Order.{Row}
 use Rattle.sqlite.specs.Table.{Table}
 use Rattle.sqlite_rules.proofs.ListLemmas.{has_either, has_left, has_right}
-use Rattle.atl_sql.specs.Sets.{Set, HasExactly, rows_in, visible}
+use Rattle.atl_sql.specs.Sets.{Set, HasExactly, rows_in, visible_row}
 use Rattle.atl_sql.specs.Tables.{Part, table_of}
 use Rattle.atl_sql.specs.Inside.{Alters, Changes, InTurn}
 use Rattle.atl_sql.proofs.PartLaws.{tree_of, same_part, listed, are_apart, not_both}
@@ -14,7 +14,7 @@ use Rattle.atl_sql.proofs.PartLaws.{tree_of, same_part, listed, are_apart, not_b
 
 -- a table whose tree is unchanged has the same rows
 pub same_rows : (t : Table) (a b : Database) → b.trees t.tree ≡ a.trees t.tree → rows_in t b.trees ≡ rows_in t a.trees
-same_rows t a b same = ap (map (visible t)) same
+same_rows t a b same = ap (map (visible_row t)) same
 
 -- a table whose tree is unchanged has exactly the rows of `S`, if it had them before
 pub stays_is : (t : Table) (S : Set) (a b : Database) → b.trees t.tree ≡ a.trees t.tree → HasExactly (rows_in t a.trees) S → HasExactly (rows_in t b.trees) S

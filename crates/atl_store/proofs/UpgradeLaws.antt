@@ -12,9 +12,9 @@ use Rattle.sqlite_rules.proofs.ListLemmas.{has_either, has_left}
 use Rattle.atl_world.specs.declared.format.Format.TheVariants.{First}
 use Rattle.atl_campaign.specs.Campaign.{CampaignValue}
 use Rattle.atl_campaign.specs.Good.{HasNoStocks}
-use Rattle.atl_sql.specs.Inside.{Inside, HasTables, Carries, Both, Puts}
-use Rattle.atl_sql.specs.Rows.{campaign_row_of, rows_for, campaign_line, Holds, HoldsIn, MarketRowsOf}
-use Rattle.atl_sql.specs.Sets.{HasExactly, AreKeyedByRowid, rows_in, put, visible}
+use Rattle.atl_sql.specs.Inside.{DoesInside, HasTables, Carries, DoesBoth, Puts}
+use Rattle.atl_sql.specs.Rows.{campaign_row_of, rows_for, row_of_campaign, Holds, HoldsIn, MarketRowsOf}
+use Rattle.atl_sql.specs.Sets.{HasExactly, AreKeyedByRowid, rows_in, put, visible_row}
 use Rattle.atl_sql.specs.Shown.{campaign_row, campaign_row_in}
 use Rattle.atl_sql.specs.Tables.{Part, Own, Markets, campaign_table, market_table, all_tables, all_indexes, creation_of, first_tables, parts_in, table_of}
 use Rattle.atl_store.specs.UpgradeSteps.{AddsMarkets, IsFirstFormat, WritesUpgrade}
@@ -67,7 +67,7 @@ module _ (old new : Database) (is : IsFirstFormat old) (made : Creates old_schem
   }
 
 -- the CREATE TABLE adds the empty table `market`
-pub adds_markets : (old new : State) → RunsStatement (creation_of Markets) [] old new → Inside IsFirstFormat AddsMarkets old new
+pub adds_markets : (old new : State) → RunsStatement (creation_of Markets) [] old new → DoesInside IsFirstFormat AddsMarkets old new
 adds_markets old new ran = (
   ran.2.1.mode ∙ sym ran.0,
   λ is.
@@ -101,7 +101,7 @@ own_row rows old was row key one made r = (
 module _ (text : List ℕ) (c : CampaignValue) (old mid new : Database) (first : AddsMarkets old mid) (second : UpgradesCampaignRow (campaign_row_of c) text mid new) (before : List ℕ) (held : HoldsIn First old.trees before c) (bare : HasNoStocks c) where
   -- after the table `market` is added, the other tables have the campaign's rows of the first format
   rows_between : (part : Part) → Has (parts_in First) part → HasExactly (rows_in (table_of part) mid.trees) (rows_for (campaign_row_in First (campaign_row_of c) before) c part)
-  rows_between part there = subst (λ rows. HasExactly rows (rows_for (campaign_row_in First (campaign_row_of c) before) c part)) (sym (ap (map (visible (table_of part))) (first.others (table_of part) (has_map table_of (parts_in First) part there)))) (held.rows part there)
+  rows_between part there = subst (λ rows. HasExactly rows (rows_for (campaign_row_in First (campaign_row_of c) before) c part)) (sym (ap (map (visible_row (table_of part))) (first.others (table_of part) (has_map table_of (parts_in First) part there)))) (held.rows part there)
 
   -- the campaign row of the second format, with the new text, was put
   row_put : Puts campaign_table 1 (campaign_row (campaign_row_of c) text) mid new
@@ -109,7 +109,7 @@ module _ (text : List ℕ) (c : CampaignValue) (old mid new : Database) (first :
 
   -- each table but `campaign` has the rows that it had after the table `market` was added
   other_tables_stay : (part : Part) → part ≢ Own → rows_in (table_of part) new.trees ≡ rows_in (table_of part) mid.trees
-  other_tables_stay part other = ap (map (visible (table_of part))) (row_put.others (table_of part) (listed part) (λ same. other (same_part part Own same)))
+  other_tables_stay part other = ap (map (visible_row (table_of part))) (row_put.others (table_of part) (listed part) (λ same. other (same_part part Own same)))
 
   -- each table of the first format but `campaign` still has the campaign's rows after the campaign row is changed
   rows_stay : (part : Part) → part ≢ Own → Has (parts_in First) part → HasExactly (rows_in (table_of part) new.trees) (rows_for (campaign_row_in First (campaign_row_of c) before) c part)
@@ -120,14 +120,14 @@ module _ (text : List ℕ) (c : CampaignValue) (old mid new : Database) (first :
   upgrade_held = record { rows = rows }
     where
       -- for `upgrade_held`: each part's table has the campaign's rows of the second format
-      rows : (part : Part) → HasExactly (rows_in (table_of part) new.trees) (rows_for (campaign_line text c) c part)
-      rows Own = own_row _ _ (campaign_row_in First (campaign_row_of c) before) (campaign_line text c) refl (rows_between Own (inl refl)) row_put.rows
-      rows Markets = λ r. (λ there. absurd (subst (λ l. Has l r) (other_tables_stay Markets (λ e. absurd cc) ∙ ap (map (visible market_table)) first.empty) there), λ of. absurd (no_stocks c bare r of))
+      rows : (part : Part) → HasExactly (rows_in (table_of part) new.trees) (rows_for (row_of_campaign text c) c part)
+      rows Own = own_row _ _ (campaign_row_in First (campaign_row_of c) before) (row_of_campaign text c) refl (rows_between Own (inl refl)) row_put.rows
+      rows Markets = λ r. (λ there. absurd (subst (λ l. Has l r) (other_tables_stay Markets (λ e. absurd cc) ∙ ap (map (visible_row market_table)) first.empty) there), λ of. absurd (no_stocks c bare r of))
       rows part = rows_stay part (λ e. absurd cc) (in_first part (λ e. absurd cc))
 
 -- adding the table `market`, and then changing the campaign row, writes the upgrade (`WritesUpgrade`)
-pub upgrade_done : (text : List ℕ) (c : CampaignValue) (start mid end : State) → Inside IsFirstFormat AddsMarkets start mid → Inside HasTables (UpgradesCampaignRow (campaign_row_of c) text) mid end → Inside IsFirstFormat (WritesUpgrade text c) start end
+pub upgrade_done : (text : List ℕ) (c : CampaignValue) (start mid end : State) → DoesInside IsFirstFormat AddsMarkets start mid → DoesInside HasTables (UpgradesCampaignRow (campaign_row_of c) text) mid end → DoesInside IsFirstFormat (WritesUpgrade text c) start end
 upgrade_done text c start mid end first second =
-    inside_weaker IsFirstFormat (Both AddsMarkets (UpgradesCampaignRow (campaign_row_of c) text)) (WritesUpgrade text c) start end
+    inside_weaker IsFirstFormat (DoesBoth AddsMarkets (UpgradesCampaignRow (campaign_row_of c) text)) (WritesUpgrade text c) start end
     (λ is did before held bare. upgrade_held text c start.now did.0 end.now did.1 did.2 before held bare)
     (inside_then IsFirstFormat AddsMarkets (UpgradesCampaignRow (campaign_row_of c) text) start mid end first second)

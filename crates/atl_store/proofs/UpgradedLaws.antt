@@ -16,7 +16,7 @@ use Rattle.atl_tables.proofs.OldWorldLaws.{old_has_no_markets}
 use Rattle.atl_campaign.specs.Campaign.{MarkedCampaign}
 use Rattle.atl_sql.specs.Causes.{Gives}
 use Rattle.atl_sql.specs.Errors.{is_memory}
-use Rattle.atl_store.specs.Faults.{first_fault, new_world_fault, upgrade_fault}
+use Rattle.atl_store.specs.Faults.{first_format_fault, new_world_fault, upgrade_fault}
 use Rattle.atl_sql.specs.Inside.{Commits, LeavesOff, MayLeave}
 use Rattle.atl_store.specs.Keeps.{ChangesNothing, IsLater}
 use Rattle.atl_store.specs.Loading.{LeavesAlone, LoadsIn, RefusesToLoadIn}
@@ -24,7 +24,7 @@ use Rattle.atl_store.specs.OwnStatements.{OfUpgrade}
 use Rattle.atl_sql.specs.Rows.{Holds, HoldsIn}
 use Rattle.atl_sql.specs.Tables.{HasTablesOf, IsFirstFormatOnly}
 use Rattle.atl_store.specs.UpgradeSteps.{IsFirstFormat, WritesUpgrade}
-use Rattle.atl_store.specs.Upgrading.{BreaksOffUpgrade, FailsCheck, FailsInTransaction, HasMore, HasOld, HasOtherWorld, HoldsOld, IsReadyToUpgrade, Matches, MayUpgrade, RefusesToUpgrade, Upgrades}
+use Rattle.atl_store.specs.Upgrading.{BreaksOffUpgrade, FailsCheck, FailsInTransaction, HasMoreTables, HasOld, HasOtherWorld, HoldsOld, IsReadyToUpgrade, MatchesNewText, MayUpgrade, RefusesToUpgrade, Upgrades}
 use Rattle.atl_store.specs.WorldText.{world_text}
 use Rattle.atl_sql.specs.Writes.{Transacts}
 use Rattle.atl_store.specs.declared.fault.LoadFault.{LoadFault}
@@ -32,12 +32,12 @@ use Rattle.atl_store.specs.declared.fault.LoadFault.TheVariants as load
 use Rattle.atl_store.specs.declared.fault.UpgradeFault.{UpgradeFault}
 use Rattle.atl_store.specs.declared.fault.UpgradeFault.TheVariants as upgrade
 use Rattle.atl_store.proofs.BareWorldLaws.{good_either}
-use Rattle.atl_store.proofs.StayLaws.{commits_keeps, leaves_spares, may_found}
+use Rattle.atl_store.proofs.StayLaws.{commits_keeps, failed_changes_nothing, may_found}
 
 -- if a result is an error with this fault, what holds of the fault (`P`) holds of the result's error
 pub holds_of_error : {A F : Type 0} (P : F → Type 0) (r : Result A F) (fault : F) → IsErrAnd r (λ f. f ≡ fault) → P fault → IfErr r P
-holds_of_error P (Ok a) fault told p = tt
-holds_of_error P (Err f) fault told p = subst P (sym told) p
+holds_of_error P (Ok a) fault says p = tt
+holds_of_error P (Err f) fault says p = subst P (sym says) p
 
 -- ---- what was loaded is what the tables held
 
@@ -45,12 +45,12 @@ module _ {S : Type 0} (g : Ghosts S) (text : List ℕ) (old mid : Held S) (alone
   -- the loaded campaign is what the tables of the first format held
   pub loaded_old : (w : WorldValue) (c : MarkedCampaign) → LoadsIn First g old mid w c → HoldsOld (state g old) w c.value
   loaded_old w c loads =
-      let stands = loads.stands clean in
-      let same = (alone.spares clean).same stands.is_open in
+      let keeps = loads.keeps clean in
+      let same = (alone.unchanged clean).same keeps.is_open in
       record {
         text = world_text (state g mid);
         world = loads.world clean;
-        rows = subst (λ (d : Database). HoldsIn First d.trees (world_text (state g mid)) c.value) same.0 stands.rows;
+        rows = subst (λ (d : Database). HoldsIn First d.trees (world_text (state g mid)) c.value) same.0 keeps.rows;
         good = loads.good;
       }
 
@@ -58,8 +58,9 @@ module _ {S : Type 0} (g : Ghosts S) (text : List ℕ) (old mid : Held S) (alone
   bare_before : (w : WorldValue) (c : MarkedCampaign) → LoadsIn First g old mid w c → without_markets w ≡ w
   bare_before w c loads = old_has_no_markets (world_text (state g mid)) w (loads.world clean)
 
-  -- the tables hold the loaded campaign in the first format, and the new text differs in markets alone (`Matches`)
-  pub matched : (w : WorldValue) (c : MarkedCampaign) → IsReadyToUpgrade g text old mid w c → Matches (state g old) text w c.value
+  -- the tables hold the loaded campaign in the first format, and the new text differs in markets alone
+  -- (`MatchesNewText`)
+  pub matched : (w : WorldValue) (c : MarkedCampaign) → IsReadyToUpgrade g text old mid w c → MatchesNewText (state g old) text w c.value
   matched w c ready = record {
     world = ready.world;
     held = subst (λ v. HoldsOld (state g old) v c.value) (sym (bare_before ready.before c ready.loads) ∙ sym ready.same) (loaded_old ready.before c ready.loads);
@@ -78,16 +79,16 @@ module _ {S : Type 0} (g : Ghosts S) (text : List ℕ) (old mid : Held S) (alone
   }
 
   -- a file with more tables or indexes than those of the first format makes a check fail, with the fault Store
-  -- (`HasMore`)
-  pub has_more : (w : WorldValue) (c : MarkedCampaign) → IsReadyToUpgrade g text old mid w c → ¬ IsFirstFormatOnly mid.schema → HasMore g text old mid
+  -- (`HasMoreTables`)
+  pub has_more : (w : WorldValue) (c : MarkedCampaign) → IsReadyToUpgrade g text old mid w c → ¬ IsFirstFormatOnly mid.schema → HasMoreTables g text old mid
   has_more w c ready more =
-      let stands = ready.loads.stands clean in
-      let same = (alone.spares clean).same stands.is_open in
+      let keeps = ready.loads.keeps clean in
+      let same = (alone.unchanged clean).same keeps.is_open in
       record {
         world = w;
         campaign = c.value;
         matches = matched w c ready;
-        begins = subst (λ (d : Database). HasTablesOf First d.schema) same.0 stands.begins;
+        begins = subst (λ (d : Database). HasTablesOf First d.schema) same.0 keeps.begins;
         more = λ just. more (ap (λ (d : Database). d.schema) same.0 ∙ just);
       }
 
@@ -101,7 +102,7 @@ later_both old mid new FirstMayLeave SecondMayLeave one two = record { clean = �
 module _ {S : Type 0} (g : Ghosts S) (text : List ℕ) (old new : Held S) where
   -- if loading in the first format gives a fault, a check of the upgrade fails with `upgrade`'s fault for it
   -- (`FailsCheck`)
-  pub fails_to_load : (fault : LoadFault) → RefusesToLoadIn First g old fault → FailsCheck g text old new (first_fault fault)
+  pub fails_to_load : (fault : LoadFault) → RefusesToLoadIn First g old fault → FailsCheck g text old new (first_format_fault fault)
   fails_to_load load.Store refused = inl refused
   fails_to_load (load.Damaged rule) refused = refused
   fails_to_load load.NotACampaign refused = refused
@@ -125,25 +126,25 @@ module _ {S : Type 0} (g : Ghosts S) (text : List ℕ) (old new : Held S) where
   pub refused_before : (fault : UpgradeFault) → (HasCleanDisk (state g new) → FailsCheck g text old new fault) → LeavesAlone g old new → RefusesToUpgrade g text old new fault
   refused_before fault fails alone = record {
     cause = λ clean. inl (fails clean, alone);
-    spares = alone.spares;
+    unchanged = alone.unchanged;
     crash = λ clean db may. elim (alone.survives.crash clean db may) [ inl was ↦ inl was | inr none ↦ absurd none ];
   }
 
 -- ---- the transaction
 
 module _ {S : Type 0} (g : Ghosts S) (text : List ℕ) (old mid new : Held S) (w : WorldValue) (c : MarkedCampaign) (alone : LeavesAlone g old mid) (ready : IsReadyToUpgrade g text old mid w c) where
-  -- The transaction of the upgrade had the result `r` and left what this result says (`Transacts`).
+  -- The transaction of the upgrade ended with this result, and left what `Transacts` says of it.
   abbrev Wrote : {A : Type 0} → Result A Error → Type 0
   Wrote r = Transacts g (OfUpgrade text c.value) IsFirstFormat (WritesUpgrade text c.value) r mid new
 
   -- on a clean disk, the loaded tables are just those of the first format, if the schema is (`IsFirstFormat`)
   is_old : IsFirstFormatOnly mid.schema → HasCleanDisk (state g mid) → IsFirstFormat (state g mid).now
-  is_old just clean = let stands = ready.loads.stands clean in record { just = just; keyed = stands.keyed; listed = stands.listed }
+  is_old just clean = let keeps = ready.loads.keeps clean in record { just = just; keyed = keeps.keyed; listed = keeps.listed }
 
   -- if the disk was clean before the transaction, a database that the upgrade wrote holds the loaded campaign with the
   -- new text
   written_holds : (db : Database) → HasCleanDisk (state g mid) → WritesUpgrade text c.value (state g mid).now db → Holds db.trees text c.value
-  written_holds db clean wrote = wrote (world_text (state g mid)) (ready.loads.stands clean).rows ready.loads.fits.stocks
+  written_holds db clean wrote = wrote (world_text (state g mid)) (ready.loads.keeps clean).rows ready.loads.fits.stocks
 
   -- the disk was clean before the transaction, if it is clean after it
   clean_before : Survives (state g mid) (state g new) (MayLeave IsFirstFormat (WritesUpgrade text c.value) (state g mid)) → HasCleanDisk (state g new) → HasCleanDisk (state g mid)
@@ -169,8 +170,8 @@ module _ {S : Type 0} (g : Ghosts S) (text : List ℕ) (old mid new : Held S) (w
       new_now = (state g new).now
 
   -- two calls that change nothing (`ChangesNothing`) together change nothing
-  spares_both : (was_open : IsTrue (state g new).is_open → IsTrue (state g mid).is_open) → (state g old).faults ≤ (state g mid).faults → (state g mid).faults ≤ (state g new).faults → ChangesNothing (state g old) (state g mid) → ChangesNothing (state g mid) (state g new) → ChangesNothing (state g old) (state g new)
-  spares_both was_open early late first second = record {
+  both_change_nothing : (was_open : IsTrue (state g new).is_open → IsTrue (state g mid).is_open) → (state g old).faults ≤ (state g mid).faults → (state g mid).faults ≤ (state g new).faults → ChangesNothing (state g old) (state g mid) → ChangesNothing (state g mid) (state g new) → ChangesNothing (state g old) (state g new)
+  both_change_nothing was_open early late first second = record {
     same = λ up.
         let one = first.same (was_open up) in
         let two = second.same up in
@@ -183,11 +184,11 @@ module _ {S : Type 0} (g : Ghosts S) (text : List ℕ) (old mid new : Held S) (w
 
   module _ (just : IsFirstFormatOnly mid.schema) (idle : mid.in_transaction ≡ false) (off : HasCleanDisk (state g new) → LeavesOff (state g mid) (state g new)) (survives : Survives (state g mid) (state g new) (MayLeave IsFirstFormat (WritesUpgrade text c.value) (state g mid))) where
     -- if the transaction of the upgrade failed and the disk is clean, nothing is changed (`ChangesNothing`)
-    failed_spares : HasCleanDisk (state g new) → ChangesNothing (state g old) (state g new)
-    failed_spares clean =
+    upgrade_changed_nothing : HasCleanDisk (state g new) → ChangesNothing (state g old) (state g new)
+    upgrade_changed_nothing clean =
         let clean_mid = clean_before survives clean in
-        let stands = ready.loads.stands clean_mid in
-        spares_both (off clean).was_open alone.survives.counts survives.counts (alone.spares clean_mid) (leaves_spares (state g mid) (state g new) _ clean (off clean) survives idle (λ up. sym stands.settled))
+        let keeps = ready.loads.keeps clean_mid in
+        both_change_nothing (off clean).was_open alone.survives.counts survives.counts (alone.unchanged clean_mid) (failed_changes_nothing (state g mid) (state g new) _ clean (off clean) survives idle (λ up. sym keeps.settled))
 
     -- a crash leaves what it could have left before, or the upgraded campaign, if the disk is clean
     may_upgrade : HasCleanDisk (state g new) → MayUpgrade (state g old) text (state g new)
@@ -213,6 +214,6 @@ module _ {S : Type 0} (g : Ghosts S) (text : List ℕ) (old mid new : Held S) (w
     pub refused_after : (e : Error) → (HasCleanDisk (state g new) → Gives g (OfUpgrade text c.value) e mid new) → RefusesToUpgrade g text old new (upgrade_fault e)
     refused_after e gave = record {
       cause = λ clean. inr (fails_to_write e (is_memory e) refl (gave clean) (clean_before survives clean));
-      spares = failed_spares;
+      unchanged = upgrade_changed_nothing;
       crash = may_upgrade;
     }

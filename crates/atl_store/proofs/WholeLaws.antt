@@ -9,16 +9,16 @@ use Rattle.sqlite.specs.Held.{Held, state}
 use Rattle.sqlite.specs.State.{State, HasCleanDisk, Survives, Shows, KeepsCounts, KeepsCommit, IsRolledBack}
 use Rattle.sqlite.proofs.StateLemmas.{survives_then}
 use Rattle.sqlite.proofs.Callers.{survives_begin}
-use Rattle.atl_sql.specs.Inside.{HasTables, Done, Inside, Both, Commits, LeavesOff, MayLeave}
+use Rattle.atl_sql.specs.Inside.{HasTables, DoesAndKeeps, DoesInside, DoesBoth, Commits, LeavesOff, MayLeave}
 use Rattle.atl_sql.specs.Statements.{Statements}
 use Rattle.atl_sql.specs.Writes.{Writes, Transacts}
 use Rattle.atl_sql.proofs.KeepLaws.{on_ok, if_err}
-use Rattle.atl_sql.proofs.CauseLaws.{gives, gives_after, gives_until, gives_begun, errs_as}
+use Rattle.atl_sql.proofs.CauseLaws.{gives, gives_after, gives_until, gives_begun, property_of_equal_error}
 use Rattle.atl_sql.proofs.CarryLaws.{carries_then}
-use Rattle.atl_sql.proofs.WriteLaws.{not_ok, HandsOn, weaker, two_steps}
+use Rattle.atl_sql.proofs.WriteLaws.{on_ok_of_error, HandsOn, weaker, two_steps}
 
--- if a step inside a transaction does `First` and the next one does `Second`, together they do both (`Both`)
-pub inside_then : (Before : Database → Type 0) (First Second : Database → Database → Type 0) (a b c : State) → Inside Before First a b → Inside HasTables Second b c → Inside Before (Both First Second) a c
+-- if a step inside a transaction does `First` and the next one does `Second`, together they do both (`DoesBoth`)
+pub inside_then : (Before : Database → Type 0) (First Second : Database → Database → Type 0) (a b c : State) → DoesInside Before First a b → DoesInside HasTables Second b c → DoesInside Before (DoesBoth First Second) a c
 inside_then Before First Second a b c one two = (
   two.0 ∙ one.0,
   λ has.
@@ -28,37 +28,37 @@ inside_then Before First Second a b c one two = (
 )
 
 -- a step inside a transaction that does `Does` does `Less`, if `Less` follows from `Does`
-pub inside_weaker : (Before : Database → Type 0) (Does Less : Database → Database → Type 0) (a b : State) → (Before a.now → Does a.now b.now → Less a.now b.now) → Inside Before Does a b → Inside Before Less a b
+pub inside_weaker : (Before : Database → Type 0) (Does Less : Database → Database → Type 0) (a b : State) → (Before a.now → Does a.now b.now → Less a.now b.now) → DoesInside Before Does a b → DoesInside Before Less a b
 inside_weaker Before Does Less a b weaker h = (h.0, λ has. let did = h.1 has in record { does = weaker has did.does; tables = did.tables; carries = did.carries })
 
 -- the effect of a write on the tables, weakened, and of two writes
 module _ {S : Type 0} (g : Ghosts S) {own : Statements} {A : Type 0} {r : Result A Error} where
   -- a write that does `First` does `Does`, if `Does` follows from `First`
-  pub done_as : {First Does : Database → Database → Type 0} {a b : MutBor (Held S)} → ((old new : Database) → First old new → Does old new) → Writes g own (Inside HasTables First) r a b → Writes g own (Inside HasTables Does) r a b
+  pub done_as : {First Does : Database → Database → Type 0} {a b : MutBor (Held S)} → ((old new : Database) → First old new → Does old new) → Writes g own (DoesInside HasTables First) r a b → Writes g own (DoesInside HasTables Does) r a b
   done_as {First = First} {Does = Does} said one = weaker g (λ old new did. inside_weaker HasTables First Does old new (λ has. said old.now new.now) did) one
 
   -- a write that does `First` and then one that does `Second` do `Does`, if `Does` follows from both
   pub then_done : {First Second Does : Database → Database → Type 0} {X : Type 0} {x : X} {a b d : MutBor (Held S)}
-      → ((old mid new : Database) → First old mid → Second mid new → Does old new) → Writes g own (Inside HasTables First) (Ok x) a b → Writes g own (Inside HasTables Second) r b d → Writes g own (Inside HasTables Does) r a d
+      → ((old mid new : Database) → First old mid → Second mid new → Does old new) → Writes g own (DoesInside HasTables First) (Ok x) a b → Writes g own (DoesInside HasTables Second) r b d → Writes g own (DoesInside HasTables Does) r a d
   then_done {First = First} {Second = Second} {Does = Does} both one two =
-      two_steps g (λ old mid new first second. inside_weaker HasTables (Both First Second) Does old new (λ has did. both old.now did.0 new.now did.1 did.2) (inside_then HasTables First Second old mid new first second)) one two
+      two_steps g (λ old mid new first second. inside_weaker HasTables (DoesBoth First Second) Does old new (λ has did. both old.now did.0 new.now did.1 did.2) (inside_then HasTables First Second old mid new first second)) one two
 
 module _ {S : Type 0} (g : Ghosts S) (old begun mid end : Held S) (begins : begun ≡ record old { in_transaction = true }) (Before : Database → Type 0) (Does : Database → Database → Type 0) where
   -- BEGIN, step and end together: on a clean disk a crash leaves what it could before, or the step done (`Survives`)
-  pub crash_after : Survives (state g begun) (state g mid) (λ _. ⊥) → (HasCleanDisk (state g mid) → Inside Before Does (state g begun) (state g mid)) → Survives (state g mid) (state g end) (λ db. db ≡ (state g mid).now.trees)
+  pub crash_after : Survives (state g begun) (state g mid) (λ _. ⊥) → (HasCleanDisk (state g mid) → DoesInside Before Does (state g begun) (state g mid)) → Survives (state g mid) (state g end) (λ db. db ≡ (state g mid).now.trees)
       → Survives (state g old) (state g end) (MayLeave Before Does (state g old))
   crash_after one inside two =
       let same : (state g begun).now ≡ (state g old).now = ap (λ (h : Held S). (state g h).now) begins in
       survives_then (state g old) (state g mid) (state g end) _ _ (MayLeave Before Does (state g old)) (λ _ db none. absurd none)
       (λ clean db is. (
         (state g mid).now,
-        λ has. subst (λ d. Done Does d (state g mid).now) same ((inside (omega (arith, two.clean))).1 (subst Before (sym same) has)),
+        λ has. subst (λ d. DoesAndKeeps Does d (state g mid).now) same ((inside (omega (arith, two.clean))).1 (subst Before (sym same) has)),
         is,
       ))
       (survives_begin g old (state g mid) _ (rw begins at one)) two
 
   -- after the commit the tables are those that the step made, and the connection is in no transaction (`Commits`)
-  pub committed_after : (HasCleanDisk (state g mid) → Inside Before Does (state g begun) (state g mid)) → Survives (state g mid) (state g end) (λ db. db ≡ (state g mid).now.trees)
+  pub committed_after : (HasCleanDisk (state g mid) → DoesInside Before Does (state g begun) (state g mid)) → Survives (state g mid) (state g end) (λ db. db ≡ (state g mid).now.trees)
       → (HasCleanDisk (state g end) → IsTrue (state g mid).in_transaction × Shows (state g mid) (state g end) (state g mid).now (state g mid).now false × KeepsCounts (state g mid) (state g end) × ((state g end).marks ≡ []))
       → HasCleanDisk (state g end) → Commits Before Does (state g old) (state g end)
   committed_after inside two done clean =
@@ -67,7 +67,7 @@ module _ {S : Type 0} (g : Ghosts S) (old begun mid end : Held S) (begins : begu
       record {
         does = λ was.
             let did = (inside (omega (arith, two.clean))).1 (subst Before (sym same) was) in
-            subst (λ db. Done Does (state g old).now db) (sym shows.now_is) (subst (λ d. Done Does d (state g mid).now) same did);
+            subst (λ db. DoesAndKeeps Does (state g old).now db) (sym shows.now_is) (subst (λ d. DoesAndKeeps Does d (state g mid).now) same did);
         committed = shows.committed_is ∙ sym shows.now_is;
         idle = shows.mode;
         is_open = shows.is_open;
@@ -98,15 +98,15 @@ module _ {S : Type 0} (g : Ghosts S) (old : Held S) (begun mid : MutBor (Held S)
   pub left_off : {own : Statements} {Inner : State → State → Type 0} {A B : Type 0} (r : Result A Error) {e : Error} → HandsOn e r → Writes g own Inner {A = B} (Err e) begun mid
       → (HasCleanDisk (state g end) → IsRolledBack (state g mid.now) (state g end)) → Survives (state g mid.now) (state g end) (λ _. ⊥) → Transacts g own Before Does r old end
   left_off {own = own} r {e = e} failed did back survives = record {
-    ok = λ _. not_ok r _ failed.0;
+    ok = λ _. on_ok_of_error r _ failed.0;
     err = λ clean. given_err r (rolled_back (did.kept (omega (arith, survives.clean))) (back clean));
-    error_given = λ clean. errs_as _ r e failed.1 (gives_begun g own e old begun.now end begins (gives_until g own e begun.now mid.now end survives.counts (did.error_given (omega (arith, survives.clean)) inside_begun)));
+    error_given = λ clean. property_of_equal_error _ r e failed.1 (gives_begun g own e old begun.now end begins (gives_until g own e begun.now mid.now end survives.counts (did.error_given (omega (arith, survives.clean)) inside_begun)));
     crash = survives_then (state g old) (state g mid.now) (state g end) _ _ (MayLeave Before Does (state g old)) (λ _ db none. absurd none) (λ _ db none. absurd none) (survives_begin g old (state g mid.now) _ (rw begins at did.survives)) survives;
     idle = over;
   }
 
   -- if the step is done, the whole is a transaction with the result of the commit (`Transacts`)
-  pub committed : {own : Statements} {A B : Type 0} {b : B} (r : Result A Error) → Writes g own (Inside Before Does) (Ok b) begun mid
+  pub committed : {own : Statements} {A B : Type 0} {b : B} (r : Result A Error) → Writes g own (DoesInside Before Does) (Ok b) begun mid
       → (HasCleanDisk (state g end) → OnOk r (IsTrue (state g mid.now).in_transaction × Shows (state g mid.now) (state g end) (state g mid.now).now (state g mid.now).now false × KeepsCounts (state g mid.now) (state g end) × ((state g end).marks ≡ [])))
       → (HasCleanDisk (state g end) → IfErr r (FailsToCommit (state g mid.now) (state g end))) → Survives (state g mid.now) (state g end) (λ db. db ≡ (state g mid.now).now.trees) → Transacts g own Before Does r old end
   committed {own = own} r did done fails survives = record {

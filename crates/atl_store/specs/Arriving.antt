@@ -18,7 +18,7 @@ use Rattle.atl_sql.specs.Inside.{Alters, Puts}
 use Rattle.atl_sql.specs.Tables.{Part, Own, Factions, Units, Reports, Books, table_of, campaign_table, faction_table, unit_table, mail_table, report_table, books_table}
 use Rattle.atl_sql.specs.Shown.{CampaignRowValue, campaign_row, mail_row, report_row, books_key}
 use Rattle.atl_store.specs.GroupedRows.{amount_lines}
-use Rattle.atl_sql.specs.Rows.{campaign_line, faction_line, unit_line}
+use Rattle.atl_sql.specs.Rows.{row_of_campaign, row_of_faction, row_of_unit}
 
 -- What a write of a join needs: the campaign has the faction, its report, and the unit numbered `next_unit - 1`.
 -- The books have money and people among their things.
@@ -34,27 +34,28 @@ pub record HasArrival (c : CampaignValue) (number : ℕ) : Type 0 where
   -- the campaign has the faction's report
   pub report : IsSome (get c.reports number)
 
--- The campaign has this faction, this report, and this unit, whose number `place` is the last (`next_unit - 1`).
+-- The campaign has this faction, this report, and this unit, whose number `unit_number` is the last (`next_unit - 1`).
 -- The books have money and people among their things.
-pub record IsFound (c : CampaignValue) (number : ℕ) (faction : Faction) (place : ℕ) (unit : Unit) (report : List ℕ) : Type 0 where
-  -- the unit's number `place` is the last: the next one is `next_unit`
-  pub place_is : c.next_unit ≡ place + 1
+pub record HasArrivalWith (c : CampaignValue) (number : ℕ) (faction : Faction) (unit_number : ℕ) (unit : Unit) (report : List ℕ) : Type 0 where
+  -- the unit's number `unit_number` is the last: the next one is `next_unit`
+  pub place_is : c.next_unit ≡ unit_number + 1
   -- the campaign has this faction under its number
   pub faction_is : get c.factions number ≡ Some faction
   -- the campaign has this unit under its number
-  pub unit_is : get c.units place ≡ Some unit
+  pub unit_is : get c.units unit_number ≡ Some unit
   -- the campaign has this report of the faction
   pub report_is : get c.reports number ≡ Some report
   -- the things of the books include money and people
   pub things : 2 ≤ c.books.things
 
 -- the rows of `books` once one amount is written: its row, or none if it is 0, and the other rows of the set `S`
-abbrev pub settled : CampaignValue → BooksEntry → Thing → Set → Set
-settled c entry thing S r = Has (amount_lines c entry thing) r ⊎ (S r × (take 2 r ≢ books_key (entry_index entry + 1) (thing_index thing)))
+abbrev pub rows_with_amount : CampaignValue → BooksEntry → Thing → Set → Set
+rows_with_amount c entry thing S r =
+    Has (amount_lines c entry thing) r ⊎ (S r × (take 2 r ≢ books_key (entry_index entry + 1) (thing_index thing)))
 
 -- one amount of the books is written: it has its row, or none if it is 0; all other rows and tables are as they were
 abbrev pub WritesAmount : CampaignValue → BooksEntry → Thing → Database → Database → Type 0
-WritesAmount c entry thing old new = Alters books_table (settled c entry thing (Has (rows_in books_table old.trees))) old new
+WritesAmount c entry thing old new = Alters books_table (rows_with_amount c entry thing (Has (rows_in books_table old.trees))) old new
 
 -- the row is put into the table: it replaces the row with its number, or is added; every other row is as it was
 abbrev pub HasPut : Table → Row → Database → Database → Type 0
@@ -64,21 +65,29 @@ HasPut table row old new = HasExactly (rows_in table new.trees) (put 1 row (Has 
 -- The campaign row keeps this world text, and every other row and table is as it was.
 pub record AddsJoin (faction : ℕ) (after : CampaignValue) (text : List ℕ) (old new : Database) : Type 0 where
   -- the campaign row is that of the campaign after the join, with this world text
-  pub campaign : HasExactly (rows_in campaign_table new.trees) (λ r. r ≡ campaign_line text after)
+  pub campaign : HasExactly (rows_in campaign_table new.trees) (λ r. r ≡ row_of_campaign text after)
   -- the faction's row is put
-  pub member : (f : Faction) → get after.factions faction ≡ Some f → HasPut faction_table (faction_line faction f) old new
+  pub member : (f : Faction) → get after.factions faction ≡ Some f → HasPut faction_table (row_of_faction faction f) old new
   -- the row of the faction's unit, which came last, is put
-  pub unit : (place : ℕ) (u : Unit) → after.next_unit ≡ place + 1 → get after.units place ≡ Some u → HasPut unit_table (unit_line place u) old new
+  pub unit : (unit_number : ℕ) (u : Unit) → after.next_unit ≡ unit_number + 1 → get after.units unit_number ≡ Some u
+      → HasPut unit_table (row_of_unit unit_number u) old new
   -- the row of the faction's report is put
-  pub report : (report : List ℕ) → get after.reports faction ≡ Some report → HasPut report_table (report_row faction report) old new
+  pub report : (report : List ℕ) → get after.reports faction ≡ Some report
+      → HasPut report_table (report_row faction report) old new
   -- the two amounts under joining, of money and of people, are written
-  pub books : HasExactly (rows_in books_table new.trees) (settled after Joining People (settled after Joining Money (Has (rows_in books_table old.trees))))
+  pub books :
+      HasExactly (rows_in books_table new.trees)
+      (rows_with_amount after Joining People (rows_with_amount after Joining Money (Has (rows_in books_table old.trees))))
   -- the tables of all parts but the campaign row, factions, units, reports and books are as they were
-  pub others : (part : Part) → ¬ Has (Own ∷ Factions ∷ Units ∷ Reports ∷ Books ∷ []) part → new.trees (table_of part).tree ≡ old.trees (table_of part).tree
+  pub others : (part : Part) → ¬ Has (Own ∷ Factions ∷ Units ∷ Reports ∷ Books ∷ []) part
+      → new.trees (table_of part).tree ≡ old.trees (table_of part).tree
 
--- if the table `campaign` held one row, a join is written (`AddsJoin`), whatever that row said
+-- a join is written (`AddsJoin`), if the table `campaign` held one row, whatever that row said
 abbrev pub WritesJoin : ℕ → CampaignValue → Database → Database → Type 0
-WritesJoin faction after old new = (before : CampaignRowValue) (text : List ℕ) → HasExactly (rows_in campaign_table old.trees) (λ r. r ≡ campaign_row before text) → AddsJoin faction after text old new
+WritesJoin faction after old new =
+    (before : CampaignRowValue) (text : List ℕ)
+    → HasExactly (rows_in campaign_table old.trees) (λ r. r ≡ campaign_row before text)
+    → AddsJoin faction after text old new
 
 -- a mailing is written: it replaces an older one of its faction, or is added; all other rows and tables stay
 abbrev pub WritesMail : ℕ → List ℕ → Database → Database → Type 0

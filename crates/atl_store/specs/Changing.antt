@@ -10,20 +10,21 @@ use Rattle.atl_sql.specs.Sets.{Set, HasExactly, rows_in}
 use Rattle.atl_sql.specs.Tables.{Part, campaign_table, table_of}
 use Rattle.atl_sql.specs.Shown.{CampaignRowValue, campaign_row}
 use Rattle.atl_sql.specs.Marked.{is_marked}
-use Rattle.atl_sql.specs.Rows.{campaign_row_of, campaign_line, rows_for}
+use Rattle.atl_sql.specs.Rows.{campaign_row_of, row_of_campaign, rows_for}
 
 -- one of two propositions by a flag, such as whether a row is marked: `Wanted` if it is true, else `Were`
-abbrev pub Chosen : Bool → Type 0 → Type 0 → Type 0
-Chosen true Wanted Were = Wanted
-Chosen false Wanted Were = Were
+abbrev pub IfElse : Bool → Type 0 → Type 0 → Type 0
+IfElse true Wanted Were = Wanted
+IfElse false Wanted Were = Were
 
 -- a table's rows after a rewrite: the wanted rows whose key is marked, and the old rows whose key isn't
 abbrev pub rows_after_rewrite : (Row → Bool) → Set → Set → Set
-rows_after_rewrite is_marked Wanted Were r = Chosen (is_marked r) (Wanted r) (Were r)
+rows_after_rewrite is_marked Wanted Were r = IfElse (is_marked r) (Wanted r) (Were r)
 
 -- a table is rewritten: its rows with a marked key are now the wanted ones, and its other rows are as they were
 abbrev pub AreRewritten : Table → (Row → Bool) → Set → Database → Database → Type 0
-AreRewritten table is_marked Wanted old new = HasExactly (rows_in table new.trees) (rows_after_rewrite is_marked Wanted (Has (rows_in table old.trees)))
+AreRewritten table is_marked Wanted old new =
+    HasExactly (rows_in table new.trees) (rows_after_rewrite is_marked Wanted (Has (rows_in table old.trees)))
 
 -- what the campaign row says after a write: if it is marked (true) what the campaign says, else what it said before
 abbrev pub campaign_row_after : Bool → CampaignValue → CampaignRowValue → CampaignRowValue
@@ -38,11 +39,15 @@ own_after c before text = campaign_row (campaign_row_after c.marks.row c.value b
 -- The campaign row said `before`; it keeps this world text.
 pub record WritesMarked (c : MarkedCampaign) (before : CampaignRowValue) (text : List ℕ) (old new : Database) : Type 0 where
   -- in each part's table the marked rows become those that the campaign has, and the others stay (`AreRewritten`)
-  pub rows : (part : Part) → AreRewritten (table_of part) (is_marked c.marks part) (rows_for (own_after c before text) c.value part) old new
+  pub rows : (part : Part)
+      → AreRewritten (table_of part) (is_marked c.marks part) (rows_for (own_after c before text) c.value part) old new
 
--- If the table `campaign` held one row, all that is marked is written (`WritesMarked`), whatever that row said.
+-- All that is marked is written (`WritesMarked`), if the table `campaign` held one row, whatever that row said.
 abbrev pub WritesChanges : MarkedCampaign → Database → Database → Type 0
-WritesChanges c old new = (before : CampaignRowValue) (text : List ℕ) → HasExactly (rows_in campaign_table old.trees) (λ r. r ≡ campaign_row before text) → WritesMarked c before text old new
+WritesChanges c old new =
+    (before : CampaignRowValue) (text : List ℕ)
+    → HasExactly (rows_in campaign_table old.trees) (λ r. r ≡ campaign_row before text)
+    → WritesMarked c before text old new
 
 -- ---- tables that hold what is not marked of a campaign
 
@@ -60,4 +65,5 @@ pub record HoldsUnmarked (trees : Trees) (text : List ℕ) (c : MarkedCampaign) 
   -- unless the campaign row is marked, `before` is what the campaign says
   pub head : campaign_row_after c.marks.row c.value before ≡ campaign_row_of c.value
   -- in each part's table the rows that aren't marked are the campaign's
-  pub rest : (part : Part) → HasUnmarked (table_of part) (is_marked c.marks part) (rows_for (campaign_line text c.value) c.value part) trees
+  pub rest : (part : Part)
+      → HasUnmarked (table_of part) (is_marked c.marks part) (rows_for (row_of_campaign text c.value) c.value part) trees

@@ -42,12 +42,12 @@ fault_of_check (check.Damaged rule) = load.Damaged rule
 fault_of_check check.Memory = load.Memory
 
 -- the fault of `load` for a fault of loading in the second format: the same, but OldFormat for OtherFormat
-abbrev pub second_fault : LoadFault → StoreFault
-second_fault load.Store = store.Store
-second_fault (load.Damaged rule) = store.Damaged rule
-second_fault load.NotACampaign = store.NotACampaign
-second_fault load.OtherFormat = store.OldFormat
-second_fault load.Memory = store.Memory
+abbrev pub second_format_fault : LoadFault → StoreFault
+second_format_fault load.Store = store.Store
+second_format_fault (load.Damaged rule) = store.Damaged rule
+second_format_fault load.NotACampaign = store.NotACampaign
+second_format_fault load.OtherFormat = store.OldFormat
+second_format_fault load.Memory = store.Memory
 
 -- the number of a fault of `load`, by which callers know it; Memory has none
 abbrev pub fault_number : StoreFault → Option ℕ
@@ -64,12 +64,12 @@ abbrev pub upgrade_fault : Error → UpgradeFault
 upgrade_fault e = if is_memory e then upgrade.Memory else upgrade.Store
 
 -- the fault of `upgrade` for a fault of loading in the first format: the same, but NotOld for OtherFormat
-abbrev pub first_fault : LoadFault → UpgradeFault
-first_fault load.Store = upgrade.Store
-first_fault (load.Damaged rule) = upgrade.Damaged rule
-first_fault load.NotACampaign = upgrade.NotACampaign
-first_fault load.OtherFormat = upgrade.NotOld
-first_fault load.Memory = upgrade.Memory
+abbrev pub first_format_fault : LoadFault → UpgradeFault
+first_format_fault load.Store = upgrade.Store
+first_format_fault (load.Damaged rule) = upgrade.Damaged rule
+first_format_fault load.NotACampaign = upgrade.NotACampaign
+first_format_fault load.OtherFormat = upgrade.NotOld
+first_format_fault load.Memory = upgrade.Memory
 
 -- the fault of `upgrade` for a fault of the new world text: Memory if memory ran out, else World with this fault
 abbrev pub new_world_fault : WorldFault → UpgradeFault
@@ -77,14 +77,14 @@ new_world_fault world.Memory = upgrade.Memory
 new_world_fault fault = upgrade.World fault
 
 -- the number of a fault of `upgrade`; Memory has none
-abbrev pub upgrade_number : UpgradeFault → Option ℕ
-upgrade_number upgrade.Store = Some 1
-upgrade_number (upgrade.Damaged rule) = Some 2
-upgrade_number upgrade.NotACampaign = Some 3
-upgrade_number upgrade.NotOld = Some 4
-upgrade_number (upgrade.World fault) = Some 5
-upgrade_number upgrade.Differs = Some 6
-upgrade_number upgrade.Memory = None
+abbrev pub upgrade_fault_number : UpgradeFault → Option ℕ
+upgrade_fault_number upgrade.Store = Some 1
+upgrade_fault_number (upgrade.Damaged rule) = Some 2
+upgrade_fault_number upgrade.NotACampaign = Some 3
+upgrade_fault_number upgrade.NotOld = Some 4
+upgrade_fault_number (upgrade.World fault) = Some 5
+upgrade_fault_number upgrade.Differs = Some 6
+upgrade_fault_number upgrade.Memory = None
 
 -- ---- the faults of creating tables
 

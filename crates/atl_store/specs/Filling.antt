@@ -6,7 +6,7 @@ use Rattle.atl_campaign.specs.Campaign.{CampaignValue}
 use Rattle.atl_sql.specs.Sets.{HasExactly, rows_in}
 use Rattle.atl_sql.specs.Tables.{Part, campaign_table}
 use Rattle.atl_sql.specs.Inside.{Changes}
-use Rattle.atl_sql.specs.Rows.{campaign_line, rows_for, Holds}
+use Rattle.atl_sql.specs.Rows.{row_of_campaign, rows_for, Holds}
 
 -- one part is filled: if its table had no row, it has exactly the campaign's rows afterwards; `own` is the campaign row
 abbrev pub Fills : CampaignValue → Row → Part → List Row → List Row → Type 0
@@ -22,10 +22,12 @@ FillsParts c parts old new = (own : Row) → Changes (Fills c own) parts old new
 abbrev pub FillsPart : CampaignValue → Part → Database → Database → Type 0
 FillsPart c part = FillsParts c (part ∷ [])
 
--- If `campaign` was empty, the table of each listed part, if it was empty, gets exactly the campaign's rows.
--- The campaign row, with this world text, is among the parts; the tables of all other parts stay.
+-- The listed parts, the campaign row among them, are filled: each of their tables that was empty gets exactly the
+-- campaign's rows.
+-- This is so if the table `campaign` was empty. The campaign row has this world text; the tables of all other parts
+-- stay.
 abbrev pub FillsWithOwn : List ℕ → CampaignValue → List Part → Database → Database → Type 0
-FillsWithOwn text c parts old new = rows_in campaign_table old.trees ≡ [] → Changes (Fills c (campaign_line text c)) parts old new
+FillsWithOwn text c parts old new = rows_in campaign_table old.trees ≡ [] → Changes (Fills c (row_of_campaign text c)) parts old new
 
 -- a founding is written: the tables hold the world text and the campaign, whatever they held before
 abbrev pub WritesFounding : List ℕ → CampaignValue → Database → Database → Type 0

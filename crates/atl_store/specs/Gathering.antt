@@ -17,14 +17,14 @@ use Rattle.atl_world.specs.Worlds.{WorldValue}
 use Rattle.atl_world.specs.Formats.{format_number}
 use Rattle.atl_world.specs.declared.format.Format.{Format}
 use Rattle.atl_world.specs.declared.format.Format.TheVariants.{First, Second}
-use Rattle.atl_tables.specs.World.{world_by}
+use Rattle.atl_tables.specs.World.{world_of_text}
 use Rattle.atl_state.specs.Checking.{IsChecked, KeepsRule}
 use Rattle.atl_campaign.specs.Campaign.{MarkedCampaign}
 use Rattle.atl_state.specs.declared.checking.Rule.TheVariants.{OneRow}
 use Rattle.atl_campaign.specs.declared.parts.Parts.{Parts}
 use Rattle.atl_campaign.specs.declared.parts.StoredCampaignRow.{StoredCampaignRow}
 use Rattle.atl_sql.specs.Errors.{is_memory}
-use Rattle.atl_store.specs.Loading.{HaveRows, AreOwnRow, IsOther, HasOtherType, KeepsOneRow, other_parts, other_selects, shows_rowids, tables_with_rowids, rows_read, AfterReads, AllSelectsShowTyped, RefusesOne}
+use Rattle.atl_store.specs.Loading.{HaveRows, AreOwnRow, AreOfOtherFormat, HasOtherType, KeepsOneRow, other_parts, other_selects, shows_rowids, tables_with_rowids, rows_read, AfterReads, AllSelectsShowTyped, RefusesOne}
 use Rattle.atl_sql.specs.Reading.{Selects, select_of_part}
 use Rattle.atl_sql.specs.Statements.{selection}
 use Rattle.atl_sql.specs.Sets.{AreKeyedByRowid, rows_in}
@@ -41,18 +41,18 @@ use Rattle.atl_sql.specs.declared.rows.stored.RowWithId.{RowWithId}
 -- ---- what a step leaves
 
 -- if the disk is clean and the connection is open, its tables are those of the last commit
-abbrev pub IsSettled : State → Type 0
-IsSettled s = HasCleanDisk s → IsTrue s.is_open → s.now ≡ s.committed
+abbrev pub IsCommitted : State → Type 0
+IsCommitted s = HasCleanDisk s → IsTrue s.is_open → s.now ≡ s.committed
 
 -- ---- which fault is returned
 
 -- The fault of loading for a fault of reading `campaign`: Refused becomes NotACampaign, and OtherType becomes
 -- Damaged by the first rule; Store and Memory stay.
-abbrev pub own_fault : ReadFault → LoadFault
-own_fault read.Store = Store
-own_fault read.Refused = NotACampaign
-own_fault read.Memory = Memory
-own_fault read.OtherType = Damaged OneRow
+abbrev pub campaign_row_fault : ReadFault → LoadFault
+campaign_row_fault read.Store = Store
+campaign_row_fault read.Refused = NotACampaign
+campaign_row_fault read.Memory = Memory
+campaign_row_fault read.OtherType = Damaged OneRow
 
 -- What reading a table other than `campaign` gives: its rows, or None if a value is of another type than its column.
 -- Else the fault that ends the loading: Memory if memory ran out, Store for every other.
@@ -73,7 +73,7 @@ FailsWithout P Memory = ⊤
 
 -- ---- the campaign row
 
--- the only row of a list of one, else None
+-- the row of a list of just one campaign row; None for any other list
 abbrev pub only_of : List StoredCampaign → Option StoredCampaign
 only_of [] = None
 only_of (own ∷ []) = Some own
@@ -81,7 +81,7 @@ only_of (own ∷ other ∷ rows) = None
 
 -- The rows read of `campaign` are one row, `own`, which keeps the first rule: its id is 1, its format is `f`, and its
 -- world text reads as the world `w`.
-pub record IsOwn (f : Format) (rows : List StoredCampaign) (own : StoredCampaign) (w : WorldValue) : Type 0 where
+pub record IsOwnRow (f : Format) (rows : List StoredCampaign) (own : StoredCampaign) (w : WorldValue) : Type 0 where
   -- `own` is the only row that was read of `campaign`
   pub only : rows ≡ own ∷ []
   -- the id of the campaign row is 1
@@ -89,10 +89,11 @@ pub record IsOwn (f : Format) (rows : List StoredCampaign) (own : StoredCampaign
   -- the format of the campaign row is `f`
   pub format : own.head.format ≡ pos (format_number f)
   -- the world text of the campaign row reads as the world `w`
-  pub world : world_by f (string_bytes own.world) ≡ Ok w
+  pub world : world_of_text f (string_bytes own.world) ≡ Ok w
 
--- A judged result is Ok of a value for which the first condition (`Is`) holds, or Damaged by the first rule where
--- the second (`Nothing`) holds, or Memory; it is no other fault.
+-- The result of judging: Ok of a value that fulfils the first condition (`Is`), Damaged by the first rule if the second
+-- (`Nothing`) holds, or Memory.
+-- It is no other fault.
 abbrev pub Judges : {A : Type 0} → (A → Type 0) → Type 0 → Result A LoadFault → Type 0
 Judges Is Nothing (Ok a) = Is a
 Judges Is Nothing (Err Memory) = ⊤
@@ -101,22 +102,25 @@ Judges Is Nothing (Err fault) = ⊥
 
 -- the result of reading a world text: the world, Damaged by the first rule if the text reads as none, or Memory
 abbrev pub ReadsWorld : Format → List ℕ → Result WorldValue LoadFault → Type 0
-ReadsWorld f text r = Judges (λ w. world_by f text ≡ Ok w) ((w : WorldValue) → world_by f text ≢ Ok w) r
+ReadsWorld f text r = Judges (λ w. world_of_text f text ≡ Ok w) ((w : WorldValue) → world_of_text f text ≢ Ok w) r
 
--- the result of judging the rows of `campaign` that were read: the only row and its world (`IsOwn`), Damaged by the
+-- the result of judging the rows of `campaign` that were read: the only row and its world (`IsOwnRow`), Damaged by the
 -- first rule if they break it, or Memory
 abbrev pub JudgesOwn : Format → List StoredCampaign → Result (StoredCampaign × WorldValue) LoadFault → Type 0
-JudgesOwn f rows r = Judges (λ both. IsOwn f rows both.0 both.1) ((own : StoredCampaign) (w : WorldValue) → ¬ IsOwn f rows own w) r
+JudgesOwn f rows r =
+    Judges (λ both. IsOwnRow f rows both.0 both.1) ((own : StoredCampaign) (w : WorldValue) → ¬ IsOwnRow f rows own w) r
 
 -- the result of judging the rows that SQL shows of `campaign`: the row and its world (`AreOwnRow`), Damaged by the
 -- first rule if they break it, or Memory
 abbrev pub JudgesRows : Format → List Row → Result (StoredCampaign × WorldValue) LoadFault → Type 0
-JudgesRows f rows r = Judges (λ both. AreOwnRow f rows both.0.head (string_bytes both.0.world) both.1) ((h : StoredCampaignRow) (text : List ℕ) (w : WorldValue) → ¬ AreOwnRow f rows h text w) r
+JudgesRows f rows r =
+    Judges (λ both. AreOwnRow f rows both.0.head (string_bytes both.0.world) both.1)
+    ((h : StoredCampaignRow) (text : List ℕ) (w : WorldValue) → ¬ AreOwnRow f rows h text w) r
 
 -- the result of judging the rows of `campaign`: OtherFormat if they are one row of the other format, else what judging
 -- them by the first rule gives (`JudgesRows`)
 abbrev pub JudgesFormat : Format → List Row → Result (StoredCampaign × WorldValue) LoadFault → Type 0
-JudgesFormat f rows r = (IsOther f rows × (r ≡ Err OtherFormat)) ⊎ ((¬ IsOther f rows) × JudgesRows f rows r)
+JudgesFormat f rows r = (AreOfOtherFormat f rows × (r ≡ Err OtherFormat)) ⊎ ((¬ AreOfOtherFormat f rows) × JudgesRows f rows r)
 
 -- ---- the rows of other tables, as they were read
 
@@ -127,7 +131,8 @@ ReadRows = List (Part × List Row)
 -- the rows read are all rows of the part's table, if the schema begins with the tables of the earliest format that has
 -- the part
 abbrev pub AreRows : Database → Part → List Row → Type 0
-AreRows db part rows = HasTablesOf (select_of_part part).since db.schema → IsPermutation ((select_of_part part).in_table db.trees) rows
+AreRows db part rows =
+    HasTablesOf (select_of_part part).since db.schema → IsPermutation ((select_of_part part).in_table db.trees) rows
 
 -- for each part that was read, the rows are all rows of the part's table (`AreRows`)
 abbrev pub AreAllRows : Database → ReadRows → Type 0
@@ -136,7 +141,8 @@ AreAllRows db reads = (read : Part × List Row) → Has reads read → AreRows d
 -- for each part that was read: all rows of its table (`AreRows`) if the format has the part, else no row
 pub record AreOfFormat (f : Format) (db : Database) (reads : ReadRows) : Type 0 where
   -- each part that was read has all rows of its table, or no row if the format lacks the part
-  pub each : (read : Part × List Row) → Has reads read → (Has (parts_in f) read.0 × AreRows db read.0 read.1) ⊎ ((¬ Has (parts_in f) read.0) × (read.1 ≡ []))
+  pub each : (read : Part × List Row) → Has reads read
+      → (Has (parts_in f) read.0 × AreRows db read.0 read.1) ⊎ ((¬ Has (parts_in f) read.0) × (read.1 ≡ []))
 
 -- no row was read of any part
 abbrev pub AreNone : ReadRows → Type 0
@@ -146,7 +152,8 @@ AreNone reads = (read : Part × List Row) → Has reads read → read.1 ≡ []
 abbrev pub second_format_parts : List Part
 second_format_parts = drop (length (parts_in First)) all_parts
 
--- the SELECTs of a format: `some`, and in the second format `others` too
+-- the SELECTs that are asked in a format: `some` and, in the second format, also `others`, of the tables that the first
+-- lacks
 abbrev pub selects_by : Format → List (List ℕ × List Form) → List (List ℕ × List Form) → List (List ℕ × List Form)
 selects_by First some others = some
 selects_by Second some others = some ++ others
@@ -162,15 +169,16 @@ module _ {S : Type 0} (g : Ghosts S) (old : Held S) where
     -- the rows are one row, `own`, which keeps the first rule
     pub row : AreOwnRow f rows own.head (string_bytes own.world) w
     -- `own` is the only row of the table, if the schema begins with the tables of the first format
-    pub table : HasTablesOf First old.schema → IsPermutation (rows_in campaign_table (state g old).now.trees) (campaign_stored own ∷ [])
+    pub table : HasTablesOf First old.schema
+        → IsPermutation (rows_in campaign_table (state g old).now.trees) (campaign_stored own ∷ [])
 
   -- ---- the other tables
 
-  -- Reading by the SELECTs `selects` gave Some, where each value is of its column's form and `P` holds of what was
-  -- read, or None, where a value in the rows of one of them is of another form than its column.
-  abbrev pub Found : {A : Type 0} → List (List ℕ × List Form) → (A → Type 0) → Option A → Type 0
-  Found selects P None = HasOtherType g old selects
-  Found selects P (Some a) = AllSelectsShowTyped g old selects × P a
+  -- What reading by the SELECTs `selects` found: Some, if each value is of its column's form, or None, if one isn't.
+  -- In the first case `P` holds of what was read.
+  abbrev pub FoundBySelects : {A : Type 0} → List (List ℕ × List Form) → (A → Type 0) → Option A → Type 0
+  FoundBySelects selects P None = HasOtherType g old selects
+  FoundBySelects selects P (Some a) = AllSelectsShowTyped g old selects × P a
 
   -- one SELECT of the list `selects`, asked after other reads, shows some rows
   pub record AnswersOne (selects : List (List ℕ × List Form)) : Type 0 where
@@ -187,8 +195,9 @@ module _ {S : Type 0} (g : Ghosts S) (old : Held S) where
     -- asked of the tables of `before`, this SELECT shows `rows`
     pub answered : Selects g select.0 before rows
 
-  -- Reading by the SELECTs `selects` may return Store, if one is refused for another cause than memory, and Memory, if
-  -- one is refused for lack of memory or shows rows; it returns no other fault.
+  -- When reading by the SELECTs `selects` may return each fault: Store if one is refused for another cause than memory,
+  -- Memory if one is refused for lack of memory or shows rows.
+  -- It returns no other fault.
   abbrev pub FailsToRead : List (List ℕ × List Form) → LoadFault → Type 0
   FailsToRead selects Store = RefusesOne g old selects read.Store ⊎ RefusesOne g old selects read.Refused
   FailsToRead selects (Damaged rule) = ⊥
@@ -196,13 +205,14 @@ module _ {S : Type 0} (g : Ghosts S) (old : Held S) where
   FailsToRead selects OtherFormat = ⊥
   FailsToRead selects Memory = RefusesOne g old selects read.Memory ⊎ AnswersOne selects
 
-  -- Reading by the SELECTs `selects` gives what `Found` says, or a fault (`FailsToRead`), if the disk is clean.
-  -- The connection is as after reads: the tables are as they were (`AfterReads`).
-  pub record ReadsSome {A : Type 0} (selects : List (List ℕ × List Form)) (P : A → Type 0) (result : Result (Option A) LoadFault) (new : Held S) : Type 0 where
+  -- Reading by the SELECTs `selects` gives what `FoundBySelects` says, or a fault (`FailsToRead`), if the disk is
+  -- clean. The connection is as after reads: the tables are as they were (`AfterReads`).
+  pub record ReadsSome {A : Type 0} (selects : List (List ℕ × List Form)) (P : A → Type 0)
+      (result : Result (Option A) LoadFault) (new : Held S) : Type 0 where
     -- if the reads succeed, and the disk is clean, the connection was open before them
     pub was_open : HasCleanDisk (state g new) → IfOk result (λ _. IsTrue (state g old).is_open)
-    -- if the reads succeed, and the disk is clean, the result is what the SELECTs found (`Found`)
-    pub found : HasCleanDisk (state g new) → IfOk result (Found selects P)
+    -- if the reads succeed, and the disk is clean, the result is what the SELECTs found (`FoundBySelects`)
+    pub found : HasCleanDisk (state g new) → IfOk result (FoundBySelects selects P)
     -- if the reads fail, and the disk is clean, the fault is one that they may return (`FailsToRead`)
     pub fails : HasCleanDisk (state g new) → IfErr result (FailsToRead selects)
     -- the reads leave the tables as they were
@@ -212,10 +222,14 @@ module _ {S : Type 0} (g : Ghosts S) (old : Held S) where
 
   -- the SELECT of the campaign row, asked again to confirm, is refused; `memory` says whether for lack of memory
   abbrev pub IsRefusedAgain : Bool → Type 0
-  IsRefusedAgain memory = (during : Held S) × (e : Error) × FailsToQuery (selection campaign_table 1) [] (state g old) (state g during) e × (is_memory e ≡ memory)
+  IsRefusedAgain memory =
+      (during : Held S) × (e : Error)
+      × FailsToQuery (selection campaign_table 1) [] (state g old) (state g during) e
+      × (is_memory e ≡ memory)
 
-  -- The test of the schema may return Store, if the schema isn't the format's; if it is, Store or Memory, by what the
-  -- SELECT of the campaign row is refused for; it returns no other fault.
+  -- When the test of the schema may return each fault: Store or Memory, by what the SELECT of the campaign row is
+  -- refused for.
+  -- Store also comes if the schema isn't the format's; then that SELECT isn't asked. No other fault is returned.
   abbrev pub FailsToConfirm : Format → LoadFault → Type 0
   FailsToConfirm f Store = (¬ HasTablesOf f old.schema) ⊎ (HasTablesOf f old.schema × IsRefusedAgain false)
   FailsToConfirm f (Damaged rule) = ⊥
@@ -226,28 +240,28 @@ module _ {S : Type 0} (g : Ghosts S) (old : Held S) where
 -- ---- the rowids
 
 -- no two rows of a table, read with their rowids, have the same rowid
-abbrev pub AreApart : {A : Type 0} → List (RowWithId A) → Type 0
-AreApart placed = IsDistinct (eq_by_cmp int_cmp) (map (λ s. s.rowid) placed)
+abbrev pub HaveDistinctRowids : {A : Type 0} → List (RowWithId A) → Type 0
+HaveDistinctRowids placed = IsDistinct (eq_by_cmp int_cmp) (map (λ s. s.rowid) placed)
 
 -- how many columns a part's table has: a rowid is shown after them
-abbrev pub width : Part → ℕ
-width part = length (table_of part).columns
+abbrev pub column_count : Part → ℕ
+column_count part = length (table_of part).columns
 
 -- the values of the column at index `at` are integers, no two alike
-pub record HaveKeys (at : ℕ) (rows : List Row) : Type 0 where
+pub record HaveDistinctIntegers (at : ℕ) (rows : List Row) : Type 0 where
   -- no two rows have equal values in the column at index `at`
   pub apart : IsDistinct (λ a b. is_eq (value_cmp (column a at) (column b at))) rows
   -- in each row the value of the column at index `at` is an integer
   pub ints : AllByRecursion (λ r. is_int (column r at) ≡ true) rows
 
 -- in each part that is shown with rowids, the rowids are integers, no two alike
-pub record AreAllApart (reads : ReadRows) : Type 0 where
+pub record AllHaveDistinctRowids (reads : ReadRows) : Type 0 where
   -- the rowids of each part that is shown with rowids are integers, no two alike
-  pub each : (read : Part × List Row) → Has reads read → shows_rowids read.0 ≡ true → HaveKeys (width read.0) read.1
+  pub each : (read : Part × List Row) → Has reads read → shows_rowids read.0 ≡ true → HaveDistinctIntegers (column_count read.0) read.1
 
 -- the rows of a part without the rowids that they are shown with
 abbrev pub without_ids : Part → List Row → List Row
-without_ids part rows = if shows_rowids part then map (take (width part)) rows else rows
+without_ids part rows = if shows_rowids part then map (take (column_count part)) rows else rows
 
 -- The parts `p` are put together of what was read: the campaign row `head` and all other rows, without their rowids.
 -- No two rows of a part have the same rowid.
@@ -259,14 +273,14 @@ pub record IsMadeOf (head : StoredCampaignRow) (reads : ReadRows) (p : Parts) : 
   -- each part of `p` has the rows that were read of it, without their rowids
   pub rows : (text : List ℕ) (read : Part × List Row) → Has reads read → rows_read text p read.0 ≡ without_ids read.0 read.1
   -- the rowids that were read are integers, and differ in each part
-  pub apart : AreAllApart reads
+  pub apart : AllHaveDistinctRowids reads
 
 -- ---- all of it
 
 -- All tables were read: the campaign row keeps the first rule, and each value is of its column's form.
 -- If the tables are the format's, they have exactly the rows in `p`, with a text of the world `w`, and rowids that
 -- differ.
-pub record Gathered (f : Format) {S : Type 0} (g : Ghosts S) (old : Held S) (w : WorldValue) (p : Parts) : Type 0 where
+pub record GathersAll (f : Format) {S : Type 0} (g : Ghosts S) (old : Held S) (w : WorldValue) (p : Parts) : Type 0 where
   -- the SELECT of `campaign` showed one row, which keeps the first rule
   pub one : KeepsOneRow f g old
   -- the rows in `p` keep the first rule
@@ -274,13 +288,14 @@ pub record Gathered (f : Format) {S : Type 0} (g : Ghosts S) (old : Held S) (w :
   -- the world text of the campaign row
   pub text : List ℕ
   -- the world text of the campaign row reads as the world `w`
-  pub world : world_by f text ≡ Ok w
+  pub world : world_of_text f text ≡ Ok w
   -- in all tables but `campaign` each value that is shown is of its column's form
   pub typed : AllSelectsShowTyped g old (other_selects f)
   -- if the tables are the format's, they have exactly the rows of `p`
   pub rows : HasTablesOf f old.schema → HaveRows f (state g old).now.trees text p
   -- if the tables are the format's, the rowids of those without an INTEGER PRIMARY KEY are integers, no two alike
-  pub keyed : HasTablesOf f old.schema → (table : Table) → Has (tables_with_rowids f) table → AreKeyedByRowid ((state g old).now.trees table.tree)
+  pub keyed : HasTablesOf f old.schema → (table : Table) → Has (tables_with_rowids f) table
+      → AreKeyedByRowid ((state g old).now.trees table.tree)
 
 -- After the reads the tables are confirmed as those of the format.
 -- The old schema begins with the format's tables, the trees list and obey it (`IsSound`), and `new` is open.
@@ -293,12 +308,13 @@ pub record IsConfirmed (f : Format) (old new : State) : Type 0 where
   pub sound : IsSound old.now.schema old.now.trees
 
 -- The campaign `c` is loaded: it is made of rows that were read and keep all rules (`IsChecked`).
--- If the disk is clean, these are the rows of all tables (`Gathered`), and the schema is confirmed.
-pub record IsLoaded (f : Format) {S : Type 0} (g : Ghosts S) (old new : Held S) (w : WorldValue) (c : MarkedCampaign) : Type 0 where
+-- If the disk is clean, these are the rows of all tables (`GathersAll`), and the schema is confirmed.
+pub record IsLoaded (f : Format) {S : Type 0} (g : Ghosts S) (old new : Held S)
+    (w : WorldValue) (c : MarkedCampaign) : Type 0 where
   -- the rows that were read of all tables, put together
   pub parts : Parts
-  -- the rows in `parts` are those of all tables (`Gathered`), if the disk is clean
-  pub gathered : HasCleanDisk (state g new) → Gathered f g old w parts
+  -- the rows in `parts` are those of all tables (`GathersAll`), if the disk is clean
+  pub gathered : HasCleanDisk (state g new) → GathersAll f g old w parts
   -- the tables are confirmed as those of the format, if the disk is clean
   pub confirmed : HasCleanDisk (state g new) → IsConfirmed f (state g old) (state g new)
   -- the campaign is made of the rows that were read, which keep all rules

@@ -62,28 +62,30 @@ abbrev pub goods_lines : ℕ → HoldingValue → List Row
 goods_lines unit held = kind_lines unit Item (entries held.items) ++ kind_lines unit Skill (entries held.days)
 
 -- the rows of `has` for one unit: of its items and then of its skills, whose amount isn't 0
-abbrev pub unit_lines : ℕ → Unit → List Row
-unit_lines n unit = goods_lines n unit.holding
+abbrev pub unit_goods_lines : ℕ → Unit → List Row
+unit_goods_lines n unit = goods_lines n unit.holding
 
 -- the rows of `has` for all amounts of items and skills that aren't 0, one unit after another
 abbrev pub all_goods_lines : List (ℕ × Unit) → List Row
-all_goods_lines units = groups_of unit_lines units
+all_goods_lines units = groups_of unit_goods_lines units
 
 -- ---- the stocks of markets
 
 -- the rows of `market` for the stocks of one region, one for each item whose stock isn't 0
-abbrev pub region_lines : ℕ → Region → List Row
-region_lines n region = amount_rows (market_row n) (entries region.stocks)
+abbrev pub region_stock_lines : ℕ → Region → List Row
+region_stock_lines n region = amount_rows (market_row n) (entries region.stocks)
 
 -- the rows of `market` for all stocks that aren't 0, one region after another
 abbrev pub all_stocks_lines : List (ℕ × Region) → List Row
-all_stocks_lines regions = groups_of region_lines regions
+all_stocks_lines regions = groups_of region_stock_lines regions
 
 -- ---- the books
 
 -- the row of `books` for one entry and thing, or none if the amount is 0
 abbrev pub amount_lines : CampaignValue → BooksEntry → Thing → List Row
-amount_lines c entry thing = if int_eq (amount_in c.books entry thing) (pos 0) then [] else books_row (entry_index entry + 1) (thing_index thing) (amount_in c.books entry thing) ∷ []
+amount_lines c entry thing =
+    if int_eq (amount_in c.books entry thing) (pos 0) then []
+    else books_row (entry_index entry + 1) (thing_index thing) (amount_in c.books entry thing) ∷ []
 
 -- the rows of `books` for the amounts of one thing under the listed entries, one for each amount that isn't 0
 abbrev pub entries_lines : CampaignValue → Thing → List BooksEntry → List Row
@@ -91,4 +93,4 @@ entries_lines c thing entries = flat_map (λ entry. amount_lines c entry thing) 
 
 -- the rows of `books` for the amounts of the things with the listed numbers, under all entries, that aren't 0
 abbrev pub things_lines : CampaignValue → List ℕ → List Row
-things_lines c places = flat_map (λ place. entries_lines c (thing_at place) all_entries) places
+things_lines c indices = flat_map (λ index. entries_lines c (thing_at index) all_entries) indices

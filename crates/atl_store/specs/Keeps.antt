@@ -9,7 +9,7 @@ use Rattle.sqlite.specs.State.{State, HasCleanDisk}
 use Rattle.sqlite_disk.specs.Disk.{MoreFaults}
 use Rattle.atl_world.specs.Worlds.{WorldValue}
 use Rattle.atl_campaign.specs.Campaign.{CampaignValue, with_report}
-use Rattle.atl_campaign.specs.Joining.{joined}
+use Rattle.atl_campaign.specs.Joining.{after_join}
 use Rattle.atl_campaign.specs.Good.{IsGood}
 use Rattle.atl_sql.specs.Tables.{HasAll, IsSoundDatabase}
 use Rattle.atl_sql.specs.Inside.{HasTables, Carries, IsBlank}
@@ -86,7 +86,8 @@ LeavesOthersAlone old new = IsTrue new.is_open → HasTables old.now → old.com
 -- Only a new failure of the disk shuts it.
 pub record ChangesNothing (old new : State) : Type 0 where
   -- while the connection is open its tables, its last commit and its transaction are as they were
-  pub same : IsTrue new.is_open → (new.now ≡ old.now) × (new.committed ≡ old.committed) × (new.in_transaction ≡ old.in_transaction)
+  pub same : IsTrue new.is_open
+      → (new.now ≡ old.now) × (new.committed ≡ old.committed) × (new.in_transaction ≡ old.in_transaction)
   -- an open connection stays open, unless the disk failed again
   pub shuts : IsTrue old.is_open → IsTrue new.is_open ⊎ MoreFaults old.faults new.faults
 
@@ -120,18 +121,21 @@ IsReadyToCreate s = IsBlank s.now × (s.in_transaction ≡ false)
 
 -- `create` broke off: the database was ready for it, and one of its statements, or its commit, gave an error.
 -- The fault is that of the error, if the disk is clean.
-pub record BreaksOffCreation {S : Type 0} (g : Ghosts S) (text : List ℕ) (c : CampaignValue) (old new : Held S) (fault : CreateFault) : Type 0 where
+pub record BreaksOffCreation {S : Type 0} (g : Ghosts S) (text : List ℕ) (c : CampaignValue)
+    (old new : Held S) (fault : CreateFault) : Type 0 where
   -- the database was ready for `create`
   pub ready : IsReadyToCreate (state g old)
   -- if the disk is clean, the fault is that of an error of a statement of `create`, or of its commit
-  pub told : HasCleanDisk (state g new) → IsFaultOfError g (OfFounding text c) create_fault old new fault
+  pub reports_error : HasCleanDisk (state g new) → IsFaultOfError g (OfFounding text c) create_fault old new fault
 
 -- When `create` may return each fault: NotEmpty if there is a table `campaign`, and Store if the database isn't ready;
 -- then nothing at all is changed. Store and Memory also come if `create` broke off: on a clean disk this changes
 -- nothing, and a crash leaves what it could have left before, or the campaign (`FailsToCreate`).
 abbrev pub RefusesToCreate : {S : Type 0} → Ghosts S → List ℕ → CampaignValue → Held S → Held S → CreateFault → Type 0
 RefusesToCreate g text c old new NotEmpty = IsTrue (has_campaign old.schema) × (new ≡ old)
-RefusesToCreate g text c old new Store = FailsToCreate g text c old new × (((¬ IsReadyToCreate (state g old)) × (new ≡ old)) ⊎ BreaksOffCreation g text c old new Store)
+RefusesToCreate g text c old new Store =
+    FailsToCreate g text c old new
+    × (((¬ IsReadyToCreate (state g old)) × (new ≡ old)) ⊎ BreaksOffCreation g text c old new Store)
 RefusesToCreate g text c old new Memory = FailsToCreate g text c old new × BreaksOffCreation g text c old new Memory
 
 -- ---- writing
@@ -139,4 +143,7 @@ RefusesToCreate g text c old new Memory = FailsToCreate g text c old new × Brea
 -- `after` is the good campaign `before` once the faction has joined it and its first report is stored
 abbrev pub IsJoining : CampaignValue → ℕ → CampaignValue → Type 0
 IsJoining before faction after =
-    (w : WorldValue) × (name : List ℕ) × (pass : List ℕ) × (word : ℕ) × (report : List ℕ) × IsGood w before × (faction ≡ before.next_faction) × (after ≡ with_report (joined w name pass word before) faction report)
+    (w : WorldValue) × (name : List ℕ) × (pass : List ℕ) × (word : ℕ) × (report : List ℕ)
+    × IsGood w before
+    × (faction ≡ before.next_faction)
+    × (after ≡ with_report (after_join w name pass word before) faction report)

@@ -15,7 +15,7 @@ use Rattle.atl_world.specs.Worlds.{WorldValue}
 use Rattle.atl_world.specs.Formats.{format_number}
 use Rattle.atl_world.specs.declared.format.Format.{Format}
 use Rattle.atl_world.specs.declared.format.Format.TheVariants.{First, Second}
-use Rattle.atl_tables.specs.World.{world_by, world_of}
+use Rattle.atl_tables.specs.World.{world_of_text, world_of}
 use Rattle.atl_state.specs.Checking.{Fits, IsFirstBroken}
 use Rattle.atl_campaign.specs.Good.{IsGood}
 use Rattle.atl_campaign.specs.Marks.{no_marks}
@@ -51,8 +51,8 @@ abbrev pub own_stored : List ℕ → StoredCampaignRow → Row
 own_stored text h = campaign_row_stored h ++ Text text ∷ []
 
 -- a row of `has` that was read, as SQL shows it, without its rowid
-abbrev pub has_values : StoredHas → Row
-has_values s = Int s.unit ∷ Int s.sort ∷ Int s.thing ∷ Int s.amount ∷ []
+abbrev pub has_row_values : StoredHas → Row
+has_row_values s = Int s.unit ∷ Int s.sort ∷ Int s.thing ∷ Int s.amount ∷ []
 
 -- a row of `books` that was read, as SQL shows it, without its rowid
 abbrev pub books_values : StoredBooks → Row
@@ -68,7 +68,7 @@ rows_read text p Own = map (own_stored text) p.campaign
 rows_read text p Factions = map faction_stored p.factions
 rows_read text p Regions = map region_stored p.regions
 rows_read text p Units = map unit_stored p.units
-rows_read text p Goods = map has_values p.has
+rows_read text p Goods = map has_row_values p.has
 rows_read text p Structures = map structure_stored p.structures
 rows_read text p Mail = map mail_stored p.mail
 rows_read text p Reports = map report_stored p.reports
@@ -97,7 +97,7 @@ pub record AreOwnRow (f : Format) (rows : List Row) (h : StoredCampaignRow) (tex
   -- the world text of the campaign row is UTF-8
   pub utf8 : IsUtf8 text
   -- the world text of the campaign row reads as the world `w`
-  pub world : world_by f text ≡ Ok w
+  pub world : world_of_text f text ≡ Ok w
 
 -- the other one of the two formats; if the only campaign row is of that format, the fault is OtherFormat, not Damaged
 abbrev pub other_format : Format → Format
@@ -105,8 +105,8 @@ other_format First = Second
 other_format Second = First
 
 -- the rows of `campaign` are one row, whose format is not this one but the other of the two, whatever else it says
-abbrev pub IsOther : Format → List Row → Type 0
-IsOther f rows = (row : Row) × (rows ≡ row ∷ []) × (column row 1 ≡ int (format_number (other_format f)))
+abbrev pub AreOfOtherFormat : Format → List Row → Type 0
+AreOfOtherFormat f rows = (row : Row) × (rows ≡ row ∷ []) × (column row 1 ≡ int (format_number (other_format f)))
 
 -- ---- the other tables
 
@@ -139,18 +139,19 @@ shows_rowids part = not (is_some (table_of part).key)
 abbrev pub tables_with_rowids : Format → List Table
 tables_with_rowids f = map table_of (filter shows_rowids (parts_in f))
 
--- if the connection is open it was open before, and its tables and its last commit are as they were
-pub record Stays (old new : State) : Type 0 where
+-- a connection that is open was open before, and its tables and its last commit are as they were
+pub record TablesStay (old new : State) : Type 0 where
   -- if the connection is open now, it was open before
   pub was_open : IsTrue new.is_open → IsTrue old.is_open
   -- while the connection is open its tables and its last commit are as they were before
   pub same : IsTrue new.is_open → (new.now ≡ old.now) × (new.committed ≡ old.committed)
 
--- The connection after reads: it is in no transaction, and its tables are as they were, if the disk is clean (`Stays`).
--- What `Survives` says holds too, with nothing committed: a crash leaves only what it could have left before.
+-- The connection after reads: it is in no transaction, and its tables are as they were, if the disk is clean
+-- (`TablesStay`). What `Survives` says holds too, with nothing committed: a crash leaves only what it could have left
+-- before.
 pub record AfterReads {S : Type 0} (g : Ghosts S) (old new : Held S) : Type 0 where
   -- after the reads the tables are as they were before, if the disk is clean
-  pub stays : HasCleanDisk (state g new) → Stays (state g old) (state g new)
+  pub stays : HasCleanDisk (state g new) → TablesStay (state g old) (state g new)
   -- A disk that isn't clean stays so, no failure is forgotten, reads tested by digests stay so, and the step limit is
   -- the same.
   -- If the disk is clean, only a failure closes the connection, and a crash leaves only what it could have left before
@@ -178,9 +179,12 @@ module _ {S : Type 0} (g : Ghosts S) (old : Held S) where
 
     -- each SELECT of the list `selects` shows some rows, in which each value is of its column's form
     abbrev pub AllSelectsShowTyped : Type 0
-    AllSelectsShowTyped = (select : List ℕ × List Form) → Has selects select → (rows : List Row) × SelectShows select.0 rows × AreTyped select.1 rows
+    AllSelectsShowTyped =
+        (select : List ℕ × List Form) → Has selects select
+        → (rows : List Row) × SelectShows select.0 rows × AreTyped select.1 rows
 
-    -- each SELECT of the list `selects` shows some rows, and in those of one of them a value is of another form than its column
+    -- each SELECT of the list `selects` shows some rows, and in those of one of them a value is of another form than
+    -- its column
     pub record HasOtherType : Type 0 where
       -- each SELECT of the list `selects` shows some rows
       pub all : AllSelectsShow
@@ -191,7 +195,7 @@ module _ {S : Type 0} (g : Ghosts S) (old : Held S) where
       -- the rows that this SELECT shows
       pub rows : List Row
       -- this SELECT shows `rows`
-      pub told : SelectShows select.0 rows
+      pub shows : SelectShows select.0 rows
       -- in `rows` some value is of another form than its column
       pub other : ¬ AreTyped select.1 rows
 
@@ -237,7 +241,10 @@ module _ {S : Type 0} (g : Ghosts S) (old : Held S) where
   -- When Memory may be returned: in no transaction, if the SELECT of the campaign row lacks memory or is answered.
   -- Any step after this SELECT may lack memory.
   abbrev pub MayReturnMemory : Type 0
-  MayReturnMemory = (old.in_transaction ≡ false) × (RefusesToSelect g (selection campaign_table 1) old read.Memory ⊎ ((rows : List Row) × Selects g (selection campaign_table 1) old rows))
+  MayReturnMemory =
+      (old.in_transaction ≡ false)
+      × (RefusesToSelect g (selection campaign_table 1) old read.Memory
+      ⊎ ((rows : List Row) × Selects g (selection campaign_table 1) old rows))
 
 -- ---- by format
 
@@ -260,7 +267,7 @@ module _ (f : Format) {S : Type 0} (g : Ghosts S) (old : Held S) where
     -- the world text in the campaign row
     pub text : List ℕ
     -- the world text reads as the world
-    pub is_world : world_by f text ≡ Ok world
+    pub is_world : world_of_text f text ≡ Ok world
     -- the rows of all tables of the format
     pub parts : Parts
     -- the tables have exactly the rows of `parts`
@@ -292,7 +299,7 @@ module _ (f : Format) {S : Type 0} (g : Ghosts S) (old : Held S) where
     -- the rows that the SELECT of `campaign` shows break the first rule
     pub broken : (h : StoredCampaignRow) (text : List ℕ) (w : WorldValue) → ¬ AreOwnRow f rows h text w
     -- the SELECT doesn't show just one row with the number of the other format (the fault for that is OtherFormat)
-    pub of_format : ¬ IsOther f rows
+    pub of_format : ¬ AreOfOtherFormat f rows
 
   -- When Damaged may be returned with each rule: it is the first rule that the rows break.
   -- Ranges also comes if the first rule is kept and a value of another table is of another type than its column.
@@ -325,11 +332,13 @@ module _ (f : Format) {S : Type 0} (g : Ghosts S) (old : Held S) where
   -- When Store may be returned: in a transaction, or if the SELECT of the campaign row could not go on (`is_failure`).
   -- Also, where that row keeps the first rule, if another table can't be read or the tables can't be confirmed.
   abbrev pub MayReturnStore : Type 0
-  MayReturnStore = (old.in_transaction ≡ true) ⊎ (RefusesToSelect g (selection campaign_table 1) old read.Store ⊎ (KeepsOneRow × (CannotRead ⊎ CannotConfirm)))
+  MayReturnStore =
+      (old.in_transaction ≡ true)
+      ⊎ (RefusesToSelect g (selection campaign_table 1) old read.Store ⊎ (KeepsOneRow × (CannotRead ⊎ CannotConfirm)))
 
   -- the SELECT of `campaign` shows one row, whose format is not `f` but the other of the two
   abbrev pub HasOtherFormat : Type 0
-  HasOtherFormat = (rows : List Row) × Selects g (selection campaign_table 1) old rows × IsOther f rows
+  HasOtherFormat = (rows : List Row) × Selects g (selection campaign_table 1) old rows × AreOfOtherFormat f rows
 
   -- When loading in the format `f` may return each fault. NotACampaign: the SELECT of `campaign` is refused.
   -- OtherFormat: this SELECT shows one row, of the other format.
@@ -344,7 +353,7 @@ module _ (f : Format) {S : Type 0} (g : Ghosts S) (old : Held S) where
 -- The tables of the format hold exactly the rows of the text and the campaign, and all is committed.
 -- The connection is open and in no transaction.
 -- The trees list and obey the schema, and the rowids of each table are integers, no two alike.
-pub record StandsIn (f : Format) (s : State) (text : List ℕ) (c : CampaignValue) : Type 0 where
+pub record KeepsIn (f : Format) (s : State) (text : List ℕ) (c : CampaignValue) : Type 0 where
   -- the connection is in no transaction
   pub idle : s.in_transaction ≡ false
   -- the connection is open
@@ -360,13 +369,15 @@ pub record StandsIn (f : Format) (s : State) (text : List ℕ) (c : CampaignValu
   -- the tables of the format hold exactly the rows of the text and the campaign
   pub rows : HoldsIn f s.now.trees text c
 
--- If the disk is clean, Ok says: the tables of the format hold the campaign and a text of the world.
+-- What Ok of loading in a format says: if the disk is clean, the tables of the format hold the campaign and a text of
+-- the world.
 -- The campaign is good, and in the first format without markets (`Fits`); nothing of it is marked.
-pub record LoadsIn (f : Format) {S : Type 0} (g : Ghosts S) (old new : Held S) (w : WorldValue) (c : MarkedCampaign) : Type 0 where
+pub record LoadsIn (f : Format) {S : Type 0} (g : Ghosts S) (old new : Held S)
+    (w : WorldValue) (c : MarkedCampaign) : Type 0 where
   -- if the disk is clean, the world text that the tables hold reads as the world
-  pub world : HasCleanDisk (state g new) → world_by f (world_text (state g new)) ≡ Ok w
-  -- if the disk is clean, the tables of the format hold the campaign, with their world text (`StandsIn`)
-  pub stands : HasCleanDisk (state g new) → StandsIn f (state g new) (world_text (state g new)) c.value
+  pub world : HasCleanDisk (state g new) → world_of_text f (world_text (state g new)) ≡ Ok w
+  -- if the disk is clean, the tables of the format hold the campaign, with their world text (`KeepsIn`)
+  pub keeps : HasCleanDisk (state g new) → KeepsIn f (state g new) (world_text (state g new)) c.value
   -- in the first format the campaign uses no markets
   pub fits : Fits f c.value
   -- the campaign is good
@@ -385,7 +396,7 @@ module _ {S : Type 0} (g : Ghosts S) (old : Held S) where
   RefusesToLoad store.OldFormat = RefusesToLoadIn Second g old OtherFormat
   RefusesToLoad store.Memory = RefusesToLoadIn Second g old Memory
 
-  -- If the disk is clean, Ok of `load` says: the connection keeps the campaign and a text of the world.
+  -- What Ok of `load` says: if the disk is clean, the connection keeps the campaign and a text of the world.
   -- The campaign is good, and nothing of it is marked.
   pub record Loads (new : Held S) (w : WorldValue) (c : MarkedCampaign) : Type 0 where
     -- if the disk is clean, the world text that the tables hold reads as the world
@@ -397,11 +408,11 @@ module _ {S : Type 0} (g : Ghosts S) (old : Held S) where
     -- nothing of the campaign is marked
     pub unmarked : c.marks ≡ no_marks
 
-  -- Whatever is answered, nothing is changed (`ChangesNothing`), if the disk is clean.
+  -- Loading changes nothing of the connection (`ChangesNothing`), whatever is answered, if the disk is clean.
   -- What `Survives` says holds too, with nothing committed, and the connection is in a transaction if it was in one.
   pub record LeavesAlone (new : Held S) : Type 0 where
     -- nothing of the connection is changed, if the disk is clean
-    pub spares : HasCleanDisk (state g new) → ChangesNothing (state g old) (state g new)
+    pub unchanged : HasCleanDisk (state g new) → ChangesNothing (state g old) (state g new)
     -- A disk that isn't clean stays so, no failure is forgotten, reads tested by digests stay so, and the step limit is
     -- the same.
     -- If the disk is clean, only a failure closes the connection, and a crash leaves only what it could have left

@@ -6,6 +6,13 @@ use Rattle.atl_campaign.specs.Good.{IsGood}
 use Rattle.atl_campaign.specs.Campaign.{CampaignValue}
 use Rattle.atl_sql.specs.Rows.{Holds}
 
--- If the tables hold two world texts with two good campaigns of one world, the texts and the campaigns are equal.
-abbrev pub HoldsOne : Type 0
-HoldsOne = (w : WorldValue) (db : Trees) (one other : List ℕ) (c d : CampaignValue) → IsGood w c → IsGood w d → Holds db one c → Holds db other d → (one ≡ other) × (c ≡ d)
+-- The law that a database holds one campaign: two world texts, and two good campaigns of one world, that its tables
+-- hold are equal.
+abbrev pub HoldsOneCampaign : Type 0
+HoldsOneCampaign =
+    (w : WorldValue) (db : Trees) (one other : List ℕ) (c d : CampaignValue)
+    → IsGood w c
+    → IsGood w d
+    → Holds db one c
+    → Holds db other d
+    → (one ≡ other) × (c ≡ d)

@@ -6,6 +6,13 @@ use Rattle.atl_tables.specs.World.{world_of}
 use Rattle.atl_campaign.specs.Campaign.{CampaignValue}
 use Rattle.atl_sql.specs.Rows.{Holds}
 
--- If the tables hold two texts with two campaigns, and each text reads as a world, the worlds are equal.
+-- The law that a database holds the text of one world: if its tables hold two texts with two campaigns, and each text
+-- reads as a world, the worlds are equal.
 abbrev pub HoldsOneWorld : Type 0
-HoldsOneWorld = (v w : WorldValue) (db : Trees) (one other : List ℕ) (c d : CampaignValue) → world_of one ≡ Ok v → world_of other ≡ Ok w → Holds db one c → Holds db other d → v ≡ w
+HoldsOneWorld =
+    (v w : WorldValue) (db : Trees) (one other : List ℕ) (c d : CampaignValue)
+    → world_of one ≡ Ok v
+    → world_of other ≡ Ok w
+    → Holds db one c
+    → Holds db other d
+    → v ≡ w

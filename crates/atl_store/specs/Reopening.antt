@@ -15,4 +15,5 @@ pub record Reopens {S : Type 0} (g : Ghosts S) (old new : Held S) : Type 0 where
   -- if the disk is clean, the tables that are found are some that a crash could leave of `old`
   pub found : HasCleanDisk (state g new) → (state g old).may_leave (state g new).now.trees
   -- if the disk is clean, and the tables that are found store a campaign, the new connection keeps it
-  pub keeps : HasCleanDisk (state g new) → (text : List ℕ) (c : CampaignValue) → Stores (state g new).now.trees text c → Keeps (state g new) text c
+  pub keeps : HasCleanDisk (state g new) → (text : List ℕ) (c : CampaignValue) → Stores (state g new).now.trees text c
+      → Keeps (state g new) text c

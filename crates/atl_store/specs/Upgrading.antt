@@ -36,7 +36,7 @@ pub record HoldsOld (s : State) (w : WorldValue) (c : CampaignValue) : Type 0 wh
 
 -- The new text is of the world `w`, and the tables hold the campaign in the first format.
 -- The text that the tables hold is of `w` without markets (`HoldsOld`).
-pub record Matches (s : State) (text : List ℕ) (w : WorldValue) (c : CampaignValue) : Type 0 where
+pub record MatchesNewText (s : State) (text : List ℕ) (w : WorldValue) (c : CampaignValue) : Type 0 where
   -- the new text reads as the world `w`
   pub world : world_of text ≡ Ok w
   -- the tables hold the campaign in the first format, with a text of `w` without markets
@@ -44,7 +44,9 @@ pub record Matches (s : State) (text : List ℕ) (w : WorldValue) (c : CampaignV
 
 -- a crash leaves what it could have left before, or the upgraded campaign with the new text
 abbrev pub MayUpgrade : State → List ℕ → State → Type 0
-MayUpgrade old text new = (db : Trees) → new.may_leave db → old.may_leave db ⊎ ((w : WorldValue) × (c : CampaignValue) × Matches old text w c × Stores db text c)
+MayUpgrade old text new =
+    (db : Trees) → new.may_leave db
+    → old.may_leave db ⊎ ((w : WorldValue) × (c : CampaignValue) × MatchesNewText old text w c × Stores db text c)
 
 module _ {S : Type 0} (g : Ghosts S) (text : List ℕ) (old new : Held S) where
   -- If the disk is clean, Ok of `upgrade` says: the connection keeps the first format's campaign, with the new text.
@@ -73,7 +75,7 @@ module _ {S : Type 0} (g : Ghosts S) (text : List ℕ) (old new : Held S) where
     -- the campaign that the tables hold
     pub campaign : CampaignValue
     -- the campaign that the tables hold matches the new text
-    pub matches : Matches (state g old) text world campaign
+    pub matches : MatchesNewText (state g old) text world campaign
     -- the connection after the reads, before the transaction
     pub before : Held S
     -- the reads changed nothing
@@ -85,14 +87,15 @@ module _ {S : Type 0} (g : Ghosts S) (text : List ℕ) (old new : Held S) where
     -- a statement of the upgrade, or its commit, gave the error
     pub given : Gives g (OfUpgrade text campaign) error before new
 
-  -- the campaign matches the new text (`Matches`), but there are more tables or indexes than those of the first format
-  pub record HasMore : Type 0 where
+  -- the campaign matches the new text (`MatchesNewText`), but there are more tables or indexes than those of the first
+  -- format
+  pub record HasMoreTables : Type 0 where
     -- the world of the new text
     pub world : WorldValue
     -- the campaign that the tables hold
     pub campaign : CampaignValue
     -- the campaign that the tables hold matches the new text
-    pub matches : Matches (state g old) text world campaign
+    pub matches : MatchesNewText (state g old) text world campaign
     -- the schema begins with the tables of the first format
     pub begins : HasTablesOf First old.schema
     -- the schema has more than the tables and indexes of the first format
@@ -127,7 +130,7 @@ module _ {S : Type 0} (g : Ghosts S) (text : List ℕ) (old new : Held S) where
   FailsCheck (Damaged rule) = RefusesToLoadIn First g old (load.Damaged rule)
   FailsCheck (World fault) = HasOld × (world_of text ≡ Err fault) × (fault ≢ world.Memory)
   FailsCheck Differs = HasOtherWorld
-  FailsCheck Store = RefusesToLoadIn First g old load.Store ⊎ HasMore
+  FailsCheck Store = RefusesToLoadIn First g old load.Store ⊎ HasMoreTables
   FailsCheck Memory = RefusesToLoadIn First g old load.Memory ⊎ HasOld
 
   -- the transaction broke off with this fault, which is Store or Memory
@@ -145,14 +148,15 @@ module _ {S : Type 0} (g : Ghosts S) (text : List ℕ) (old new : Held S) where
     pub cause : HasCleanDisk (state g new) → (FailsCheck fault × LeavesAlone g old new) ⊎ FailsInTransaction fault
     -- if the disk is clean, nothing is changed: while the connection is open the tables are as they were
     -- (`ChangesNothing`)
-    pub spares : HasCleanDisk (state g new) → ChangesNothing (state g old) (state g new)
+    pub unchanged : HasCleanDisk (state g new) → ChangesNothing (state g old) (state g new)
     -- if the disk is clean, a crash leaves what it could have left before, or the upgraded campaign
     pub crash : HasCleanDisk (state g new) → MayUpgrade (state g old) text (state g new)
 
 -- ---- For proofs and for private functions.
 
 -- the campaign is loaded in the first format, and the new text's world differs from the campaign's in markets alone
-pub record IsReadyToUpgrade {S : Type 0} (g : Ghosts S) (text : List ℕ) (old mid : Held S) (w : WorldValue) (c : MarkedCampaign) : Type 0 where
+pub record IsReadyToUpgrade {S : Type 0} (g : Ghosts S) (text : List ℕ) (old mid : Held S)
+    (w : WorldValue) (c : MarkedCampaign) : Type 0 where
   -- the new text reads as the world `w`
   pub world : world_of text ≡ Ok w
   -- the world of the text that the tables hold

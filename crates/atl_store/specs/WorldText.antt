@@ -16,10 +16,10 @@ text_of (Real x) = []
 text_of (Blob b) = []
 
 -- the world text in rows of `campaign`: the eighth column of the first row
-abbrev pub world_in : List Row → List ℕ
-world_in [] = []
-world_in (r ∷ rows) = text_of (column r 7)
+abbrev pub world_text_in_rows : List Row → List ℕ
+world_text_in_rows [] = []
+world_text_in_rows (r ∷ rows) = text_of (column r 7)
 
 -- the world text in the table `campaign` of a connection
 abbrev pub world_text : State → List ℕ
-world_text s = world_in (rows_in campaign_table s.now.trees)
+world_text s = world_text_in_rows (rows_in campaign_table s.now.trees)

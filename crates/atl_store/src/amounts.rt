@@ -32,7 +32,7 @@ pub(crate) trait AmountWriter: Copy {
 }
 
 /// Puts the row of an owner's amount of a thing, if the amount is not 0.
-fn put_some<O: AmountWriter, S: Alter>(
+fn put_nonzero<O: AmountWriter, S: Alter>(
     tx: &mut Transaction<'_, S>,
     owner: O,
     thing: u32,
@@ -57,7 +57,7 @@ pub(crate) fn put_amounts<O: AmountWriter, S: Alter>(
         tx.old.conn tx.new.conn }
 {
     for (thing, amount) in amounts {
-        put_some(tx, owner, thing, *amount)?;
+        put_nonzero(tx, owner, thing, *amount)?;
     }
     Ok(())
 }

@@ -5,17 +5,17 @@ ghost use Rattle.atl_sql.specs.PutsCampaignRow.{PutsCampaignRow, UpgradesCampaig
 ghost use Rattle.atl_store.specs.Rewriting.{RewritesCampaignRow};
 ghost use Rattle.atl_sql.specs.Shown.{campaign_row_values};
 ghost use Rattle.atl_sql.specs.Written.{head_shown};
-ghost use Rattle.atl_sql.specs.Statements.{campaign_upsert, upgrading_upsert, Only};
+ghost use Rattle.atl_sql.specs.Statements.{campaign_upsert, upgrading_upsert, OneStatement};
 ghost use Rattle.atl_store.specs.OwnStatements.{OfChange};
 ghost use Rattle.atl_sql.specs.Writes.{Writes};
-ghost use Rattle.atl_sql.specs.Inside.{Inside, HasTables};
+ghost use Rattle.atl_sql.specs.Inside.{DoesInside, HasTables};
 
 use atl_campaign::Campaign;
 use atl_sql::rows::campaign::{CampaignRow, put_campaign, put_upgraded};
 use sqlite::{Alter, Error, Transaction};
 
-/// What the campaign row has of a campaign: the month, the numbers of the next faction, unit and
-/// structure, and the moderator's pass text.
+/// Gives what the campaign row says of a campaign: the month, the numbers of the next faction, unit
+/// and structure, and the moderator's pass text.
 fn own_row(campaign: &Campaign) -> CampaignRow<'_>
     ensures { head_shown result ≡ campaign_row_of campaign.now.value }
 {
@@ -28,15 +28,18 @@ fn own_row(campaign: &Campaign) -> CampaignRow<'_>
     }
 }
 
-/// Puts the campaign row with this world text; a row that is there keeps its own world text.
+/// Inserts the campaign row with this world text, or changes the row that is there; its own world
+/// text stays.
 pub(crate) fn put_campaign_row<S: Alter>(
     tx: &mut Transaction<'_, S>,
     campaign: &Campaign,
     world: &str,
 ) -> Result<(), Error>
     ensures { Writes S.Store
-        (Only campaign_upsert (campaign_row_values (campaign_row_of campaign.now.value) world.now))
-        (Inside HasTables (PutsCampaignRow (campaign_row_of campaign.now.value) world.now)) result
+        (OneStatement campaign_upsert (campaign_row_values (campaign_row_of campaign.now.value)
+        world.now))
+        (DoesInside HasTables (PutsCampaignRow (campaign_row_of campaign.now.value) world.now))
+        result
         tx.old.conn tx.new.conn }
 {
     let row = own_row(campaign);
@@ -50,21 +53,22 @@ pub(crate) fn upgrade_campaign_row<S: Alter>(
     world: &str,
 ) -> Result<(), Error>
     ensures { Writes S.Store
-        (Only upgrading_upsert (campaign_row_values (campaign_row_of campaign.now.value) world.now))
-        (Inside HasTables (UpgradesCampaignRow (campaign_row_of campaign.now.value) world.now))
+        (OneStatement upgrading_upsert (campaign_row_values (campaign_row_of campaign.now.value)
+        world.now))
+        (DoesInside HasTables (UpgradesCampaignRow (campaign_row_of campaign.now.value) world.now))
         result tx.old.conn tx.new.conn }
 {
     let row = own_row(campaign);
     put_upgraded(tx, &row, world)
 }
 
-/// If the campaign row is marked, puts it; the world text that is in the table stays.
+/// Puts the campaign row if it is marked; the world text that is in the table stays.
 pub(crate) fn rewrite_campaign_row<S: Alter>(
     tx: &mut Transaction<'_, S>,
     campaign: &Campaign,
 ) -> Result<(), Error>
     ensures { Writes S.Store (OfChange campaign.now.value)
-        (Inside HasTables (RewritesCampaignRow campaign.now)) result tx.old.conn tx.new.conn }
+        (DoesInside HasTables (RewritesCampaignRow campaign.now)) result tx.old.conn tx.new.conn }
 {
     if campaign.is_row_marked() {
         return put_campaign_row(tx, campaign, "");

@@ -11,7 +11,7 @@ ghost use Rattle.atl_store.specs.Changing.{WritesChanges, HoldsUnmarked};
 ghost use Rattle.atl_store.specs.Faults.{write_fault};
 ghost use Rattle.atl_store.specs.OwnStatements.{OfChange};
 ghost use Rattle.atl_sql.specs.Writes.{Writes, Transacts};
-ghost use Rattle.atl_sql.specs.Inside.{Inside, HasTables, LeavesOff};
+ghost use Rattle.atl_sql.specs.Inside.{DoesInside, HasTables, LeavesOff};
 ghost use Rattle.atl_store.specs.Keeps.{Keeps, LeavesAfterFault, IsLater, MayLeaveCampaign, LeavesOthersAlone};
 
 use crate::campaign_row::rewrite_campaign_row;
@@ -21,10 +21,10 @@ use atl_campaign::Campaign;
 use sqlite::{Alter, Connection, Error, Transaction};
 
 /// Writes all that is marked of a campaign, inside a transaction.
-fn rewrite_all<S: Alter>(tx: &mut Transaction<'_, S>, campaign: &Campaign) -> Result<(), Error>
+fn rewrite_parts<S: Alter>(tx: &mut Transaction<'_, S>, campaign: &Campaign) -> Result<(), Error>
     requires { campaign.now.value.books.things ≤ most_things }
     ensures { Writes S.Store (OfChange campaign.now.value)
-        (Inside HasTables (WritesChanges campaign.now)) result tx.old.conn tx.new.conn }
+        (DoesInside HasTables (WritesChanges campaign.now)) result tx.old.conn tx.new.conn }
 {
     rewrite_campaign_row(tx, campaign)?;
     OtherParts::rewrite(tx, campaign)
@@ -38,7 +38,7 @@ fn write_marked<S: Alter>(conn: &mut Connection<S>, campaign: &Campaign) -> Resu
         result conn.old conn.new }
 {
     let mut tx = conn.transaction();
-    rewrite_all(&mut tx, campaign)?;
+    rewrite_parts(&mut tx, campaign)?;
     tx.commit()
 }
 
@@ -75,10 +75,11 @@ pub fn write_changes<S: Alter>(
     ensures crash { HasCleanDisk (state S.Store conn.new)
         → OnErr result ((text : List ℕ) → HasTables (state S.Store conn.old).now
         → HoldsUnmarked (state S.Store conn.old).now.trees text campaign.old
-        → MayLeaveCampaign (state S.Store conn.old) text campaign.old.value (state S.Store conn.new)) }
+        → MayLeaveCampaign (state S.Store conn.old) text campaign.old.value
+        (state S.Store conn.new)) }
     ensures left { HasCleanDisk (state S.Store conn.new)
         → OnErr result (LeavesOff (state S.Store conn.old) (state S.Store conn.new)) }
-    ensures told { HasCleanDisk (state S.Store conn.new)
+    ensures reports_error { HasCleanDisk (state S.Store conn.new)
         → IfErr result (IsFaultOfError S.Store (OfChange campaign.old.value) write_fault conn.old
         conn.new) }
     ensures done { OnOk result (campaign.new ≡ record campaign.old { marks = no_marks }) }

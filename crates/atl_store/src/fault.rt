@@ -1,6 +1,6 @@
 //! The faults of the store, and which of them an error becomes. See docs/FORMATS.md, "Tables".
 ghost use Rattle.std.specs.Prelude.{◌≡◌};
-ghost use Rattle.atl_store.specs.Faults.{write_fault, create_fault, store_fault, reopening_fault, load_fault, fault_of_check, second_fault, upgrade_fault, first_fault, new_world_fault, fault_number, upgrade_number};
+ghost use Rattle.atl_store.specs.Faults.{write_fault, create_fault, store_fault, reopening_fault, load_fault, fault_of_check, second_format_fault, upgrade_fault, first_format_fault, new_world_fault, fault_number, upgrade_fault_number};
 
 pub use atl_sql::fault::ReadFault;
 use atl_sql::fault::by_cause;
@@ -27,8 +27,8 @@ pub enum WriteFault {
 pub enum CreateFault {
     /// A table `campaign` is there already. Nothing at all is changed.
     NotEmpty,
-    /// The database refuses for another cause than memory, has other tables, or is in a
-    /// transaction.
+    /// The database refuses for another cause than memory, has other tables, an index or a view, or
+    /// is in a transaction.
     Store,
     /// Memory ran out.
     Memory,
@@ -71,7 +71,7 @@ pub enum LoadFault {
 #[derive(Drop, Debug)]
 pub enum UpgradeFault {
     /// The database refuses for another cause than memory, is in a transaction, or has other tables
-    /// than those of the first format.
+    /// or indexes than those of the first format.
     Store,
     /// The rows of the tables break this rule of the first format, and none before it.
     Damaged(Rule),
@@ -228,7 +228,7 @@ impl From<StoreError> for StoreFault {
 
 /// A fault of loading in the second format keeps its name, but OtherFormat becomes OldFormat.
 impl From<LoadFault> for StoreFault {
-    ghost from_gives = { λ fault told. told ≡ second_fault fault };
+    ghost from_gives = { λ fault reports_error. reports_error ≡ second_format_fault fault };
 
     fn from(fault: LoadFault) -> StoreFault {
         match fault {
@@ -243,7 +243,7 @@ impl From<LoadFault> for StoreFault {
 
 /// A fault of the check of the rows keeps its name: Damaged, with its rule, or Memory.
 impl From<CheckFault> for LoadFault {
-    ghost from_gives = { λ fault told. told ≡ fault_of_check fault };
+    ghost from_gives = { λ fault reports_error. reports_error ≡ fault_of_check fault };
 
     fn from(fault: CheckFault) -> LoadFault {
         match fault {
@@ -255,7 +255,7 @@ impl From<CheckFault> for LoadFault {
 
 /// A fault of loading in the first format keeps its name, but OtherFormat becomes NotOld.
 impl From<LoadFault> for UpgradeFault {
-    ghost from_gives = { λ fault told. told ≡ first_fault fault };
+    ghost from_gives = { λ fault reports_error. reports_error ≡ first_format_fault fault };
 
     fn from(fault: LoadFault) -> UpgradeFault {
         match fault {
@@ -270,7 +270,7 @@ impl From<LoadFault> for UpgradeFault {
 
 /// A fault of the new world text becomes Memory if memory ran out, else World with this fault.
 impl From<WorldFault> for UpgradeFault {
-    ghost from_gives = { λ fault told. told ≡ new_world_fault fault };
+    ghost from_gives = { λ fault reports_error. reports_error ≡ new_world_fault fault };
 
     fn from(fault: WorldFault) -> UpgradeFault {
         match fault {
@@ -300,7 +300,7 @@ impl StoreFault {
 impl UpgradeFault {
     /// The fault's number, from 1; `Memory` has none.
     pub fn number(&self) -> Option<u8>
-        ensures { result ≡ upgrade_number self.now }
+        ensures { result ≡ upgrade_fault_number self.now }
     {
         match self {
             UpgradeFault::Store => Some(1),

@@ -6,7 +6,7 @@ ghost use Rattle.atl_records.specs.Limits.{most_things};
 ghost use Rattle.atl_campaign.specs.Marks.{no_marks};
 ghost use Rattle.atl_store.specs.OwnStatements.{OfFounding};
 ghost use Rattle.atl_sql.specs.Writes.{Writes, Transacts};
-ghost use Rattle.atl_sql.specs.Inside.{Inside, IsBlank};
+ghost use Rattle.atl_sql.specs.Inside.{DoesInside, IsBlank};
 ghost use Rattle.atl_sql.specs.Making.{has_campaign};
 ghost use Rattle.atl_store.specs.Filling.{WritesFounding};
 ghost use Rattle.atl_store.specs.Keeps.{Creates, IsReadyToCreate, RefusesToCreate, IsLater};
@@ -27,7 +27,7 @@ fn put_founding<S: Alter>(
 ) -> Result<(), Error>
     requires { campaign.now.value.books.things ≤ most_things }
     ensures { Writes S.Store (OfFounding text.now campaign.now.value)
-        (Inside IsBlank (WritesFounding text.now campaign.now.value)) result tx.old.conn
+        (DoesInside IsBlank (WritesFounding text.now campaign.now.value)) result tx.old.conn
         tx.new.conn }
 {
     create_tables(tx)?;
@@ -80,11 +80,11 @@ fn is_ready<S: Alter>(conn: &Connection<S>) -> bool
 /// Makes the tables and writes the whole campaign with its world text, in one transaction. With Ok
 /// the connection holds the campaign, of which nothing is marked any more, and no table `campaign`
 /// was there. NotEmpty: a table `campaign` is there, and nothing is changed. Store: the connection
-/// is in a transaction or the database has other tables, and nothing is changed; or the database
-/// gives an error that is not lack of memory. Memory: the database says that it has none. After
-/// Store and Memory the tables are as they were while the connection is open, and a crash leaves
-/// what it left before or the campaign. After any fault the marks are as they were. See
-/// docs/FORMATS.md, "Tables".
+/// is in a transaction or the database has other tables, an index or a view, and nothing is
+/// changed; or the database gives an error that is not lack of memory. Memory: the database says
+/// that it has none. After Store and Memory the tables are as they were while the connection is
+/// open, and a crash leaves what it left before or the campaign. After any fault the marks are as
+/// they were. See docs/FORMATS.md, "Tables".
 pub fn create<S: Alter>(
     conn: &mut Connection<S>,
     world_text: &str,
@@ -96,7 +96,7 @@ pub fn create<S: Alter>(
         (RefusesToCreate S.Store world_text.now campaign.old.value conn.old conn.new) }
     ensures later { IsLater (state S.Store conn.old) (state S.Store conn.new) }
     ensures unmarked { OnOk result (campaign.new ≡ record campaign.old { marks = no_marks }) }
-    ensures spared { OnErr result (campaign.new ≡ campaign.old) }
+    ensures unchanged { OnErr result (campaign.new ≡ campaign.old) }
 {
     if has_campaign_table(conn.schema()) {
         return Err(CreateFault::NotEmpty);

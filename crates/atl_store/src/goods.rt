@@ -4,10 +4,10 @@ ghost use Rattle.atl_sql.specs.Tables.{Goods, has_table};
 ghost use Rattle.atl_sql.specs.Shown.{has_row};
 ghost use Rattle.atl_sql.specs.Written.{sort_number};
 ghost use Rattle.atl_sql.specs.Rows.{HasRowsOf};
-ghost use Rattle.atl_store.specs.GroupedRows.{goods_lines, unit_lines, all_goods_lines};
+ghost use Rattle.atl_store.specs.GroupedRows.{goods_lines, unit_goods_lines, all_goods_lines};
 ghost use Rattle.atl_store.specs.OwnStatements.{OfChange};
 ghost use Rattle.atl_sql.specs.Writes.{Writes, WritesRows};
-ghost use Rattle.atl_sql.specs.Inside.{Inside, HasTables};
+ghost use Rattle.atl_sql.specs.Inside.{DoesInside, HasTables};
 ghost use Rattle.atl_store.specs.Rewriting.{RewritesGoods};
 
 use crate::amounts::{AmountWriter, put_amounts};
@@ -95,7 +95,7 @@ impl Grouped for Unit {
 
     ghost is_key = { refl };
 
-    ghost lines = { unit_lines };
+    ghost lines = { unit_goods_lines };
 
     ghost wanted = { λ c. HasRowsOf c.units };
 
@@ -126,7 +126,7 @@ pub(crate) fn rewrite_goods<S: Alter>(
     campaign: &Campaign,
 ) -> Result<(), Error>
     ensures { Writes S.Store (OfChange campaign.now.value)
-        (Inside HasTables (RewritesGoods campaign.now)) result tx.old.conn tx.new.conn }
+        (DoesInside HasTables (RewritesGoods campaign.now)) result tx.old.conn tx.new.conn }
 {
     rewrite_marked_groups::<Unit, S>(tx, campaign)?;
     rewrite_singles(tx, campaign, ThingKind::Item)?;

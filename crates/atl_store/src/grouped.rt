@@ -3,15 +3,15 @@ ghost use Rattle.std.specs.Prelude.{◌≡◌, ℕ, suc, List, [], ◌∷◌};
 ghost use Rattle.std.specs.Ordering.{nat_cmp};
 ghost use Rattle.std.specs.FinSet.{FinSet};
 ghost use Rattle.sqlite.specs.Order.{Row as SqlRow};
-ghost use Rattle.atl_sql.specs.Tables.{Part, IsGroupedPart, key_of, table_of};
+ghost use Rattle.atl_sql.specs.Tables.{Part, IsGroupedPart, key_width_of, table_of};
 ghost use Rattle.atl_sql.specs.Rows.{rows_for};
 ghost use Rattle.atl_sql.specs.Shown.{int};
 ghost use Rattle.atl_store.specs.GroupedRows.{AreGroups};
 ghost use Rattle.atl_store.specs.OwnStatements.{OfChange};
 ghost use Rattle.atl_sql.specs.Writes.{Writes, WritesRows, TakesOut};
-ghost use Rattle.atl_sql.specs.Inside.{Inside, HasTables};
+ghost use Rattle.atl_sql.specs.Inside.{DoesInside, HasTables};
 ghost use Rattle.atl_store.specs.Rewriting.{RewritesGroup, RewritesGroups};
-ghost use Rattle.atl_world.specs.Tracking.{Lists};
+ghost use Rattle.atl_world.specs.Tracking.{IsAscendingListOf};
 ghost use Rattle.atl_campaign.specs.Marks.{Marks};
 ghost use Rattle.atl_campaign.specs.Campaign.{CampaignValue};
 
@@ -33,7 +33,7 @@ pub(crate) trait Grouped: NumberedRow {
     ghost more: { ℕ };
 
     // The part's key is the number and `more` columns.
-    ghost is_key: { key_of part ≡ suc more };
+    ghost is_key: { key_width_of part ≡ suc more };
 
     // The rows that a unit or region of this number has in the table, as a list.
     ghost lines: { ℕ → Self → List SqlRow };
@@ -45,12 +45,13 @@ pub(crate) trait Grouped: NumberedRow {
     ghost marks: { Marks → FinSet nat_cmp };
 
     // Each wanted row is a row of the part.
-    ghost are_rows: { (own : SqlRow) (c : CampaignValue) (r : SqlRow) → wanted c r → rows_for own c part r };
+    ghost are_rows: { (own : SqlRow) (c : CampaignValue) (r : SqlRow) → wanted c r → rows_for own c
+        part r };
 
     /// The numbers of the units whose goods, or of the regions whose stocks, are all marked, in
     /// rising order.
     fn marked_groups(campaign: &Campaign) -> MarkedNumbers<'_>
-        ensures { Lists (marks campaign.now.marks) result };
+        ensures { IsAscendingListOf (marks campaign.now.marks) result };
 
     /// Inserts the rows of this unit's goods, or of this region's stocks, or changes the rows with
     /// the same keys.
@@ -74,11 +75,11 @@ fn rewrite_group<V: Grouped + Drop, S: Alter>(
     requires { AreGroups V.Grouped.lines (suc V.Grouped.more)
         (V.NumberedRow.values campaign.now.value) (V.Grouped.wanted campaign.now.value) }
     ensures { Writes S.Store (OfChange campaign.now.value)
-        (Inside HasTables (RewritesGroup (table_of V.Grouped.part)
+        (DoesInside HasTables (RewritesGroup (table_of V.Grouped.part)
         (V.Grouped.wanted campaign.now.value) number)) result tx.old.conn tx.new.conn }
 {
     V::drop_rows(tx, number)?;
-    match V::of(campaign, number) {
+    match V::find_value(campaign, number) {
         Some(value) => value.put_rows(tx, number),
         None => Ok(()),
     }
@@ -93,7 +94,7 @@ pub(crate) fn rewrite_marked_groups<V: Grouped + Drop, S: Alter>(
     requires { AreGroups V.Grouped.lines (suc V.Grouped.more)
         (V.NumberedRow.values campaign.now.value) (V.Grouped.wanted campaign.now.value) }
     ensures { Writes S.Store (OfChange campaign.now.value)
-        (Inside HasTables (RewritesGroups (table_of V.Grouped.part)
+        (DoesInside HasTables (RewritesGroups (table_of V.Grouped.part)
         (V.Grouped.wanted campaign.now.value) (V.Grouped.marks campaign.now.marks))) result
         tx.old.conn tx.new.conn }
 {

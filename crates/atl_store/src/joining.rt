@@ -7,47 +7,49 @@ ghost use Rattle.atl_records.specs.declared.books.BooksEntry.TheVariants.{Joinin
 ghost use Rattle.atl_records.specs.declared.books.Thing.TheVariants.{Money, People};
 ghost use Rattle.atl_sql.specs.Tables.{faction_table, unit_table, report_table};
 ghost use Rattle.atl_sql.specs.Shown.{report_row};
-ghost use Rattle.atl_sql.specs.Rows.{campaign_row_of, faction_line, unit_line};
+ghost use Rattle.atl_sql.specs.Rows.{campaign_row_of, row_of_faction, row_of_unit};
 ghost use Rattle.atl_sql.specs.PutsCampaignRow.{PutsCampaignRow};
 ghost use Rattle.atl_sql.specs.Causes.{IsFaultOfError};
 ghost use Rattle.atl_store.specs.Faults.{write_fault};
 ghost use Rattle.atl_store.specs.OwnStatements.{OfJoining};
 ghost use Rattle.atl_sql.specs.Writes.{Writes, Transacts};
-ghost use Rattle.atl_sql.specs.Inside.{Inside, HasTables, Both, Puts, LeavesOff};
-ghost use Rattle.atl_store.specs.Arriving.{HasArrival, IsFound, WritesAmount, WritesJoin};
+ghost use Rattle.atl_sql.specs.Inside.{DoesInside, HasTables, DoesBoth, Puts, LeavesOff};
+ghost use Rattle.atl_store.specs.Arriving.{HasArrival, HasArrivalWith, WritesAmount, WritesJoin};
 ghost use Rattle.atl_store.specs.Keeps.{Keeps, LeavesAfterFault, IsLater, LeavesOthersAlone, IsJoining};
 
 use crate::campaign_row::put_campaign_row;
 use crate::fault::WriteFault;
-use crate::ledger::settle_amount;
+use crate::ledger::write_amount;
 use atl_campaign::{BooksEntry, Campaign, Faction, Thing, Unit};
 use atl_sql::numbered_rows::NumberedRow;
 use atl_world::Text;
 use sqlite::{Alter, Connection, Error, Transaction};
 
-/// A faction that joined, with its report and the unit numbered last, whose number is `place`.
+/// A faction that joined, with its report and the unit numbered last, whose number is
+/// `unit_number`.
 #[derive(Clone, Copy)]
 struct Arrival<'a> {
     number: u32,
     faction: &'a Faction,
-    place: u32,
+    unit_number: u32,
     unit: &'a Unit,
     report: &'a Text,
 }
 
-/// The faction with this number, its report, and the unit numbered last (`next_unit - 1`).
+/// Gives the faction with this number, its report, and the unit numbered last (`next_unit - 1`).
 fn arrival_of(campaign: &Campaign, number: u32) -> Arrival<'_>
     requires { HasArrival campaign.now.value number }
-    ensures found { IsFound campaign.now.value result.number result.faction.now result.place
+    ensures found { HasArrivalWith campaign.now.value result.number result.faction.now
+        result.unit_number
         result.unit.now result.report.now }
     ensures number { result.number ≡ number }
 {
-    let place = campaign.next_unit() - 1;
+    let unit_number = campaign.next_unit() - 1;
     Arrival {
         number,
         faction: campaign.faction(number).unwrap(),
-        place,
-        unit: campaign.unit(place).unwrap(),
+        unit_number,
+        unit: campaign.unit(unit_number).unwrap(),
         report: campaign.report(number).unwrap(),
     }
 }
@@ -58,17 +60,18 @@ fn put_newcomer<S: Alter>(
     campaign: &Campaign,
     arrival: &Arrival<'_>,
 ) -> Result<(), Error>
-    requires { IsFound campaign.now.value arrival.now.number arrival.now.faction.now
-        arrival.now.place arrival.now.unit.now arrival.now.report.now }
+    requires { HasArrivalWith campaign.now.value arrival.now.number arrival.now.faction.now
+        arrival.now.unit_number arrival.now.unit.now arrival.now.report.now }
     ensures { Writes S.Store (OfJoining arrival.now.number campaign.now.value)
-        (Inside HasTables (Both (PutsCampaignRow (campaign_row_of campaign.now.value) [])
-        (Both (Puts faction_table 1 (faction_line arrival.now.number arrival.now.faction.now))
-        (Puts unit_table 1 (unit_line arrival.now.place arrival.now.unit.now))))) result tx.old.conn
+        (DoesInside HasTables (DoesBoth (PutsCampaignRow (campaign_row_of campaign.now.value) [])
+        (DoesBoth (Puts faction_table 1 (row_of_faction arrival.now.number arrival.now.faction.now))
+        (Puts unit_table 1 (row_of_unit arrival.now.unit_number arrival.now.unit.now))))) result
+        tx.old.conn
         tx.new.conn }
 {
     put_campaign_row(tx, campaign, "")?;
     arrival.faction.put(tx, arrival.number)?;
-    arrival.unit.put(tx, arrival.place)
+    arrival.unit.put(tx, arrival.unit_number)
 }
 
 /// Puts the row of the faction's report, and writes the two amounts that are booked under joining:
@@ -78,17 +81,17 @@ fn put_report_and_amounts<S: Alter>(
     campaign: &Campaign,
     arrival: &Arrival<'_>,
 ) -> Result<(), Error>
-    requires { IsFound campaign.now.value arrival.now.number arrival.now.faction.now
-        arrival.now.place arrival.now.unit.now arrival.now.report.now }
+    requires { HasArrivalWith campaign.now.value arrival.now.number arrival.now.faction.now
+        arrival.now.unit_number arrival.now.unit.now arrival.now.report.now }
     ensures { Writes S.Store (OfJoining arrival.now.number campaign.now.value)
-        (Inside HasTables (Both
+        (DoesInside HasTables (DoesBoth
         (Puts report_table 1 (report_row arrival.now.number arrival.now.report.now))
-        (Both (WritesAmount campaign.now.value Joining Money)
+        (DoesBoth (WritesAmount campaign.now.value Joining Money)
         (WritesAmount campaign.now.value Joining People)))) result tx.old.conn tx.new.conn }
 {
     arrival.report.put(tx, arrival.number)?;
-    settle_amount(tx, campaign, BooksEntry::Joining, Thing::Money)?;
-    settle_amount(tx, campaign, BooksEntry::Joining, Thing::People)
+    write_amount(tx, campaign, BooksEntry::Joining, Thing::Money)?;
+    write_amount(tx, campaign, BooksEntry::Joining, Thing::People)
 }
 
 /// Puts all rows that a faction's joining adds or changes, inside a transaction.
@@ -97,10 +100,10 @@ fn put_joining<S: Alter>(
     campaign: &Campaign,
     arrival: &Arrival<'_>,
 ) -> Result<(), Error>
-    requires { IsFound campaign.now.value arrival.now.number arrival.now.faction.now
-        arrival.now.place arrival.now.unit.now arrival.now.report.now }
+    requires { HasArrivalWith campaign.now.value arrival.now.number arrival.now.faction.now
+        arrival.now.unit_number arrival.now.unit.now arrival.now.report.now }
     ensures { Writes S.Store (OfJoining arrival.now.number campaign.now.value)
-        (Inside HasTables (WritesJoin arrival.now.number campaign.now.value)) result tx.old.conn
+        (DoesInside HasTables (WritesJoin arrival.now.number campaign.now.value)) result tx.old.conn
         tx.new.conn }
 {
     put_newcomer(tx, campaign, arrival)?;
@@ -114,8 +117,8 @@ fn write_joining<S: Alter>(
     arrival: &Arrival<'_>,
 ) -> Result<(), Error>
     requires idle { conn.old.in_transaction ≡ false }
-    requires found { IsFound campaign.now.value arrival.now.number arrival.now.faction.now
-        arrival.now.place arrival.now.unit.now arrival.now.report.now }
+    requires found { HasArrivalWith campaign.now.value arrival.now.number arrival.now.faction.now
+        arrival.now.unit_number arrival.now.unit.now arrival.now.report.now }
     ensures { Transacts S.Store (OfJoining arrival.now.number campaign.now.value) HasTables
         (WritesJoin arrival.now.number campaign.now.value) result conn.old conn.new }
 {
@@ -127,9 +130,9 @@ fn write_joining<S: Alter>(
 /// Writes a join into a store that holds the campaign before it, in one transaction: the campaign
 /// row, the faction, its unit and its report, and what joining booked. The campaign is the one
 /// after the join, with the faction's first report stored. With Ok the store holds this campaign,
-/// and no other row is touched. Memory where the database says that it has none, Store where it
-/// gives another error; then the store holds the campaign before while the connection is open, and
-/// a crash leaves the one before or the one after. See docs/FORMATS.md, "Tables".
+/// and no other row is touched. Memory: the database says that it has none. Store: it gives another
+/// error. After a fault the store holds the campaign before while the connection is open, and a
+/// crash leaves the one before or the one after. See docs/FORMATS.md, "Tables".
 pub fn write_join<S: Alter>(
     conn: &mut Connection<S>,
     campaign: &Campaign,
@@ -152,8 +155,9 @@ pub fn write_join<S: Alter>(
         (state S.Store conn.new).now) }
     ensures left { HasCleanDisk (state S.Store conn.new)
         → OnErr result (LeavesOff (state S.Store conn.old) (state S.Store conn.new)) }
-    ensures told { HasCleanDisk (state S.Store conn.new)
-        → IfErr result (IsFaultOfError S.Store (OfJoining faction campaign.now.value) write_fault conn.old
+    ensures reports_error { HasCleanDisk (state S.Store conn.new)
+        → IfErr result (IsFaultOfError S.Store (OfJoining faction campaign.now.value) write_fault
+        conn.old
         conn.new) }
     ensures later { IsLater (state S.Store conn.old) (state S.Store conn.new) }
     ensures others { HasCleanDisk (state S.Store conn.new)

@@ -7,9 +7,9 @@ ghost use Rattle.atl_sql.specs.Tables.{books_table};
 ghost use Rattle.atl_store.specs.GroupedRows.{amount_lines, entries_lines, things_lines};
 ghost use Rattle.atl_store.specs.OwnStatements.{OfAmount, OfChange};
 ghost use Rattle.atl_sql.specs.Writes.{Writes, WritesRows};
-ghost use Rattle.atl_sql.specs.Inside.{Inside, HasTables};
+ghost use Rattle.atl_sql.specs.Inside.{DoesInside, HasTables};
 ghost use Rattle.atl_store.specs.Arriving.{WritesAmount};
-ghost use Rattle.atl_store.specs.Rewriting.{RewritesAmounts, RewritesBooks, is_number, is_among};
+ghost use Rattle.atl_store.specs.Rewriting.{RewritesAmounts, RewritesBooks, equals_number, is_among};
 
 use atl_campaign::{BooksEntry, Campaign, Thing};
 use atl_sql::rows::books::{BooksRow, drop_books, put_books};
@@ -39,7 +39,7 @@ fn put_amount<S: Alter>(
 }
 
 /// Puts the row of an amount of the books, or deletes the row if the amount is 0.
-pub(crate) fn settle_amount<S: Alter>(
+pub(crate) fn write_amount<S: Alter>(
     tx: &mut Transaction<'_, S>,
     campaign: &Campaign,
     entry: BooksEntry,
@@ -47,7 +47,8 @@ pub(crate) fn settle_amount<S: Alter>(
 ) -> Result<(), Error>
     requires { thing_index thing < campaign.now.value.books.things }
     ensures { Writes S.Store (OfAmount campaign.now.value entry thing)
-        (Inside HasTables (WritesAmount campaign.now.value entry thing)) result tx.old.conn tx.new.conn }
+        (DoesInside HasTables (WritesAmount campaign.now.value entry thing)) result tx.old.conn
+        tx.new.conn }
 {
     let amount = campaign.booked(entry, thing);
     if amount == 0 {
@@ -104,11 +105,11 @@ fn rewrite_amount<S: Alter>(
 ) -> Result<(), Error>
     requires { thing_index thing < campaign.now.value.books.things }
     ensures { Writes S.Store (OfChange campaign.now.value)
-        (Inside HasTables (RewritesAmounts campaign.now (is_number (entry_index entry))
-        (is_number (thing_index thing)))) result tx.old.conn tx.new.conn }
+        (DoesInside HasTables (RewritesAmounts campaign.now (equals_number (entry_index entry))
+        (equals_number (thing_index thing)))) result tx.old.conn tx.new.conn }
 {
     if campaign.is_amount_marked(entry, thing) {
-        return settle_amount(tx, campaign, entry, thing);
+        return write_amount(tx, campaign, entry, thing);
     }
     Ok(())
 }
@@ -123,8 +124,8 @@ fn rewrite_entries<S: Alter>(
 ) -> Result<(), Error>
     requires { thing_index thing < campaign.now.value.books.things }
     ensures { Writes S.Store (OfChange campaign.now.value)
-        (Inside HasTables (RewritesAmounts campaign.now (is_among (map entry_index entries.now))
-        (is_number (thing_index thing)))) result tx.old.conn tx.new.conn }
+        (DoesInside HasTables (RewritesAmounts campaign.now (is_among (map entry_index entries.now))
+        (equals_number (thing_index thing)))) result tx.old.conn tx.new.conn }
 {
     for entry in entries.iter() {
         rewrite_amount(tx, campaign, *entry, thing)?;
@@ -139,7 +140,7 @@ pub(crate) fn rewrite_books<S: Alter>(
 ) -> Result<(), Error>
     requires { campaign.now.value.books.things ≤ most_things }
     ensures { Writes S.Store (OfChange campaign.now.value)
-        (Inside HasTables (RewritesBooks campaign.now)) result tx.old.conn tx.new.conn }
+        (DoesInside HasTables (RewritesBooks campaign.now)) result tx.old.conn tx.new.conn }
 {
     for number in 0..campaign.things() {
         rewrite_entries(tx, campaign, Thing::of_number(number), &BooksEntry::ALL)?;

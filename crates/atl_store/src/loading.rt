@@ -2,7 +2,7 @@
 ghost use Rattle.std.specs.Prelude.{◌≡◌, false, IfOk, IfErr};
 ghost use Rattle.sqlite.specs.Held.{state};
 ghost use Rattle.sqlite.specs.State.{HasCleanDisk};
-ghost use Rattle.atl_store.specs.Gathering.{IsSettled, Gathered, IsLoaded};
+ghost use Rattle.atl_store.specs.Gathering.{IsCommitted, GathersAll, IsLoaded};
 ghost use Rattle.atl_store.specs.Loading.{AfterReads, Loads, LoadsIn, RefusesToLoad, RefusesToLoadIn, LeavesAlone};
 
 mod confirmed;
@@ -28,9 +28,9 @@ fn gather<S: Alter>(
     format: Format,
 ) -> Result<(World, Parts), LoadFault>
     requires idle { conn.old.in_transaction ≡ false }
-    requires settled { IsSettled (state S.Store conn.old) }
+    requires settled { IsCommitted (state S.Store conn.old) }
     ensures ok { HasCleanDisk (state S.Store conn.new)
-        → IfOk result (λ both. Gathered format S.Store conn.old both.0 both.1) }
+        → IfOk result (λ both. GathersAll format S.Store conn.old both.0 both.1) }
     ensures err { HasCleanDisk (state S.Store conn.new)
         → IfErr result (RefusesToLoadIn format S.Store conn.old) }
     ensures leaves { AfterReads S.Store conn.old conn.new }
@@ -51,7 +51,7 @@ fn load_idle<S: Alter>(
     format: Format,
 ) -> Result<(World, Campaign), LoadFault>
     requires idle { conn.old.in_transaction ≡ false }
-    requires settled { IsSettled (state S.Store conn.old) }
+    requires settled { IsCommitted (state S.Store conn.old) }
     ensures ok { IfOk result (λ both. IsLoaded format S.Store conn.old conn.new both.0 both.1) }
     ensures err { HasCleanDisk (state S.Store conn.new)
         → IfErr result (RefusesToLoadIn format S.Store conn.old) }
@@ -88,9 +88,10 @@ pub(crate) fn load_as<S: Alter>(
 /// for. OldFormat: `campaign` has one row, whose format is the first, whatever else it says.
 /// Damaged: the rows break this rule of the tables, and none before it; a value of another type in
 /// the campaign row breaks the first, one in another table the second. Store: the connection is in
-/// a transaction, a table can't be read, the tables or indexes are not made as `create` makes them,
-/// two rows of `has`, `books` or `market` have the same rowid, there is a view or a trigger, or the
-/// disk fails. Memory: memory runs out. See docs/FORMATS.md, "Rules of the tables".
+/// a transaction, a table can't be read, or the disk fails. Store also comes if the tables or
+/// indexes are not made as `create` makes them, two rows of `has`, `books` or `market` have the
+/// same rowid, or there is a view or a trigger. Memory: memory runs out. See docs/FORMATS.md,
+/// "Rules of the tables".
 pub fn load<S: Alter>(
     alloc: Global,
     conn: &mut Connection<S>,

@@ -28,7 +28,7 @@ fn write_mailing<S: Alter>(conn: &mut Connection<S>, faction: u32, text: &[u8]) 
 
 /// Writes the mail of a faction into a store that holds a campaign, replacing an older one, in one
 /// transaction. With Ok the store holds the campaign with this mail, and no other row is touched.
-/// Memory where the database says that it has none, Store where it gives another error; then the
+/// Memory: the database says that it has none. Store: it gives another error. After a fault the
 /// store holds the campaign before while the connection is open, and a crash leaves the one before
 /// or the one after. See docs/FORMATS.md, "Tables".
 pub fn write_mail<S: Alter>(
@@ -51,8 +51,9 @@ pub fn write_mail<S: Alter>(
         → WritesMail faction text.now (state S.Store conn.old).now (state S.Store conn.new).now) }
     ensures left { HasCleanDisk (state S.Store conn.new)
         → OnErr result (LeavesOff (state S.Store conn.old) (state S.Store conn.new)) }
-    ensures told { HasCleanDisk (state S.Store conn.new)
-        → IfErr result (IsFaultOfError S.Store (OfMail faction text.now) write_fault conn.old conn.new) }
+    ensures reports_error { HasCleanDisk (state S.Store conn.new)
+        → IfErr result (IsFaultOfError S.Store (OfMail faction text.now) write_fault conn.old
+        conn.new) }
     ensures later { IsLater (state S.Store conn.old) (state S.Store conn.new) }
     ensures others { HasCleanDisk (state S.Store conn.new)
         → LeavesOthersAlone (state S.Store conn.old) (state S.Store conn.new) }

@@ -2,12 +2,12 @@
 ghost use Rattle.std.specs.Prelude.{refl};
 ghost use Rattle.atl_sql.specs.Tables.{Markets, market_table};
 ghost use Rattle.atl_sql.specs.Shown.{market_row};
-ghost use Rattle.atl_sql.specs.Marked.{of_stock};
+ghost use Rattle.atl_sql.specs.Marked.{region_and_item_pass};
 ghost use Rattle.atl_sql.specs.Rows.{MarketRowsOf};
-ghost use Rattle.atl_store.specs.GroupedRows.{region_lines, all_stocks_lines};
+ghost use Rattle.atl_store.specs.GroupedRows.{region_stock_lines, all_stocks_lines};
 ghost use Rattle.atl_store.specs.OwnStatements.{OfChange};
 ghost use Rattle.atl_sql.specs.Writes.{Writes, WritesRows};
-ghost use Rattle.atl_sql.specs.Inside.{Inside, HasTables};
+ghost use Rattle.atl_sql.specs.Inside.{DoesInside, HasTables};
 ghost use Rattle.atl_store.specs.Rewriting.{RewritesStocks};
 
 use crate::amounts::{AmountWriter, put_amounts};
@@ -20,12 +20,12 @@ use sqlite::{Alter, Error, Transaction};
 
 /// The stocks of one region as amounts to write, by the region's number.
 #[derive(Clone, Copy)]
-struct RegionMarkets {
+struct RegionStocks {
     region: u32,
 }
 
 /// Writes stocks of a region into `market`, whose key is the region and the item.
-impl AmountWriter for RegionMarkets {
+impl AmountWriter for RegionStocks {
     ghost table = { market_table };
 
     ghost key = { 2 };
@@ -49,10 +49,11 @@ fn put_stocks<S: Alter>(
     number: u32,
     region: &Region,
 ) -> Result<(), Error>
-    ensures { WritesRows S.Store market_table 2 (region_lines number region.now) result tx.old.conn
+    ensures { WritesRows S.Store market_table 2 (region_stock_lines number region.now) result
+        tx.old.conn
         tx.new.conn }
 {
-    put_amounts(tx, RegionMarkets { region: number }, region.stocks.iter())
+    put_amounts(tx, RegionStocks { region: number }, region.stocks.iter())
 }
 
 /// Puts the rows of all regions' stocks that are not 0.
@@ -79,7 +80,7 @@ impl Grouped for Region {
 
     ghost is_key = { refl };
 
-    ghost lines = { region_lines };
+    ghost lines = { region_stock_lines };
 
     ghost wanted = { λ c. MarketRowsOf c.regions };
 
@@ -113,7 +114,7 @@ impl SingleAmounts for SingleStocks {
 
     ghost wanted = { λ c. MarketRowsOf c.regions };
 
-    ghost finds = { λ s. of_stock };
+    ghost finds = { λ s. region_and_item_pass };
 
     ghost marks = { λ s m. m.stock_items };
 
@@ -145,7 +146,7 @@ pub(crate) fn rewrite_stocks<S: Alter>(
     campaign: &Campaign,
 ) -> Result<(), Error>
     ensures { Writes S.Store (OfChange campaign.now.value)
-        (Inside HasTables (RewritesStocks campaign.now)) result tx.old.conn tx.new.conn }
+        (DoesInside HasTables (RewritesStocks campaign.now)) result tx.old.conn tx.new.conn }
 {
     rewrite_marked_groups::<Region, S>(tx, campaign)?;
     rewrite_singles(tx, campaign, SingleStocks)

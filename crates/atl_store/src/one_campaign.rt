@@ -1,5 +1,5 @@
 //! A law: a database holds at most one campaign.
-ghost use Rattle.atl_store.specs.OneCampaign.{HoldsOne};
+ghost use Rattle.atl_store.specs.OneCampaign.{HoldsOneCampaign};
 ghost use Rattle.atl_store.specs.OneWorld.{HoldsOneWorld};
 
 /// States laws, and does nothing: a database holds at most one campaign and one world's text. If
@@ -7,6 +7,6 @@ ghost use Rattle.atl_store.specs.OneWorld.{HoldsOneWorld};
 /// are equal and the campaigns are equal. If the two texts read as worlds, the worlds are equal.
 /// See docs/FORMATS.md, "Tables".
 pub fn one_database_holds_one_campaign()
-    ensures campaign { HoldsOne }
+    ensures campaign { HoldsOneCampaign }
     ensures world { HoldsOneWorld }
 {}

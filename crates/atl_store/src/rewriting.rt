@@ -3,42 +3,42 @@
 ghost use Rattle.atl_sql.specs.Tables.{table_of};
 ghost use Rattle.atl_store.specs.OwnStatements.{OfChange};
 ghost use Rattle.atl_sql.specs.Writes.{Writes};
-ghost use Rattle.atl_sql.specs.Inside.{Inside, HasTables};
+ghost use Rattle.atl_sql.specs.Inside.{DoesInside, HasTables};
 ghost use Rattle.atl_store.specs.Rewriting.{RewritesNumber, RewritesMarked};
 
 use atl_campaign::Campaign;
 use atl_sql::numbered_rows::{NumberedRow, take_out};
 use sqlite::{Alter, Error, Transaction};
 
-/// Puts the row of what has this number in the campaign, or deletes the number's row if nothing has
-/// the number.
+/// Puts the row of the value that the campaign has under this number, as a faction or a unit, or
+/// deletes the number's row if there is none.
 fn rewrite<V: NumberedRow + Drop, S: Alter>(
     tx: &mut Transaction<'_, S>,
     campaign: &Campaign,
     number: u32,
 ) -> Result<(), Error>
     ensures { Writes S.Store (OfChange campaign.now.value)
-        (Inside HasTables (RewritesNumber (table_of V.NumberedRow.part) V.NumberedRow.line
+        (DoesInside HasTables (RewritesNumber (table_of V.NumberedRow.part) V.NumberedRow.line
         (V.NumberedRow.values campaign.now.value) number)) result tx.old.conn tx.new.conn }
 {
-    match V::of(campaign, number) {
+    match V::find_value(campaign, number) {
         Some(value) => value.put(tx, number),
         None => take_out::<V, S>(tx, number),
     }
 }
 
-/// For each marked number puts the row of what has it in the campaign, or deletes the number's row
-/// if nothing has it.
+/// For each marked number puts the row of the value that the campaign has under it, or deletes the
+/// number's row if there is none.
 pub(crate) fn rewrite_marked<V: NumberedRow + Drop, S: Alter>(
     tx: &mut Transaction<'_, S>,
     campaign: &Campaign,
 ) -> Result<(), Error>
     ensures { Writes S.Store (OfChange campaign.now.value)
-        (Inside HasTables (RewritesMarked (table_of V.NumberedRow.part) V.NumberedRow.line
+        (DoesInside HasTables (RewritesMarked (table_of V.NumberedRow.part) V.NumberedRow.line
         (V.NumberedRow.values campaign.now.value) (V.NumberedRow.marks campaign.now.marks))) result
         tx.old.conn tx.new.conn }
 {
-    for number in V::marked(campaign) {
+    for number in V::marked_numbers(campaign) {
         rewrite::<V, S>(tx, campaign, number)?;
     }
     Ok(())

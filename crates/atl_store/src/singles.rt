@@ -7,9 +7,9 @@ ghost use Rattle.atl_campaign.specs.Campaign.{CampaignValue};
 ghost use Rattle.atl_campaign.specs.Marks.{Marks, MarkedThings};
 ghost use Rattle.atl_store.specs.OwnStatements.{OfChange};
 ghost use Rattle.atl_sql.specs.Writes.{Writes};
-ghost use Rattle.atl_sql.specs.Inside.{Inside, HasTables};
+ghost use Rattle.atl_sql.specs.Inside.{DoesInside, HasTables};
 ghost use Rattle.atl_sql.specs.Marked.{has_thing};
-ghost use Rattle.atl_store.specs.Rewriting.{FindsByNumbers, Rewrites, is_thing, is_of};
+ghost use Rattle.atl_store.specs.Rewriting.{FindsByNumbers, Rewrites, is_owner_and_thing, is_owner_and_listed};
 
 use atl_campaign::Campaign;
 use atl_world::{Entries, Numbered};
@@ -43,13 +43,13 @@ pub(crate) trait SingleAmounts: Copy {
         number: u32,
     ) -> Result<(), Error>
         ensures { Writes S.Store (OfChange campaign.now.value)
-            (Inside HasTables (Rewrites table (finds self (is_thing owner number))
+            (DoesInside HasTables (Rewrites table (finds self (is_owner_and_thing owner number))
             (wanted campaign.now.value))) result tx.old.conn tx.new.conn };
 }
 
 /// Puts the rows of an owner's amounts of the things in `numbers`, and deletes the rows of those
 /// that are 0.
-fn rewrite_under<A: SingleAmounts, S: Alter>(
+fn rewrite_amounts_of_owner<A: SingleAmounts, S: Alter>(
     tx: &mut Transaction<'_, S>,
     campaign: &Campaign,
     amounts: A,
@@ -58,8 +58,8 @@ fn rewrite_under<A: SingleAmounts, S: Alter>(
 ) -> Result<(), Error>
     requires { FindsByNumbers (A.SingleAmounts.finds amounts) }
     ensures { Writes S.Store (OfChange campaign.now.value)
-        (Inside HasTables (Rewrites A.SingleAmounts.table
-        (A.SingleAmounts.finds amounts (is_of owner numbers.now))
+        (DoesInside HasTables (Rewrites A.SingleAmounts.table
+        (A.SingleAmounts.finds amounts (is_owner_and_listed owner numbers.now))
         (A.SingleAmounts.wanted campaign.now.value))) result tx.old.conn tx.new.conn }
 {
     for (number, _mark) in numbers.iter() {
@@ -76,13 +76,13 @@ pub(crate) fn rewrite_singles<A: SingleAmounts, S: Alter>(
 ) -> Result<(), Error>
     requires { FindsByNumbers (A.SingleAmounts.finds amounts) }
     ensures { Writes S.Store (OfChange campaign.now.value)
-        (Inside HasTables (Rewrites A.SingleAmounts.table
+        (DoesInside HasTables (Rewrites A.SingleAmounts.table
         (A.SingleAmounts.finds amounts
         (has_thing (A.SingleAmounts.marks amounts campaign.now.marks)))
         (A.SingleAmounts.wanted campaign.now.value))) result tx.old.conn tx.new.conn }
 {
     for (owner, numbers) in amounts.marked_singles(campaign) {
-        rewrite_under(tx, campaign, amounts, owner, numbers)?;
+        rewrite_amounts_of_owner(tx, campaign, amounts, owner, numbers)?;
     }
     Ok(())
 }

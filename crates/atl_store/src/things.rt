@@ -4,9 +4,9 @@ ghost use Rattle.atl_sql.specs.Rows.{HasRowsOf, amount_under};
 ghost use Rattle.atl_store.specs.OwnStatements.{OfChange};
 ghost use Rattle.atl_sql.specs.Tables.{has_table};
 ghost use Rattle.atl_sql.specs.Writes.{Writes};
-ghost use Rattle.atl_sql.specs.Inside.{Inside, HasTables};
-ghost use Rattle.atl_sql.specs.Marked.{of_kind};
-ghost use Rattle.atl_store.specs.Rewriting.{RewritesThings, is_thing, marked_things};
+ghost use Rattle.atl_sql.specs.Inside.{DoesInside, HasTables};
+ghost use Rattle.atl_sql.specs.Marked.{unit_and_thing_pass};
+ghost use Rattle.atl_store.specs.Rewriting.{RewritesThings, is_owner_and_thing, marked_things};
 
 use crate::singles::SingleAmounts;
 use atl_campaign::Campaign;
@@ -36,7 +36,8 @@ fn rewrite_thing<S: Alter>(
     thing: u32,
 ) -> Result<(), Error>
     ensures { Writes S.Store (OfChange campaign.now.value)
-        (Inside HasTables (RewritesThings campaign.now.value sort (is_thing unit thing))) result
+        (DoesInside HasTables (RewritesThings campaign.now.value sort
+        (is_owner_and_thing unit thing))) result
         tx.old.conn tx.new.conn }
 {
     let amount = amount_of(campaign, unit, sort, thing);
@@ -59,7 +60,7 @@ impl SingleAmounts for ThingKind {
 
     ghost wanted = { λ c. HasRowsOf c.units };
 
-    ghost finds = { of_kind };
+    ghost finds = { unit_and_thing_pass };
 
     ghost marks = { λ sort m. marked_things m sort };
 

@@ -2,7 +2,7 @@
 ghost use Rattle.std.specs.Prelude.{◌≡◌, false, IfOk, IfErr, OnOk};
 ghost use Rattle.sqlite.specs.Held.{state};
 ghost use Rattle.sqlite.specs.State.{HasCleanDisk};
-ghost use Rattle.atl_sql.specs.Inside.{Inside};
+ghost use Rattle.atl_sql.specs.Inside.{DoesInside};
 ghost use Rattle.atl_store.specs.Keeps.{IsLater};
 ghost use Rattle.atl_store.specs.Loading.{LeavesAlone};
 ghost use Rattle.atl_store.specs.OwnStatements.{OfUpgrade};
@@ -28,7 +28,7 @@ fn put_upgrade<S: Alter>(
     campaign: &Campaign,
 ) -> Result<(), Error>
     ensures { Writes S.Store (OfUpgrade text.now campaign.now.value)
-        (Inside IsFirstFormat (WritesUpgrade text.now campaign.now.value)) result tx.old.conn
+        (DoesInside IsFirstFormat (WritesUpgrade text.now campaign.now.value)) result tx.old.conn
         tx.new.conn }
 {
     create_market(tx)?;
@@ -51,8 +51,9 @@ fn write_upgrade<S: Alter>(
     tx.commit()
 }
 
-/// The world of the new text, and the campaign of the first format that the tables hold; Differs if
-/// the new world differs from the old one in more than markets, or the fault of reading either.
+/// Gives the world of the new text, and the campaign that the tables hold in the first format.
+/// Differs: the new world differs from the old one in more than markets. Other faults are those of
+/// loading the campaign and of reading the new text.
 fn world_and_campaign<S: Alter>(
     alloc: Global,
     conn: &mut Connection<S>,
@@ -76,8 +77,8 @@ fn world_and_campaign<S: Alter>(
     Ok((world, campaign))
 }
 
-/// Makes a file of the first format one of the second, with this world text, in one transaction:
-/// the table of markets is made, without a row, and the campaign row gets the format and the text.
+/// Makes a file of the first format one of the second, with this world text, in one transaction.
+/// The table of markets is made, without a row, and the campaign row gets the format and the text.
 /// With Ok the connection holds the campaign that the tables held, of which nothing is marked, and
 /// is in no transaction; the answer is this campaign and the world of the text. NotACampaign and
 /// Damaged are returned as by `load`, by the rules of the first format. NotOld: `campaign` has one

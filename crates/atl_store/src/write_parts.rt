@@ -4,7 +4,7 @@ ghost use Rattle.atl_records.specs.Limits.{most_things};
 ghost use Rattle.atl_sql.specs.Tables.{Part, Units, Goods, Books, Markets};
 ghost use Rattle.atl_store.specs.OwnStatements.{OfRow, OfChange};
 ghost use Rattle.atl_sql.specs.Writes.{Writes};
-ghost use Rattle.atl_sql.specs.Inside.{Inside, HasTables, InTurn};
+ghost use Rattle.atl_sql.specs.Inside.{DoesInside, HasTables, InTurn};
 ghost use Rattle.atl_store.specs.Filling.{FillsPart};
 ghost use Rattle.atl_store.specs.Rewriting.{RewritesPart};
 
@@ -58,7 +58,7 @@ pub(crate) trait WrittenPart {
     fn fill<S: Alter>(tx: &mut Transaction<'_, S>, campaign: &Campaign) -> Result<(), Error>
         requires { campaign.now.value.books.things ≤ most_things }
         ensures { Writes S.Store (OfRow campaign.now.value)
-            (Inside HasTables (InTurn (FillsPart campaign.now.value) parts)) result tx.old.conn
+            (DoesInside HasTables (InTurn (FillsPart campaign.now.value) parts)) result tx.old.conn
             tx.new.conn };
 
     /// Puts the marked rows of the type's parts, and deletes the marked rows that the campaign
@@ -66,7 +66,7 @@ pub(crate) trait WrittenPart {
     fn rewrite<S: Alter>(tx: &mut Transaction<'_, S>, campaign: &Campaign) -> Result<(), Error>
         requires { campaign.now.value.books.things ≤ most_things }
         ensures { Writes S.Store (OfChange campaign.now.value)
-            (Inside HasTables (InTurn (RewritesPart campaign.now) parts)) result tx.old.conn
+            (DoesInside HasTables (InTurn (RewritesPart campaign.now) parts)) result tx.old.conn
             tx.new.conn };
 }
 
@@ -96,7 +96,8 @@ impl<V: Mapped + Drop> WrittenPart for Numbered<V> {
         put_each(tx, V::all(campaign))
     }
 
-    /// For each marked number puts the row of what has it, or deletes the row if nothing has it.
+    /// For each marked number puts the row of the thing that has it, or deletes the row if no thing
+    /// has the number.
     fn rewrite<S: Alter>(tx: &mut Transaction<'_, S>, campaign: &Campaign) -> Result<(), Error> {
         rewrite_marked::<V, S>(tx, campaign)
     }

@@ -5,7 +5,7 @@ use Rattle.std.specs.FinMap.{FinMap, empty, get, len, get-empty, get-insert, len
 use Rattle.std.specs.Ordering.{nat_cmp}
 use Rattle.atl_tables.specs.EachIndex.{EachIndex}
 use Rattle.atl_world.specs.Sums.{by_number}
-use Rattle.atl_world.proofs.GeneralLaws.{is_equal, one_more}
+use Rattle.atl_world.proofs.GeneralLaws.{is_equal, insert_adds_at_most_one}
 
 -- a map that equals the empty map has no entry
 pub len_none : {V : Type 0} (m : FinMap nat_cmp V) → m ≡ empty → len m ≡ 0
@@ -13,22 +13,22 @@ len_none {V} m e = ap len e ∙ len-empty nat_cmp V
 
 module _ {V : Type 0} (number : V → ℕ) where
   -- the map of a list of values, each under its own number, has no more entries than the list has values
-  pub few : (vs : List V) → len (by_number number vs) ≤ length vs
-  few [] = omega (arith, len-empty nat_cmp V)
-  few (v ∷ vs) = omega (arith, one_more (by_number number vs) (number v) v, few vs)
+  pub map_is_no_longer_than_list : (vs : List V) → len (by_number number vs) ≤ length vs
+  map_is_no_longer_than_list [] = omega (arith, len-empty nat_cmp V)
+  map_is_no_longer_than_list (v ∷ vs) = omega (arith, insert_adds_at_most_one (by_number number vs) (number v) v, map_is_no_longer_than_list vs)
 
   module _ (P : ℕ → V → Type 0) where
-    -- for `at_number`: if P holds of u at the number of u, and of what a map has under n (o), if anything, P holds of
-    -- what the map has under n once u is put in; b says whether n is the number of u
-    one : (b : Bool) (n : ℕ) (u v : V) (o : Option V) → (n == number u) ≡ b → P (number u) u → (o ≡ Some v → P n v) → cond b (Some u) o ≡ Some v → P n v
-    one true n u v o e here rest h =
+    -- P holds of v, what a map has under n after u is put in, if P holds of u at its own number, and held of what was
+    -- under n before (o). For `property_holds_in_map`, where b says whether n is the number of u.
+    property_holds_after_put : (b : Bool) (n : ℕ) (u v : V) (o : Option V) → (n == number u) ≡ b → P (number u) u → (o ≡ Some v → P n v) → cond b (Some u) o ≡ Some v → P n v
+    property_holds_after_put true n u v o e here rest h =
         let same : u ≡ v = cc in
         subst (P n) same (subst (λ k. P k u) (sym (is_equal n (number u) e)) here)
-    one false n u v o e here rest h = rest h
+    property_holds_after_put false n u v o e here rest h = rest h
 
     -- if P holds of each value at its own number, P holds of each entry of the map of the values
-    pub at_number : (vs : List V) → EachIndex (λ i v. P (number v) v) vs → (n : ℕ) (v : V) → get (by_number number vs) n ≡ Some v → P n v
-    at_number [] all n v h = let e = get-empty {X = V} nat_cmp n in absurd (cc)
-    at_number (u ∷ vs) all n v h =
-        one (n == number u) n u v (get (by_number number vs) n) refl (all zero u refl) (at_number vs (λ i x e. all (suc i) x e) n v)
+    pub property_holds_in_map : (vs : List V) → EachIndex (λ i v. P (number v) v) vs → (n : ℕ) (v : V) → get (by_number number vs) n ≡ Some v → P n v
+    property_holds_in_map [] all n v h = let e = get-empty {X = V} nat_cmp n in absurd (cc)
+    property_holds_in_map (u ∷ vs) all n v h =
+        property_holds_after_put (n == number u) n u v (get (by_number number vs) n) refl (all zero u refl) (property_holds_in_map vs (λ i x e. all (suc i) x e) n v)
         (sym (get-insert nat_cmp_total (by_number number vs) (number u) u n ∙ ap (λ b. cond b (Some u) (get (by_number number vs) n)) (unsigned_tied n (number u))) ∙ h)

@@ -12,39 +12,40 @@ use Rattle.atl_tables.specs.SeenNames.{has_name, HasNames}
 
 -- the choice by b between true and `there` is "`there` or b": for `has_more`, where b says whether a name is the one
 -- put in, and `there` whether the set had it
-or_of : (b there : Bool) → cond b true there ≡ (there || b)
-or_of true true = refl
-or_of true false = refl
-or_of false true = refl
-or_of false false = refl
+choice_is_or : (b there : Bool) → cond b true there ≡ (there || b)
+choice_is_or true true = refl
+choice_is_or true false = refl
+choice_is_or false true = refl
+choice_is_or false false = refl
 
--- a set of names, with a name put in by its lower case, has this name and those that it had
+-- after a name is put, in lower case, into a set of names, the set has exactly this name and those that it had before,
+-- ignoring ASCII case
 pub has_more : {Z : Type 0} (seen grown : BTreeSet (String Z)) (lowered : String Z) (name : List ℕ) → Updates string_cmp seen grown lowered true → string_bytes lowered ≡ map to_ascii_lowercase name
     → (other : List ℕ) → has_name grown other ≡ (has_name seen other || same_name name other)
 unfolding same_name
 has_more seen grown lowered name put same other =
-    rw same at (btree_set_updates_text (string_bytes lowered) seen grown true put (map to_ascii_lowercase other)) ∙ or_of (same_name name other) (has_name seen other)
+    rw same at (btree_set_updates_text (string_bytes lowered) seen grown true put (map to_ascii_lowercase other)) ∙ choice_is_or (same_name name other) (has_name seen other)
 
 -- if `new` is the negation of `there`, and is false, `there` is true: for `came_before`, where `there` says whether the
 -- set has a name
-there_before : (new there : Bool) → new ≡ not there → new ≡ false → there ≡ true
-there_before new true said h = refl
-there_before new false said h = sym h ∙ said
+not_new_was_there : (new there : Bool) → new ≡ not there → new ≡ false → there ≡ true
+not_new_was_there new true said h = refl
+not_new_was_there new false said h = sym h ∙ said
 
 -- if `new` is the negation of `there`, and is true, `there` is false: for `comes_first`, where `there` says whether the
 -- set has a name
-not_before : (new there : Bool) → new ≡ not there → new ≡ true → there ≡ false
-not_before new true said h = sym h ∙ said
-not_before new false said h = refl
+new_was_not_there : (new there : Bool) → new ≡ not there → new ≡ true → there ≡ false
+new_was_not_there new true said h = sym h ∙ said
+new_was_not_there new false said h = refl
 
 module _ {A Z : Type 0} (title : A → List ℕ) (all : List A) (i : ℕ) (x : A) (seen : BTreeSet (String Z)) (so_far : HasNames title (take i all) seen) where
   -- a name that isn't new to the names of the first i elements is the name of one of these
   pub came_before : (new : Bool) → new ≡ not (has_name seen (title x)) → new ≡ false → list_any (λ y. same_name (title y) (title x)) (take i all) ≡ true
-  came_before new said h = sym (so_far (title x)) ∙ there_before new _ said h
+  came_before new said h = sym (so_far (title x)) ∙ not_new_was_there new _ said h
 
   -- a name that is new to the names of the first i elements is the name of none of these
   pub comes_first : (new : Bool) → new ≡ not (has_name seen (title x)) → new ≡ true → list_any (λ y. same_name (title y) (title x)) (take i all) ≡ false
-  comes_first new said h = sym (so_far (title x)) ∙ not_before new _ said h
+  comes_first new said h = sym (so_far (title x)) ∙ new_was_not_there new _ said h
 
   -- the set of the names of the first i elements has those of the first i + 1 after the name of the i-th is put in
   pub has_one_more : (grown : BTreeSet (String Z)) → i < length all → x ≡ get_or all i x → ((other : List ℕ) → has_name grown other ≡ (has_name seen other || same_name (title x) other)) → HasNames title (take (i + 1) all) grown

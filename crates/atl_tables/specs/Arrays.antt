@@ -16,12 +16,16 @@ element_conditions conditions at d = fault_of (value_or_wrong_type at (as_table 
 -- the conditions on the elements of an array from the index i on, in their order; `key` is the path of the array
 abbrev pub elements_conditions : (List ℕ → Members → Conditions) → List ℕ → ℕ → Items → Conditions
 elements_conditions conditions key i no_items = []
-elements_conditions conditions key i (item d ds) = element_conditions conditions (element_path key i) d ++ elements_conditions conditions key (i + 1) ds
+elements_conditions conditions key i (item d ds) =
+    element_conditions conditions (element_path key i) d
+    ++ elements_conditions conditions key (i + 1) ds
 
 -- the values of the elements of an array from the index i on, in their order; `key` is the path of the array
 abbrev pub elements_of : {A : Type 0} → (List ℕ → Members → A) → List ℕ → ℕ → Items → List A
 elements_of record_of key i no_items = []
-elements_of record_of key i (item d ds) = record_of (element_path key i) (element_table (element_path key i) d) ∷ elements_of record_of key (i + 1) ds
+elements_of record_of key i (item d ds) =
+    record_of (element_path key i) (element_table (element_path key i) d)
+    ∷ elements_of record_of key (i + 1) ds
 
 -- the conditions on an array, given the result of reading its key: the result is no fault, and no element has a fault
 unfoldable pub list_conditions : (List ℕ → Members → Conditions) → List ℕ → Result Items WorldFault → Conditions

@@ -6,7 +6,7 @@ use Rattle.atl_world.specs.Names.{name_ok, NamesDiffer}
 use Rattle.atl_world.specs.Worlds.{IsSkill}
 use Rattle.atl_tables.specs.declared.item_table.ItemDraft.{ItemDraft}
 use Rattle.atl_tables.specs.declared.item_table.Recipe.{Recipe}
-use Rattle.atl_tables.specs.declared.kind_table.Building.{Building}
+use Rattle.atl_tables.specs.declared.kind_table.BuildingNeeds.{BuildingNeeds}
 use Rattle.atl_tables.specs.declared.kind_table.KindDraft.{KindDraft}
 use Rattle.atl_tables.specs.declared.kind_table.Purpose.{Purpose}
 use Rattle.atl_tables.specs.declared.market_table.MarketDraft.{MarketDraft}
@@ -115,8 +115,9 @@ pub record IsItemDraft (d : ItemDraft) : Type 0 where
   -- the level of the skill that making the item takes, and the count of its raw items, are in their ranges
   pub making : IsRecipe d.making
 
--- what it takes to build a structure of any kind, ships too, is in its range: its size, and the level of the skill
-pub record IsBuilding (b : Building) : Type 0 where
+-- the size of a structure of any kind, ships too, and the level of the skill that building it takes, are in their
+-- ranges
+pub record AreBuildingNeeds (b : BuildingNeeds) : Type 0 where
   -- the material of a complete structure is at least 1
   pub size_least : 1 ≤ b.size
   -- the material of a complete structure is at most most_size
@@ -138,7 +139,7 @@ pub record IsKindDraft (d : KindDraft) : Type 0 where
   -- the name of the kind keeps the rule of names
   pub name : name_ok d.name ≡ true
   -- the size of the structure, and the level of the skill that building it takes, are in their ranges
-  pub building : IsBuilding d.building
+  pub building : AreBuildingNeeds d.building
   -- the capacity and the crew of the kind are in their ranges
   pub purpose : IsPurpose d.purpose
 
@@ -182,13 +183,14 @@ pub record IsRegionDraft (d : RegionDraft) : Type 0 where
   -- each market of the region has its numbers in their ranges
   pub markets : All IsMarketDraft d.markets
 
--- items, skills and kinds as read: names by the rule, numbers in range, and no more of each than a world may have
+-- the tables of items, skills and kinds have names that keep the rule of names, numbers in their ranges, and no more of
+-- each than a world may have
 pub record AreOptionalTables (t : OptionalTables) : Type 0 where
-  -- each table `[[item]]` has a name by the rule, and numbers in their ranges
+  -- each table `[[item]]` has a name that keeps the rule of names, and numbers in their ranges
   pub items : All IsItemDraft t.items
-  -- each table `[[skill]]` has a name by the rule, and a fee in its range
+  -- each table `[[skill]]` has a name that keeps the rule of names, and a fee in its range
   pub skills : All IsSkill t.skills
-  -- each table `[[kind]]` has a name by the rule, and numbers in their ranges
+  -- each table `[[kind]]` has a name that keeps the rule of names, and numbers in their ranges
   pub kinds : All IsKindDraft t.kinds
   -- the file has at most most_items items
   pub few_items : length t.items ≤ most_items
@@ -197,19 +199,21 @@ pub record AreOptionalTables (t : OptionalTables) : Type 0 where
   -- the file has at most most_kinds kinds
   pub few_kinds : length t.kinds ≤ most_kinds
 
--- all tables of a world file have names by the rule, numbers in range, and no more of each than a world may have
+-- all tables of a world file have names that keep the rule of names, numbers in their ranges, and no more of each than
+-- a world may have
 pub record IsWorldDraft (t : WorldDraft) : Type 0 where
   -- the table `[rules]` has its numbers in their ranges
   pub rules : AreRulesDraft t.rules
-  -- each table `[[terrain]]` has a name by the rule, and numbers in their ranges
+  -- each table `[[terrain]]` has a name that keeps the rule of names, and numbers in their ranges
   pub terrains : All IsTerrainDraft t.terrains
-  -- each table `[[item]]` has a name by the rule, and numbers in their ranges
+  -- each table `[[item]]` has a name that keeps the rule of names, and numbers in their ranges
   pub items : All IsItemDraft t.items
-  -- each table `[[skill]]` has a name by the rule, and a fee in its range
+  -- each table `[[skill]]` has a name that keeps the rule of names, and a fee in its range
   pub skills : All IsSkill t.skills
-  -- each table `[[kind]]` has a name by the rule, and numbers in their ranges
+  -- each table `[[kind]]` has a name that keeps the rule of names, and numbers in their ranges
   pub kinds : All IsKindDraft t.kinds
-  -- each table `[[region]]` has a name by the rule, and the numbers of the region and its markets in their ranges
+  -- each table `[[region]]` has a name that keeps the rule of names, and the numbers of the region and its markets in
+  -- their ranges
   pub regions : All IsRegionDraft t.regions
   -- the file has at most most_terrains terrains
   pub few_terrains : length t.terrains ≤ most_terrains

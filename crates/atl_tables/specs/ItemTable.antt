@@ -3,17 +3,17 @@
 use Rattle.std.specs.Prelude.{ℕ, ◌==◌, if◌then◌else◌, List, [], ◌∷◌, codes, Option, Some, None, option_and_then}
 use Rattle.toml.specs.Data.{Members}
 use Rattle.atl_tables.specs.Faults.{Conditions}
-use Rattle.atl_tables.specs.KeyByKey.{Table, conditions_of, value_of, ◌>>=◌, value_only, part, number_key, number_or_key, name_key, optional_text_key}
+use Rattle.atl_tables.specs.KeyByKey.{TableReader, conditions_of, value_of, ◌>>=◌, value_only, as_one_condition, number_key, number_or_key, name_key, optional_text_key}
 use Rattle.atl_tables.specs.Keys.{path, element_path}
 use Rattle.atl_world.specs.Limits.{most_weight, last_level, most_raw_count}
-use Rattle.atl_tables.specs.Titles.{known_number_or_none, skill_number, item_number}
+use Rattle.atl_tables.specs.Titles.{optional_name_is_known, skill_number, item_number}
 use Rattle.atl_tables.specs.declared.item_table.ItemDraft.{ItemDraft}
 use Rattle.atl_tables.specs.declared.item_table.Recipe.{Recipe}
 use Rattle.atl_tables.specs.declared.world_draft.WorldDraft.{WorldDraft}
 use Rattle.atl_world.specs.declared.world.Item.{Item}
 
 -- reads the keys of a table `[[item]]` for what making an item takes: skill, level, raw item and its count
-unfoldable pub making_at : Table Recipe
+unfoldable pub making_at : TableReader Recipe
 making_at = do
   skill ← optional_text_key (codes "skill")
   level ← number_or_key 1 1 last_level (codes "level")
@@ -22,12 +22,12 @@ making_at = do
   value_only (record { skill = skill; level = level; raw = raw; raw_count = raw_count })
 
 -- reads all keys of a table `[[item]]`, in order: name, weight, what it carries, and what making one takes
-unfoldable pub item_at : Table ItemDraft
+unfoldable pub item_at : TableReader ItemDraft
 item_at = do
   name ← name_key (codes "name")
   weight ← number_key 0 most_weight (codes "weight")
   carry ← number_key 0 most_weight (codes "carry")
-  making ← part making_at
+  making ← as_one_condition making_at
   value_only (record { name = name; weight = weight; carry = carry; making = making })
 
 -- the conditions on the keys of the table `[[item]]` at a path: each has its type and range, and is there if needed
@@ -38,7 +38,7 @@ item_keys = conditions_of item_at
 abbrev pub item_from : List ℕ → Members → ItemDraft
 item_from = value_of item_at
 
--- the number n of an item (Some n), but None if n is i, since the i-th item isn't made of itself
+-- `other_than i number` is the number of an item (Some), but None if it is i, since the i-th item isn't made of itself
 abbrev pub other_than : ℕ → Option ℕ → Option ℕ
 other_than i None = None
 other_than i (Some n) = if n == i then None else Some n
@@ -46,8 +46,9 @@ other_than i (Some n) = if n == i then None else Some n
 -- the conditions on the names in the i-th item: `skill` names a skill, and `raw` names another item
 unfoldable pub item_known : WorldDraft → ℕ → ItemDraft → Conditions
 item_known all i d =
-    known_number_or_none (path (element_path (codes "item") i) (codes "skill")) (skill_number all) d.making.skill
-    ∷ known_number_or_none (path (element_path (codes "item") i) (codes "raw")) (λ name. other_than i (item_number all name)) d.making.raw
+    optional_name_is_known (path (element_path (codes "item") i) (codes "skill")) (skill_number all) d.making.skill
+    ∷ optional_name_is_known (path (element_path (codes "item") i) (codes "raw"))
+    (λ name. other_than i (item_number all name)) d.making.raw
     ∷ []
 
 -- the item that a table `[[item]]` describes, with its skill and its raw item by number

@@ -3,19 +3,19 @@
 use Rattle.std.specs.Prelude.{ℕ, List, [], ◌∷◌, codes, unwrap_or, option_and_then}
 use Rattle.toml.specs.Data.{Members}
 use Rattle.atl_tables.specs.Faults.{Conditions}
-use Rattle.atl_tables.specs.KeyByKey.{Table, conditions_of, value_of, ◌>>=◌, value_only, part, number_key, number_or_key, name_key, text_key, optional_text_key, flag_key}
+use Rattle.atl_tables.specs.KeyByKey.{TableReader, conditions_of, value_of, ◌>>=◌, value_only, as_one_condition, number_key, number_or_key, name_key, text_key, optional_text_key, flag_key}
 use Rattle.atl_tables.specs.Keys.{path, element_path}
 use Rattle.atl_world.specs.Limits.{most_amount, last_level, most_size}
-use Rattle.atl_tables.specs.Titles.{known, known_number_or_none, skill_number, item_number}
-use Rattle.atl_tables.specs.declared.kind_table.Building.{Building}
+use Rattle.atl_tables.specs.Titles.{name_is_known, optional_name_is_known, skill_number, item_number}
+use Rattle.atl_tables.specs.declared.kind_table.BuildingNeeds.{BuildingNeeds}
 use Rattle.atl_tables.specs.declared.kind_table.KindDraft.{KindDraft}
 use Rattle.atl_tables.specs.declared.kind_table.Purpose.{Purpose}
 use Rattle.atl_tables.specs.declared.world_draft.WorldDraft.{WorldDraft}
 use Rattle.atl_world.specs.declared.world.Kind.{Kind}
 
 -- reads the keys of a table `[[kind]]` for what building a structure takes: material, size, skill and level
-unfoldable pub building_at : Table Building
-building_at = do
+unfoldable pub building_needs_at : TableReader BuildingNeeds
+building_needs_at = do
   material ← text_key (codes "material")
   size ← number_key 1 most_size (codes "size")
   skill ← text_key (codes "skill")
@@ -23,7 +23,7 @@ building_at = do
   value_only (record { material = material; size = size; skill = skill; level = level })
 
 -- reads the keys of a table `[[kind]]` for what a structure is good for: capacity, crew and the skill that it helps
-unfoldable pub purpose_at : Table Purpose
+unfoldable pub purpose_at : TableReader Purpose
 purpose_at = do
   capacity ← number_or_key 0 0 most_amount (codes "capacity")
   crew ← number_or_key 0 0 most_size (codes "crew")
@@ -31,12 +31,12 @@ purpose_at = do
   value_only (record { capacity = capacity; crew = crew; helps = helps })
 
 -- reads all keys of a table `[[kind]]`, in order: name, whether it is a ship, what building takes, what it is good for
-unfoldable pub kind_at : Table KindDraft
+unfoldable pub kind_at : TableReader KindDraft
 kind_at = do
   name ← name_key (codes "name")
   ship ← flag_key (codes "ship")
-  building ← part building_at
-  purpose ← part purpose_at
+  building ← as_one_condition building_needs_at
+  purpose ← as_one_condition purpose_at
   value_only (record { name = name; ship = ship; building = building; purpose = purpose })
 
 -- the conditions on the keys of the table `[[kind]]` at a path: each has its type and range, and is there if needed
@@ -50,9 +50,9 @@ kind_from = value_of kind_at
 -- the conditions on the names in the i-th kind: `material` names an item, and `skill` and `helps` name skills
 unfoldable pub kind_known : WorldDraft → ℕ → KindDraft → Conditions
 kind_known all i d =
-    known (path (element_path (codes "kind") i) (codes "material")) (item_number all d.building.material)
-    ∷ known (path (element_path (codes "kind") i) (codes "skill")) (skill_number all d.building.skill)
-    ∷ known_number_or_none (path (element_path (codes "kind") i) (codes "helps")) (skill_number all) d.purpose.helps
+    name_is_known (path (element_path (codes "kind") i) (codes "material")) (item_number all d.building.material)
+    ∷ name_is_known (path (element_path (codes "kind") i) (codes "skill")) (skill_number all d.building.skill)
+    ∷ optional_name_is_known (path (element_path (codes "kind") i) (codes "helps")) (skill_number all) d.purpose.helps
     ∷ []
 
 -- the kind of structure that a table `[[kind]]` describes, with its material and skills by number

@@ -6,29 +6,29 @@ use Rattle.std.specs.Ordering.{nat_cmp}
 use Rattle.toml.specs.Data.{Members}
 use Rattle.atl_tables.specs.Arrays.{list_conditions, list_of}
 use Rattle.atl_tables.specs.Faults.{Conditions, fault_of, value_or}
-use Rattle.atl_tables.specs.Keys.{Key, path, number_at, text_at, optional_array_at}
+use Rattle.atl_tables.specs.Keys.{KeyReader, path, number_at, text_at, optional_array_at}
 use Rattle.atl_world.specs.Limits.{most_amount, most_markets, most_price}
 use Rattle.atl_world.specs.Sums.{by_number}
-use Rattle.atl_tables.specs.Titles.{known, item_number, no_twins}
+use Rattle.atl_tables.specs.Titles.{name_is_known, item_number, no_duplicates}
 use Rattle.atl_tables.specs.declared.market_table.MarketDraft.{MarketDraft}
 use Rattle.atl_tables.specs.declared.world_draft.WorldDraft.{WorldDraft}
 use Rattle.atl_world.specs.declared.world.Market.{Market}
 
 -- reads the key `price` of a table `[[region.market]]`, from 1 to most_price: what a unit pays for one item
-abbrev pub price_at : Key ℕ
+abbrev pub price_at : KeyReader ℕ
 price_at = number_at 1 most_price (codes "price")
 
 -- reads the key `pays` of a table `[[region.market]]`, from 1 to most_price: what the market pays a unit for one item
-abbrev pub pays_at : Key ℕ
+abbrev pub pays_at : KeyReader ℕ
 pays_at = number_at 1 most_price (codes "pays")
 
 -- reads the key `limit` of a table `[[region.market]]`, from 0 to most_amount: the market's largest stock
-abbrev pub limit_at : Key ℕ
+abbrev pub limit_at : KeyReader ℕ
 limit_at = number_at 0 most_amount (codes "limit")
 
 -- reads the key `restock` of a table `[[region.market]]`, from 0 to most_amount: what comes into the market's stock in
 -- a month
-abbrev pub restock_at : Key ℕ
+abbrev pub restock_at : KeyReader ℕ
 restock_at = number_at 0 most_amount (codes "restock")
 
 -- the conditions on the keys `item`, `price`, `pays`, `limit` and `restock` of the table `[[region.market]]` at a path:
@@ -61,7 +61,8 @@ market_path at = path at (codes "market")
 -- the conditions on the array of the markets of the region at a path, which may be missing, and on the keys of each
 -- market
 unfoldable pub markets_keys : List ℕ → Members → Conditions
-markets_keys at t = list_conditions market_keys (market_path at) (optional_array_at most_markets (market_path at) (codes "market") t)
+markets_keys at t =
+    list_conditions market_keys (market_path at) (optional_array_at most_markets (market_path at) (codes "market") t)
 
 -- the markets that the table `[[region]]` at a path gives, as read, in the order of the file
 unfoldable pub markets_from : List ℕ → Members → List MarketDraft
@@ -69,11 +70,11 @@ markets_from at t = list_of market_from (market_path at) (optional_array_at most
 
 -- the conditions that no two markets of the region at a path are of the same item
 abbrev pub duplicate_items : List ℕ → List MarketDraft → Conditions
-duplicate_items at ds = no_twins (λ d. d.item) (market_path at) (codes "item") ds
+duplicate_items at ds = no_duplicates (λ d. d.item) (market_path at) (codes "item") ds
 
 -- the condition that the key `item` of a market names an item of the world; else the fault UnknownName
 unfoldable pub market_known : WorldDraft → MarketDraft → Conditions
-market_known all d = known (path d.table_path (codes "item")) (item_number all d.item) ∷ []
+market_known all d = name_is_known (path d.table_path (codes "item")) (item_number all d.item) ∷ []
 
 -- the market that a table `[[region.market]]` describes, with its item by number
 unfoldable pub market_of : WorldDraft → MarketDraft → Market

@@ -11,24 +11,26 @@ use Rattle.atl_tables.specs.declared.fault.WorldFault.{WorldFault}
 use Rattle.atl_tables.specs.declared.fault.WorldFault.TheVariants.{BadNeighbour}
 use Rattle.atl_tables.specs.declared.region_table.RegionDraft.{RegionDraft}
 use Rattle.atl_world.specs.declared.world.RegionPlan.{RegionPlan}
-use Rattle.atl_world.specs.Worlds.{beside}
+use Rattle.atl_world.specs.Worlds.{neighbour_to}
 
 -- whether an optional region number is given (Some) and equals n
-abbrev pub is_number : ℕ → Option ℕ → Bool
-is_number n None = false
-is_number n (Some m) = m == n
+abbrev pub equals_number : ℕ → Option ℕ → Bool
+equals_number n None = false
+equals_number n (Some m) = m == n
 
 -- the fault BadNeighbour at the path p, if the region `number` has a neighbour on one side, and that neighbour doesn't
 -- have this region on its side `opposite`; else None
-abbrev pub neighbour : List ℕ → FinMap nat_cmp RegionPlan → Direction → ℕ → Option ℕ → Option WorldFault
-neighbour p regions opposite number None = None
-neighbour p regions opposite number (Some m) = if is_number number (option_and_then (beside opposite) (get regions m)) then None else Some (BadNeighbour p)
+abbrev pub neighbour_fault : List ℕ → FinMap nat_cmp RegionPlan → Direction → ℕ → Option ℕ → Option WorldFault
+neighbour_fault p regions opposite number None = None
+neighbour_fault p regions opposite number (Some m) =
+    if equals_number number (option_and_then (neighbour_to opposite) (get regions m)) then None
+    else Some (BadNeighbour p)
 
 -- the conditions that each of the four neighbours of the i-th region of the file has this region on its opposite side
 unfoldable pub neighbours_at : FinMap nat_cmp RegionPlan → ℕ → RegionDraft → Conditions
 neighbours_at regions i d =
-    neighbour (path (element_path (codes "region") i) (codes "north")) regions South d.basics.number d.sides.north
-    ∷ neighbour (path (element_path (codes "region") i) (codes "south")) regions North d.basics.number d.sides.south
-    ∷ neighbour (path (element_path (codes "region") i) (codes "east")) regions West d.basics.number d.sides.east
-    ∷ neighbour (path (element_path (codes "region") i) (codes "west")) regions East d.basics.number d.sides.west
+    neighbour_fault (path (element_path (codes "region") i) (codes "north")) regions South d.basics.number d.sides.north
+    ∷ neighbour_fault (path (element_path (codes "region") i) (codes "south")) regions North d.basics.number d.sides.south
+    ∷ neighbour_fault (path (element_path (codes "region") i) (codes "east")) regions West d.basics.number d.sides.east
+    ∷ neighbour_fault (path (element_path (codes "region") i) (codes "west")) regions East d.basics.number d.sides.west
     ∷ []

@@ -4,5 +4,5 @@ use Rattle.atl_tables.specs.World.{old_world_of}
 use Rattle.atl_world.specs.Worlds.{WorldValue, without_markets}
 
 -- No world that a text gives in the first format has a market: leaving the markets out changes nothing.
-abbrev pub OldWorldsAreBare : Type 0
-OldWorldsAreBare = (text : List ℕ) (w : WorldValue) → old_world_of text ≡ Ok w → without_markets w ≡ w
+abbrev pub OldWorldsHaveNoMarkets : Type 0
+OldWorldsHaveNoMarkets = (text : List ℕ) (w : WorldValue) → old_world_of text ≡ Ok w → without_markets w ≡ w

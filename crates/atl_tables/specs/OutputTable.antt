@@ -7,10 +7,10 @@ use Rattle.std.specs.Ordering.{nat_cmp, is_lt}
 use Rattle.std.specs.Cmp.Lexicographic.{slice_cmp}
 use Rattle.toml.specs.Data.{Data, Members, no_members, member, as_integer}
 use Rattle.atl_tables.specs.Faults.{Conditions, fault_of, value_or}
-use Rattle.atl_tables.specs.KeyByKey.{Table}
+use Rattle.atl_tables.specs.KeyByKey.{TableReader}
 use Rattle.atl_tables.specs.Keys.{path, integer_in_range, optional_table_at}
 use Rattle.atl_world.specs.Limits.{most_amount}
-use Rattle.atl_tables.specs.Titles.{known, item_number}
+use Rattle.atl_tables.specs.Titles.{name_is_known, item_number}
 use Rattle.atl_world.specs.Names.{same_name}
 use Rattle.atl_tables.specs.declared.fault.WorldFault.{WorldFault}
 use Rattle.atl_tables.specs.declared.fault.WorldFault.TheVariants.{TwoNames}
@@ -53,21 +53,23 @@ abbrev pub output_table : List ℕ → Members → Members
 output_table at t = value_or no_members (optional_table_at (codes "output") at t)
 
 -- reads the table `output` of a terrain: the conditions on it, and the amounts that it gives
-unfoldable pub output_at : Table (List Output)
+unfoldable pub output_at : TableReader (List Output)
 output_at = λ at t. record {
-  conditions = fault_of (optional_table_at (codes "output") at t) ∷ amounts_keys (output_path at) (in_byte_order (output_table at t));
+  conditions = fault_of (optional_table_at (codes "output") at t)
+      ∷ amounts_keys (output_path at) (in_byte_order (output_table at t));
   value = amounts_from (output_path at) (in_byte_order (output_table at t));
 }
 
 -- the condition that no key of the output at a path, before the i-th, is equal to the i-th, ignoring ASCII case; else
 -- the fault TwoNames
 unfoldable pub duplicate_key_at : List ℕ → List Output → ℕ → Output → Conditions
-duplicate_key_at at all i o = (if list_any (λ p. same_name p.item o.item) (take i all) then Some (TwoNames (path at o.item)) else None) ∷ []
+duplicate_key_at at all i o =
+    (if list_any (λ p. same_name p.item o.item) (take i all) then Some (TwoNames (path at o.item)) else None) ∷ []
 
 -- the condition that a key of the output at a path names an item; else the fault UnknownName
 unfoldable pub known_key_at : WorldDraft → List ℕ → ℕ → Output → Conditions
-known_key_at all at i o = known (path at o.item) (item_number all o.item) ∷ []
+known_key_at all at i o = name_is_known (path at o.item) (item_number all o.item) ∷ []
 
--- how much of the item with a name an output gives in a month, 0 if no key names the item
+-- how much of the item with a given name an output gives in a month, 0 if no key names the item
 unfoldable pub amount_of : List Output → List ℕ → ℕ
 amount_of outputs item = option_map_or (λ o. o.amount) (find (λ o. same_name o.item item) outputs) 0

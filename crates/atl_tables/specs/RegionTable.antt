@@ -2,12 +2,12 @@
 -- See docs/FORMATS.md, "The world file".
 use Rattle.std.specs.Prelude.{ℕ, List, [], ◌∷◌, codes, Option, None, unwrap_or}
 use Rattle.toml.specs.Data.{Members}
-use Rattle.atl_tables.specs.Each.{each}
+use Rattle.atl_tables.specs.Each.{conditions_on_each}
 use Rattle.atl_tables.specs.Faults.{Conditions, fault_of, first_fault, value_or}
-use Rattle.atl_tables.specs.Keys.{Key, path, element_path, number_at, name_at, text_at, optional_number_at}
+use Rattle.atl_tables.specs.Keys.{KeyReader, path, element_path, number_at, name_at, text_at, optional_number_at}
 use Rattle.atl_world.specs.Limits.{last_region, most_amount}
 use Rattle.atl_tables.specs.MarketTable.{markets_keys, markets_from, duplicate_items, market_known, markets_of}
-use Rattle.atl_tables.specs.Titles.{known, terrain_number}
+use Rattle.atl_tables.specs.Titles.{name_is_known, terrain_number}
 use Rattle.atl_tables.specs.declared.region_table.OldRegion.{OldRegion}
 use Rattle.atl_tables.specs.declared.region_table.RegionBasics.{RegionBasics}
 use Rattle.atl_tables.specs.declared.region_table.RegionDraft.{RegionDraft}
@@ -16,15 +16,15 @@ use Rattle.atl_tables.specs.declared.world_draft.WorldDraft.{WorldDraft}
 use Rattle.atl_world.specs.declared.world.RegionPlan.{RegionPlan}
 
 -- reads the key `number` of a table `[[region]]`, from 1 to last_region
-abbrev pub region_number_at : Key ℕ
+abbrev pub region_number_at : KeyReader ℕ
 region_number_at = number_at 1 last_region (codes "number")
 
 -- reads the key `peasants` of a table `[[region]]`, from 0 to most_amount: its peasants at founding
-abbrev pub peasants_at : Key ℕ
+abbrev pub peasants_at : KeyReader ℕ
 peasants_at = number_at 0 most_amount (codes "peasants")
 
 -- reads the key `money` of a table `[[region]]`, from 0 to most_amount: its money at founding
-abbrev pub money_at : Key ℕ
+abbrev pub money_at : KeyReader ℕ
 money_at = number_at 0 most_amount (codes "money")
 
 -- the conditions on the keys `number`, `name`, `terrain`, `peasants` and `money` of the table `[[region]]` at a path:
@@ -49,19 +49,19 @@ basics_from at t = record {
 }
 
 -- reads the key `north` of a table `[[region]]`: the number of the region to the north, None if the key is missing
-abbrev pub north_at : Key (Option ℕ)
+abbrev pub north_at : KeyReader (Option ℕ)
 north_at = optional_number_at 1 last_region (codes "north")
 
 -- reads the key `south` of a table `[[region]]`: the number of the region to the south, None if the key is missing
-abbrev pub south_at : Key (Option ℕ)
+abbrev pub south_at : KeyReader (Option ℕ)
 south_at = optional_number_at 1 last_region (codes "south")
 
 -- reads the key `east` of a table `[[region]]`: the number of the region to the east, None if the key is missing
-abbrev pub east_at : Key (Option ℕ)
+abbrev pub east_at : KeyReader (Option ℕ)
 east_at = optional_number_at 1 last_region (codes "east")
 
 -- reads the key `west` of a table `[[region]]`: the number of the region to the west, None if the key is missing
-abbrev pub west_at : Key (Option ℕ)
+abbrev pub west_at : KeyReader (Option ℕ)
 west_at = optional_number_at 1 last_region (codes "west")
 
 -- the conditions on the keys `north`, `south`, `east` and `west` of the table `[[region]]` at a path: each that is
@@ -111,8 +111,8 @@ duplicate_market_items i d = duplicate_items (element_path (codes "region") i) d
 -- the conditions on the names in the i-th region: `terrain` names a terrain, and each market's `item` an item
 unfoldable pub region_known : WorldDraft → ℕ → RegionDraft → Conditions
 region_known all i d =
-    known (path (element_path (codes "region") i) (codes "terrain")) (terrain_number all d.basics.terrain)
-    ∷ each (λ k m. market_known all m) 0 d.markets
+    name_is_known (path (element_path (codes "region") i) (codes "terrain")) (terrain_number all d.basics.terrain)
+    ∷ conditions_on_each (λ k m. market_known all m) 0 d.markets
 
 -- the region that a table `[[region]]` describes, with its terrain and its markets' items by number
 unfoldable pub region_of : WorldDraft → RegionDraft → RegionPlan

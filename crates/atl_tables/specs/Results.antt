@@ -4,12 +4,12 @@ use Rattle.atl_tables.specs.declared.fault.WorldFault.{WorldFault}
 use Rattle.atl_tables.specs.declared.fault.WorldFault.TheVariants.{Memory}
 
 -- the error e that a call returned is `fault`, the first fault of its conditions; or it is Memory, whatever `fault` is
-abbrev pub Stops : WorldFault → Option WorldFault → Type 0
-Stops Memory fault = Unit {0}
-Stops e fault = fault ≡ Some e
+abbrev pub IsFaultOrMemory : WorldFault → Option WorldFault → Type 0
+IsFaultOrMemory Memory fault = Unit {0}
+IsFaultOrMemory e fault = fault ≡ Some e
 
 -- a call returned `value` (compared by `view`), and `fault`, the first fault of its conditions, is None; or it returned
 -- this fault, or Memory
 abbrev pub Gives : {X Y : Type 0} → (X → Y) → Result X WorldFault → Option WorldFault → Y → Type 0
 Gives view (Ok x) fault value = (fault ≡ None) × (value ≡ view x)
-Gives view (Err e) fault value = Stops e fault
+Gives view (Err e) fault value = IsFaultOrMemory e fault

@@ -3,10 +3,10 @@
 use Rattle.std.specs.Prelude.{[], ◌∷◌, codes, option_and_then}
 use Rattle.toml.specs.Data.{Members, no_members}
 use Rattle.atl_tables.specs.Faults.{Conditions, fault_of, value_or}
-use Rattle.atl_tables.specs.KeyByKey.{Table, conditions_of, value_of, ◌>>=◌, value_only, part, number_key, optional_text_key}
+use Rattle.atl_tables.specs.KeyByKey.{TableReader, conditions_of, value_of, ◌>>=◌, value_only, as_one_condition, number_key, optional_text_key}
 use Rattle.atl_tables.specs.Keys.{path, table_at}
 use Rattle.atl_world.specs.Limits.{most_amount, most_per_head, most_price, most_fraction, most_growth, most_weight}
-use Rattle.atl_tables.specs.Titles.{known_number_or_none, skill_number}
+use Rattle.atl_tables.specs.Titles.{optional_name_is_known, skill_number}
 use Rattle.atl_tables.specs.declared.rules_table.MenRules.{MenRules}
 use Rattle.atl_tables.specs.declared.rules_table.PeasantRules.{PeasantRules}
 use Rattle.atl_tables.specs.declared.rules_table.Prices.{Prices}
@@ -16,7 +16,7 @@ use Rattle.atl_tables.specs.declared.world_draft.WorldDraft.{WorldDraft}
 use Rattle.atl_world.specs.declared.world.Rules.{Rules}
 
 -- reads the keys of the table `[rules]` for maintenance, tax per man, and the price of a recruit
-unfoldable pub prices_at : Table Prices
+unfoldable pub prices_at : TableReader Prices
 prices_at = do
   maintenance ← number_key 1 most_per_head (codes "maintenance")
   tax_per_man ← number_key 0 most_per_head (codes "tax_per_man")
@@ -24,23 +24,23 @@ prices_at = do
   value_only (record { maintenance = maintenance; tax_per_man = tax_per_man; recruit_price = recruit_price })
 
 -- reads the keys of the table `[rules]` for recruits, births and income of peasants
-unfoldable pub peasants_at : Table PeasantRules
-peasants_at = do
+unfoldable pub peasant_rules_at : TableReader PeasantRules
+peasant_rules_at = do
   recruit_fraction ← number_key 1 most_fraction (codes "recruit_fraction")
   growth ← number_key 0 most_growth (codes "growth")
   income ← number_key 0 most_per_head (codes "income")
   value_only (record { recruit_fraction = recruit_fraction; growth = growth; income = income })
 
 -- reads the keys of the table `[rules]` for the money of a new faction, and for what men weigh and carry
-unfoldable pub men_at : Table MenRules
-men_at = do
+unfoldable pub men_rules_at : TableReader MenRules
+men_rules_at = do
   start_money ← number_key 0 most_amount (codes "start_money")
   man_weight ← number_key 0 most_weight (codes "man_weight")
   man_carry ← number_key 0 most_weight (codes "man_carry")
   value_only (record { start_money = start_money; man_weight = man_weight; man_carry = man_carry })
 
 -- reads the keys of the table `[rules]` that name the skills of observation, stealth and sailing
-unfoldable pub skill_names_at : Table SkillNames
+unfoldable pub skill_names_at : TableReader SkillNames
 skill_names_at = do
   observation ← optional_text_key (codes "observation")
   stealth ← optional_text_key (codes "stealth")
@@ -48,12 +48,12 @@ skill_names_at = do
   value_only (record { observation = observation; stealth = stealth; sailing = sailing })
 
 -- reads all keys of the table `[rules]`, in order: those on prices, on peasants, on men, and the names of skills
-unfoldable pub rules_at : Table RulesDraft
+unfoldable pub rules_at : TableReader RulesDraft
 rules_at = do
-  prices ← part prices_at
-  peasants ← part peasants_at
-  men ← part men_at
-  skills ← part skill_names_at
+  prices ← as_one_condition prices_at
+  peasants ← as_one_condition peasant_rules_at
+  men ← as_one_condition men_rules_at
+  skills ← as_one_condition skill_names_at
   value_only (record { prices = prices; peasants = peasants; men = men; skills = skills })
 
 -- the table `[rules]` of the document, empty if it is missing
@@ -71,9 +71,9 @@ rules_in doc = value_of rules_at (codes "rules") (rules_table doc)
 -- the conditions that each of the keys `observation`, `stealth` and `sailing` names a skill, or is missing
 unfoldable pub rules_known : WorldDraft → Conditions
 rules_known all =
-    known_number_or_none (path (codes "rules") (codes "observation")) (skill_number all) all.rules.skills.observation
-    ∷ known_number_or_none (path (codes "rules") (codes "stealth")) (skill_number all) all.rules.skills.stealth
-    ∷ known_number_or_none (path (codes "rules") (codes "sailing")) (skill_number all) all.rules.skills.sailing
+    optional_name_is_known (path (codes "rules") (codes "observation")) (skill_number all) all.rules.skills.observation
+    ∷ optional_name_is_known (path (codes "rules") (codes "stealth")) (skill_number all) all.rules.skills.stealth
+    ∷ optional_name_is_known (path (codes "rules") (codes "sailing")) (skill_number all) all.rules.skills.sailing
     ∷ []
 
 -- the rules that the table `[rules]` describes, with skills by number

@@ -3,12 +3,12 @@
 use Rattle.std.specs.Prelude.{ℕ, List, codes}
 use Rattle.toml.specs.Data.{Members}
 use Rattle.atl_tables.specs.Faults.{Conditions}
-use Rattle.atl_tables.specs.KeyByKey.{Table, conditions_of, value_of, ◌>>=◌, value_only, number_key, name_key}
+use Rattle.atl_tables.specs.KeyByKey.{TableReader, conditions_of, value_of, ◌>>=◌, value_only, number_key, name_key}
 use Rattle.atl_world.specs.Limits.{most_price}
 use Rattle.atl_world.specs.declared.world.Skill.{Skill}
 
 -- reads all keys of a table `[[skill]]`, in order: name and fee
-unfoldable pub skill_at : Table Skill
+unfoldable pub skill_at : TableReader Skill
 skill_at = do
   name ← name_key (codes "name")
   fee ← number_key 0 most_price (codes "fee")

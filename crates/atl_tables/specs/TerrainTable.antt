@@ -2,9 +2,9 @@
 -- See docs/FORMATS.md, "The world file".
 use Rattle.std.specs.Prelude.{ℕ, List, codes, map}
 use Rattle.toml.specs.Data.{Members}
-use Rattle.atl_tables.specs.Each.{each}
+use Rattle.atl_tables.specs.Each.{conditions_on_each}
 use Rattle.atl_tables.specs.Faults.{Conditions}
-use Rattle.atl_tables.specs.KeyByKey.{Table, conditions_of, value_of, ◌>>=◌, value_only, part, number_key, name_key, flag_key}
+use Rattle.atl_tables.specs.KeyByKey.{TableReader, conditions_of, value_of, ◌>>=◌, value_only, as_one_condition, number_key, name_key, flag_key}
 use Rattle.atl_tables.specs.Keys.{element_path}
 use Rattle.atl_world.specs.Limits.{most_amount, most_price}
 use Rattle.atl_tables.specs.OutputTable.{output_path, output_at, duplicate_key_at, known_key_at, amount_of}
@@ -15,7 +15,7 @@ use Rattle.atl_world.specs.declared.world.Terrain.{Terrain}
 
 -- reads the keys of a table `[[terrain]]` for the wage, the work places, and the most money and peasants that a region
 -- grows to
-unfoldable pub economy_at : Table Economy
+unfoldable pub economy_at : TableReader Economy
 economy_at = do
   wage ← number_key 1 most_price (codes "wage")
   places ← number_key 0 most_amount (codes "places")
@@ -24,12 +24,12 @@ economy_at = do
   value_only (record { wage = wage; places = places; money_limit = money_limit; peasant_limit = peasant_limit })
 
 -- reads all keys of a table `[[terrain]]`, in order: name, whether it is land, wage, work places and limits, and output
-unfoldable pub terrain_at : Table TerrainDraft
+unfoldable pub terrain_at : TableReader TerrainDraft
 terrain_at = do
   name ← name_key (codes "name")
   land ← flag_key (codes "land")
-  economy ← part economy_at
-  output ← part output_at
+  economy ← as_one_condition economy_at
+  output ← as_one_condition output_at
   value_only (record { name = name; land = land; economy = economy; output = output })
 
 -- the conditions on the keys of the table `[[terrain]]` at a path: each has its type and range, and none is missing but
@@ -43,11 +43,11 @@ terrain_from = value_of terrain_at
 
 -- the conditions that no two keys of the i-th terrain's output are equal, ignoring ASCII case
 unfoldable pub duplicate_output_keys : ℕ → TerrainDraft → Conditions
-duplicate_output_keys i d = each (duplicate_key_at (output_path (element_path (codes "terrain") i)) d.output) 0 d.output
+duplicate_output_keys i d = conditions_on_each (duplicate_key_at (output_path (element_path (codes "terrain") i)) d.output) 0 d.output
 
 -- the conditions that each key of the i-th terrain's output names an item
 unfoldable pub terrain_known : WorldDraft → ℕ → TerrainDraft → Conditions
-terrain_known all i d = each (known_key_at all (output_path (element_path (codes "terrain") i))) 0 d.output
+terrain_known all i d = conditions_on_each (known_key_at all (output_path (element_path (codes "terrain") i))) 0 d.output
 
 -- the terrain that a table `[[terrain]]` describes; its output has an amount for each item of the world, by number
 unfoldable pub terrain_of : WorldDraft → TerrainDraft → Terrain

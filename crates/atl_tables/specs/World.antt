@@ -6,7 +6,7 @@ use Rattle.std.specs.Ordering.{nat_cmp}
 use Rattle.toml.specs.Data.{Members}
 use Rattle.toml.specs.Parse.{parse_document}
 use Rattle.atl_tables.specs.Arrays.{list_conditions, list_of}
-use Rattle.atl_tables.specs.Each.{each}
+use Rattle.atl_tables.specs.Each.{conditions_on_each}
 use Rattle.atl_tables.specs.Faults.{Conditions, first_fault, fault_or_value}
 use Rattle.atl_tables.specs.ItemTable.{item_keys, item_from, item_known, item_of}
 use Rattle.atl_tables.specs.Keys.{array_at, optional_array_at}
@@ -20,7 +20,7 @@ use Rattle.atl_tables.specs.RulesTable.{rules_conditions, rules_in, rules_known,
 use Rattle.atl_tables.specs.SkillTable.{skill_keys, skill_from}
 use Rattle.atl_world.specs.Sums.{by_number}
 use Rattle.atl_tables.specs.TerrainTable.{terrain_keys, terrain_from, duplicate_output_keys, terrain_known, terrain_of}
-use Rattle.atl_tables.specs.Titles.{no_twins}
+use Rattle.atl_tables.specs.Titles.{no_duplicates}
 use Rattle.atl_tables.specs.declared.fault.WorldFault.{WorldFault}
 use Rattle.atl_tables.specs.declared.fault.WorldFault.TheVariants.{NotToml, NoLand}
 use Rattle.atl_world.specs.declared.format.Format.{Format}
@@ -95,31 +95,31 @@ keys_conditions format doc =
 -- the conditions that no two terrains, no two items, no two skills and no two kinds have the same name
 unfoldable pub titles_differ : WorldDraft → Conditions
 titles_differ all =
-    no_twins (λ d. d.name) (codes "terrain") (codes "name") all.terrains
-    ++ (no_twins (λ d. d.name) (codes "item") (codes "name") all.items
-    ++ (no_twins (λ s. s.name) (codes "skill") (codes "name") all.skills
-    ++ no_twins (λ d. d.name) (codes "kind") (codes "name") all.kinds))
+    no_duplicates (λ d. d.name) (codes "terrain") (codes "name") all.terrains
+    ++ (no_duplicates (λ d. d.name) (codes "item") (codes "name") all.items
+    ++ (no_duplicates (λ s. s.name) (codes "skill") (codes "name") all.skills
+    ++ no_duplicates (λ d. d.name) (codes "kind") (codes "name") all.kinds))
 
 -- the conditions that names, region numbers, output keys of a terrain and market items of a region are unique
 unfoldable pub names_differ : WorldDraft → Conditions
 names_differ all =
     titles_differ all
     ++ (duplicate_numbers all.regions
-    ++ (each duplicate_output_keys 0 all.terrains
-    ++ each duplicate_market_items 0 all.regions))
+    ++ (conditions_on_each duplicate_output_keys 0 all.terrains
+    ++ conditions_on_each duplicate_market_items 0 all.regions))
 
 -- the conditions that each name by which a table refers to a terrain, an item or a skill is the name of one
 unfoldable pub names_are_known : WorldDraft → Conditions
 names_are_known all =
     rules_known all
-    ++ (each (terrain_known all) 0 all.terrains
-    ++ (each (item_known all) 0 all.items
-    ++ (each (kind_known all) 0 all.kinds
-    ++ each (region_known all) 0 all.regions)))
+    ++ (conditions_on_each (terrain_known all) 0 all.terrains
+    ++ (conditions_on_each (item_known all) 0 all.items
+    ++ (conditions_on_each (kind_known all) 0 all.kinds
+    ++ conditions_on_each (region_known all) 0 all.regions)))
 
 -- the conditions that each neighbour of a region has this region on its opposite side
 unfoldable pub neighbours_are_mutual : WorldDraft → Conditions
-neighbours_are_mutual all = each (neighbours_at (regions_of all)) 0 all.regions
+neighbours_are_mutual all = conditions_on_each (neighbours_at (regions_of all)) 0 all.regions
 
 -- the condition that some region is land, given the numbers of all regions of land; else the fault NoLand
 abbrev pub is_some_land : List ℕ → Conditions
@@ -135,24 +135,24 @@ table_conditions all =
     ++ is_some_land (land_of (world_of_tables all))))
 
 -- all conditions on a document in a format, those on keys first
-unfoldable pub conditions : Format → Members → Conditions
-conditions format doc = keys_conditions format doc ++ table_conditions (tables_of format doc)
+unfoldable pub document_conditions : Format → Members → Conditions
+document_conditions format doc = keys_conditions format doc ++ table_conditions (tables_of format doc)
 
 -- ---- the world of a text in a format, or its first fault
 
 -- the world of a document in a format, or its first fault; NotToml without a document
-abbrev pub world_in : Format → Option Members → Result WorldValue WorldFault
-world_in format None = Err NotToml
-world_in format (Some doc) = fault_or_value (first_fault (conditions format doc)) (world_of_tables (tables_of format doc))
+abbrev pub world_of_document : Format → Option Members → Result WorldValue WorldFault
+world_of_document format None = Err NotToml
+world_of_document format (Some doc) = fault_or_value (first_fault (document_conditions format doc)) (world_of_tables (tables_of format doc))
 
 -- the world of a text in a format, or its first fault
-unfoldable pub world_by : Format → List ℕ → Result WorldValue WorldFault
-world_by format text = world_in format (parse_document text)
+unfoldable pub world_of_text : Format → List ℕ → Result WorldValue WorldFault
+world_of_text format text = world_of_document format (parse_document text)
 
 -- the world of a text in the second format, with markets, or its first fault
 abbrev pub world_of : List ℕ → Result WorldValue WorldFault
-world_of = world_by Second
+world_of = world_of_text Second
 
 -- the world of a text in the first format, without markets, or its first fault
 abbrev pub old_world_of : List ℕ → Result WorldValue WorldFault
-old_world_of = world_by First
+old_world_of = world_of_text First

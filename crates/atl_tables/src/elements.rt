@@ -23,7 +23,8 @@ pub(crate) trait FromTable: Drop {
 
     // The value that a table at a path gives, if the conditions on its keys hold.
     ghost record_of: { List ℕ → Members → Self };
-    // What is true of each value that was read.
+    // What is true of each value that was read: its names keep the rule of names, and its numbers
+    // are in their ranges.
     ghost is_sound: { Self → Type 0 };
 
     /// Reads the value that a table at a path describes, or gives the first fault of its keys, or
@@ -49,10 +50,10 @@ fn one_element<E: FromTable>(
         (element_table (element_path key.now i) (view value.now))) }
     ensures sound { IfOk result E.is_sound }
 {
-    let place = element_path(alloc, key, i)?;
-    let at = place.as_str();
+    let element = element_path(alloc, key, i)?;
+    let at = element.as_str();
     match value.as_table() {
-        None => Err(WorldFault::WrongType(place)),
+        None => Err(WorldFault::WrongType(element)),
         Some(table) => E::read(alloc, at, table),
     }
 }
@@ -77,7 +78,7 @@ fn elements<E: FromTable>(alloc: Global, key: &str, values: &Array) -> Result<Ve
 /// The 1 to `most` elements of the array under a key of the document, else the fault Missing,
 /// WrongType or OutOfRange of the array, or the first fault of an element.
 #[tactic(auto, unfolding(crate::specs::Arrays::list_conditions, crate::specs::Arrays::list_of, crate::specs::Keys::array_at))]
-pub(crate) fn list<E: FromTable>(
+pub(crate) fn read_array<E: FromTable>(
     alloc: Global,
     most: usize,
     key: &str,
@@ -99,11 +100,11 @@ pub(crate) fn list<E: FromTable>(
     }
 }
 
-/// The at most `most` elements of the array under a key of a table, none if the key is missing,
-/// else the fault WrongType or OutOfRange of the array, whose path is `array`, or the first fault
-/// of an element.
+/// The at most `most` elements of the array under a key of a table, none if the key is missing. An
+/// error is the fault WrongType or OutOfRange of the array, whose path is `array`, or the first
+/// fault of an element.
 #[tactic(auto, unfolding(crate::specs::Arrays::list_conditions, crate::specs::Arrays::list_of, crate::specs::Keys::optional_array_at))]
-pub(crate) fn optional_list<E: FromTable>(
+pub(crate) fn read_optional_array<E: FromTable>(
     alloc: Global,
     most: usize,
     array: &str,

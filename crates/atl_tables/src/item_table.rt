@@ -8,7 +8,7 @@ ghost use Rattle.atl_tables.specs.KeyByKey.{conditions_of, value_of};
 ghost use Rattle.atl_tables.specs.Keys.{path};
 ghost use Rattle.atl_world.specs.Limits.{most_numbered};
 ghost use Rattle.atl_world.specs.Worlds.{IsItem};
-ghost use Rattle.atl_tables.specs.Titles.{number_of, known_number_or_none};
+ghost use Rattle.atl_tables.specs.Titles.{number_of, optional_name_is_known};
 
 use crate::elements::FromTable;
 use crate::fault::WorldFault;
@@ -142,8 +142,8 @@ fn other_item(items: &[ItemDraft], i: usize, name: &Text) -> Option<u16>
     }
 }
 
-/// The number of the item that the i-th item is made of, `None` where the file names none, else the
-/// fault UnknownName if no item has the name or the first that has it is the i-th itself.
+/// The number of the item that the i-th item is made of, `None` where the file names none. An error
+/// is the fault UnknownName: no item has the name, or the first that has it is the i-th itself.
 fn raw_item(
     alloc: Global,
     items: &[ItemDraft],
@@ -153,7 +153,7 @@ fn raw_item(
 ) -> Result<Option<u16>, WorldFault>
     requires { length items.now ≤ most_numbered }
     ensures value { Gives (λ n. n) result
-        (known_number_or_none (path at.now (codes "raw"))
+        (optional_name_is_known (path at.now (codes "raw"))
         (λ name. other_than i (number_of (λ d. d.name) items.now name)) name.now)
         (option_and_then (number_of (λ d. d.name) items.now) name.now) }
     ensures below { IfOk result (λ o. IfSome o (λ n. n < length items.now)) }
@@ -184,8 +184,8 @@ impl Draft for ItemDraft {
     /// name that refers to nothing.
     #[tactic(auto, unfolding(crate::specs::ItemTable::item_known, crate::specs::ItemTable::item_of))]
     fn resolve(&self, alloc: Global, all: &WorldDraft, i: usize) -> Result<Item, WorldFault> {
-        let place = element_path(alloc, "item", i)?;
-        let at = place.as_str();
+        let element = element_path(alloc, "item", i)?;
+        let at = element.as_str();
         let making = &self.making;
         let skill = known_number_or_none(alloc, all.skills.as_slice(), "skill", at, &making.skill)?;
         let raw = raw_item(alloc, all.items.as_slice(), i, at, &making.raw)?;

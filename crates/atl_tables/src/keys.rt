@@ -5,7 +5,7 @@ ghost use Rattle.toml.specs.Data.{get_member, as_integer, as_str, as_array};
 ghost use Rattle.toml.specs.View.{view, table_view, array_view};
 ghost use Rattle.atl_tables.specs.Faults.{Reads};
 ghost use Rattle.atl_world.specs.Names.{name_ok};
-ghost use Rattle.atl_tables.specs.Keys.{path, element_path, within, integer_in_range, value_or_wrong_type, number_at, name_at, text_at, flag_at, number_or_at, optional_number_at, optional_text_at, table_at, count_of, array_of_size};
+ghost use Rattle.atl_tables.specs.Keys.{path, element_path, number_within, integer_in_range, value_or_wrong_type, number_at, name_at, text_at, flag_at, number_or_at, optional_number_at, optional_text_at, table_at, count_of, array_of_size};
 
 use crate::fault::WorldFault;
 use atl_world::{Text, name_ok};
@@ -35,8 +35,8 @@ pub(crate) fn member<'a>(table: &'a Table, key: &str) -> Option<&'a Value>
 }
 
 /// An integer as a number of 32 bits, `None` if it isn't from `least` to `most`.
-fn within(least: u32, most: u32, number: i64) -> Option<u32>
-    ensures value { result ≡ within least most number }
+fn number_within(least: u32, most: u32, number: i64) -> Option<u32>
+    ensures value { result ≡ number_within least most number }
     ensures least { IfSome result (λ n. least ≤ n) }
     ensures most { IfSome result (λ n. n ≤ most) }
 {
@@ -68,7 +68,7 @@ pub(crate) fn integer_in_range(
 {
     match value.as_integer() {
         None => Err(WorldFault::WrongType(path(alloc, at, key)?)),
-        Some(number) => match within(least, most, number) {
+        Some(number) => match number_within(least, most, number) {
             None => Err(WorldFault::OutOfRange(path(alloc, at, key)?)),
             Some(number) => Ok(number),
         },

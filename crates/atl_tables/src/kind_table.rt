@@ -1,15 +1,15 @@
 //! Reads the tables `[[kind]]` and looks up the items and skills that they name. A call that may
 //! return a fault may also return `Memory`. See docs/FORMATS.md, "The world file".
 ghost use Rattle.std.specs.Prelude.{length};
-ghost use Rattle.atl_tables.specs.Drafts.{IsBuilding, IsPurpose, IsKindDraft};
+ghost use Rattle.atl_tables.specs.Drafts.{AreBuildingNeeds, IsPurpose, IsKindDraft};
 ghost use Rattle.atl_tables.specs.KeyByKey.{conditions_of, value_of};
-ghost use Rattle.atl_tables.specs.KindTable.{building_at, purpose_at, kind_keys, kind_from, kind_known, kind_of};
+ghost use Rattle.atl_tables.specs.KindTable.{building_needs_at, purpose_at, kind_keys, kind_from, kind_known, kind_of};
 ghost use Rattle.atl_world.specs.Worlds.{IsKind};
 
 use crate::elements::FromTable;
 use crate::fault::WorldFault;
 use crate::keys::{self, element_path};
-use crate::titles::{known, known_number_or_none};
+use crate::titles::{known_number, known_number_or_none};
 use crate::world_draft::{Draft, WorldDraft};
 use atl_world::limits::{LAST_LEVEL, MOST_AMOUNT, MOST_SIZE};
 use atl_world::{Kind, Text, Titled, let_go};
@@ -17,7 +17,7 @@ use std::alloc::Global;
 use toml::Table;
 
 /// What building a structure takes, with its material and its skill by name.
-pub struct Building {
+pub struct BuildingNeeds {
     /// The name of the item that the structure is built of.
     pub material: Text,
     /// How much material makes the structure complete, from 1 to `MOST_SIZE`.
@@ -29,9 +29,9 @@ pub struct Building {
 }
 
 /// Drops the names of the material and of the skill.
-impl Drop for Building {
+impl Drop for BuildingNeeds {
     fn drop(self) {
-        let_go!(self: Building { material, size, skill, level });
+        let_go!(self: BuildingNeeds { material, size, skill, level });
     }
 }
 
@@ -54,7 +54,7 @@ pub struct KindDraft {
     /// Whether the structure is a ship, else it is a building.
     pub ship: bool,
     /// What building the structure takes.
-    pub building: Building,
+    pub building: BuildingNeeds,
     /// What the structure is good for.
     pub purpose: Purpose,
 }
@@ -68,22 +68,22 @@ impl Drop for KindDraft {
 
 /// Reads the keys `material`, `size`, `skill` and `level` of a table `[[kind]]`: what building a
 /// structure takes.
-impl FromTable for Building {
-    ghost conditions = { conditions_of building_at };
+impl FromTable for BuildingNeeds {
+    ghost conditions = { conditions_of building_needs_at };
 
-    ghost record_of = { value_of building_at };
+    ghost record_of = { value_of building_needs_at };
 
-    ghost is_sound = { IsBuilding };
+    ghost is_sound = { AreBuildingNeeds };
 
     /// What building the structure takes, as the table at the path `at` says, else the first fault
     /// of its keys `material`, `size`, `skill` and `level`.
-    #[tactic(auto, unfolding(crate::specs::KindTable::building_at))]
-    fn read(alloc: Global, at: &str, table: &Table) -> Result<Building, WorldFault> {
+    #[tactic(auto, unfolding(crate::specs::KindTable::building_needs_at))]
+    fn read(alloc: Global, at: &str, table: &Table) -> Result<BuildingNeeds, WorldFault> {
         let material = keys::text(alloc, "material", at, table)?;
         let size = keys::number(alloc, 1, MOST_SIZE, "size", at, table)?;
         let skill = keys::text(alloc, "skill", at, table)?;
         let level = keys::number(alloc, 1, LAST_LEVEL, "level", at, table)?;
-        Ok(Building {
+        Ok(BuildingNeeds {
             material,
             size,
             skill,
@@ -130,7 +130,7 @@ impl FromTable for KindDraft {
     fn read(alloc: Global, at: &str, table: &Table) -> Result<KindDraft, WorldFault> {
         let name = keys::name(alloc, "name", at, table)?;
         let ship = keys::flag(alloc, "ship", at, table)?;
-        let building = Building::read(alloc, at, table)?;
+        let building = BuildingNeeds::read(alloc, at, table)?;
         let purpose = Purpose::read(alloc, at, table)?;
         Ok(KindDraft {
             name,
@@ -167,19 +167,19 @@ impl Draft for KindDraft {
     /// name that refers to nothing.
     #[tactic(auto, unfolding(crate::specs::KindTable::kind_known, crate::specs::KindTable::kind_of))]
     fn resolve(&self, alloc: Global, all: &WorldDraft, i: usize) -> Result<Kind, WorldFault> {
-        let place = element_path(alloc, "kind", i)?;
-        let at = place.as_str();
+        let element = element_path(alloc, "kind", i)?;
+        let at = element.as_str();
         let skills = all.skills.as_slice();
         let building = &self.building;
         let purpose = &self.purpose;
-        let material = known(
+        let material = known_number(
             alloc,
             all.items.as_slice(),
             "material",
             at,
             &building.material,
         )?;
-        let skill = known(alloc, skills, "skill", at, &building.skill)?;
+        let skill = known_number(alloc, skills, "skill", at, &building.skill)?;
         let helps = known_number_or_none(alloc, skills, "helps", at, &purpose.helps)?;
         let name = self.name.copy(alloc)?;
         Ok(Kind {

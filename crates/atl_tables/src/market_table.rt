@@ -9,11 +9,11 @@ ghost use Rattle.atl_tables.specs.Results.{Gives};
 ghost use Rattle.atl_tables.specs.MarketTable.{market_keys, market_from, markets_keys, markets_from, market_known, market_of};
 ghost use Rattle.atl_world.specs.Worlds.{IsMarket};
 
-use crate::elements::{FromTable, optional_list};
+use crate::elements::{FromTable, read_optional_array};
 use crate::fault::WorldFault;
 use crate::has_number::HasNumber;
 use crate::keys::{self, path};
-use crate::titles::known;
+use crate::titles::known_number;
 use crate::world_draft::{Draft, WorldDraft};
 use atl_world::limits::{MOST_AMOUNT, MOST_MARKETS, MOST_PRICE};
 use atl_world::{Market, Sequence, Text, Titled, let_go};
@@ -84,7 +84,7 @@ pub(crate) fn markets(
     ensures sound { IfOk result (λ v. All IsMarketDraft v) }
 {
     let array = path(alloc, at, "market")?;
-    optional_list::<MarketDraft>(alloc, MOST_MARKETS, array.as_str(), "market", table)
+    read_optional_array::<MarketDraft>(alloc, MOST_MARKETS, array.as_str(), "market", table)
 }
 
 /// The title of a market is the name of its item.
@@ -113,7 +113,7 @@ impl Draft for MarketDraft {
     #[tactic(auto, unfolding(crate::specs::MarketTable::market_known, crate::specs::MarketTable::market_of))]
     fn resolve(&self, alloc: Global, all: &WorldDraft, _i: usize) -> Result<Market, WorldFault> {
         let at = self.table_path.as_str();
-        let item = known(alloc, all.items.as_slice(), "item", at, &self.item)?;
+        let item = known_number(alloc, all.items.as_slice(), "item", at, &self.item)?;
         Ok(Market {
             item,
             price: self.price,

@@ -3,12 +3,12 @@
 ghost use Rattle.std.specs.Prelude.{◌≡◌, OnOk, option_and_then};
 ghost use Rattle.std.specs.FinMap.{get};
 ghost use Rattle.std.specs.List.{All};
-ghost use Rattle.atl_tables.specs.Each.{each};
+ghost use Rattle.atl_tables.specs.Each.{conditions_on_each};
 ghost use Rattle.atl_tables.specs.Faults.{first_fault};
 ghost use Rattle.atl_tables.specs.Results.{Gives};
 ghost use Rattle.atl_tables.specs.Keys.{path};
-ghost use Rattle.atl_tables.specs.Neighbours.{is_number, neighbour, neighbours_at};
-ghost use Rattle.atl_world.specs.Worlds.{beside, LeadsBack, HasNeighbours};
+ghost use Rattle.atl_tables.specs.Neighbours.{equals_number, neighbour_fault, neighbours_at};
+ghost use Rattle.atl_world.specs.Worlds.{neighbour_to, LeadsBack, HasMutualNeighbours};
 
 use crate::fault::WorldFault;
 use crate::keys::{element_path, path};
@@ -19,17 +19,17 @@ use std::alloc::Global;
 
 /// The number of a region's neighbour on a side, `None` if there is no such region or no neighbour.
 fn region_next_to(regions: &Numbered<RegionPlan>, number: u32, side: Direction) -> Option<u32>
-    ensures { result ≡ option_and_then (beside side) (get regions.now number) }
+    ensures { result ≡ option_and_then (neighbour_to side) (get regions.now number) }
 {
     match regions.get(number) {
         None => None,
-        Some(plan) => plan.beside(side),
+        Some(plan) => plan.neighbour_to(side),
     }
 }
 
 /// Whether `other` is given (`Some`) and equals the region number `number`.
-fn is_number(number: u32, other: Option<u32>) -> bool
-    ensures { result ≡ is_number number other }
+fn equals_number(number: u32, other: Option<u32>) -> bool
+    ensures { result ≡ equals_number number other }
 {
     match other {
         None => false,
@@ -38,8 +38,8 @@ fn is_number(number: u32, other: Option<u32>) -> bool
 }
 
 /// Checks that the neighbour `other` of the region `number`, if there is one, has this region on
-/// its side `opposite`, else gives the fault BadNeighbour at `key` of the table at the path `at`.
-fn neighbour(
+/// its side `opposite`. An error is the fault BadNeighbour at `key` of the table at the path `at`.
+fn check_neighbour(
     alloc: Global,
     key: &str,
     at: &str,
@@ -49,13 +49,13 @@ fn neighbour(
     other: Option<u32>,
 ) -> Result<(), WorldFault>
     ensures value { Gives (λ u. u) result
-        (neighbour (path at.now key.now) regions.now opposite number other) (tt {0}) }
-    ensures back { OnOk result (LeadsBack regions.now (beside opposite) number other) }
+        (neighbour_fault (path at.now key.now) regions.now opposite number other) (tt {0}) }
+    ensures back { OnOk result (LeadsBack regions.now (neighbour_to opposite) number other) }
 {
     match other {
         None => Ok(()),
         Some(other) => {
-            if is_number(number, region_next_to(regions, other, opposite)) {
+            if equals_number(number, region_next_to(regions, other, opposite)) {
                 return Ok(());
             }
             Err(WorldFault::BadNeighbour(path(alloc, at, key)?))
@@ -75,17 +75,17 @@ fn neighbours_of(
     ensures value { Gives (λ u. u) result (first_fault (neighbours_at regions.now i draft.now))
         (tt {0}) }
     ensures back { OnOk result
-        (HasNeighbours regions.now draft.now.basics.number draft.now.sides.north
+        (HasMutualNeighbours regions.now draft.now.basics.number draft.now.sides.north
         draft.now.sides.south draft.now.sides.east draft.now.sides.west) }
 {
-    let place = element_path(alloc, "region", i)?;
-    let at = place.as_str();
+    let element = element_path(alloc, "region", i)?;
+    let at = element.as_str();
     let number = draft.basics.number;
     let sides = &draft.sides;
-    neighbour(alloc, "north", at, regions, South, number, sides.north)?;
-    neighbour(alloc, "south", at, regions, North, number, sides.south)?;
-    neighbour(alloc, "east", at, regions, West, number, sides.east)?;
-    neighbour(alloc, "west", at, regions, East, number, sides.west)
+    check_neighbour(alloc, "north", at, regions, South, number, sides.north)?;
+    check_neighbour(alloc, "south", at, regions, North, number, sides.south)?;
+    check_neighbour(alloc, "east", at, regions, West, number, sides.east)?;
+    check_neighbour(alloc, "west", at, regions, East, number, sides.west)
 }
 
 /// Checks that each neighbour of each region has the region on its opposite side, else gives the
@@ -96,9 +96,9 @@ pub(crate) fn mutual_neighbours(
     drafts: &[RegionDraft],
 ) -> Result<(), WorldFault>
     ensures value { Gives (λ u. u) result
-        (first_fault (each (neighbours_at regions.now) 0 drafts.now)) (tt {0}) }
+        (first_fault (conditions_on_each (neighbours_at regions.now) 0 drafts.now)) (tt {0}) }
     ensures back { OnOk result
-        (All (λ d. HasNeighbours regions.now d.basics.number d.sides.north d.sides.south
+        (All (λ d. HasMutualNeighbours regions.now d.basics.number d.sides.north d.sides.south
         d.sides.east d.sides.west) drafts.now) }
 {
     for i in 0..drafts.len() {

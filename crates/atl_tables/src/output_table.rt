@@ -4,7 +4,7 @@ ghost use Rattle.std.specs.Prelude.{◌≡◌, ◌≤◌, IfOk, map};
 ghost use Rattle.std.specs.List.{All};
 ghost use Rattle.toml.specs.View.{table_view};
 ghost use Rattle.atl_tables.specs.Drafts.{IsOutput, IsWorldDraft};
-ghost use Rattle.atl_tables.specs.Each.{each};
+ghost use Rattle.atl_tables.specs.Each.{conditions_on_each};
 ghost use Rattle.atl_tables.specs.Faults.{first_fault};
 ghost use Rattle.atl_tables.specs.Results.{Gives};
 ghost use Rattle.atl_tables.specs.KeyByKey.{conditions_of, value_of};
@@ -14,7 +14,7 @@ ghost use Rattle.atl_tables.specs.OutputTable.{in_byte_order, amounts_keys, amou
 use crate::fault::WorldFault;
 use crate::item_table::ItemDraft;
 use crate::keys::{integer_in_range, member, path};
-use crate::titles::{is_new, known, same_name};
+use crate::titles::{add_name, known_number, same_name};
 use crate::world_draft::WorldDraft;
 use atl_world::limits::MOST_AMOUNT;
 use atl_world::{Sequence, Text};
@@ -33,7 +33,7 @@ pub struct Output {
 
 /// The entries of a table `output`, in byte order of their keys, else the fault WrongType or
 /// OutOfRange at the first bad amount.
-fn amounts(alloc: Global, at: &str, table: &Table) -> Result<Sequence<Output>, WorldFault>
+fn output_entries(alloc: Global, at: &str, table: &Table) -> Result<Sequence<Output>, WorldFault>
     ensures value { Gives (λ v. v) result
         (first_fault (amounts_keys at.now (in_byte_order (table_view table.now))))
         (amounts_from at.now (in_byte_order (table_view table.now))) }
@@ -49,8 +49,8 @@ fn amounts(alloc: Global, at: &str, table: &Table) -> Result<Sequence<Output>, W
     Ok(outputs)
 }
 
-/// The output of the terrain at a path, in byte order of its keys, empty if the file has none, else
-/// the fault WrongType if `output` is no table, or the first fault of an amount.
+/// The output of the terrain at a path, in byte order of its keys, empty if the file has none. An
+/// error is the fault WrongType, if `output` is no table, or the first fault of an amount.
 #[tactic(auto, unfolding(crate::specs::OutputTable::output_at, crate::specs::OutputTable::in_byte_order, crate::specs::Keys::optional_table_at))]
 pub(crate) fn outputs(
     alloc: Global,
@@ -65,10 +65,10 @@ pub(crate) fn outputs(
     match member(table, "output") {
         None => Ok(Sequence::new(alloc)),
         Some(value) => {
-            let place = path(alloc, at, "output")?;
+            let element = path(alloc, at, "output")?;
             match value.as_table() {
-                None => Err(WorldFault::WrongType(place)),
-                Some(table) => amounts(alloc, place.as_str(), table),
+                None => Err(WorldFault::WrongType(element)),
+                Some(table) => output_entries(alloc, element.as_str(), table),
             }
         }
     }
@@ -82,11 +82,12 @@ pub(crate) fn no_duplicate_keys(
     outputs: &[Output],
 ) -> Result<(), WorldFault>
     ensures { Gives (λ u. u) result
-        (first_fault (each (duplicate_key_at at.now outputs.now) 0 outputs.now)) (tt {0}) }
+        (first_fault (conditions_on_each (duplicate_key_at at.now outputs.now) 0 outputs.now))
+        (tt {0}) }
 {
     let mut seen = BTreeSet::new(alloc);
     for output in outputs {
-        if !is_new(alloc, &mut seen, &output.item)? {
+        if !add_name(alloc, &mut seen, &output.item)? {
             return Err(WorldFault::TwoNames(path(alloc, at, output.item.as_str())?));
         }
     }
@@ -95,19 +96,20 @@ pub(crate) fn no_duplicate_keys(
 
 /// Checks that each key of an output names an item, else gives the fault UnknownName at the first
 /// that doesn't.
-pub(crate) fn known_keys(
+pub(crate) fn keys_name_items(
     alloc: Global,
     all: &WorldDraft,
     at: &str,
     outputs: &[Output],
 ) -> Result<(), WorldFault>
     requires { IsWorldDraft all.now }
-    ensures { Gives (λ u. u) result (first_fault (each (known_key_at all.now at.now) 0 outputs.now))
+    ensures { Gives (λ u. u) result (first_fault
+        (conditions_on_each (known_key_at all.now at.now) 0 outputs.now))
         (tt {0}) }
 {
     for i in 0..outputs.len() {
         let item = &outputs[i].item;
-        known(alloc, all.items.as_slice(), item.as_str(), at, item)?;
+        known_number(alloc, all.items.as_slice(), item.as_str(), at, item)?;
     }
     Ok(())
 }

@@ -7,13 +7,13 @@ ghost use Rattle.atl_tables.specs.Drafts.{IsRegionDraft, AreOptionalTables, IsWo
 ghost use Rattle.atl_tables.specs.Faults.{first_fault, Reads};
 ghost use Rattle.atl_tables.specs.Results.{Gives};
 ghost use Rattle.atl_world.specs.Limits.{most_regions};
-ghost use Rattle.atl_tables.specs.OldWorlds.{OldWorldsAreBare};
+ghost use Rattle.atl_tables.specs.OldWorlds.{OldWorldsHaveNoMarkets};
 ghost use Rattle.atl_tables.specs.Parts.{AreWorldPartsOf, world_parts_of};
 ghost use Rattle.atl_world.specs.Worlds.{IsWorld, is_land, land_of, world_of_parts};
 ghost use Rattle.atl_world.specs.Sums.{numbers_where};
-ghost use Rattle.atl_tables.specs.World.{optional_tables_of, regions_in, tables_of, world_of_tables, optional_conditions, regions_conditions, keys_conditions, titles_differ, names_differ, names_are_known, neighbours_are_mutual, is_some_land, table_conditions, conditions, world_by, world_of, old_world_of};
+ghost use Rattle.atl_tables.specs.World.{optional_tables_of, regions_in, tables_of, world_of_tables, optional_conditions, regions_conditions, keys_conditions, titles_differ, names_differ, names_are_known, neighbours_are_mutual, is_some_land, table_conditions, document_conditions, world_of_text, world_of, old_world_of};
 
-use crate::elements::{list, optional_list};
+use crate::elements::{read_array, read_optional_array};
 use crate::fault::WorldFault;
 use crate::has_number::by_number;
 use crate::item_table::ItemDraft;
@@ -58,9 +58,9 @@ fn read_optional_tables(alloc: Global, document: &Table) -> Result<OptionalTable
         (optional_tables_of (table_view document.now)) }
     ensures sound { IfOk result AreOptionalTables }
 {
-    let items = optional_list::<ItemDraft>(alloc, MOST_ITEMS, "item", "item", document)?;
-    let skills = optional_list::<Skill>(alloc, MOST_SKILLS, "skill", "skill", document)?;
-    let kinds = optional_list::<KindDraft>(alloc, MOST_KINDS, "kind", "kind", document)?;
+    let items = read_optional_array::<ItemDraft>(alloc, MOST_ITEMS, "item", "item", document)?;
+    let skills = read_optional_array::<Skill>(alloc, MOST_SKILLS, "skill", "skill", document)?;
+    let kinds = read_optional_array::<KindDraft>(alloc, MOST_KINDS, "kind", "kind", document)?;
     Ok(OptionalTables {
         items,
         skills,
@@ -84,10 +84,10 @@ fn read_regions(
 {
     match format {
         Format::First => {
-            let regions = list::<OldRegion>(alloc, MOST_REGIONS, "region", document)?;
+            let regions = read_array::<OldRegion>(alloc, MOST_REGIONS, "region", document)?;
             Ok(without_markets(alloc, regions)?)
         }
-        Format::Second => list::<RegionDraft>(alloc, MOST_REGIONS, "region", document),
+        Format::Second => read_array::<RegionDraft>(alloc, MOST_REGIONS, "region", document),
     }
 }
 
@@ -101,7 +101,7 @@ fn tables(alloc: Global, format: Format, document: &Table) -> Result<WorldDraft,
     ensures sound { IfOk result IsWorldDraft }
 {
     let rules = rules(alloc, document)?;
-    let terrains = list::<TerrainDraft>(alloc, MOST_TERRAINS, "terrain", document)?;
+    let terrains = read_array::<TerrainDraft>(alloc, MOST_TERRAINS, "terrain", document)?;
     let optional_tables = read_optional_tables(alloc, document)?;
     let regions = read_regions(alloc, format, document)?;
     Ok(WorldDraft {
@@ -172,7 +172,7 @@ fn is_land(terrains: &[Terrain], plan: &RegionPlan) -> bool
 }
 
 /// The numbers of the regions whose terrain is land, in ascending order.
-fn land(
+fn land_numbers(
     alloc: Global,
     terrains: &[Terrain],
     regions: &Numbered<RegionPlan>,
@@ -190,7 +190,7 @@ fn land(
 
 /// Makes the world of its parts, if the terrain of some region is land, else gives the fault
 /// NoLand.
-fn with_land(
+fn world_with_land(
     alloc: Global,
     rules: Rules,
     terrains: Sequence<Terrain>,
@@ -207,7 +207,7 @@ fn with_land(
         (land_of (world_of_parts rules terrains items skills kinds regions))))
         (world_of_parts rules terrains items skills kinds regions) }
 {
-    let land = land(alloc, terrains.as_slice(), &regions)?;
+    let land = land_numbers(alloc, terrains.as_slice(), &regions)?;
     if land.len() == 0 {
         return Err(WorldFault::NoLand);
     }
@@ -217,7 +217,7 @@ fn with_land(
 /// Makes the world of `parts` and the skills of `all`, if neighbours are mutual and the terrain of
 /// some region is land, else gives the fault BadNeighbour or NoLand.
 #[tactic(auto, unfolding(crate::specs::World::neighbours_are_mutual))]
-fn join(alloc: Global, all: WorldDraft, parts: WorldParts) -> Result<World, WorldFault>
+fn make_world(alloc: Global, all: WorldDraft, parts: WorldParts) -> Result<World, WorldFault>
     requires all { IsWorldDraft all }
     requires names { ThingNamesDiffer all }
     requires parts { parts ≡ world_parts_of all }
@@ -236,7 +236,7 @@ fn join(alloc: Global, all: WorldDraft, parts: WorldParts) -> Result<World, Worl
     let regions = by_number(alloc, regions.into_vec())?;
     mutual_neighbours(alloc, &regions, all.regions.as_slice())?;
     let skills = all.into_skills();
-    with_land(alloc, rules, terrains, items, skills, kinds, regions)
+    world_with_land(alloc, rules, terrains, items, skills, kinds, regions)
 }
 
 /// The world that the tables describe, or the first of the faults TwoNames, UnknownName,
@@ -247,13 +247,14 @@ fn from_tables(alloc: Global, all: WorldDraft) -> Result<World, WorldFault>
 {
     names_differ(alloc, &all)?;
     let parts = resolve(alloc, &all)?;
-    join(alloc, all, parts)
+    make_world(alloc, all, parts)
 }
 
 /// The world that a document of TOML describes in a format, or its first fault.
-#[tactic(auto, unfolding(crate::specs::World::conditions))]
+#[tactic(auto, unfolding(crate::specs::World::document_conditions))]
 fn from_document(alloc: Global, format: Format, document: &Table) -> Result<World, WorldFault>
-    ensures { Gives (λ w. w) result (first_fault (conditions format (table_view document.now)))
+    ensures { Gives (λ w. w) result (first_fault
+        (document_conditions format (table_view document.now)))
         (world_of_tables (tables_of format (table_view document.now))) }
 {
     let all = tables(alloc, format, document)?;
@@ -261,9 +262,9 @@ fn from_document(alloc: Global, format: Format, document: &Table) -> Result<Worl
 }
 
 /// The world that a text describes in a format, or its first fault.
-#[tactic(auto, unfolding(crate::specs::World::world_by))]
+#[tactic(auto, unfolding(crate::specs::World::world_of_text))]
 fn read(alloc: Global, format: Format, text: &str) -> Result<World, WorldFault>
-    ensures { Reads (λ w. w) result (world_by format text.now) }
+    ensures { Reads (λ w. w) result (world_of_text format text.now) }
 {
     match toml::table_from_str(alloc, text) {
         Ok(document) => from_document(alloc, format, &document),
@@ -296,5 +297,5 @@ pub fn read_old_world(alloc: Global, text: &str) -> Result<World, WorldFault>
 /// A law: a world of the first format has no markets, whatever its text has of them. The call does
 /// nothing.
 pub fn old_worlds_have_no_markets()
-    ensures { OldWorldsAreBare }
+    ensures { OldWorldsHaveNoMarkets }
 {}

@@ -13,7 +13,7 @@ use crate::fault::WorldFault;
 use crate::has_number::{HasNumber, by_number};
 use crate::keys::{self, element_path, path};
 use crate::market_table::{MarketDraft, markets};
-use crate::titles::{HasUniqueNames, known, no_duplicate_names};
+use crate::titles::{HasUniqueNames, known_number, no_duplicate_names};
 use crate::world_draft::{Draft, WorldDraft, resolve_all};
 use atl_world::limits::{LAST_REGION, MOST_AMOUNT};
 use atl_world::{RegionPlan, Sequence, Text, let_go};
@@ -186,14 +186,14 @@ pub(crate) fn without_markets(
 /// Checks that no two markets of a region are of the same item, else gives the fault TwoNames at
 /// the second.
 impl HasUniqueNames for RegionDraft {
-    ghost no_twins = { duplicate_market_items };
+    ghost no_duplicates = { duplicate_market_items };
 
     /// Checks the markets of the i-th region, else gives TwoNames at the second market of an item.
     #[tactic(auto, unfolding(crate::specs::RegionTable::duplicate_market_items))]
     fn no_duplicates_inside(&self, alloc: Global, i: usize) -> Result<(), WorldFault> {
-        let place = element_path(alloc, "region", i)?;
-        let place = path(alloc, place.as_str(), "market")?;
-        no_duplicate_names(alloc, place.as_str(), "item", self.markets.as_slice())
+        let element = element_path(alloc, "region", i)?;
+        let element = path(alloc, element.as_str(), "market")?;
+        no_duplicate_names(alloc, element.as_str(), "item", self.markets.as_slice())
     }
 }
 
@@ -208,18 +208,19 @@ impl Draft for RegionDraft {
 
     ghost record_of = { region_of };
 
-    ghost is_sound = { λ all i x. IsRegionPlan (length all.terrains) (length all.items) x.number x };
+    ghost is_sound = { λ all i x. IsRegionPlan (length all.terrains) (length all.items) x.number
+        x };
 
     /// The region with its terrain and the items of its markets by number, else UnknownName at the
     /// first name that refers to nothing.
     #[tactic(auto, unfolding(crate::specs::RegionTable::region_known, crate::specs::RegionTable::region_of))]
     fn resolve(&self, alloc: Global, all: &WorldDraft, i: usize) -> Result<RegionPlan, WorldFault> {
-        let place = element_path(alloc, "region", i)?;
-        let terrain = known(
+        let element = element_path(alloc, "region", i)?;
+        let terrain = known_number(
             alloc,
             all.terrains.as_slice(),
             "terrain",
-            place.as_str(),
+            element.as_str(),
             &self.basics.terrain,
         )?;
         let markets = resolve_all(alloc, all, self.markets.as_slice())?;

@@ -19,8 +19,8 @@ pub(crate) fn no_duplicate_numbers(alloc: Global, drafts: &[RegionDraft]) -> Res
     for i in 0..drafts.len() {
         let number = drafts[i].basics.number;
         if let Some(()) = seen.get(number) {
-            let place = element_path(alloc, "region", i)?;
-            return Err(WorldFault::TwoNames(path(alloc, place.as_str(), "number")?));
+            let element = element_path(alloc, "region", i)?;
+            return Err(WorldFault::TwoNames(path(alloc, element.as_str(), "number")?));
         }
         seen.insert(number, ())?;
     }

@@ -7,7 +7,7 @@ ghost use Rattle.atl_tables.specs.Faults.{first_fault};
 ghost use Rattle.atl_tables.specs.Results.{Gives};
 ghost use Rattle.atl_tables.specs.KeyByKey.{conditions_of, value_of};
 ghost use Rattle.atl_world.specs.Worlds.{AreRules};
-ghost use Rattle.atl_tables.specs.RulesTable.{prices_at, peasants_at, men_at, skill_names_at, rules_at, rules_conditions, rules_in, rules_known, rules_of};
+ghost use Rattle.atl_tables.specs.RulesTable.{prices_at, peasant_rules_at, men_rules_at, skill_names_at, rules_at, rules_conditions, rules_in, rules_known, rules_of};
 
 use crate::elements::FromTable;
 use crate::fault::WorldFault;
@@ -109,15 +109,15 @@ impl FromTable for Prices {
 
 /// Reads the keys `recruit_fraction`, `growth` and `income` of the table `[rules]`.
 impl FromTable for PeasantRules {
-    ghost conditions = { conditions_of peasants_at };
+    ghost conditions = { conditions_of peasant_rules_at };
 
-    ghost record_of = { value_of peasants_at };
+    ghost record_of = { value_of peasant_rules_at };
 
     ghost is_sound = { ArePeasantRules };
 
     /// The rules on peasants that the table gives, else the first fault of its keys
     /// `recruit_fraction`, `growth` and `income`.
-    #[tactic(auto, unfolding(crate::specs::RulesTable::peasants_at, crate::specs::Keys::number_at))]
+    #[tactic(auto, unfolding(crate::specs::RulesTable::peasant_rules_at, crate::specs::Keys::number_at))]
     fn read(alloc: Global, at: &str, table: &Table) -> Result<PeasantRules, WorldFault> {
         let recruit_fraction = keys::number(
             alloc,
@@ -139,15 +139,15 @@ impl FromTable for PeasantRules {
 
 /// Reads the keys `start_money`, `man_weight` and `man_carry` of the table `[rules]`.
 impl FromTable for MenRules {
-    ghost conditions = { conditions_of men_at };
+    ghost conditions = { conditions_of men_rules_at };
 
-    ghost record_of = { value_of men_at };
+    ghost record_of = { value_of men_rules_at };
 
     ghost is_sound = { AreMenRules };
 
     /// The rules on men that the table gives, else the first fault of its keys `start_money`,
     /// `man_weight` and `man_carry`.
-    #[tactic(auto, unfolding(crate::specs::RulesTable::men_at, crate::specs::Keys::number_at))]
+    #[tactic(auto, unfolding(crate::specs::RulesTable::men_rules_at, crate::specs::Keys::number_at))]
     fn read(alloc: Global, at: &str, table: &Table) -> Result<MenRules, WorldFault> {
         let start_money = keys::number(alloc, 0, MOST_AMOUNT, "start_money", at, table)?;
         let man_weight = keys::number(alloc, 0, MOST_WEIGHT, "man_weight", at, table)?;

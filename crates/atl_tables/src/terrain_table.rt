@@ -9,7 +9,7 @@ ghost use Rattle.atl_tables.specs.TerrainTable.{economy_at, terrain_keys, terrai
 use crate::elements::FromTable;
 use crate::fault::WorldFault;
 use crate::keys::{self, element_path, path};
-use crate::output_table::{Output, amounts_of, known_keys, no_duplicate_keys, outputs};
+use crate::output_table::{Output, amounts_of, keys_name_items, no_duplicate_keys, outputs};
 use crate::titles::HasUniqueNames;
 use crate::world_draft::{Draft, WorldDraft};
 use atl_world::limits::{MOST_AMOUNT, MOST_PRICE};
@@ -126,9 +126,9 @@ impl Draft for TerrainDraft {
     /// at the first key of its output that names no item.
     #[tactic(auto, unfolding(crate::specs::TerrainTable::terrain_known, crate::specs::TerrainTable::terrain_of))]
     fn resolve(&self, alloc: Global, all: &WorldDraft, i: usize) -> Result<Terrain, WorldFault> {
-        let place = element_path(alloc, "terrain", i)?;
-        let place = path(alloc, place.as_str(), "output")?;
-        known_keys(alloc, all, place.as_str(), self.output.as_slice())?;
+        let element = element_path(alloc, "terrain", i)?;
+        let element = path(alloc, element.as_str(), "output")?;
+        keys_name_items(alloc, all, element.as_str(), self.output.as_slice())?;
         let output = amounts_of(alloc, all.items.as_slice(), self.output.as_slice())?;
         let name = self.name.copy(alloc)?;
         Ok(Terrain {
@@ -146,14 +146,14 @@ impl Draft for TerrainDraft {
 /// Checks that no two keys of a terrain's output are equal, ignoring ASCII case, else gives the
 /// fault TwoNames at the second.
 impl HasUniqueNames for TerrainDraft {
-    ghost no_twins = { duplicate_output_keys };
+    ghost no_duplicates = { duplicate_output_keys };
 
     /// Checks the keys of the i-th terrain's output, else gives TwoNames at the second of two
     /// equal keys.
     #[tactic(auto, unfolding(crate::specs::TerrainTable::duplicate_output_keys))]
     fn no_duplicates_inside(&self, alloc: Global, i: usize) -> Result<(), WorldFault> {
-        let place = element_path(alloc, "terrain", i)?;
-        let place = path(alloc, place.as_str(), "output")?;
-        no_duplicate_keys(alloc, place.as_str(), self.output.as_slice())
+        let element = element_path(alloc, "terrain", i)?;
+        let element = path(alloc, element.as_str(), "output")?;
+        no_duplicate_keys(alloc, element.as_str(), self.output.as_slice())
     }
 }

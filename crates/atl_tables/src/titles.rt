@@ -2,12 +2,12 @@
 //! also return `Memory`. See docs/FORMATS.md, "The world file".
 ghost use Rattle.std.specs.Prelude.{◌≡◌, ◌≤◌, ◌<◌, ℕ, List, length, not, ◌||◌, IfOk, OnOk, OnErr, IfSome, Some, None, unwrap_or, option_and_then};
 ghost use Rattle.std.specs.BTreeSet.{IsUnchanged};
-ghost use Rattle.atl_tables.specs.Each.{each};
+ghost use Rattle.atl_tables.specs.Each.{conditions_on_each};
 ghost use Rattle.atl_tables.specs.Faults.{Conditions, first_fault};
 ghost use Rattle.atl_tables.specs.Results.{Gives};
 ghost use Rattle.atl_tables.specs.Keys.{path};
 ghost use Rattle.atl_world.specs.Limits.{most_numbered};
-ghost use Rattle.atl_tables.specs.Titles.{no_twins, number_of, known, known_number_or_none};
+ghost use Rattle.atl_tables.specs.Titles.{no_duplicates, number_of, name_is_known, optional_name_is_known};
 ghost use Rattle.atl_world.specs.Names.{same_name};
 ghost use Rattle.atl_tables.specs.SeenNames.{has_name};
 
@@ -26,7 +26,7 @@ pub(crate) fn same_name(name: &Text, other: &Text) -> bool
 
 /// Adds a name to the set `seen`, and returns whether it is new there, ignoring ASCII case. Without
 /// memory nothing is added.
-pub(crate) fn is_new(
+pub(crate) fn add_name(
     alloc: Global,
     seen: &mut BTreeSet<String>,
     name: &Text,
@@ -50,14 +50,15 @@ pub(crate) fn no_duplicate_names<T: Titled>(
     key: &str,
     items: &[T],
 ) -> Result<(), WorldFault>
-    ensures { Gives (λ u. u) result (first_fault (no_twins T.title_of array.now key.now items.now))
+    ensures { Gives (λ u. u) result (first_fault
+        (no_duplicates T.title_of array.now key.now items.now))
         (tt {0}) }
 {
     let mut seen = BTreeSet::new(alloc);
     for (i, item) in items.iter().enumerate() {
-        if !is_new(alloc, &mut seen, item.title())? {
-            let place = element_path(alloc, array, i)?;
-            return Err(WorldFault::TwoNames(path(alloc, place.as_str(), key)?));
+        if !add_name(alloc, &mut seen, item.title())? {
+            let element = element_path(alloc, array, i)?;
+            return Err(WorldFault::TwoNames(path(alloc, element.as_str(), key)?));
         }
     }
     Ok(())
@@ -67,12 +68,12 @@ pub(crate) fn no_duplicate_names<T: Titled>(
 /// region the items of its markets.
 pub(crate) trait HasUniqueNames: Drop {
     // The conditions that no two names in the i-th table of its array are equal.
-    ghost no_twins: { ℕ → Self → Conditions };
+    ghost no_duplicates: { ℕ → Self → Conditions };
 
     /// Checks that the i-th table of its array holds no two equal names, else gives the fault
     /// TwoNames at the second.
     fn no_duplicates_inside(&self, alloc: Global, i: usize) -> Result<(), WorldFault>
-        ensures { Gives (λ u. u) result (first_fault (no_twins i self.now)) (tt {0}) };
+        ensures { Gives (λ u. u) result (first_fault (no_duplicates i self.now)) (tt {0}) };
 }
 
 /// Checks that no table of an array holds two equal names, else gives the fault TwoNames at the
@@ -81,7 +82,8 @@ pub(crate) fn no_duplicates_inside<T: HasUniqueNames>(
     alloc: Global,
     holders: &[T],
 ) -> Result<(), WorldFault>
-    ensures { Gives (λ u. u) result (first_fault (each T.no_twins 0 holders.now)) (tt {0}) }
+    ensures { Gives (λ u. u) result (first_fault (conditions_on_each T.no_duplicates 0 holders.now))
+        (tt {0}) }
 {
     for i in 0..holders.len() {
         holders[i].no_duplicates_inside(alloc, i)?;
@@ -107,7 +109,7 @@ pub(crate) fn number_of<T: Titled>(items: &[T], name: &Text) -> Option<u16>
 
 /// The number (the index) of the element that the name under a key refers to, else the fault
 /// UnknownName at the key's path.
-pub(crate) fn known<T: Titled>(
+pub(crate) fn known_number<T: Titled>(
     alloc: Global,
     items: &[T],
     key: &str,
@@ -116,7 +118,7 @@ pub(crate) fn known<T: Titled>(
 ) -> Result<u16, WorldFault>
     requires { length items.now ≤ most_numbered }
     ensures value { Gives (λ n. n) result
-        (known (path at.now key.now) (number_of T.title_of items.now name.now))
+        (name_is_known (path at.now key.now) (number_of T.title_of items.now name.now))
         (unwrap_or (number_of T.title_of items.now name.now) 0) }
     ensures number { IfOk result (λ n. number_of T.title_of items.now name.now ≡ Some n) }
     ensures below { IfOk result (λ n. n < length items.now) }
@@ -138,14 +140,14 @@ pub(crate) fn known_number_or_none<T: Titled>(
 ) -> Result<Option<u16>, WorldFault>
     requires { length items.now ≤ most_numbered }
     ensures value { Gives (λ n. n) result
-        (known_number_or_none (path at.now key.now) (number_of T.title_of items.now) name.now)
+        (optional_name_is_known (path at.now key.now) (number_of T.title_of items.now) name.now)
         (option_and_then (number_of T.title_of items.now) name.now) }
     ensures below { IfOk result (λ o. IfSome o (λ n. n < length items.now)) }
 {
     match name {
         None => Ok(None),
         Some(name) => {
-            let number = known(alloc, items, key, at, name)?;
+            let number = known_number(alloc, items, key, at, name)?;
             Ok(Some(number))
         }
     }

@@ -3,7 +3,7 @@
 ghost use Rattle.std.specs.Prelude.{◌≡◌, ℕ, IfOk, map};
 ghost use Rattle.std.specs.List.{All};
 ghost use Rattle.atl_tables.specs.Drafts.{IsWorldDraft};
-ghost use Rattle.atl_tables.specs.Each.{each};
+ghost use Rattle.atl_tables.specs.Each.{conditions_on_each};
 ghost use Rattle.atl_tables.specs.EachIndex.{EachIndex};
 ghost use Rattle.atl_tables.specs.Faults.{Conditions, first_fault};
 ghost use Rattle.atl_tables.specs.Results.{Gives};
@@ -58,7 +58,8 @@ pub(crate) trait Draft: Drop {
     /// The record of the world that the table becomes.
     type Record: Drop;
 
-    // The table as read is in bounds.
+    // What is true of each table as read: its names keep the rule of names, and its numbers are in
+    // their ranges.
     ghost is_draft: { Self → Type 0 };
     // The conditions that each name in the i-th table is the name of a thing.
     ghost unknown: { WorldDraft → ℕ → Self → Conditions };
@@ -66,7 +67,8 @@ pub(crate) trait Draft: Drop {
     // The record that the table becomes, if the conditions on its names hold.
     ghost record_of: { WorldDraft → Self → Self.Record };
 
-    // What is true of the record that the i-th table of its array becomes.
+    // What is true of the record that the i-th table of its array becomes: it is in its ranges, and
+    // refers only to things of the world.
     ghost is_sound: { WorldDraft → ℕ → Self.Record → Type 0 };
 
     /// The record of the i-th table of its array, with numbers in place of names, else the fault
@@ -88,7 +90,8 @@ pub(crate) fn resolve_all<D: Draft>(
 ) -> Result<Sequence<D::Record>, WorldFault>
     requires all { IsWorldDraft all.now }
     requires drafts { All D.is_draft drafts.now }
-    ensures value { Gives (λ v. v) result (first_fault (each (D.unknown all.now) 0 drafts.now))
+    ensures value { Gives (λ v. v) result (first_fault
+        (conditions_on_each (D.unknown all.now) 0 drafts.now))
         (map (D.record_of all.now) drafts.now) }
     ensures sound { IfOk result (λ v. EachIndex (D.is_sound all.now) v) }
 {

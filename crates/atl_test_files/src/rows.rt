@@ -14,6 +14,7 @@ trait Put {
 
 /// Inserts a faction; its names and its pass text, which are bytes, are cast to TEXT.
 impl Put for StoredFaction {
+    /// Inserts the row of a faction.
     fn put<S: Alter>(&self, conn: &mut Connection<S>) -> Result<usize, Error> {
         conn.execute(
             "INSERT INTO faction VALUES (?1, CAST(?2 AS TEXT), CAST(?3 AS TEXT), CAST(?4 AS TEXT), ?5)",
@@ -30,6 +31,7 @@ impl Put for StoredFaction {
 
 /// Inserts a region: its number, peasants and money.
 impl Put for StoredRegion {
+    /// Inserts the row of a region.
     fn put<S: Alter>(&self, conn: &mut Connection<S>) -> Result<usize, Error> {
         conn.execute(
             "INSERT INTO region VALUES (?1, ?2, ?3)",
@@ -40,6 +42,7 @@ impl Put for StoredRegion {
 
 /// Inserts a unit without its goods; its name, which is bytes, is cast to TEXT.
 impl Put for StoredUnit {
+    /// Inserts the row of a unit.
     fn put<S: Alter>(&self, conn: &mut Connection<S>) -> Result<usize, Error> {
         conn.execute(
             "INSERT INTO unit VALUES (?1, ?2, CAST(?3 AS TEXT), ?4, ?5, ?6, ?7, ?8)",
@@ -59,6 +62,7 @@ impl Put for StoredUnit {
 
 /// Inserts an item or a skill of a unit, with the amount or the days.
 impl Put for StoredHas {
+    /// Inserts the row of an item or a skill of a unit.
     fn put<S: Alter>(&self, conn: &mut Connection<S>) -> Result<usize, Error> {
         conn.execute(
             "INSERT INTO has VALUES (?1, ?2, ?3, ?4)",
@@ -69,6 +73,7 @@ impl Put for StoredHas {
 
 /// Inserts a structure; its name, which is bytes, is cast to TEXT.
 impl Put for StoredStructure {
+    /// Inserts the row of a structure.
     fn put<S: Alter>(&self, conn: &mut Connection<S>) -> Result<usize, Error> {
         conn.execute(
             "INSERT INTO structure VALUES (?1, ?2, CAST(?3 AS TEXT), ?4, ?5, ?6)",
@@ -86,6 +91,7 @@ impl Put for StoredStructure {
 
 /// Inserts a faction's mailing, as bytes.
 impl Put for StoredMail {
+    /// Inserts the row of a faction's mailing.
     fn put<S: Alter>(&self, conn: &mut Connection<S>) -> Result<usize, Error> {
         conn.execute(
             "INSERT INTO mail VALUES (?1, ?2)",
@@ -96,6 +102,7 @@ impl Put for StoredMail {
 
 /// Inserts a faction's report, as text.
 impl Put for StoredReport {
+    /// Inserts the row of a faction's report.
     fn put<S: Alter>(&self, conn: &mut Connection<S>) -> Result<usize, Error> {
         conn.execute(
             "INSERT INTO report VALUES (?1, ?2)",
@@ -106,6 +113,7 @@ impl Put for StoredReport {
 
 /// Inserts an amount of the books under its entry and its thing.
 impl Put for StoredBooks {
+    /// Inserts the row of an amount of the books.
     fn put<S: Alter>(&self, conn: &mut Connection<S>) -> Result<usize, Error> {
         conn.execute(
             "INSERT INTO books VALUES (?1, ?2, ?3)",
@@ -123,7 +131,7 @@ fn put_each<S: Alter, T: Put>(conn: &mut Connection<S>, rows: &[T]) -> Result<()
 }
 
 /// Inserts each row of the table `campaign`, with the world text.
-fn put_head<S: Alter>(
+fn put_campaign_rows<S: Alter>(
     conn: &mut Connection<S>,
     world: &str,
     heads: &[StoredCampaignRow],
@@ -160,7 +168,7 @@ pub(crate) fn put_all<S: Alter>(
     world: &str,
     parts: &Parts,
 ) -> Result<(), Error> {
-    put_head(conn, world, parts.campaign.as_slice())?;
+    put_campaign_rows(conn, world, parts.campaign.as_slice())?;
     put_places(conn, parts)?;
     put_each(conn, parts.factions.as_slice())?;
     put_each(conn, parts.mail.as_slice())?;

@@ -46,14 +46,14 @@ money = 500
 }
 
 /// The text of the small world: one region, without items, skills, kinds and markets.
-pub const SMALL: &str = world_of_one_region!(1000, 100, 1000, "");
+pub const SMALL_WORLD: &str = world_of_one_region!(1000, 100, 1000, "");
 
 /// The text of the small world where a faction that joins gets no money.
-pub const POOR: &str = world_of_one_region!(0, 100, 1000, "");
+pub const NO_START_MONEY: &str = world_of_one_region!(0, 100, 1000, "");
 
 /// The text of the small world without work places, where a faction that joins gets money for half
 /// a month.
-pub const BARREN: &str = world_of_one_region!(5, 0, 1000, "");
+pub const NO_WORK_PLACES: &str = world_of_one_region!(5, 0, 1000, "");
 
 /// The text of the small world with only three peasants.
 pub const THREE_PEASANTS: &str = world_of_one_region!(1000, 100, 3, "");
@@ -90,7 +90,7 @@ fee = 10
 );
 
 /// The text of the small world with an item (wood) and a market for it.
-pub const MART: &str = world_of_one_region!(
+pub const WOOD_MARKET: &str = world_of_one_region!(
     1000,
     100,
     1000,

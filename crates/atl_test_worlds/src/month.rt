@@ -4,7 +4,7 @@
 /// SQL, one transaction, that adds two factions with a report each, eleven units and a boat to the
 /// tables of an island where nobody has joined. A unit of each faction is in the boat; all that the
 /// units hold is booked under Joining.
-pub const ROWS: &str =
+pub const MONTH_ROWS: &str =
     "BEGIN; INSERT INTO faction VALUES (1, 'Avalon', 'Avalon', 'pw', 0), (2, 'Bree', 'Bree', 'pb', 0);
 INSERT INTO report VALUES (1, 'A report.'), (2, 'A report.');
 INSERT INTO unit VALUES (1, 1, 'Unit 1', 1, 0, 5, 100, 1), (2, 1, 'Unit 2', 1, 0, 4, 60, 0),
@@ -18,7 +18,7 @@ UPDATE campaign SET next_faction = 3, next_unit = 12, next_structure = 2; COMMIT
 
 /// Avalon's mailing of eighteen orders. Of the two units that it forms, the first gets men and the
 /// second gets none.
-pub const OF_AVALON: &str = "#ATLANTIS 1 pw
+pub const AVALON_MAILING: &str = "#ATLANTIS 1 pw
 UNIT 1
 NAME UNIT Watch
 FORM 1
@@ -50,7 +50,7 @@ MOVE SOUTH
 ";
 
 /// Bree's mailing of one order. Its unit can't pay the fee, earns nothing, and starves.
-pub const OF_BREE: &str = "#ATLANTIS 2 pb
+pub const BREE_MAILING: &str = "#ATLANTIS 2 pb
 UNIT 11
 STUDY carpentry
 ";

@@ -25,8 +25,8 @@ pub equal_itself : (a : ℕ) → (a == a) ≡ true
 equal_itself a = grind (arith, nat_tests)
 
 -- the test whether two numbers are equal gives the same value in either order
-pub equal_turned : (a b : ℕ) → nat_eq a b ≡ nat_eq b a
-equal_turned a b = grind (arith, nat_tests)
+pub equality_is_symmetric : (a b : ℕ) → nat_eq a b ≡ nat_eq b a
+equality_is_symmetric a b = grind (arith, nat_tests)
 
 -- ---- keys
 
@@ -35,19 +35,19 @@ pub key_itself : (n : ℕ) → eq_by_cmp nat_cmp n n ≡ true
 key_itself n = unsigned_tied n n ∙ equal_itself n
 
 -- two keys q and r compare as equal exactly if the test r == q is true
-pub key_turned : (q r : ℕ) → eq_by_cmp nat_cmp q r ≡ (r == q)
-key_turned q r = unsigned_tied q r ∙ equal_turned q r
+pub key_equality_is_symmetric : (q r : ℕ) → eq_by_cmp nat_cmp q r ≡ (r == q)
+key_equality_is_symmetric q r = unsigned_tied q r ∙ equality_is_symmetric q r
 
 -- two keys that compare as equal are the same number
 pub same_key : (q r : ℕ) → eq_by_cmp nat_cmp q r ≡ true → q ≡ r
 same_key q r test = is_equal q r (sym (unsigned_tied q r) ∙ test)
 
--- whichever of n and n + 1 a truth value b chooses, it is at most n + 1: for `one_more`, where b says whether the map
--- of n entries has the key already
-at_most : (b : Bool) (n : ℕ) → cond b n (n + 1) ≤ n + 1
-at_most true n = omega arith
-at_most false n = omega arith
+-- Whichever of n and n + 1 a truth value b chooses, it is at most n + 1. For `insert_adds_at_most_one`, where b says
+-- whether the map of n entries has the key already.
+chosen_is_at_most_next : (b : Bool) (n : ℕ) → cond b n (n + 1) ≤ n + 1
+chosen_is_at_most_next true n = omega arith
+chosen_is_at_most_next false n = omega arith
 
 -- a map with an entry put in has at most one entry more than before
-pub one_more : {V : Type 0} (m : FinMap nat_cmp V) (k : ℕ) (v : V) → len (insert m k v) ≤ len m + 1
-one_more m k v = rw (len-insert nat_cmp_total m k v) (at_most (contains_key m k) (len m))
+pub insert_adds_at_most_one : {V : Type 0} (m : FinMap nat_cmp V) (k : ℕ) (v : V) → len (insert m k v) ≤ len m + 1
+insert_adds_at_most_one m k v = rw (len-insert nat_cmp_total m k v) (chosen_is_at_most_next (contains_key m k) (len m))

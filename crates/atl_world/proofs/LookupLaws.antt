@@ -21,16 +21,16 @@ other_length (a ∷ xs) quoted (b ∷ ys) h =
     ∙ and_right (eqb (to_ascii_lowercase a) (to_ascii_lowercase (letter_of quoted b))) false refl
 
 -- a word means a name from the i-th byte on (`same_from`) exactly if it does at the i-th byte and from i + 1 on
-step : (name : List ℕ) (quoted : Bool) (word : List ℕ) (i : ℕ) → i < length name → i < length word → same_from name quoted word i ≡ (eq_ignore_ascii_case (get_or name i 0) (letter_of quoted (get_or word i 0)) && same_from name quoted word (i + 1))
-step name quoted word i h k = rw (drop_more name i 0 h, drop_more word i 0 k) refl
+same_from_next : (name : List ℕ) (quoted : Bool) (word : List ℕ) (i : ℕ) → i < length name → i < length word → same_from name quoted word i ≡ (eq_ignore_ascii_case (get_or name i 0) (letter_of quoted (get_or word i 0)) && same_from name quoted word (i + 1))
+same_from_next name quoted word i h k = rw (drop_more name i 0 h, drop_more word i 0 k) refl
 
 -- if a word means a name at the i-th byte, it does from i on (`same_from`) exactly if it does from i + 1 on
 pub same_letter : (name : List ℕ) (quoted : Bool) (word : List ℕ) (i : ℕ) → i < length name → i < length word → eq_ignore_ascii_case (get_or name i 0) (letter_of quoted (get_or word i 0)) ≡ true → same_from name quoted word (i + 1) ≡ same_from name quoted word i
-same_letter name quoted word i h k e = sym (step name quoted word i h k ∙ ap (λ t. t && same_from name quoted word (i + 1)) e)
+same_letter name quoted word i h k e = sym (same_from_next name quoted word i h k ∙ ap (λ t. t && same_from name quoted word (i + 1)) e)
 
 -- if a word doesn't mean a name at the i-th byte, it doesn't from the i-th byte on (`same_from`)
 pub other_letter : (name : List ℕ) (quoted : Bool) (word : List ℕ) (i : ℕ) → i < length name → i < length word → eq_ignore_ascii_case (get_or name i 0) (letter_of quoted (get_or word i 0)) ≡ false → same_from name quoted word i ≡ false
-other_letter name quoted word i h k e = step name quoted word i h k ∙ ap (λ t. t && same_from name quoted word (i + 1)) e
+other_letter name quoted word i h k e = same_from_next name quoted word i h k ∙ ap (λ t. t && same_from name quoted word (i + 1)) e
 
 -- a word means a name from an index on (`same_from`) if that is past the last byte of the word and of the name, since
 -- no byte is left to differ

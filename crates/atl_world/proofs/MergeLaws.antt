@@ -15,9 +15,9 @@ use Rattle.std.specs.Cmp.{nat_cmp_total, nat_cmp_is}
 use Rattle.std.specs.FinMap.{nat_cmp-IsAntisymmetric}
 use Rattle.std.specs.Set.{sorted_merge, merge_step}
 use Rattle.std.specs.FinSet as numbers
-use Rattle.atl_world.specs.Tracking.{Lists}
+use Rattle.atl_world.specs.Tracking.{IsAscendingListOf}
 use Rattle.atl_world.proofs.GeneralLaws.{same_key}
-use Rattle.atl_world.proofs.SetLaws.{same, nothing_more, swapped, joined}
+use Rattle.atl_world.proofs.SetLaws.{sets_are_equal, or_false_is_same, or_swaps_first_two, or_is_associative}
 
 -- a list is sorted, without duplicates
 abbrev IsRising : List ℕ → Type 0
@@ -28,11 +28,11 @@ abbrev merged : List ℕ → List ℕ → List ℕ
 merged xs ys = sorted_merge nat_cmp true xs ys
 
 -- the merge of x ∷ xs with a list, where `on` gives the merge of xs with any list
-abbrev step : ℕ → List ℕ → (List ℕ → List ℕ) → List ℕ → List ℕ
-step x xs on ys = merge_step nat_cmp true x xs on ys
+abbrev merge_with_first : ℕ → List ℕ → (List ℕ → List ℕ) → List ℕ → List ℕ
+merge_with_first x xs on ys = merge_step nat_cmp true x xs on ys
 
--- P holds of the list that k chooses, if P holds of xs where k is Less, of ys where k is Equal, and of zs where k is
--- Greater
+-- P holds of the list that the ordering k chooses, if P holds of xs where k is Less, of ys where k is Equal, and of zs
+-- where k is Greater
 by_rank : (P : List ℕ → Type 0) (k : Ordering) (xs ys zs : List ℕ) → (k ≡ Less → P xs) → (k ≡ Equal → P ys) → (k ≡ Greater → P zs) → P (match_ordering k xs ys zs)
 by_rank P Less xs ys zs a b c = a refl
 by_rank P Equal xs ys zs a b c = b refl
@@ -40,43 +40,43 @@ by_rank P Greater xs ys zs a b c = c refl
 
 -- ---- the numbers of two merged lists
 
--- if t is u, "t or (a or b)" is "(t or a) or (u or b)": for `has-step`, where two lists begin with one number, and t
--- and u say whether it is n
-again : (t u a b : Bool) → t ≡ u → (t || (a || b)) ≡ ((t || a) || (u || b))
-again true u a b e = refl
-again false u a b e = ap (λ v. a || (v || b)) e
+-- If t is u, "t or (a or b)" is "(t or a) or (u or b)". For `has-step`, where two lists begin with one number, and t
+-- and u say whether it is n.
+or_repeated : (t u a b : Bool) → t ≡ u → (t || (a || b)) ≡ ((t || a) || (u || b))
+or_repeated true u a b e = refl
+or_repeated false u a b e = ap (λ v. a || (v || b)) e
 
 module _ (n : ℕ) where
   -- whether n is in a list
-  abbrev has : List ℕ → Bool
-  has xs = list_any (eq_by_cmp nat_cmp n) xs
+  abbrev is_listed : List ℕ → Bool
+  is_listed xs = list_any (eq_by_cmp nat_cmp n) xs
 
-  -- n is in the merge of x ∷ xs and a second list exactly if it is in one of the two, given that this is so for xs
-  -- (`on` merges xs with a list)
-  has-step : (x : ℕ) (xs : List ℕ) (on : List ℕ → List ℕ) → ((ys : List ℕ) → has (on ys) ≡ (has xs || has ys)) → (ys : List ℕ) → has (step x xs on ys) ≡ (has (x ∷ xs) || has ys)
-  has-step x xs on h [] = sym (nothing_more (has (x ∷ xs)))
-  has-step x xs on h (y ∷ ys) = by_rank (λ zs. has zs ≡ (has (x ∷ xs) || has (y ∷ ys))) (nat_cmp x y) _ _ _
-      (λ _. ap (λ b. eq_by_cmp nat_cmp n x || b) (h (y ∷ ys)) ∙ sym (joined (eq_by_cmp nat_cmp n x) (has xs) (has (y ∷ ys))))
-      (λ e. ap (λ b. eq_by_cmp nat_cmp n x || b) (h ys) ∙ again (eq_by_cmp nat_cmp n x) (eq_by_cmp nat_cmp n y) (has xs) (has ys) (ap (eq_by_cmp nat_cmp n) (nat_cmp-IsAntisymmetric x y e)))
-      (λ _. ap (λ b. eq_by_cmp nat_cmp n y || b) (has-step x xs on h ys) ∙ swapped (eq_by_cmp nat_cmp n y) (has (x ∷ xs)) (has ys))
+  -- n is in the merge of x ∷ xs and a second list exactly if it is in one of them, given that this is so for xs. (`on`
+  -- merges xs with a list.)
+  has-step : (x : ℕ) (xs : List ℕ) (on : List ℕ → List ℕ) → ((ys : List ℕ) → is_listed (on ys) ≡ (is_listed xs || is_listed ys)) → (ys : List ℕ) → is_listed (merge_with_first x xs on ys) ≡ (is_listed (x ∷ xs) || is_listed ys)
+  has-step x xs on h [] = sym (or_false_is_same (is_listed (x ∷ xs)))
+  has-step x xs on h (y ∷ ys) = by_rank (λ zs. is_listed zs ≡ (is_listed (x ∷ xs) || is_listed (y ∷ ys))) (nat_cmp x y) _ _ _
+      (λ _. ap (λ b. eq_by_cmp nat_cmp n x || b) (h (y ∷ ys)) ∙ sym (or_is_associative (eq_by_cmp nat_cmp n x) (is_listed xs) (is_listed (y ∷ ys))))
+      (λ e. ap (λ b. eq_by_cmp nat_cmp n x || b) (h ys) ∙ or_repeated (eq_by_cmp nat_cmp n x) (eq_by_cmp nat_cmp n y) (is_listed xs) (is_listed ys) (ap (eq_by_cmp nat_cmp n) (nat_cmp-IsAntisymmetric x y e)))
+      (λ _. ap (λ b. eq_by_cmp nat_cmp n y || b) (has-step x xs on h ys) ∙ or_swaps_first_two (eq_by_cmp nat_cmp n y) (is_listed (x ∷ xs)) (is_listed ys))
 
   -- n is in the merge of two lists exactly if n is in one of the lists
-  has-merged : (xs ys : List ℕ) → has (merged xs ys) ≡ (has xs || has ys)
+  has-merged : (xs ys : List ℕ) → is_listed (merged xs ys) ≡ (is_listed xs || is_listed ys)
   has-merged [] ys = refl
   has-merged (x ∷ xs) ys = has-step x xs (merged xs) (has-merged xs) ys
 
 -- the set of two merged lists is the union of their sets
 pub from_list-merged : (xs ys : List ℕ) → numbers.from_list {R = nat_cmp} (merged xs ys) ≡ numbers.union (numbers.from_list xs) (numbers.from_list ys)
-from_list-merged xs ys = same _ _ (λ n.
+from_list-merged xs ys = sets_are_equal _ _ (λ n.
     numbers.contains-from_list nat_cmp_total (merged xs ys) n ∙ has-merged n xs ys
     ∙ sym (numbers.contains-union nat_cmp_total (numbers.from_list xs) (numbers.from_list ys) n ∙ (λ i. numbers.contains-from_list nat_cmp_total xs n i || numbers.contains-from_list nat_cmp_total ys n i)))
 
 -- ---- two merged lists are sorted
 
 module _ (P : ℕ → Type 0) where
-  -- if P holds of all numbers of x ∷ xs and of a second list, it holds of all numbers of their merge, given that this
-  -- is so for xs (`on` merges xs with a list)
-  all-step : (x : ℕ) (xs : List ℕ) (on : List ℕ → List ℕ) → P x → AllByRecursion P xs → ((ys : List ℕ) → AllByRecursion P ys → AllByRecursion P (on ys)) → (ys : List ℕ) → AllByRecursion P ys → AllByRecursion P (step x xs on ys)
+  -- P holds of all numbers of the merge of x ∷ xs and a second list, if it holds of all numbers of both, given that
+  -- this is so for xs. (`on` merges xs with a list.)
+  all-step : (x : ℕ) (xs : List ℕ) (on : List ℕ → List ℕ) → P x → AllByRecursion P xs → ((ys : List ℕ) → AllByRecursion P ys → AllByRecursion P (on ys)) → (ys : List ℕ) → AllByRecursion P ys → AllByRecursion P (merge_with_first x xs on ys)
   all-step x xs on p a h [] b = (p, a)
   all-step x xs on p a h (y ∷ ys) b = by_rank (AllByRecursion P) (nat_cmp x y) _ _ _ (λ _. (p, h (y ∷ ys) b)) (λ _. (p, h ys b.1)) (λ _. (b.0, all-step x xs on p a h ys b.1))
 
@@ -95,26 +95,26 @@ above_lower x y [] l a = tt
 above_lower x y (z ∷ ys) l a = (nat_cmp_total.trans x y z l a.0, above_lower x y ys l a.1)
 
 -- if x ∷ xs is sorted, and xs merged with any sorted list is sorted, x ∷ xs merged with a sorted list is sorted
-rising-step : (x : ℕ) (xs : List ℕ) → IsRising (x ∷ xs) → ((ys : List ℕ) → IsRising ys → IsRising (merged xs ys)) → (ys : List ℕ) → IsRising ys → IsRising (merged (x ∷ xs) ys)
+sorted-step : (x : ℕ) (xs : List ℕ) → IsRising (x ∷ xs) → ((ys : List ℕ) → IsRising ys → IsRising (merged xs ys)) → (ys : List ℕ) → IsRising ys → IsRising (merged (x ∷ xs) ys)
 unfolding IsStrictlySortedBy
-rising-step x xs s h [] t = s
-rising-step x xs s h (y ∷ ys) t = by_rank IsRising (nat_cmp x y) _ _ _
+sorted-step x xs s h [] t = s
+sorted-step x xs s h (y ∷ ys) t = by_rank IsRising (nat_cmp x y) _ _ _
     (λ e. (all-merged (λ z. nat_cmp x z ≡ Less) xs (y ∷ ys) s.0 (e, above_lower x y ys e t.0), h (y ∷ ys) t))
     (λ e. (all-merged (λ z. nat_cmp x z ≡ Less) xs ys s.0 (subst (λ z. Above z ys) (sym (nat_cmp-IsAntisymmetric x y e)) t.0), h ys t.1))
     (λ e.
     let less : nat_cmp y x ≡ Less = nat_cmp_total.antisymm y x ∙ ap ordering_reverse e in
-    (all-merged (λ z. nat_cmp y z ≡ Less) (x ∷ xs) ys (less, above_lower y x xs less s.0) t.0, rising-step x xs s h ys t.1))
+    (all-merged (λ z. nat_cmp y z ≡ Less) (x ∷ xs) ys (less, above_lower y x xs less s.0) t.0, sorted-step x xs s h ys t.1))
 
 -- two sorted lists merged into one are sorted, without duplicates
-pub rising-merged : (xs ys : List ℕ) → IsRising xs → IsRising ys → IsRising (merged xs ys)
+pub sorted-merged : (xs ys : List ℕ) → IsRising xs → IsRising ys → IsRising (merged xs ys)
 unfolding IsStrictlySortedBy
-rising-merged [] ys s t = t
-rising-merged (x ∷ xs) ys s t = rising-step x xs s (λ zs. rising-merged xs zs s.1) ys t
+sorted-merged [] ys s t = t
+sorted-merged (x ∷ xs) ys s t = sorted-step x xs s (λ zs. sorted-merged xs zs s.1) ys t
 
 -- if two lists have exactly the numbers of two sets, the merged list has those of the union
-pub Lists-merged : (s t : numbers.FinSet nat_cmp) (xs ys : List ℕ) → Lists s xs → Lists t ys → Lists (numbers.union s t) (merged xs ys)
+pub Lists-merged : (s t : numbers.FinSet nat_cmp) (xs ys : List ℕ) → IsAscendingListOf s xs → IsAscendingListOf t ys → IsAscendingListOf (numbers.union s t) (merged xs ys)
 Lists-merged s t xs ys p q = record {
-  rising = rising-merged xs ys p.rising q.rising;
+  ascending = sorted-merged xs ys p.ascending q.ascending;
   all = from_list-merged xs ys ∙ (λ i. numbers.union (p.all i) (q.all i));
 }
 
@@ -129,23 +129,23 @@ pub merged_alone : (xs : List ℕ) → merged xs [] ≡ xs
 merged_alone [] = refl
 merged_alone (x ∷ xs) = refl
 
--- if r is the first number of the list xs (None without one), and the list `us` is the rest, the same holds of xs and
--- `us` each merged with the empty list ys
+-- Merged with the empty list ys, two lists keep this: r is the first number of the list xs (None without one), and the
+-- list `us` is the rest of it.
 pub first_alone : (xs us ys : List ℕ) (r : Option ℕ) → length ys ≡ 0 → YieldsFirstBy (λ n. n) (λ s. s) xs r us → YieldsFirstBy (λ n. n) (λ s. s) (merged xs ys) r (merged us ys)
 first_alone xs us (y ∷ ys) r e h = absurd (omega (arith, e))
 first_alone xs us [] r e h = rw (merged_alone xs, merged_alone us) h
 
--- for `own_last-step` and `other_last-step`: if us, vs and ws are the lists xs, ys and zs with ts appended, the
--- ordering k chooses of us, vs and ws what it chooses of xs, ys and zs, with ts appended
+-- A choice by the ordering k of three lists, each with ts appended (us, vs and ws), is the choice of the lists (xs, ys
+-- and zs) with ts appended. For `own_last-step` and `other_last-step`.
 all_longer : (k : Ordering) (ts xs ys zs us vs ws : List ℕ) → us ≡ xs ++ ts → vs ≡ ys ++ ts → ws ≡ zs ++ ts → match_ordering k us vs ws ≡ match_ordering k xs ys zs ++ ts
 all_longer Less ts xs ys zs us vs ws a b c = a
 all_longer Equal ts xs ys zs us vs ws a b c = b
 all_longer Greater ts xs ys zs us vs ws a b c = c
 
 module _ (n : ℕ) where
-  -- n at the end of x ∷ xs is at the end of its merge with lesser numbers, given that this is so for xs (`on` merges xs
-  -- with a list, `more` merges xs with n at its end)
-  own_last-step : (x : ℕ) (xs : List ℕ) (on more : List ℕ → List ℕ) → ((ys : List ℕ) → Under ys n → more ys ≡ on ys ++ n ∷ []) → (ys : List ℕ) → Under ys n → step x (xs ++ n ∷ []) more ys ≡ step x xs on ys ++ n ∷ []
+  -- n at the end of x ∷ xs is at the end of its merge with lesser numbers, given that this is so for xs. (`on` merges
+  -- xs with a list, `more` merges xs with n at its end.)
+  own_last-step : (x : ℕ) (xs : List ℕ) (on more : List ℕ → List ℕ) → ((ys : List ℕ) → Under ys n → more ys ≡ on ys ++ n ∷ []) → (ys : List ℕ) → Under ys n → merge_with_first x (xs ++ n ∷ []) more ys ≡ merge_with_first x xs on ys ++ n ∷ []
   own_last-step x xs on more h [] u = refl
   own_last-step x xs on more h (y ∷ ys) u = all_longer (nat_cmp x y) (n ∷ []) _ _ _ _ _ _ (ap (λ zs. x ∷ zs) (h (y ∷ ys) u)) (ap (λ zs. x ∷ zs) (h ys u.1)) (ap (λ zs. y ∷ zs) (own_last-step x xs on more h ys u.1))
 
@@ -161,9 +161,9 @@ module _ (n : ℕ) where
   own_last [] ys u = own_last-only ys u
   own_last (x ∷ xs) ys u = own_last-step x xs (merged xs) (merged (xs ++ n ∷ [])) (own_last xs) ys u
 
-  -- n at the end of a second list is at the end of its merge with x ∷ xs, for x below n, given that this is so for xs
-  -- (`on` merges xs with a list)
-  other_last-step : (x : ℕ) (xs : List ℕ) (on : List ℕ → List ℕ) → nat_cmp x n ≡ Less → on [] ≡ xs → ((ys : List ℕ) → on (ys ++ n ∷ []) ≡ on ys ++ n ∷ []) → (ys : List ℕ) → step x xs on (ys ++ n ∷ []) ≡ step x xs on ys ++ n ∷ []
+  -- n at the end of a second list is at the end of its merge with x ∷ xs, for x below n, given that this is so for xs.
+  -- (`on` merges xs with a list.)
+  other_last-step : (x : ℕ) (xs : List ℕ) (on : List ℕ → List ℕ) → nat_cmp x n ≡ Less → on [] ≡ xs → ((ys : List ℕ) → on (ys ++ n ∷ []) ≡ on ys ++ n ∷ []) → (ys : List ℕ) → merge_with_first x xs on (ys ++ n ∷ []) ≡ merge_with_first x xs on ys ++ n ∷ []
   other_last-step x xs on l e h [] =
       ap (λ k. match_ordering k (x ∷ on (n ∷ [])) (x ∷ on []) (n ∷ x ∷ xs)) l ∙ ap (λ zs. x ∷ zs) (h [] ∙ ap (λ zs. zs ++ n ∷ []) e)
   other_last-step x xs on l e h (y ∷ ys) = all_longer (nat_cmp x y) (n ∷ []) _ _ _ _ _ _ (ap (λ zs. x ∷ zs) (h (y ∷ ys))) (ap (λ zs. x ∷ zs) (h ys)) (ap (λ zs. y ∷ zs) (other_last-step x xs on l e h ys))
@@ -186,32 +186,32 @@ under_last xs count n s l h = all_under (take count xs) n (λ k m.
     let rises : get_or xs k 0 ≤ get_or xs (count - 1) 0 = non_decreasing_from_sorted xs s k (count - 1) 0 (omega (arith, within)) (omega (arith, within, l)) in
     omega (arith, read, rises, h (omega (arith, within))))
 
--- after n is put at the index `place`, which is `from`, the list from this index on is n, followed by what it had
--- behind the index
-put_there : (xs : List ℕ) (place from n : ℕ) → place ≡ from → place < length xs → drop from (set xs place n) ≡ n ∷ drop (from + 1) xs
-put_there xs place from n e l = subst (λ p. drop p (set xs place n) ≡ n ∷ drop (p + 1) xs) e (drop-set xs place n l)
+-- after n is put at the index `index`, which is `from`, the list from this index on is n, followed by what it had after
+-- this index
+put_there : (xs : List ℕ) (index from n : ℕ) → index ≡ from → index < length xs → drop from (set xs index n) ≡ n ∷ drop (from + 1) xs
+put_there xs index from n e l = subst (λ p. drop p (set xs index n) ≡ n ∷ drop (p + 1) xs) e (drop-set xs index n l)
 
--- where the first list's largest number left is above all left of the second, to put it in place keeps this list: the
--- numbers left of both lists, merged, followed by those in place
-pub own_put : (xs ys now : List ℕ) (own less left place n : ℕ) → own ≡ less + 1 → place ≡ less + left → place < length now → less < length xs → n ≡ get_or xs less 0 → Under (take left ys) n
-    → merged (take less xs) (take left ys) ++ drop (less + left) (set now place n) ≡ merged (take own xs) (take left ys) ++ drop (own + left) now
-own_put xs ys now own less left place n o p within short is under =
+-- To put the first list's largest number left in place keeps this list: the numbers left of both lists, merged,
+-- followed by those in place. For this it must be above all left of the second list.
+pub own_put : (xs ys now : List ℕ) (own less left index n : ℕ) → own ≡ less + 1 → index ≡ less + left → index < length now → less < length xs → n ≡ get_or xs less 0 → Under (take left ys) n
+    → merged (take less xs) (take left ys) ++ drop (less + left) (set now index n) ≡ merged (take own xs) (take left ys) ++ drop (own + left) now
+own_put xs ys now own less left index n o p within short is under =
     let next : less + left + 1 ≡ own + left = omega (arith, o) in
     let first : merged (take own xs) (take left ys) ≡ merged (take less xs) (take left ys) ++ n ∷ [] =
     ap (λ zs. merged zs (take left ys)) (ap (λ k. take k xs) o ∙ take_more xs less 0 short ∙ ap (λ m. take less xs ++ m ∷ []) (sym is)) ∙ own_last n (take less xs) (take left ys) under in
-    ap (λ zs. merged (take less xs) (take left ys) ++ zs) (put_there now place (less + left) n p within ∙ ap (λ k. n ∷ drop k now) next)
+    ap (λ zs. merged (take less xs) (take left ys) ++ zs) (put_there now index (less + left) n p within ∙ ap (λ k. n ∷ drop k now) next)
     ∙ sym (append_assoc (merged (take less xs) (take left ys)) (n ∷ []) (drop (own + left) now))
     ∙ ap (λ zs. zs ++ drop (own + left) now) (sym first)
 
--- where the second list's largest number left is above all left of the first, to put it in place keeps this list: the
--- numbers left of both lists, merged, followed by those in place
-pub other_put : (xs ys now : List ℕ) (own left less place n : ℕ) → left ≡ less + 1 → place ≡ own + less → place < length now → less < length ys → n ≡ get_or ys less 0 → Under (take own xs) n
-    → merged (take own xs) (take less ys) ++ drop (own + less) (set now place n) ≡ merged (take own xs) (take left ys) ++ drop (own + left) now
-other_put xs ys now own left less place n o p within short is under =
+-- To put the second list's largest number left in place keeps this list: the numbers left of both lists, merged,
+-- followed by those in place. For this it must be above all left of the first list.
+pub other_put : (xs ys now : List ℕ) (own left less index n : ℕ) → left ≡ less + 1 → index ≡ own + less → index < length now → less < length ys → n ≡ get_or ys less 0 → Under (take own xs) n
+    → merged (take own xs) (take less ys) ++ drop (own + less) (set now index n) ≡ merged (take own xs) (take left ys) ++ drop (own + left) now
+other_put xs ys now own left less index n o p within short is under =
     let next : own + less + 1 ≡ own + left = omega (arith, o) in
     let first : merged (take own xs) (take left ys) ≡ merged (take own xs) (take less ys) ++ n ∷ [] =
     ap (λ zs. merged (take own xs) zs) (ap (λ k. take k ys) o ∙ take_more ys less 0 short ∙ ap (λ m. take less ys ++ m ∷ []) (sym is)) ∙ other_last n (take own xs) (take less ys) under in
-    ap (λ zs. merged (take own xs) (take less ys) ++ zs) (put_there now place (own + less) n p within ∙ ap (λ k. n ∷ drop k now) next)
+    ap (λ zs. merged (take own xs) (take less ys) ++ zs) (put_there now index (own + less) n p within ∙ ap (λ k. n ∷ drop k now) next)
     ∙ sym (append_assoc (merged (take own xs) (take less ys)) (n ∷ []) (drop (own + left) now))
     ∙ ap (λ zs. zs ++ drop (own + left) now) (sym first)
 

@@ -9,26 +9,26 @@ use Rattle.atl_world.specs.Lookup.{name_of}
 use Rattle.atl_world.specs.Names.{is_name_byte, is_pass_byte, name_ok, pass_ok}
 
 -- a byte that may be in a name is below 128, so it is ASCII
-small_name : (b : ℕ) → is_name_byte b ≡ true → b < 128
-small_name b h = grind (arith, nat_tests)
+name_byte_is_ascii : (b : ℕ) → is_name_byte b ≡ true → b < 128
+name_byte_is_ascii b h = grind (arith, nat_tests)
 
 -- a byte that may be in a pass text is below 128, so it is ASCII
-small_pass : (b : ℕ) → is_pass_byte b ≡ true → b < 128
-small_pass b h = grind (arith, nat_tests)
+pass_byte_is_ascii : (b : ℕ) → is_pass_byte b ≡ true → b < 128
+pass_byte_is_ascii b h = grind (arith, nat_tests)
 
 -- all bytes of a text are ASCII, if each passes a test that only ASCII passes
-all_small : (p : ℕ → Bool) → ((b : ℕ) → p b ≡ true → b < 128) → (bs : List ℕ) → list_all p bs ≡ true → (i : ℕ) → get_or bs i 0 < 128
-all_small p small [] h i = omega arith
-all_small p small (b ∷ bs) h zero = small b (and_parts _ _ h).0
-all_small p small (b ∷ bs) h (suc i) = all_small p small bs (and_parts _ _ h).1 i
+all_bytes_are_ascii : (p : ℕ → Bool) → ((b : ℕ) → p b ≡ true → b < 128) → (bs : List ℕ) → list_all p bs ≡ true → (i : ℕ) → get_or bs i 0 < 128
+all_bytes_are_ascii p small [] h i = omega arith
+all_bytes_are_ascii p small (b ∷ bs) h zero = small b (and_parts _ _ h).0
+all_bytes_are_ascii p small (b ∷ bs) h (suc i) = all_bytes_are_ascii p small bs (and_parts _ _ h).1 i
 
 -- a text that keeps the rule of names is UTF-8
 pub name_ok-IsUtf8 : (bs : List ℕ) → name_ok bs ≡ true → IsUtf8 bs
-name_ok-IsUtf8 bs h = IsUtf8-from_ascii bs (all_small is_name_byte small_name bs (and_parts _ _ h).1)
+name_ok-IsUtf8 bs h = IsUtf8-from_ascii bs (all_bytes_are_ascii is_name_byte name_byte_is_ascii bs (and_parts _ _ h).1)
 
 -- a text that keeps the rule of pass texts is UTF-8
 pub pass_ok-IsUtf8 : (bs : List ℕ) → pass_ok bs ≡ true → IsUtf8 bs
-pass_ok-IsUtf8 bs h = IsUtf8-from_ascii bs (all_small is_pass_byte small_pass bs (and_parts _ _ h).1)
+pass_ok-IsUtf8 bs h = IsUtf8-from_ascii bs (all_bytes_are_ascii is_pass_byte pass_byte_is_ascii bs (and_parts _ _ h).1)
 
 -- the name that a word in quotes means is the word itself
 pub quoted_names_itself : (word : List ℕ) → name_of word true ≡ word

@@ -10,12 +10,12 @@ use Rattle.std.specs.FinSet as set
 use Rattle.atl_world.proofs.GeneralLaws.{key_itself}
 
 -- two sets are equal if each number is in both or in neither
-pub same : (s t : set.FinSet nat_cmp) → ((q : ℕ) → set.contains s q ≡ set.contains t q) → s ≡ t
-same s t h = set.same_set nat_cmp_total nat_cmp-IsAntisymmetric s t h
+pub sets_are_equal : (s t : set.FinSet nat_cmp) → ((q : ℕ) → set.contains s q ≡ set.contains t q) → s ≡ t
+sets_are_equal s t h = set.same_set nat_cmp_total nat_cmp-IsAntisymmetric s t h
 
 -- putting in a number that is in the set already leaves the set as it was
 pub insert_twice : (s : set.FinSet nat_cmp) (n : ℕ) → set.contains s n ≡ true → set.insert s n ≡ s
-insert_twice s n h = same _ _ (λ q. set.contains-insert nat_cmp_total s n q ∙ elim (nat_cmp q n) as (λ r. nat_cmp q n ≡ r → (is_eq r || set.contains s q) ≡ set.contains s q) [
+insert_twice s n h = sets_are_equal _ _ (λ q. set.contains-insert nat_cmp_total s n q ∙ elim (nat_cmp q n) as (λ r. nat_cmp q n ≡ r → (is_eq r || set.contains s q) ≡ set.contains s q) [
   | Less ↦ λ _. refl
   | Equal ↦ λ e. sym (ap (set.contains s) (nat_cmp-IsAntisymmetric q n e) ∙ h)
   | Greater ↦ λ _. refl
@@ -23,7 +23,7 @@ insert_twice s n h = same _ _ (λ q. set.contains-insert nat_cmp_total s n q ∙
 
 -- a new number, put in and taken out again, leaves the set as it was
 pub insert_undone : (s : set.FinSet nat_cmp) (n : ℕ) → set.contains s n ≡ false → set.remove (set.insert s n) n ≡ s
-insert_undone s n h = same _ _ (λ q.
+insert_undone s n h = sets_are_equal _ _ (λ q.
     set.contains-remove nat_cmp_total (set.insert s n) n q ∙ ap (λ b. not (eq_by_cmp nat_cmp q n) && b) (set.contains-insert nat_cmp_total s n q)
     ∙ elim (nat_cmp q n) as (λ r. nat_cmp q n ≡ r → (not (is_eq r) && (is_eq r || set.contains s q)) ≡ set.contains s q) [
       | Less ↦ λ _. refl
@@ -33,7 +33,7 @@ insert_undone s n h = same _ _ (λ q.
 
 -- to take out a number that isn't in a set leaves the set as it was
 pub remove_absent : (s : set.FinSet nat_cmp) (n : ℕ) → set.contains s n ≡ false → set.remove s n ≡ s
-remove_absent s n h = same _ _ (λ q. set.contains-remove nat_cmp_total s n q ∙ elim (nat_cmp q n) as (λ r. nat_cmp q n ≡ r → (not (is_eq r) && set.contains s q) ≡ set.contains s q) [
+remove_absent s n h = sets_are_equal _ _ (λ q. set.contains-remove nat_cmp_total s n q ∙ elim (nat_cmp q n) as (λ r. nat_cmp q n ≡ r → (not (is_eq r) && set.contains s q) ≡ set.contains s q) [
   | Less ↦ λ _. refl
   | Equal ↦ λ e. sym (ap (set.contains s) (nat_cmp-IsAntisymmetric q n e) ∙ h)
   | Greater ↦ λ _. refl
@@ -51,23 +51,23 @@ len-some zero t k e h = absurd (false≢true (sym (set.contains-empty nat_cmp k)
 len-some (suc n) t k e h = omega arith
 
 -- if "not a, and b" holds, a is false: a number of a set from which k was taken out (b) is not k (a)
-pub without_first : (a b : Bool) → (not a && b) ≡ true → a ≡ false
-without_first true b h = absurd (false≢true h)
-without_first false b h = refl
+pub not_and_is_false : (a b : Bool) → (not a && b) ≡ true → a ≡ false
+not_and_is_false true b h = absurd (false≢true h)
+not_and_is_false false b h = refl
 
 -- if "a or b" holds, and a is false, b is true: a number of k ∷ ks that isn't k (a) is in ks (b)
-pub rest_holds : (a b : Bool) → a ≡ false → (a || b) ≡ true → b ≡ true
-rest_holds true b e h = absurd (false≢true (sym e))
-rest_holds false b e h = h
+pub or_without_first_is_second : (a b : Bool) → a ≡ false → (a || b) ≡ true → b ≡ true
+or_without_first_is_second true b e h = absurd (false≢true (sym e))
+or_without_first_is_second false b e h = h
 
 -- "not a, and b" holds, if a is false and b true: for `len-within_by`, where a says whether a number is k, and b
 -- whether t has it
-both_hold : (a b : Bool) → a ≡ false → b ≡ true → (not a && b) ≡ true
-both_hold true b e h = absurd (false≢true (sym e))
-both_hold false b e h = h
+not_and_holds : (a b : Bool) → a ≡ false → b ≡ true → (not a && b) ≡ true
+not_and_holds true b e h = absurd (false≢true (sym e))
+not_and_holds false b e h = h
 
--- if a implies b, b implies 1 ≤ n, and m (less 1 if a is true) is at most n (less 1 if b is true), then m ≤ n: for
--- `len-within_by`, where a and b say whether sets of m and n numbers have k
+-- m ≤ n, if a implies b, b implies 1 ≤ n, and m (less 1 if a is true) is at most n (less 1 if b is true). For
+-- `len-within_by`, where a and b say whether sets of m and n numbers have k.
 less_step : (a b : Bool) (m n : ℕ) → (a ≡ true → b ≡ true) → (b ≡ true → 1 ≤ n) → cond a (m - 1) m ≤ cond b (n - 1) n → m ≤ n
 less_step true true m n f g h = let l : 1 ≤ n = g refl in omega arith
 less_step true false m n f g h = absurd (false≢true (f refl))
@@ -78,16 +78,16 @@ less_step false false m n f g h = h
 -- numbers than t
 len-within_by : (ks : List ℕ) (s t : set.FinSet nat_cmp) → ((q : ℕ) → set.contains s q ≡ true → list_any (eq_by_cmp nat_cmp q) ks ≡ true) → ((q : ℕ) → set.contains s q ≡ true → set.contains t q ≡ true) → set.len s ≤ set.len t
 len-within_by [] s t all h =
-    let none : s ≡ set.empty = same s set.empty (λ q. false_from_ne_true _ (λ e. false≢true (all q e)) ∙ sym (set.contains-empty nat_cmp q)) in
+    let none : s ≡ set.empty = sets_are_equal s set.empty (λ q. false_from_ne_true _ (λ e. false≢true (all q e)) ∙ sym (set.contains-empty nat_cmp q)) in
     let nothing : set.len s ≡ 0 = ap set.len none ∙ set.len-empty nat_cmp in
     omega (arith, nothing)
 len-within_by (k ∷ ks) s t all h =
     let parts : (q : ℕ) → set.contains (set.remove s k) q ≡ true → (not (eq_by_cmp nat_cmp q k) && set.contains s q) ≡ true = λ q e. sym (set.contains-remove nat_cmp_total s k q) ∙ e in
-    let other : (q : ℕ) → set.contains (set.remove s k) q ≡ true → eq_by_cmp nat_cmp q k ≡ false = λ q e. without_first _ _ (parts q e) in
+    let other : (q : ℕ) → set.contains (set.remove s k) q ≡ true → eq_by_cmp nat_cmp q k ≡ false = λ q e. not_and_is_false _ _ (parts q e) in
     let was : (q : ℕ) → set.contains (set.remove s k) q ≡ true → set.contains s q ≡ true = λ q e. (and_parts _ _ (parts q e)).1 in
     let rest : set.len (set.remove s k) ≤ set.len (set.remove t k) = len-within_by ks (set.remove s k) (set.remove t k)
-    (λ q e. rest_holds _ _ (other q e) (all q (was q e)))
-    (λ q e. set.contains-remove nat_cmp_total t k q ∙ both_hold _ _ (other q e) (h q (was q e))) in
+    (λ q e. or_without_first_is_second _ _ (other q e) (all q (was q e)))
+    (λ q e. set.contains-remove nat_cmp_total t k q ∙ not_and_holds _ _ (other q e) (h q (was q e))) in
     less_step (set.contains s k) (set.contains t k) (set.len s) (set.len t) (h k) (len-some (set.len t) t k refl) (rw (set.len-remove nat_cmp_total s k, set.len-remove nat_cmp_total t k) at rest)
 
 -- if a set t has all numbers of a set s, then s has no more numbers than t
@@ -95,43 +95,43 @@ pub len-within : (s t : set.FinSet nat_cmp) → ((q : ℕ) → set.contains s q 
 len-within s t h = len-within_by (set.items s) s t (λ q e. sym (set.contains-items s q) ∙ e) h
 
 -- "b or false" is b: no number is in the empty set or the empty list
-pub nothing_more : (b : Bool) → (b || false) ≡ b
-nothing_more true = refl
-nothing_more false = refl
+pub or_false_is_same : (b : Bool) → (b || false) ≡ b
+or_false_is_same true = refl
+or_false_is_same false = refl
 
 -- the first two of three may be swapped in "or": whether a number is in a set (a), is the one put in (b), or is in
 -- another set (c)
-pub swapped : (a b c : Bool) → (a || (b || c)) ≡ (b || (a || c))
-swapped true true c = refl
-swapped true false c = refl
-swapped false b c = refl
+pub or_swaps_first_two : (a b c : Bool) → (a || (b || c)) ≡ (b || (a || c))
+or_swaps_first_two true true c = refl
+or_swaps_first_two true false c = refl
+or_swaps_first_two false b c = refl
 
 -- the union of a set with the empty set is the set
 pub union-empty : (s : set.FinSet nat_cmp) → set.union s set.empty ≡ s
-union-empty s = same _ _ (λ q. set.contains-union nat_cmp_total s set.empty q ∙ ap (λ b. set.contains s q || b) (set.contains-empty nat_cmp q) ∙ nothing_more _)
+union-empty s = sets_are_equal _ _ (λ q. set.contains-union nat_cmp_total s set.empty q ∙ ap (λ b. set.contains s q || b) (set.contains-empty nat_cmp q) ∙ or_false_is_same _)
 
 -- the union of a set with another that has k put in is the union of both with k put in
 pub union-insert : (s t : set.FinSet nat_cmp) (k : ℕ) → set.union s (set.insert t k) ≡ set.insert (set.union s t) k
-union-insert s t k = same _ _ (λ q.
-    set.contains-union nat_cmp_total s (set.insert t k) q ∙ ap (λ b. set.contains s q || b) (set.contains-insert nat_cmp_total t k q) ∙ swapped (set.contains s q) (eq_by_cmp nat_cmp q k) (set.contains t q)
+union-insert s t k = sets_are_equal _ _ (λ q.
+    set.contains-union nat_cmp_total s (set.insert t k) q ∙ ap (λ b. set.contains s q || b) (set.contains-insert nat_cmp_total t k q) ∙ or_swaps_first_two (set.contains s q) (eq_by_cmp nat_cmp q k) (set.contains t q)
     ∙ sym (set.contains-insert nat_cmp_total (set.union s t) k q ∙ ap (λ b. eq_by_cmp nat_cmp q k || b) (set.contains-union nat_cmp_total s t q)))
 
 -- "or" is associative: whether a number is the one put in (a), is in a set (b), or is in another set (c)
-pub joined : (a b c : Bool) → ((a || b) || c) ≡ (a || (b || c))
-joined true b c = refl
-joined false b c = refl
+pub or_is_associative : (a b c : Bool) → ((a || b) || c) ≡ (a || (b || c))
+or_is_associative true b c = refl
+or_is_associative false b c = refl
 
 -- the union of a set that has k put in with another set is the union of both with k put in
 pub insert-union : (s t : set.FinSet nat_cmp) (k : ℕ) → set.union (set.insert s k) t ≡ set.insert (set.union s t) k
-insert-union s t k = same _ _ (λ q.
-    set.contains-union nat_cmp_total (set.insert s k) t q ∙ ap (λ b. b || set.contains t q) (set.contains-insert nat_cmp_total s k q) ∙ joined (eq_by_cmp nat_cmp q k) (set.contains s q) (set.contains t q)
+insert-union s t k = sets_are_equal _ _ (λ q.
+    set.contains-union nat_cmp_total (set.insert s k) t q ∙ ap (λ b. b || set.contains t q) (set.contains-insert nat_cmp_total s k q) ∙ or_is_associative (eq_by_cmp nat_cmp q k) (set.contains s q) (set.contains t q)
     ∙ sym (set.contains-insert nat_cmp_total (set.union s t) k q ∙ ap (λ b. eq_by_cmp nat_cmp q k || b) (set.contains-union nat_cmp_total s t q)))
 
--- whichever of n and n + 1 a truth value b chooses, it is at most n + 1: for `len-union`, where b says whether a set of
--- n numbers has the number put in already
-at_most : (b : Bool) (n : ℕ) → cond b n (n + 1) ≤ n + 1
-at_most true n = omega arith
-at_most false n = omega arith
+-- Whichever of n and n + 1 a truth value b chooses, it is at most n + 1. For `len-union`, where b says whether a set of
+-- n numbers has the number put in already.
+chosen_is_at_most_one_more : (b : Bool) (n : ℕ) → cond b n (n + 1) ≤ n + 1
+chosen_is_at_most_one_more true n = omega arith
+chosen_is_at_most_one_more false n = omega arith
 
 -- the union of a set with the numbers of a list has at most as many numbers as the set and the list have together
 pub len-union : (s : set.FinSet nat_cmp) (ks : List ℕ) → set.len (set.union s (set.from_list ks)) ≤ set.len s + length ks
@@ -140,13 +140,13 @@ len-union s (k ∷ ks) =
     let rest = len-union s ks in
     let e : set.len (set.union s (set.from_list (k ∷ ks))) ≡ cond (set.contains (set.union s (set.from_list ks)) k) (set.len (set.union s (set.from_list ks))) (set.len (set.union s (set.from_list ks)) + 1)
     = ap set.len (union-insert s (set.from_list ks) k) ∙ set.len-insert nat_cmp_total (set.union s (set.from_list ks)) k in
-    let l = at_most (set.contains (set.union s (set.from_list ks)) k) (set.len (set.union s (set.from_list ks))) in
+    let l = chosen_is_at_most_one_more (set.contains (set.union s (set.from_list ks)) k) (set.len (set.union s (set.from_list ks))) in
     omega (arith, rest, e, l)
 
 -- if a is true, so is "a or b": a number of a set (a) is in its union with another set (b)
-pub first : (a b : Bool) → a ≡ true → (a || b) ≡ true
-first true b h = refl
-first false b h = absurd (false≢true h)
+pub or_holds_by_first : (a b : Bool) → a ≡ true → (a || b) ≡ true
+or_holds_by_first true b h = refl
+or_holds_by_first false b h = absurd (false≢true h)
 
 -- ---- the numbers of a list, which come one after another
 
@@ -157,10 +157,10 @@ union-next s k ks = insert-union s (set.from_list ks) k ∙ sym (union-insert s 
 -- a set with the first number of a list put in has no more numbers than with all numbers of the list put in
 pub len-next : (s t : set.FinSet nat_cmp) (k : ℕ) (ks : List ℕ) → set.union s (set.from_list (k ∷ ks)) ≡ t → set.len (set.insert s k) ≤ set.len t
 len-next s t k ks h =
-    len-within (set.insert s k) t (λ q e. ap (λ u. set.contains u q) (sym (union-next s k ks ∙ h)) ∙ set.contains-union nat_cmp_total (set.insert s k) (set.from_list ks) q ∙ first _ _ e)
+    len-within (set.insert s k) t (λ q e. ap (λ u. set.contains u q) (sym (union-next s k ks ∙ h)) ∙ set.contains-union nat_cmp_total (set.insert s k) (set.from_list ks) q ∙ or_holds_by_first _ _ e)
 
--- a count l is at most one more than r, which is l, or l less one if b is true: for `len-below`, where r counts a set
--- of l numbers without m, and b says whether it has m
+-- A count l is at most one more than r, which is l, or l less one if b is true. For `len-below`, where r counts a set
+-- of l numbers without m, and b says whether it has m.
 one_less : (b : Bool) (l r : ℕ) → r ≡ cond b (l - 1) l → l ≤ r + 1
 one_less true l r e = omega (arith, e)
 one_less false l r e = omega (arith, e)

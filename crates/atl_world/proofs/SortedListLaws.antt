@@ -14,7 +14,7 @@ use Rattle.std.proofs.lemmas.List.{get_or_default}
 use Rattle.std.proofs.lemmas.List.Edits.{length-insert, length-remove, get_or-insert_below, get_or-insert_at, get_or-insert_above, get_or-remove_below, get_or-remove_above}
 use Rattle.std.proofs.lemmas.List.Sorted.{IsPermutation-insert, IsPermutation-remove, list_any-IsPermutation, searched}
 use Rattle.atl_world.specs.SortedNumbers.{IsAt, BelongsAt}
-use Rattle.atl_world.proofs.SetLaws.{same, insert_twice, insert_undone, contains_inserted}
+use Rattle.atl_world.proofs.SetLaws.{sets_are_equal, insert_twice, insert_undone, contains_inserted}
 
 -- a list is sorted, without duplicates
 abbrev IsRising : List ℕ → Type 0
@@ -27,8 +27,8 @@ by_cases a b alike less more = elim (cases_order a b) [ inl e ↦ alike e | inr 
 -- ---- a list stays sorted
 
 -- a sorted list stays sorted if n is put in at the index where it belongs
-pub rising-insert : (xs : List ℕ) (n i : ℕ) → IsRising xs → BelongsAt xs n i → IsRising (insert xs i n)
-rising-insert xs n i s b = sorted_from_strictly_increasing (insert xs i n) (λ k l.
+pub sorted-insert : (xs : List ℕ) (n i : ℕ) → IsRising xs → BelongsAt xs n i → IsRising (insert xs i n)
+sorted-insert xs n i s b = sorted_from_strictly_increasing (insert xs i n) (λ k l.
     let size : length (insert xs i n) ≡ length xs + 1 = length-insert xs i n b.within in
     let later : (j : ℕ) → i < j → get_or (insert xs i n) j 0 ≡ get_or xs (j - 1) 0 =
     λ j m. ap (λ p. get_or (insert xs i n) p 0) (one_back j i m) ∙ get_or-insert_above xs i n 0 (j - 1) (omega (arith, m)) b.within in
@@ -36,7 +36,7 @@ rising-insert xs n i s b = sorted_from_strictly_increasing (insert xs i n) (λ k
     (λ e.
     let here : get_or (insert xs i n) k 0 ≡ n = ap (λ p. get_or (insert xs i n) p 0) e ∙ get_or-insert_at xs i n 0 b.within in
     let next : get_or (insert xs i n) (k + 1) 0 ≡ get_or xs k 0 = get_or-insert_above xs i n 0 k (omega (arith, e)) b.within in
-    let above = b.behind k (omega (arith, e)) (omega (arith, l, size)) in
+    let above = b.after k (omega (arith, e)) (omega (arith, l, size)) in
     omega (arith, here, next, above))
     (λ m.
     let here : get_or (insert xs i n) k 0 ≡ get_or xs k 0 = get_or-insert_below xs i n 0 k m b.within in
@@ -61,8 +61,8 @@ rising-insert xs n i s b = sorted_from_strictly_increasing (insert xs i n) (λ k
     one_back j i m = omega arith
 
 -- a sorted list stays sorted if an element is removed
-pub rising-remove : (xs : List ℕ) (i : ℕ) → IsRising xs → i < length xs → IsRising (remove xs i)
-rising-remove xs i s within = sorted_from_strictly_increasing (remove xs i) (λ k l.
+pub sorted-remove : (xs : List ℕ) (i : ℕ) → IsRising xs → i < length xs → IsRising (remove xs i)
+sorted-remove xs i s within = sorted_from_strictly_increasing (remove xs i) (λ k l.
     let size : length (remove xs i) + 1 ≡ length xs = length-remove xs i within in
     by_cases (k + 1) i
     (λ e.
@@ -88,24 +88,24 @@ lesser_not_listed : (x : ℕ) (xs : List ℕ) → AllByRecursion (λ y. nat_cmp 
 lesser_not_listed x [] h = refl
 lesser_not_listed x (y ∷ xs) h = ap (λ r. is_eq r || list_any (eq_by_cmp nat_cmp x) xs) h.0 ∙ lesser_not_listed x xs h.1
 
--- if b is false and m is n, then the choice of m (for b true) or m + 1 (for b false) is n + 1: for `len-rising`, where
--- b says whether the set of m numbers has the next number already
-one_more : (b : Bool) (m n : ℕ) → b ≡ false → m ≡ n → cond b m (m + 1) ≡ suc n
-one_more true m n e h = absurd (false≢true (sym e))
-one_more false m n e h = omega arith
+-- The choice of m (for b true) or m + 1 (for b false) is n + 1, if b is false and m is n. For `len-sorted`, where b
+-- says whether the set of m numbers has the next number already.
+chosen_is_one_more : (b : Bool) (m n : ℕ) → b ≡ false → m ≡ n → cond b m (m + 1) ≡ suc n
+chosen_is_one_more true m n e h = absurd (false≢true (sym e))
+chosen_is_one_more false m n e h = omega arith
 
 -- the set of a sorted list has as many numbers as the list is long
-pub len-rising : (xs : List ℕ) → IsRising xs → set.len {R = nat_cmp} (set.from_list xs) ≡ length xs
-len-rising [] s = set.len-empty nat_cmp
-len-rising (x ∷ xs) s =
+pub len-sorted : (xs : List ℕ) → IsRising xs → set.len {R = nat_cmp} (set.from_list xs) ≡ length xs
+len-sorted [] s = set.len-empty nat_cmp
+len-sorted (x ∷ xs) s =
     set.len-insert nat_cmp_total (set.from_list xs) x
-    ∙ one_more _ _ _ (set.contains-from_list nat_cmp_total xs x ∙ lesser_not_listed x xs (sorted_head nat_cmp x xs s)) (len-rising xs (sorted_tail nat_cmp x xs s))
+    ∙ chosen_is_one_more _ _ _ (set.contains-from_list nat_cmp_total xs x ∙ lesser_not_listed x xs (sorted_head nat_cmp x xs s)) (len-sorted xs (sorted_tail nat_cmp x xs s))
 
 -- ---- which numbers the set of a list has
 
 -- lists that are permutations of each other have the same set
 from_list-permutation : (xs ys : List ℕ) → IsPermutation xs ys → set.from_list {R = nat_cmp} xs ≡ set.from_list ys
-from_list-permutation xs ys p = same _ _ (λ q. set.contains-from_list nat_cmp_total xs q ∙ list_any-IsPermutation (eq_by_cmp nat_cmp q) xs ys p ∙ sym (set.contains-from_list nat_cmp_total ys q))
+from_list-permutation xs ys p = sets_are_equal _ _ (λ q. set.contains-from_list nat_cmp_total xs q ∙ list_any-IsPermutation (eq_by_cmp nat_cmp q) xs ys p ∙ sym (set.contains-from_list nat_cmp_total ys q))
 
 -- the set of a list with n inserted is the set of the list with n put in
 pub from_list-insert : (xs : List ℕ) (n i : ℕ) → set.from_list {R = nat_cmp} (insert xs i n) ≡ set.insert (set.from_list xs) n
@@ -116,18 +116,18 @@ from_list-put_back : (xs : List ℕ) (n i : ℕ) → IsAt xs n i → set.from_li
 from_list-put_back xs n i h = from_list-permutation xs (n ∷ remove xs i) (IsPermutation-remove xs i n h.within (sym (get_or_default xs i n 0 h.within ∙ h.number_there)))
 
 -- the number n at an index of a list is in the set of the list
-pub contains-stands : (xs : List ℕ) (n i : ℕ) → IsAt xs n i → set.contains {R = nat_cmp} (set.from_list xs) n ≡ true
-contains-stands xs n i h = ap (λ s. set.contains s n) (from_list-put_back xs n i h) ∙ contains_inserted (set.from_list (remove xs i)) n
+pub contains-is_at : (xs : List ℕ) (n i : ℕ) → IsAt xs n i → set.contains {R = nat_cmp} (set.from_list xs) n ≡ true
+contains-is_at xs n i h = ap (λ s. set.contains s n) (from_list-put_back xs n i h) ∙ contains_inserted (set.from_list (remove xs i)) n
 
 -- if n belongs at an index of a sorted list, the list's set with n put in has one number more than the list
 pub len-belongs : (xs : List ℕ) (n i : ℕ) → IsRising xs → BelongsAt xs n i → set.len {R = nat_cmp} (set.insert (set.from_list xs) n) ≡ length xs + 1
-len-belongs xs n i s b = ap set.len (sym (from_list-insert xs n i)) ∙ len-rising (insert xs i n) (rising-insert xs n i s b) ∙ length-insert xs i n b.within
+len-belongs xs n i s b = ap set.len (sym (from_list-insert xs n i)) ∙ len-sorted (insert xs i n) (sorted-insert xs n i s b) ∙ length-insert xs i n b.within
 
 -- a number that belongs at an index of a sorted list (`BelongsAt`) is not in the set of the list
 pub contains-belongs : (xs : List ℕ) (n i : ℕ) → IsRising xs → BelongsAt xs n i → set.contains {R = nat_cmp} (set.from_list xs) n ≡ false
 contains-belongs xs n i s b = false_from_ne_true _ (λ e.
     let more = len-belongs xs n i s b in
-    let as_many : set.len {R = nat_cmp} (set.insert (set.from_list xs) n) ≡ length xs = ap set.len (insert_twice (set.from_list xs) n e) ∙ len-rising xs s in
+    let as_many : set.len {R = nat_cmp} (set.insert (set.from_list xs) n) ≡ length xs = ap set.len (insert_twice (set.from_list xs) n e) ∙ len-sorted xs s in
     omega (arith, more, as_many))
 
 -- the set of a sorted list with its i-th element n removed is the set of the list without n
@@ -135,17 +135,17 @@ pub from_list-remove : (xs : List ℕ) (n i : ℕ) → IsRising xs → IsAt xs n
 from_list-remove xs n i s h =
     let back = from_list-put_back xs n i h in
     let gone : set.contains {R = nat_cmp} (set.from_list (remove xs i)) n ≡ false = false_from_ne_true _ (λ e.
-    let all : set.len {R = nat_cmp} (set.from_list xs) ≡ length xs = len-rising xs s in
-    let less : set.len {R = nat_cmp} (set.from_list (remove xs i)) ≡ length (remove xs i) = len-rising (remove xs i) (rising-remove xs i s h.within) in
+    let all : set.len {R = nat_cmp} (set.from_list xs) ≡ length xs = len-sorted xs s in
+    let less : set.len {R = nat_cmp} (set.from_list (remove xs i)) ≡ length (remove xs i) = len-sorted (remove xs i) (sorted-remove xs i s h.within) in
     let size : length (remove xs i) + 1 ≡ length xs = length-remove xs i h.within in
     let as_many : set.len {R = nat_cmp} (set.from_list xs) ≡ set.len {R = nat_cmp} (set.from_list (remove xs i)) = ap set.len (back ∙ insert_twice (set.from_list (remove xs i)) n e) in
     omega (arith, all, less, size, as_many)) in
     sym (ap (λ t. set.remove t n) back ∙ insert_undone (set.from_list (remove xs i)) n gone)
 
 -- the empty list is sorted
-pub rising-empty : IsRising []
+pub sorted-empty : IsRising []
 unfolding IsStrictlySortedBy
-rising-empty = tt
+sorted-empty = tt
 
 -- ---- the index that a binary search returns
 
@@ -161,4 +161,4 @@ searched-found xs n (Err i) s h = tt
 -- if a binary search in a sorted list doesn't find n, then n belongs at the index that the search returns
 pub searched-missing : (xs : List ℕ) (n : ℕ) (r : Result ℕ ℕ) → IsRising xs → IsBinarySearchResult (λ y. nat_cmp y n) xs r → IfErr r (λ i. BelongsAt xs n i)
 searched-missing xs n (Ok i) s h = tt
-searched-missing xs n (Err i) s h = let missing = searched xs n (Err i) h (not_falling xs s) in record { within = missing.0; before = missing.1; behind = missing.2 }
+searched-missing xs n (Err i) s h = let missing = searched xs n (Err i) h (not_falling xs s) in record { within = missing.0; before = missing.1; after = missing.2 }

@@ -11,16 +11,16 @@ use Rattle.std.proofs.lemmas.Option.{none-some}
 use Rattle.atl_world.specs.Sums.{sum_over, numbers_where}
 
 -- addition is commutative: for `put_new`
-swapped : (a b : ℕ) → a + b ≡ b + a
-swapped a b = omega arith
+addition_commutes : (a b : ℕ) → a + b ≡ b + a
+addition_commutes a b = omega arith
 
--- if b is c + d, then a + b is (a + c) + d: for `put_new`, where the new entry is put behind one that counts a
-sum_behind : (a b c d : ℕ) → b ≡ c + d → a + b ≡ (a + c) + d
-sum_behind a b c d h = omega arith
+-- if b is c + d, then a + b is (a + c) + d: for `put_new`, where the new entry comes after one for which f gives a
+sum_after_first : (a b c d : ℕ) → b ≡ c + d → a + b ≡ (a + c) + d
+sum_after_first a b c d h = omega arith
 
 -- (a + c) + b is (b + c) + a: for `put_either`, where a and b are what f gives for the two values
-exchanged : (a b c : ℕ) → (a + c) + b ≡ (b + c) + a
-exchanged a b c = omega arith
+addends_are_exchanged : (a b c : ℕ) → (a + c) + b ≡ (b + c) + a
+addends_are_exchanged a b c = omega arith
 
 -- two equal sums stay equal if e is added to the first addend of each: for `put_either`, with an entry in front that
 -- counts e
@@ -28,21 +28,21 @@ equal_sums_in_front : (e a b c d : ℕ) → a + b ≡ c + d → (e + a) + b ≡ 
 equal_sums_in_front e a b c d h = omega arith
 
 module _ {X : Type 0} where
-  -- a choice by b between x, and what the same b chooses of y and z, is that between x and z: for `put_over`, what the
-  -- map has under a number, with and without its value removed first
-  twice : (b : Bool) (x y z : Option X) → cond b x z ≡ cond b x (cond b y z)
-  twice true x y z = refl
-  twice false x y z = refl
+  -- A choice by b between x, and what the same b chooses of y and z, is that between x and z. For `put_over`: what the
+  -- map has under a number, with and without its value removed first.
+  inner_choice_is_unused : (b : Bool) (x y z : Option X) → cond b x z ≡ cond b x (cond b y z)
+  inner_choice_is_unused true x y z = refl
+  inner_choice_is_unused false x y z = refl
 
   -- the map with v put in under k is the same if the value under k, if any, is removed first
   pub put_over : (m : FinMap nat_cmp X) (k : ℕ) (v : X) → insert m k v ≡ insert (remove m k) k v
   put_over m k v = same_map nat_cmp_total nat_cmp-IsAntisymmetric _ _ (λ q.
-      get-insert nat_cmp_total m k v q ∙ twice (eq_by_cmp nat_cmp q k) (Some v) None (get m q)
+      get-insert nat_cmp_total m k v q ∙ inner_choice_is_unused (eq_by_cmp nat_cmp q k) (Some v) None (get m q)
       ∙ sym (get-insert nat_cmp_total (remove m k) k v q ∙ ap (cond (eq_by_cmp nat_cmp q k) (Some v)) (get-remove nat_cmp_total m k q)))
 
   -- a value taken out and put in again leaves the map as it was
-  pub put_back : (m : FinMap nat_cmp X) (k : ℕ) (u : X) → get m k ≡ Some u → m ≡ insert (remove m k) k u
-  put_back m k u h = same_map nat_cmp_total nat_cmp-IsAntisymmetric _ _ (λ q.
+  pub put_back_keeps_map : (m : FinMap nat_cmp X) (k : ℕ) (u : X) → get m k ≡ Some u → m ≡ insert (remove m k) k u
+  put_back_keeps_map m k u h = same_map nat_cmp_total nat_cmp-IsAntisymmetric _ _ (λ q.
       elim (nat_cmp q k) as (λ r. nat_cmp q k ≡ r → get m q ≡ cond (is_eq r) (Some u) (cond (is_eq r) None (get m q))) [
         | Less ↦ λ _. refl
         | Equal ↦ λ e. ap (get m) (nat_cmp-IsAntisymmetric q k e) ∙ h
@@ -51,8 +51,8 @@ module _ {X : Type 0} where
       ∙ sym (get-insert nat_cmp_total (remove m k) k u q ∙ ap (cond (eq_by_cmp nat_cmp q k) (Some u)) (get-remove nat_cmp_total m k q)))
 
   -- a new value, put in and taken out again, leaves the map as it was
-  pub taken_back : (m : FinMap nat_cmp X) (k : ℕ) (v : X) → get m k ≡ None → remove (insert m k v) k ≡ m
-  taken_back m k v h = same_map nat_cmp_total nat_cmp-IsAntisymmetric _ _ (λ q.
+  pub remove_undoes_insert : (m : FinMap nat_cmp X) (k : ℕ) (v : X) → get m k ≡ None → remove (insert m k v) k ≡ m
+  remove_undoes_insert m k v h = same_map nat_cmp_total nat_cmp-IsAntisymmetric _ _ (λ q.
       get-remove nat_cmp_total (insert m k v) k q ∙ ap (cond (eq_by_cmp nat_cmp q k) None) (get-insert nat_cmp_total m k v q)
       ∙ elim (nat_cmp q k) as (λ r. nat_cmp q k ≡ r → cond (is_eq r) None (cond (is_eq r) (Some v) (get m q)) ≡ get m q) [
         | Less ↦ λ _. refl
@@ -63,28 +63,28 @@ module _ {X : Type 0} where
   -- ---- sums
 
   -- the sum of f over the values of entries
-  abbrev weighed : (f : X → ℕ) → List (ℕ × X) → ℕ
-  weighed f es = sum_by (λ e. f e.1) es
+  abbrev sum_of_entries : (f : X → ℕ) → List (ℕ × X) → ℕ
+  sum_of_entries f es = sum_by (λ e. f e.1) es
 
   -- an entry with a new number and the value v, put into entries, adds f v to the sum of f over them
-  put_new : (f : X → ℕ) (k : ℕ) (v : X) (es : List (ℕ × X)) → find nat_cmp k es ≡ None → weighed f (put nat_cmp k v es) ≡ weighed f es + f v
+  put_new : (f : X → ℕ) (k : ℕ) (v : X) (es : List (ℕ × X)) → find nat_cmp k es ≡ None → sum_of_entries f (put nat_cmp k v es) ≡ sum_of_entries f es + f v
   put_new f k v [] h = omega arith
   put_new f k v (e ∷ es) h =
       let more = sum_by-cons (λ (e : ℕ × X). f e.1) in
-      elim (nat_cmp k e.0) as (λ r. cond (is_eq r) (Some e.1) (find nat_cmp k es) ≡ None → weighed f (by_order r ((k, v) ∷ e ∷ es) ((e.0, v) ∷ es) (e ∷ put nat_cmp k v es)) ≡ weighed f (e ∷ es) + f v) [
-        | Less ↦ λ _. more (k, v) (e ∷ es) ∙ swapped (f v) _
+      elim (nat_cmp k e.0) as (λ r. cond (is_eq r) (Some e.1) (find nat_cmp k es) ≡ None → sum_of_entries f (by_order r ((k, v) ∷ e ∷ es) ((e.0, v) ∷ es) (e ∷ put nat_cmp k v es)) ≡ sum_of_entries f (e ∷ es) + f v) [
+        | Less ↦ λ _. more (k, v) (e ∷ es) ∙ addition_commutes (f v) _
         | Equal ↦ λ g. absurd (none-some e.1 (sym g))
-        | Greater ↦ λ g. more e (put nat_cmp k v es) ∙ sum_behind (f e.1) _ (weighed f es) (f v) (put_new f k v es g) ∙ ap (λ n. n + f v) (sym (more e es))
+        | Greater ↦ λ g. more e (put nat_cmp k v es) ∙ sum_after_first (f e.1) _ (sum_of_entries f es) (f v) (put_new f k v es g) ∙ ap (λ n. n + f v) (sym (more e es))
       ] h
 
   -- the sum of f over entries with v put in under k, plus f u, is the sum with u put in under k, plus f v
-  put_either : (f : X → ℕ) (k : ℕ) (u v : X) (es : List (ℕ × X)) → weighed f (put nat_cmp k v es) + f u ≡ weighed f (put nat_cmp k u es) + f v
+  put_either : (f : X → ℕ) (k : ℕ) (u v : X) (es : List (ℕ × X)) → sum_of_entries f (put nat_cmp k v es) + f u ≡ sum_of_entries f (put nat_cmp k u es) + f v
   put_either f k u v [] = omega arith
   put_either f k u v (e ∷ es) =
       let more = sum_by-cons (λ (e : ℕ × X). f e.1) in
-      elim (nat_cmp k e.0) as (λ r. weighed f (by_order r ((k, v) ∷ e ∷ es) ((e.0, v) ∷ es) (e ∷ put nat_cmp k v es)) + f u ≡ weighed f (by_order r ((k, u) ∷ e ∷ es) ((e.0, u) ∷ es) (e ∷ put nat_cmp k u es)) + f v) [
-        | Less ↦ ap (λ n. n + f u) (more (k, v) (e ∷ es)) ∙ exchanged (f v) (f u) _ ∙ ap (λ n. n + f v) (sym (more (k, u) (e ∷ es)))
-        | Equal ↦ ap (λ n. n + f u) (more (e.0, v) es) ∙ exchanged (f v) (f u) _ ∙ ap (λ n. n + f v) (sym (more (e.0, u) es))
+      elim (nat_cmp k e.0) as (λ r. sum_of_entries f (by_order r ((k, v) ∷ e ∷ es) ((e.0, v) ∷ es) (e ∷ put nat_cmp k v es)) + f u ≡ sum_of_entries f (by_order r ((k, u) ∷ e ∷ es) ((e.0, u) ∷ es) (e ∷ put nat_cmp k u es)) + f v) [
+        | Less ↦ ap (λ n. n + f u) (more (k, v) (e ∷ es)) ∙ addends_are_exchanged (f v) (f u) _ ∙ ap (λ n. n + f v) (sym (more (k, u) (e ∷ es)))
+        | Equal ↦ ap (λ n. n + f u) (more (e.0, v) es) ∙ addends_are_exchanged (f v) (f u) _ ∙ ap (λ n. n + f v) (sym (more (e.0, u) es))
         | Greater ↦ ap (λ n. n + f u) (more e (put nat_cmp k v es)) ∙ equal_sums_in_front (f e.1) _ (f u) _ (f v) (put_either f k u v es) ∙ ap (λ n. n + f v) (sym (more e (put nat_cmp k u es)))
       ]
 
@@ -99,41 +99,41 @@ module _ {X : Type 0} where
       ∙ ap (λ es. sum_by (λ e. f e.1) es + f u) (entries-insert nat_cmp_total (remove m k) k v)
       ∙ put_either f k u v (entries (remove m k))
       ∙ ap (λ es. sum_by (λ e. f e.1) es + f v) (sym (entries-insert nat_cmp_total (remove m k) k u))
-      ∙ ap (λ n. sum_over f n + f v) (sym (put_back m k u h))
+      ∙ ap (λ n. sum_over f n + f v) (sym (put_back_keeps_map m k u h))
 
   -- ---- the numbers whose values pass a test
 
   -- the numbers of the entries whose values pass a test
-  abbrev chosen : (p : X → Bool) → List (ℕ × X) → List ℕ
-  chosen p es = map (λ e. e.0) (filter (λ e. p e.1) es)
+  abbrev numbers_passing : (p : X → Bool) → List (ℕ × X) → List ℕ
+  numbers_passing p es = map (λ e. e.0) (filter (λ e. p e.1) es)
 
-  -- for `chosen-cons`: to put e, if b is true, in front of the entries of es that pass the test p, puts the number of e
-  -- in front of the numbers of these entries
-  chosen-cond : (p : X → Bool) (b : Bool) (e : ℕ × X) (es : List (ℕ × X)) → map (λ e. e.0) (cond b (e ∷ filter (λ e. p e.1) es) (filter (λ e. p e.1) es)) ≡ cond b (e.0 ∷ chosen p es) (chosen p es)
+  -- If b is true, to put e in front of the entries of es that pass the test p puts the number of e in front of their
+  -- numbers. For `chosen-cons`.
+  chosen-cond : (p : X → Bool) (b : Bool) (e : ℕ × X) (es : List (ℕ × X)) → map (λ e. e.0) (cond b (e ∷ filter (λ e. p e.1) es) (filter (λ e. p e.1) es)) ≡ cond b (e.0 ∷ numbers_passing p es) (numbers_passing p es)
   chosen-cond p true e es = refl
   chosen-cond p false e es = refl
 
   -- the numbers of e ∷ es whose values pass the test p are those of es, with the number of e in front if e passes
-  pub chosen-cons : (p : X → Bool) (e : ℕ × X) (es : List (ℕ × X)) → chosen p (e ∷ es) ≡ cond (p e.1) (e.0 ∷ chosen p es) (chosen p es)
+  pub chosen-cons : (p : X → Bool) (e : ℕ × X) (es : List (ℕ × X)) → numbers_passing p (e ∷ es) ≡ cond (p e.1) (e.0 ∷ numbers_passing p es) (numbers_passing p es)
   chosen-cons p e es = chosen-cond p (p e.1) e es
 
   -- the numbers whose values pass the test p are the same with u and with v under k, if u and v both pass or both fail
-  chosen-put : (p : X → Bool) (k : ℕ) (u v : X) → p u ≡ p v → (es : List (ℕ × X)) → chosen p (put nat_cmp k v es) ≡ chosen p (put nat_cmp k u es)
+  chosen-put : (p : X → Bool) (k : ℕ) (u v : X) → p u ≡ p v → (es : List (ℕ × X)) → numbers_passing p (put nat_cmp k v es) ≡ numbers_passing p (put nat_cmp k u es)
   chosen-put p k u v h [] = chosen-cons p (k, v) [] ∙ ap (λ b. cond b (k ∷ []) []) (sym h) ∙ sym (chosen-cons p (k, u) [])
   chosen-put p k u v h (e ∷ es) =
-      elim (nat_cmp k e.0) as (λ r. chosen p (by_order r ((k, v) ∷ e ∷ es) ((e.0, v) ∷ es) (e ∷ put nat_cmp k v es)) ≡ chosen p (by_order r ((k, u) ∷ e ∷ es) ((e.0, u) ∷ es) (e ∷ put nat_cmp k u es))) [
-        | Less ↦ chosen-cons p (k, v) (e ∷ es) ∙ ap (λ b. cond b (k ∷ chosen p (e ∷ es)) (chosen p (e ∷ es))) (sym h) ∙ sym (chosen-cons p (k, u) (e ∷ es))
-        | Equal ↦ chosen-cons p (e.0, v) es ∙ ap (λ b. cond b (e.0 ∷ chosen p es) (chosen p es)) (sym h) ∙ sym (chosen-cons p (e.0, u) es)
+      elim (nat_cmp k e.0) as (λ r. numbers_passing p (by_order r ((k, v) ∷ e ∷ es) ((e.0, v) ∷ es) (e ∷ put nat_cmp k v es)) ≡ numbers_passing p (by_order r ((k, u) ∷ e ∷ es) ((e.0, u) ∷ es) (e ∷ put nat_cmp k u es))) [
+        | Less ↦ chosen-cons p (k, v) (e ∷ es) ∙ ap (λ b. cond b (k ∷ numbers_passing p (e ∷ es)) (numbers_passing p (e ∷ es))) (sym h) ∙ sym (chosen-cons p (k, u) (e ∷ es))
+        | Equal ↦ chosen-cons p (e.0, v) es ∙ ap (λ b. cond b (e.0 ∷ numbers_passing p es) (numbers_passing p es)) (sym h) ∙ sym (chosen-cons p (e.0, u) es)
         | Greater ↦ chosen-cons p e (put nat_cmp k v es) ∙ ap (λ ns. cond (p e.1) (e.0 ∷ ns) ns) (chosen-put p k u v h es) ∙ sym (chosen-cons p e (put nat_cmp k u es))
       ]
 
   -- an entry with a new number, put into entries, adds nothing to the numbers whose values pass the test p, if its own
   -- value fails p
-  chosen-put_other : (p : X → Bool) (k : ℕ) (v : X) → p v ≡ false → (es : List (ℕ × X)) → find nat_cmp k es ≡ None → chosen p (put nat_cmp k v es) ≡ chosen p es
+  chosen-put_other : (p : X → Bool) (k : ℕ) (v : X) → p v ≡ false → (es : List (ℕ × X)) → find nat_cmp k es ≡ None → numbers_passing p (put nat_cmp k v es) ≡ numbers_passing p es
   chosen-put_other p k v h [] g = chosen-cons p (k, v) [] ∙ ap (λ b. cond b (k ∷ []) []) h
   chosen-put_other p k v h (e ∷ es) g =
-      elim (nat_cmp k e.0) as (λ r. cond (is_eq r) (Some e.1) (find nat_cmp k es) ≡ None → chosen p (by_order r ((k, v) ∷ e ∷ es) ((e.0, v) ∷ es) (e ∷ put nat_cmp k v es)) ≡ chosen p (e ∷ es)) [
-        | Less ↦ λ _. chosen-cons p (k, v) (e ∷ es) ∙ ap (λ b. cond b (k ∷ chosen p (e ∷ es)) (chosen p (e ∷ es))) h
+      elim (nat_cmp k e.0) as (λ r. cond (is_eq r) (Some e.1) (find nat_cmp k es) ≡ None → numbers_passing p (by_order r ((k, v) ∷ e ∷ es) ((e.0, v) ∷ es) (e ∷ put nat_cmp k v es)) ≡ numbers_passing p (e ∷ es)) [
+        | Less ↦ λ _. chosen-cons p (k, v) (e ∷ es) ∙ ap (λ b. cond b (k ∷ numbers_passing p (e ∷ es)) (numbers_passing p (e ∷ es))) h
         | Equal ↦ λ g. absurd (none-some e.1 (sym g))
         | Greater ↦ λ g. chosen-cons p e (put nat_cmp k v es) ∙ ap (λ ns. cond (p e.1) (e.0 ∷ ns) ns) (chosen-put_other p k v h es g) ∙ sym (chosen-cons p e es)
       ] g
@@ -141,20 +141,20 @@ module _ {X : Type 0} where
   -- if v replaces u in a map, and the test p is the same of both, the numbers whose values pass p stay the same numbers
   pub numbers_where-insert_known : (p : X → Bool) (m : FinMap nat_cmp X) (k : ℕ) (u v : X) → get m k ≡ Some u → p u ≡ p v → numbers_where p (insert m k v) ≡ numbers_where p m
   numbers_where-insert_known p m k u v h same =
-      ap (numbers_where p) (put_over m k v) ∙ ap (chosen p) (entries-insert nat_cmp_total (remove m k) k v) ∙ chosen-put p k u v same (entries (remove m k))
-      ∙ ap (chosen p) (sym (entries-insert nat_cmp_total (remove m k) k u)) ∙ ap (numbers_where p) (sym (put_back m k u h))
+      ap (numbers_where p) (put_over m k v) ∙ ap (numbers_passing p) (entries-insert nat_cmp_total (remove m k) k v) ∙ chosen-put p k u v same (entries (remove m k))
+      ∙ ap (numbers_passing p) (sym (entries-insert nat_cmp_total (remove m k) k u)) ∙ ap (numbers_where p) (sym (put_back_keeps_map m k u h))
 
   -- the numbers whose values pass the test p are still the same after a value that fails p is put in under a new number
   pub numbers_where-insert_other : (p : X → Bool) (m : FinMap nat_cmp X) (k : ℕ) (v : X) → get m k ≡ None → p v ≡ false → numbers_where p (insert m k v) ≡ numbers_where p m
   numbers_where-insert_other p m k v h fails =
-      ap (chosen p) (entries-insert nat_cmp_total m k v) ∙ chosen-put_other p k v fails (entries m) (sym (get-entries m k) ∙ h)
+      ap (numbers_passing p) (entries-insert nat_cmp_total m k v) ∙ chosen-put_other p k v fails (entries m) (sym (get-entries m k) ∙ h)
 
   -- replacing a value by an equal one leaves the map as it was
   pub put_same : (m : FinMap nat_cmp X) (k : ℕ) (u v : X) → get m k ≡ Some u → v ≡ u → insert m k v ≡ m
-  put_same m k u v h e = ap (insert m k) e ∙ put_over m k u ∙ sym (put_back m k u h)
+  put_same m k u v h e = ap (insert m k) e ∙ put_over m k u ∙ sym (put_back_keeps_map m k u h)
 
-  -- if v equals u, the value under k, wherever the result r is an error, then putting in v leaves the map as it was
-  -- wherever r is an error
+  -- to put in v under k leaves the map as it was if the result r is an error (`OnErr`), given that v then equals u, the
+  -- value under k
   pub put_same_err : {A E : Type 0} (r : Result A E) (m : FinMap nat_cmp X) (k : ℕ) (u v : X) → get m k ≡ Some u → OnErr r (v ≡ u) → OnErr r (insert m k v ≡ m)
   put_same_err (Ok a) m k u v h e = tt
   put_same_err (Err x) m k u v h e = put_same m k u v h e

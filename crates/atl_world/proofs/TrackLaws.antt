@@ -9,62 +9,62 @@ use Rattle.std.specs.Cmp.{nat_cmp_total}
 use Rattle.std.specs.FinMap.{FinMap, get, entries, insert, remove, empty, get-empty, get-insert, get-remove, same_map, keys, len, len-entries, len-empty, contains_key-keys, nat_cmp-IsAntisymmetric}
 use Rattle.std.specs.FinSet as set
 use Rattle.atl_world.specs.MarkedMaps.{MarkedMapValue}
-use Rattle.atl_world.specs.RoomySets.{held}
-use Rattle.atl_world.specs.Tracking.{marked_with, with_value, without_value_at, taken_out}
+use Rattle.atl_world.specs.RoomySets.{valued_or_marked}
+use Rattle.atl_world.specs.Tracking.{marked_with, with_value, without_value_at, without_new_value}
 pub use Rattle.atl_world.proofs.GeneralLaws.{is_true}
 use Rattle.atl_world.proofs.GeneralLaws.{key_itself, same_key}
-use Rattle.atl_world.proofs.SetLaws.{same, insert_twice, insert_undone, contains_inserted, first, len-within, len-union}
-use Rattle.atl_world.proofs.SumLaws.{taken_back}
+use Rattle.atl_world.proofs.SetLaws.{sets_are_equal, insert_twice, insert_undone, contains_inserted, or_holds_by_first, len-within, len-union}
+use Rattle.atl_world.proofs.SumLaws.{remove_undoes_insert}
 
 -- if b is true, so is "a or b": for numbers of which a says whether they have a mark, and b whether they have a value
-either : (a b : Bool) → b ≡ true → (a || b) ≡ true
-either true b h = refl
-either false b h = h
+or_holds_by_second : (a b : Bool) → b ≡ true → (a || b) ≡ true
+or_holds_by_second true b h = refl
+or_holds_by_second false b h = h
 
--- P holds of the result of the test whether q is n, if P holds of false, and of true where q is n: for laws of what a
--- set or a map that was changed at n has at q
-at : (n q : ℕ) (P : Bool → Type 0) → (q ≡ n → P true) → P false → P (eq_by_cmp nat_cmp q n)
-at n q P here other = elim (eq_by_cmp nat_cmp q n) as (λ b. eq_by_cmp nat_cmp q n ≡ b → P b) [ true ↦ λ e. here (same_key q n e) | false ↦ λ _. other ] refl
+-- P holds of the result of the test whether q is n, if P holds of false, and of true where q is n. For laws of what a
+-- set or a map that was changed at n has at q.
+holds_of_key_test : (n q : ℕ) (P : Bool → Type 0) → (q ≡ n → P true) → P false → P (eq_by_cmp nat_cmp q n)
+holds_of_key_test n q P here other = elim (eq_by_cmp nat_cmp q n) as (λ b. eq_by_cmp nat_cmp q n ≡ b → P b) [ true ↦ λ e. here (same_key q n e) | false ↦ λ _. other ] refl
 
 module _ {V : Type 0} where
   -- ---- the numbers that have a value or a mark
 
-  -- `held v m` has exactly the numbers that have a value in the map v or a mark in m
-  pub contains-held : (v : FinMap nat_cmp V) (m : set.FinSet nat_cmp) (q : ℕ) → set.contains (held v m) q ≡ (set.contains m q || is_some (get v q))
+  -- `valued_or_marked v m` has exactly the numbers that have a value in the map v or a mark in m
+  pub contains-held : (v : FinMap nat_cmp V) (m : set.FinSet nat_cmp) (q : ℕ) → set.contains (valued_or_marked v m) q ≡ (set.contains m q || is_some (get v q))
   contains-held v m q =
       set.contains-union nat_cmp_total m (set.from_list (keys v)) q
       ∙ ap (λ b. set.contains m q || b) (set.contains-from_list nat_cmp_total (keys v) q ∙ sym (contains_key-keys v q))
 
   -- if a map has a value under n, and q is n, then q has a value in the map or a mark
-  there : (v : FinMap nat_cmp V) (m : set.FinSet nat_cmp) (n q : ℕ) → is_some (get v n) ≡ true → q ≡ n → (set.contains m q || is_some (get v q)) ≡ true
-  there v m n q h e = either (set.contains m q) (is_some (get v q)) (ap (λ k. is_some (get v k)) e ∙ h)
+  key_has_value_or_mark : (v : FinMap nat_cmp V) (m : set.FinSet nat_cmp) (n q : ℕ) → is_some (get v n) ≡ true → q ≡ n → (set.contains m q || is_some (get v q)) ≡ true
+  key_has_value_or_mark v m n q h e = or_holds_by_second (set.contains m q) (is_some (get v q)) (ap (λ k. is_some (get v k)) e ∙ h)
 
   -- to mark a number that has a value leaves the set of numbers with a value or a mark as it was
-  pub held-marked : (v : FinMap nat_cmp V) (m : set.FinSet nat_cmp) (n : ℕ) → is_some (get v n) ≡ true → held v (set.insert m n) ≡ held v m
-  held-marked v m n h = same _ _ (λ q.
+  pub held-marked : (v : FinMap nat_cmp V) (m : set.FinSet nat_cmp) (n : ℕ) → is_some (get v n) ≡ true → valued_or_marked v (set.insert m n) ≡ valued_or_marked v m
+  held-marked v m n h = sets_are_equal _ _ (λ q.
       contains-held v (set.insert m n) q ∙ ap (λ b. b || is_some (get v q)) (set.contains-insert nat_cmp_total m n q)
-      ∙ at n q (λ b. ((b || set.contains m q) || is_some (get v q)) ≡ (set.contains m q || is_some (get v q))) (λ e. sym (there v m n q h e)) refl
+      ∙ holds_of_key_test n q (λ b. ((b || set.contains m q) || is_some (get v q)) ≡ (set.contains m q || is_some (get v q))) (λ e. sym (key_has_value_or_mark v m n q h e)) refl
       ∙ sym (contains-held v m q))
 
   -- if n has a value, to take it out and mark n leaves the set of numbers with a value or a mark as it was
-  pub held-removed : (v : FinMap nat_cmp V) (m : set.FinSet nat_cmp) (n : ℕ) → is_some (get v n) ≡ true → held (remove v n) (set.insert m n) ≡ held v m
-  held-removed v m n h = same _ _ (λ q.
+  pub held-removed : (v : FinMap nat_cmp V) (m : set.FinSet nat_cmp) (n : ℕ) → is_some (get v n) ≡ true → valued_or_marked (remove v n) (set.insert m n) ≡ valued_or_marked v m
+  held-removed v m n h = sets_are_equal _ _ (λ q.
       contains-held (remove v n) (set.insert m n) q ∙ ap (λ b. b || is_some (get (remove v n) q)) (set.contains-insert nat_cmp_total m n q)
       ∙ ap (λ o. (eq_by_cmp nat_cmp q n || set.contains m q) || is_some o) (get-remove nat_cmp_total v n q)
-      ∙ at n q (λ b. ((b || set.contains m q) || is_some (cond b None (get v q))) ≡ (set.contains m q || is_some (get v q))) (λ e. sym (there v m n q h e)) refl
+      ∙ holds_of_key_test n q (λ b. ((b || set.contains m q) || is_some (cond b None (get v q))) ≡ (set.contains m q || is_some (get v q))) (λ e. sym (key_has_value_or_mark v m n q h e)) refl
       ∙ sym (contains-held v m q))
 
   -- if n has a value, to replace it and mark n leaves the set of numbers with a value or a mark as it was
-  pub held-lent : (v : FinMap nat_cmp V) (m : set.FinSet nat_cmp) (n : ℕ) (x : V) → is_some (get v n) ≡ true → held (insert v n x) (set.insert m n) ≡ held v m
-  held-lent v m n x h = same _ _ (λ q.
+  pub held-lent : (v : FinMap nat_cmp V) (m : set.FinSet nat_cmp) (n : ℕ) (x : V) → is_some (get v n) ≡ true → valued_or_marked (insert v n x) (set.insert m n) ≡ valued_or_marked v m
+  held-lent v m n x h = sets_are_equal _ _ (λ q.
       contains-held (insert v n x) (set.insert m n) q ∙ ap (λ b. b || is_some (get (insert v n x) q)) (set.contains-insert nat_cmp_total m n q)
       ∙ ap (λ o. (eq_by_cmp nat_cmp q n || set.contains m q) || is_some o) (get-insert nat_cmp_total v n x q)
-      ∙ at n q (λ b. ((b || set.contains m q) || is_some (cond b (Some x) (get v q))) ≡ (set.contains m q || is_some (get v q))) (λ e. sym (there v m n q h e)) refl
+      ∙ holds_of_key_test n q (λ b. ((b || set.contains m q) || is_some (cond b (Some x) (get v q))) ≡ (set.contains m q || is_some (get v q))) (λ e. sym (key_has_value_or_mark v m n q h e)) refl
       ∙ sym (contains-held v m q))
 
   -- to take out all values and mark their numbers leaves the set of numbers with a value or a mark as it was
-  pub held-cleared : (v : FinMap nat_cmp V) (m : set.FinSet nat_cmp) → held (empty {X = V} {R = nat_cmp}) (held v m) ≡ held v m
-  held-cleared v m = same _ _ (λ q. contains-held empty (held v m) q ∙ ap (λ o. set.contains (held v m) q || is_some o) (get-empty {X = V} nat_cmp q) ∙ nothing_more (set.contains (held v m) q))
+  pub held-cleared : (v : FinMap nat_cmp V) (m : set.FinSet nat_cmp) → valued_or_marked (empty {X = V} {R = nat_cmp}) (valued_or_marked v m) ≡ valued_or_marked v m
+  held-cleared v m = sets_are_equal _ _ (λ q. contains-held empty (valued_or_marked v m) q ∙ ap (λ o. set.contains (valued_or_marked v m) q || is_some o) (get-empty {X = V} nat_cmp q) ∙ nothing_more (set.contains (valued_or_marked v m) q))
     where
       -- "b or false" is b: for `held-cleared`, where b says whether a number is marked, and the empty map has no value
       -- under it
@@ -76,21 +76,21 @@ module _ {V : Type 0} where
 
   -- room for r marks is enough for all numbers with a value in the map or a mark
   abbrev Room : FinMap nat_cmp V → set.FinSet nat_cmp → ℕ → Type 0
-  Room v m r = set.len (held v m) ≤ r
+  Room v m r = set.len (valued_or_marked v m) ≤ r
 
   -- room for one map and its marks is enough for another map and its marks, if each number with a value or a mark in
   -- the other has one in the first
-  fewer : (v w : FinMap nat_cmp V) (m n : set.FinSet nat_cmp) (r : ℕ) → ((q : ℕ) → (set.contains n q || is_some (get w q)) ≡ true → (set.contains m q || is_some (get v q)) ≡ true) → Room v m r → Room w n r
-  fewer v w m n r h room = let l = len-within (held w n) (held v m) (λ q e. contains-held v m q ∙ h q (sym (contains-held w n q) ∙ e)) in omega (arith, l, room)
+  room_is_enough_for_fewer : (v w : FinMap nat_cmp V) (m n : set.FinSet nat_cmp) (r : ℕ) → ((q : ℕ) → (set.contains n q || is_some (get w q)) ≡ true → (set.contains m q || is_some (get v q)) ≡ true) → Room v m r → Room w n r
+  room_is_enough_for_fewer v w m n r h room = let l = len-within (valued_or_marked w n) (valued_or_marked v m) (λ q e. contains-held v m q ∙ h q (sym (contains-held w n q) ∙ e)) in omega (arith, l, room)
 
   -- a map by number has as many keys, which are its numbers, as entries
-  many : (v : FinMap nat_cmp V) → length (keys v) ≡ len v
-  many v = length-map (entries v) (λ (e : ℕ × V). e.0) ∙ sym (len-entries v)
+  key_count_is_len : (v : FinMap nat_cmp V) → length (keys v) ≡ len v
+  key_count_is_len v = length-map (entries v) (λ (e : ℕ × V). e.0) ∙ sym (len-entries v)
 
   -- room for at least as many as the marks and the values together is enough for all numbers with a value or a mark
   -- (`Room`)
   pub Room-all : (v : FinMap nat_cmp V) (m : set.FinSet nat_cmp) (r : ℕ) → set.len m + len v ≤ r → Room v m r
-  Room-all v m r h = let l = len-union m (keys v) in let e = many v in omega (arith, l, e, h)
+  Room-all v m r h = let l = len-union m (keys v) in let e = key_count_is_len v in omega (arith, l, e, h)
 
   -- room for as many as the values is enough for all numbers with a value or a mark (`Room`), if nothing is marked
   pub Room-of : (v : FinMap nat_cmp V) → Room v set.empty (len v)
@@ -99,18 +99,18 @@ module _ {V : Type 0} where
   -- if there is room for all numbers with a value or a mark (`Room`), there is room to mark a number that has a value
   pub fits-marked : (v : FinMap nat_cmp V) (m : set.FinSet nat_cmp) (r n : ℕ) → is_some (get v n) ≡ true → Room v m r → set.len (set.insert m n) ≤ r
   fits-marked v m r n h room =
-      let all : set.len (held v (set.insert m n)) ≡ set.len (held v m) = ap set.len (held-marked v m n h) in
-      let l = len-within (set.insert m n) (held v (set.insert m n)) (λ q e. contains-held v (set.insert m n) q ∙ first _ _ e) in
+      let all : set.len (valued_or_marked v (set.insert m n)) ≡ set.len (valued_or_marked v m) = ap set.len (held-marked v m n h) in
+      let l = len-within (set.insert m n) (valued_or_marked v (set.insert m n)) (λ q e. contains-held v (set.insert m n) q ∙ or_holds_by_first _ _ e) in
       omega (arith, all, l, room)
 
   -- room enough for all numbers with a value or a mark (`Room`) still is enough after all marks are cleared
   pub Room-unmarked : (v : FinMap nat_cmp V) (m : set.FinSet nat_cmp) (r : ℕ) → Room v m r → Room v set.empty r
-  Room-unmarked v m r = fewer v v m set.empty r (λ q e. either (set.contains m q) (is_some (get v q)) (ap (λ b. b || is_some (get v q)) (sym (set.contains-empty nat_cmp q)) ∙ e))
+  Room-unmarked v m r = room_is_enough_for_fewer v v m set.empty r (λ q e. or_holds_by_second (set.contains m q) (is_some (get v q)) (ap (λ b. b || is_some (get v q)) (sym (set.contains-empty nat_cmp q)) ∙ e))
 
   -- room enough for all numbers with a value or a mark (`Room`) still is after the value and the mark of a number are
   -- taken out
   pub Room-taken : (v : FinMap nat_cmp V) (m : set.FinSet nat_cmp) (r n : ℕ) → Room v m r → Room (remove v n) (set.remove m n) r
-  Room-taken v m r n = fewer v (remove v n) m (set.remove m n) r (λ q e. at n q (λ b. ((not b && set.contains m q) || is_some (cond b None (get v q))) ≡ true → (set.contains m q || is_some (get v q)) ≡ true) (λ _ h. absurd (false≢true h)) (λ h. h)
+  Room-taken v m r n = room_is_enough_for_fewer v (remove v n) m (set.remove m n) r (λ q e. holds_of_key_test n q (λ b. ((not b && set.contains m q) || is_some (cond b None (get v q))) ≡ true → (set.contains m q || is_some (get v q)) ≡ true) (λ _ h. absurd (false≢true h)) (λ h. h)
       (ap (λ b. b || is_some (cond (eq_by_cmp nat_cmp q n) None (get v q))) (sym (set.contains-remove nat_cmp_total m n q)) ∙ ap (λ o. set.contains (set.remove m n) q || is_some o) (sym (get-remove nat_cmp_total v n q)) ∙ e))
 
   -- to remove a number that has no value leaves the map as it was
@@ -123,18 +123,18 @@ module _ {V : Type 0} where
       ] refl)
 
   -- a map with the value x put in under n has x under n
-  pub there_itself : (m : FinMap nat_cmp V) (n : ℕ) (x : V) → get (insert m n x) n ≡ Some x
-  there_itself m n x = get-insert nat_cmp_total m n x n ∙ ap (λ b. cond b (Some x) (get m n)) (key_itself n)
+  pub get_inserted : (m : FinMap nat_cmp V) (n : ℕ) (x : V) → get (insert m n x) n ≡ Some x
+  get_inserted m n x = get-insert nat_cmp_total m n x n ∙ ap (λ b. cond b (Some x) (get m n)) (key_itself n)
 
   -- there is room to mark the number of a value that was put in, if the room is for at least the marks so far and all
   -- values together
   pub fits-inserted : (v : FinMap nat_cmp V) (m : set.FinSet nat_cmp) (r n : ℕ) (x : V) → set.len m + len (insert v n x) ≤ r → set.len (set.insert m n) ≤ r
-  fits-inserted v m r n x h = fits-marked (insert v n x) m r n (ap is_some (there_itself v n x)) (Room-all (insert v n x) m r h)
+  fits-inserted v m r n x h = fits-marked (insert v n x) m r n (ap is_some (get_inserted v n x)) (Room-all (insert v n x) m r h)
 
   -- room for at least the marks so far and all values, among them a new one, is enough (`Room`) once the number of the
   -- new value is marked
   pub Room-inserted : (v : FinMap nat_cmp V) (m : set.FinSet nat_cmp) (r n : ℕ) (x : V) → set.len m + len (insert v n x) ≤ r → Room (insert v n x) (set.insert m n) r
-  Room-inserted v m r n x h = rw (held-marked (insert v n x) m n (ap is_some (there_itself v n x))) (Room-all (insert v n x) m r h)
+  Room-inserted v m r n x h = rw (held-marked (insert v n x) m n (ap is_some (get_inserted v n x))) (Room-all (insert v n x) m r h)
 
   -- room enough for all numbers with a value or a mark (`Room`) still is after a number is marked if it has a value
   pub Room-put : (v : FinMap nat_cmp V) (m : set.FinSet nat_cmp) (r n : ℕ) (o : Option V) → get v n ≡ o → Room v m r → Room v (marked_with m n o) r
@@ -155,13 +155,13 @@ module _ {V : Type 0} where
 
   -- room enough for all numbers with a value or a mark (`Room`) still is after a value is replaced, and no mark changes
   pub Room-over : (v : FinMap nat_cmp V) (m : set.FinSet nat_cmp) (r n : ℕ) (x : V) → is_some (get v n) ≡ true → Room v m r → Room (insert v n x) m r
-  Room-over v m r n x s = fewer v (insert v n x) m m r (λ q e.
-      at n q (λ b. (set.contains m q || is_some (cond b (Some x) (get v q))) ≡ true → (set.contains m q || is_some (get v q)) ≡ true) (λ same _. there v m n q s same) (λ h. h)
+  Room-over v m r n x s = room_is_enough_for_fewer v (insert v n x) m m r (λ q e.
+      holds_of_key_test n q (λ b. (set.contains m q || is_some (cond b (Some x) (get v q))) ≡ true → (set.contains m q || is_some (get v q)) ≡ true) (λ same _. key_has_value_or_mark v m n q s same) (λ h. h)
       (ap (λ o. set.contains m q || is_some o) (sym (get-insert nat_cmp_total v n x q)) ∙ e))
 
   -- room enough for all numbers with a value or a mark (`Room`) still is after all values are taken out and their
   -- numbers marked
-  pub Room-cleared : (v : FinMap nat_cmp V) (m : set.FinSet nat_cmp) (r : ℕ) → Room v m r → Room empty (held v m) r
+  pub Room-cleared : (v : FinMap nat_cmp V) (m : set.FinSet nat_cmp) (r : ℕ) → Room v m r → Room empty (valued_or_marked v m) r
   Room-cleared v m r h = rw (held-cleared v m) h
 
   -- ---- a value taken out, and a new one taken out again
@@ -176,16 +176,16 @@ module _ {V : Type 0} where
   without_value_is c n (Some x) e = refl
 
   -- a value put in under a new number n and taken out again leaves the map as it was; b says whether n was marked
-  undone : (c : MarkedMapValue V) (n : ℕ) (x : V) (b : Bool) → get c.values n ≡ None → set.contains c.marks n ≡ b → taken_out (with_value c n x) n b ≡ c
-  undone c n x true fresh h =
-      ap (without_value_at (with_value c n x) n) (there_itself c.values n x)
-      ∙ same_parts _ _ _ _ (taken_back c.values n x fresh) (insert_twice (set.insert c.marks n) n (contains_inserted c.marks n) ∙ insert_twice c.marks n h)
-  undone c n x false fresh h = same_parts _ _ _ _ (taken_back c.values n x fresh) (insert_undone c.marks n h)
+  insert_is_undone : (c : MarkedMapValue V) (n : ℕ) (x : V) (b : Bool) → get c.values n ≡ None → set.contains c.marks n ≡ b → without_new_value (with_value c n x) n b ≡ c
+  insert_is_undone c n x true fresh h =
+      ap (without_value_at (with_value c n x) n) (get_inserted c.values n x)
+      ∙ same_parts _ _ _ _ (remove_undoes_insert c.values n x fresh) (insert_twice (set.insert c.marks n) n (contains_inserted c.marks n) ∙ insert_twice c.marks n h)
+  insert_is_undone c n x false fresh h = same_parts _ _ _ _ (remove_undoes_insert c.values n x fresh) (insert_undone c.marks n h)
 
   -- a value put in under a number without one, and taken out again, leaves the values and the marks as they were
-  pub taken_out-undone : (c : MarkedMapValue V) (n : ℕ) (x : V) → get c.values n ≡ None → taken_out (with_value c n x) n (set.contains c.marks n) ≡ c
-  taken_out-undone c n x fresh = undone c n x (set.contains c.marks n) fresh refl
+  pub taken_out-undone : (c : MarkedMapValue V) (n : ℕ) (x : V) → get c.values n ≡ None → without_new_value (with_value c n x) n (set.contains c.marks n) ≡ c
+  taken_out-undone c n x fresh = insert_is_undone c n x (set.contains c.marks n) fresh refl
 
 -- room for 0 marks is enough for all numbers with a value or a mark, if the map is empty and nothing is marked
-pub Room-empty : (V : Type 0) → set.len (held (empty {X = V} {R = nat_cmp}) set.empty) ≤ 0
+pub Room-empty : (V : Type 0) → set.len (valued_or_marked (empty {X = V} {R = nat_cmp}) set.empty) ≤ 0
 Room-empty V = Room-all (empty {X = V}) set.empty 0 (let a : set.len {R = nat_cmp} set.empty ≡ 0 = set.len-empty nat_cmp in let b : len (empty {X = V} {R = nat_cmp}) ≡ 0 = len-empty nat_cmp V in omega (arith, a, b))

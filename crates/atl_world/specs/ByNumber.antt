@@ -4,7 +4,7 @@ use Rattle.std.specs.FinMap.{get}
 use Rattle.std.specs.List.{slice_get}
 use Rattle.std.specs.Option.{option_map_or}
 use Rattle.atl_world.specs.Limits.{most_size}
-use Rattle.atl_world.specs.Worlds.{WorldValue, beside, is_land}
+use Rattle.atl_world.specs.Worlds.{WorldValue, neighbour_to, is_land}
 use Rattle.atl_world.specs.declared.direction.Direction.{Direction}
 use Rattle.atl_world.specs.declared.world.Market.{Market}
 use Rattle.atl_world.specs.declared.world.Terrain.{Terrain}
@@ -21,7 +21,7 @@ is_land_at w region = option_map_or (is_land w.terrains) (get w.regions region) 
 
 -- the number of the region next to a region in a direction, None if there is none
 abbrev pub neighbour : WorldValue → (region : ℕ) → Direction → Option ℕ
-neighbour w region direction = option_and_then (beside direction) (get w.regions region)
+neighbour w region direction = option_and_then (neighbour_to direction) (get w.regions region)
 
 -- the market of an item in a region, both by number; None if the region has no such market
 abbrev pub market_of : WorldValue → (region item : ℕ) → Option Market

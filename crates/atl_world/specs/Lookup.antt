@@ -14,8 +14,8 @@ letter_of quoted b = if quoted then b else if b == underscore then space else b
 abbrev pub name_of : List ℕ → Bool → List ℕ
 name_of word quoted = map (letter_of quoted) word
 
--- the index of the first item, skill or kind of a list whose title is the name that a word, with or without quotes (the
--- flag `quoted`), means, ignoring ASCII case; None if there is none
+-- The index of the first item, skill or kind of a list whose title is the name that a word means, ignoring ASCII case,
+-- None if there is none. The flag `quoted` says whether the word is in quotes.
 abbrev pub index_named : {A : Type 0} → (A → List ℕ) → List A → List ℕ → Bool → Option ℕ
 index_named title things word quoted = position (λ thing. str_eq_ignore_ascii_case (title thing) (name_of word quoted)) things
 

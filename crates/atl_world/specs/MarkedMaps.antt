@@ -14,4 +14,9 @@ pub record MarkedMapValue (V : Type 0) : Type 0 where
 
 -- for proofs alone: a map with marks encoded as the pair of its values and its marks
 abbrev pub marked_map_code : {V : Type 0} → Coded V → Coded (MarkedMapValue V)
-marked_map_code {V} v = code_by (FinMap nat_cmp V × set.FinSet nat_cmp) (coded× (code coded_ℕ v) (set.code coded_ℕ)) (λ c. (c.values, c.marks)) (λ p. record { values = p.0; marks = p.1 }) (λ _. refl)
+marked_map_code {V} v =
+    code_by (FinMap nat_cmp V × set.FinSet nat_cmp)
+    (coded× (code coded_ℕ v) (set.code coded_ℕ))
+    (λ c. (c.values, c.marks))
+    (λ p. record { values = p.0; marks = p.1 })
+    (λ _. refl)

@@ -15,8 +15,8 @@ abbrev pub is_pass_byte : ℕ → Bool
 is_pass_byte b = nat_lt space b && nat_le b tilde
 
 -- whether a text has 1 to 40 bytes
-abbrev pub is_short : List ℕ → Bool
-is_short bs = nat_le 1 (length bs) && nat_le (length bs) most_name_bytes
+abbrev pub has_allowed_length : List ℕ → Bool
+has_allowed_length bs = nat_le 1 (length bs) && nat_le (length bs) most_name_bytes
 
 -- whether a text neither begins nor ends with a space
 abbrev pub has_no_edge_space : List ℕ → Bool
@@ -24,11 +24,11 @@ has_no_edge_space bs = not (slice_index_or bs 0 0 == space) && not (slice_index_
 
 -- whether a text keeps the rule of names: 1 to 40 bytes that may be in a name, with no space at either end
 abbrev pub name_ok : List ℕ → Bool
-name_ok bs = (is_short bs && has_no_edge_space bs) && list_all is_name_byte bs
+name_ok bs = (has_allowed_length bs && has_no_edge_space bs) && list_all is_name_byte bs
 
 -- whether a text keeps the rule of pass texts: 1 to 40 bytes that may be in a pass text
 abbrev pub pass_ok : List ℕ → Bool
-pass_ok bs = is_short bs && list_all is_pass_byte bs
+pass_ok bs = has_allowed_length bs && list_all is_pass_byte bs
 
 -- whether two names are equal, ignoring ASCII case
 unfoldable pub same_name : List ℕ → List ℕ → Bool

@@ -14,12 +14,17 @@ pub record RoomySet : Type 0 where
 
 -- for proofs alone: a set with room encoded as the pair of its numbers and its room
 abbrev pub roomy_set_code : Coded RoomySet
-roomy_set_code = code_by (set.FinSet nat_cmp × ℕ) (coded× (set.code coded_ℕ) coded_ℕ) (λ m. (m.numbers, m.room)) (λ p. record { numbers = p.0; room = p.1 }) (λ _. refl)
+roomy_set_code =
+    code_by (set.FinSet nat_cmp × ℕ)
+    (coded× (set.code coded_ℕ) coded_ℕ)
+    (λ m. (m.numbers, m.room))
+    (λ p. record { numbers = p.0; room = p.1 })
+    (λ _. refl)
 
 -- the set of the numbers that have a value in a map, or a mark, or both
-abbrev pub held : {V : Type 0} → FinMap nat_cmp V → set.FinSet nat_cmp → set.FinSet nat_cmp
-held values marks = set.union marks (set.from_list (keys values))
+abbrev pub valued_or_marked : {V : Type 0} → FinMap nat_cmp V → set.FinSet nat_cmp → set.FinSet nat_cmp
+valued_or_marked values marks = set.union marks (set.from_list (keys values))
 
 -- a set of marks has room for its numbers and all numbers with a value in a map, so marking one takes no memory
 abbrev pub HasRoomForMarks : {V : Type 0} → FinMap nat_cmp V → RoomySet → Type 0
-HasRoomForMarks values marks = set.len (held values marks.numbers) ≤ marks.room
+HasRoomForMarks values marks = set.len (valued_or_marked values marks.numbers) ≤ marks.room

@@ -18,7 +18,7 @@ pub record BelongsAt (xs : List ℕ) (n : ℕ) (i : ℕ) : Type 0 where
   -- each number before the index i is less than n
   pub before : (k : ℕ) → k < i → slice_index xs k < n
   -- each number from the index i on is greater than n
-  pub behind : (k : ℕ) → i ≤ k → k < length xs → n < slice_index xs k
+  pub after : (k : ℕ) → i ≤ k → k < length xs → n < slice_index xs k
 
 -- two sets have no number in common
 pub record AreApart (s t : set.FinSet nat_cmp) : Type 0 where

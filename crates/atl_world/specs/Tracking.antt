@@ -9,15 +9,16 @@ use denote.RattleType.{RattleType}
 use Rattle.atl_world.specs.MarkedMaps.{MarkedMapValue}
 use Rattle.atl_world.specs.contracts.marked_map.MarkedMap.{the_row}
 
--- the marks with n added, if a map has a value under n (the option that is given); else the marks as they are
+-- `marked_with marks n value` is the marks with n added, if a map has a value under n (`value` is Some), else the marks
+-- as they are
 abbrev pub marked_with : {V : Type 0} → set.FinSet nat_cmp → ℕ → Option V → set.FinSet nat_cmp
 marked_with marks n None = marks
 marked_with marks n (Some v) = set.insert marks n
 
 -- a list has exactly the numbers of a set of marks, in ascending order
-pub record Lists (marks : set.FinSet nat_cmp) (numbers : List ℕ) : Type 0 where
+pub record IsAscendingListOf (marks : set.FinSet nat_cmp) (numbers : List ℕ) : Type 0 where
   -- the numbers of the list are strictly ascending
-  pub rising : IsStrictlySortedBy nat_cmp numbers
+  pub ascending : IsStrictlySortedBy nat_cmp numbers
   -- the numbers of the list are exactly those of `marks`
   pub all : set.from_list numbers ≡ marks
 
@@ -40,11 +41,11 @@ module _ {V : Type 0} where
   without_values c = record { values = map.empty; marks = set.union c.marks (set.from_list (map.keys c.values)) }
 
   -- the map with a new value under n taken out again; n stays marked only if the flag says that it was marked before
-  abbrev pub taken_out : MarkedMapValue V → ℕ → Bool → MarkedMapValue V
-  taken_out c n true = without_value c n
-  taken_out c n false = record { values = map.remove c.values n; marks = set.remove c.marks n }
+  abbrev pub without_new_value : MarkedMapValue V → ℕ → Bool → MarkedMapValue V
+  without_new_value c n true = without_value c n
+  without_new_value c n false = record { values = map.remove c.values n; marks = set.remove c.marks n }
 
--- A map c with marks that lends its value under n as r ends with the last value written to r under n, and n marked; if
--- it lends none, it ends as it was.
+-- A map c with marks that lends its value under n as r has there, once the loan ends, the last value written to r, and
+-- n is marked. If it lends none, it ends as it was.
 abbrev pub WritesBackMarked : (V : RattleType) → MutBor (MarkedMapValue V.Denot) → ℕ → Option (MutBor V.Denot) → Fml
 WritesBackMarked V c n r = LendsIf (the_row V) V c r (with_value c.now n) c.now

@@ -22,7 +22,7 @@ use Rattle.atl_world.specs.contracts.world.Kind as kind
 use Rattle.atl_world.specs.contracts.world.RegionPlan as plan
 use Rattle.atl_world.specs.Limits.{most_terrains, most_items, most_skills, most_kinds, most_regions, last_region, most_amount, most_per_head, most_price, most_fraction, most_growth, most_weight, last_level, most_raw_count, most_size}
 use Rattle.atl_world.specs.Names.{name_ok, NamesDiffer}
-use Rattle.atl_world.specs.Sums.{mapped, numbers_where}
+use Rattle.atl_world.specs.Sums.{map_values, numbers_where}
 
 -- a world: its rules; its terrains, items, skills and kinds as lists, indexed by number; and a map of regions by number
 pub record WorldValue : Type 0 where
@@ -48,7 +48,11 @@ world_of_parts rules terrains items skills kinds regions =
 abbrev pub world_code : Coded WorldValue
 world_code =
     code_by (Rules × (List Terrain × (List Item × (List Skill × (List Kind × FinMap nat_cmp RegionPlan)))))
-    (coded× rules.the_row.coded (coded× (coded_list terrain.the_row.coded) (coded× (coded_list item.the_row.coded) (coded× (coded_list skill.the_row.coded) (coded× (coded_list kind.the_row.coded) (code coded_ℕ plan.the_row.coded))))))
+    (coded× rules.the_row.coded
+    (coded× (coded_list terrain.the_row.coded)
+    (coded× (coded_list item.the_row.coded)
+    (coded× (coded_list skill.the_row.coded)
+    (coded× (coded_list kind.the_row.coded) (code coded_ℕ plan.the_row.coded))))))
     (λ p. (p.rules, (p.terrains, (p.items, (p.skills, (p.kinds, p.regions))))))
     (λ q. world_of_parts q.0 q.1.0 q.1.1.0 q.1.1.1.0 q.1.1.1.1.0 q.1.1.1.1.1)
     (λ _. refl)
@@ -67,14 +71,14 @@ without_market p = record p { markets = empty }
 
 -- a world with the markets of all regions left out
 abbrev pub without_markets : WorldValue → WorldValue
-without_markets w = record w { regions = mapped without_market w.regions }
+without_markets w = record w { regions = map_values without_market w.regions }
 
 -- the number of a region's neighbour in a direction, None if it has none there
-abbrev pub beside : Direction → RegionPlan → Option ℕ
-beside North p = p.north
-beside South p = p.south
-beside East p = p.east
-beside West p = p.west
+abbrev pub neighbour_to : Direction → RegionPlan → Option ℕ
+neighbour_to North p = p.north
+neighbour_to South p = p.south
+neighbour_to East p = p.east
+neighbour_to West p = p.west
 
 -- ---- what is true of every world: numbers are in their ranges, and the number of a thing is below how many there are
 
@@ -111,7 +115,8 @@ pub record AreRules (skills : ℕ) (r : Rules) : Type 0 where
   -- the number of the skill that sails ships, if there is such a skill, is below the count of skills
   pub sailing : IfSome r.sailing (λ s. s < skills)
 
--- the terrain t has a name by the rule, numbers in their ranges, and an amount of output for each of `items` items
+-- the name of the terrain t keeps the rule of names, its numbers are in their ranges, and its output has an amount for
+-- each of `items` items
 pub record IsTerrain (items : ℕ) (t : Terrain) : Type 0 where
   -- the name of the terrain keeps the rule of names
   pub name : name_ok t.name ≡ true
@@ -130,8 +135,8 @@ pub record IsTerrain (items : ℕ) (t : Terrain) : Type 0 where
   -- each amount of the terrain's output is at most most_amount
   pub output : All (λ amount. amount ≤ most_amount) t.output
 
--- x, the i-th of `items` items, has a name by the rule and numbers in their ranges; its skill is one of `skills`
--- skills, and its raw item is another one of the items
+-- The name of the item x, whose number is i, keeps the rule of names, and its numbers are in their ranges. Its skill is
+-- one of `skills` skills, and its raw item is another one of `items` items.
 pub record IsItem (items skills i : ℕ) (x : Item) : Type 0 where
   -- the name of the item keeps the rule of names
   pub name : name_ok x.name ≡ true
@@ -161,8 +166,8 @@ pub record IsSkill (s : Skill) : Type 0 where
   -- the money that a month of study costs a man is at most most_price
   pub fee : s.fee ≤ most_price
 
--- the kind k has a name by the rule and numbers in their ranges; its material is one of `items` items, its skills are
--- of `skills` skills
+-- The name of the kind k keeps the rule of names, and its numbers are in their ranges. Its material is one of `items`
+-- items, and its skills are among `skills` skills.
 pub record IsKind (items skills : ℕ) (k : Kind) : Type 0 where
   -- the name of the kind keeps the rule of names
   pub name : name_ok k.name ≡ true
@@ -204,8 +209,8 @@ pub record IsMarket (items number : ℕ) (m : Market) : Type 0 where
   -- what comes into the market's stock in a month is at most most_amount
   pub restock : m.restock ≤ most_amount
 
--- the region p has the number `number`, a name by the rule, numbers and markets in their ranges, and one of `terrains`
--- terrains
+-- the region p has the number `number`, a name that keeps the rule of names, numbers and markets in their ranges, and
+-- one of `terrains` terrains
 pub record IsRegionPlan (terrains items number : ℕ) (p : RegionPlan) : Type 0 where
   -- the number of the region is `number`
   pub number_is : p.number ≡ number
@@ -229,7 +234,7 @@ abbrev pub LeadsBack : FinMap nat_cmp RegionPlan → (RegionPlan → Option ℕ)
 LeadsBack regions opposite number neighbour = IfSome neighbour (λ m. option_and_then opposite (get regions m) ≡ Some number)
 
 -- the neighbours of the region `number` in the north, south, east and west (n, s, e, w) have it on their opposite sides
-pub record HasNeighbours (regions : FinMap nat_cmp RegionPlan) (number : ℕ) (n s e w : Option ℕ) : Type 0 where
+pub record HasMutualNeighbours (regions : FinMap nat_cmp RegionPlan) (number : ℕ) (n s e w : Option ℕ) : Type 0 where
   -- the neighbour in the north, if there is one, is a region that has this region in the south
   pub north : LeadsBack regions (λ q. q.south) number n
   -- the neighbour in the south, if there is one, is a region that has this region in the north
@@ -239,8 +244,8 @@ pub record HasNeighbours (regions : FinMap nat_cmp RegionPlan) (number : ℕ) (n
   -- the neighbour in the west, if there is one, is a region that has this region in the east
   pub west : LeadsBack regions (λ q. q.east) number w
 
--- What is true of every world: its parts are in their ranges, neighbours are mutual, names of each kind of thing
--- differ, there are not too many of each, and some region is land.
+-- what is true of every world: parts in their ranges, mutual neighbours, no name twice among things of one kind, not
+-- too many of each kind, and some region of land
 pub record IsWorld (w : WorldValue) : Type 0 where
   -- the rules are in their ranges, and refer only to skills of the world
   pub rules : AreRules (length w.skills) w.rules
@@ -255,7 +260,7 @@ pub record IsWorld (w : WorldValue) : Type 0 where
   -- each region is listed under its own number, is in its ranges, and refers only to terrains and items of the world
   pub regions : (n : ℕ) (p : RegionPlan) → get w.regions n ≡ Some p → IsRegionPlan (length w.terrains) (length w.items) n p
   -- each neighbour of a region is a region of the world, whose neighbour on the opposite side is the region itself
-  pub neighbours : (n : ℕ) (p : RegionPlan) → get w.regions n ≡ Some p → HasNeighbours w.regions n p.north p.south p.east p.west
+  pub neighbours : (n : ℕ) (p : RegionPlan) → get w.regions n ≡ Some p → HasMutualNeighbours w.regions n p.north p.south p.east p.west
   -- no two terrains have the same name, ignoring ASCII case
   pub terrain_names : NamesDiffer (map (λ (t : Terrain). t.name) w.terrains)
   -- no two items have the same name, ignoring ASCII case

@@ -37,7 +37,7 @@ impl World {
     pub fn neighbour(&self, region: u32, direction: Direction) -> Option<u32>
         ensures { result ≡ neighbour self.now region direction }
     {
-        self.region(region)?.beside(direction)
+        self.region(region)?.neighbour_to(direction)
     }
 
     /// The market of an item in a region, both by number; `None` if the region has no such market.

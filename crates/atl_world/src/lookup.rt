@@ -87,7 +87,7 @@ impl World {
     pub fn item_named(&self, word: &[u8], quoted: bool) -> Option<u16>
         ensures { result ≡ item_named self.now word.now quoted }
     {
-        index_named(self.items(), word, quoted).map(|place| place as u16)
+        index_named(self.items(), word, quoted).map(|index| index as u16)
     }
 
     /// The number of the skill that a word names, ignoring ASCII case, `None` if there is none. In
@@ -95,7 +95,7 @@ impl World {
     pub fn skill_named(&self, word: &[u8], quoted: bool) -> Option<u16>
         ensures { result ≡ skill_named self.now word.now quoted }
     {
-        index_named(self.skills(), word, quoted).map(|place| place as u16)
+        index_named(self.skills(), word, quoted).map(|index| index as u16)
     }
 
     /// The number of the kind of structure that a word names, ignoring ASCII case, `None` if there
@@ -103,6 +103,6 @@ impl World {
     pub fn kind_named(&self, word: &[u8], quoted: bool) -> Option<u16>
         ensures { result ≡ kind_named self.now word.now quoted }
     {
-        index_named(self.kinds(), word, quoted).map(|place| place as u16)
+        index_named(self.kinds(), word, quoted).map(|index| index as u16)
     }
 }

@@ -3,7 +3,7 @@ ghost use Rattle.std.specs.Prelude.{◌≡◌, ◌≤◌, IfOk, OnOk, OnErr, opt
 ghost use Rattle.std.specs.FinMap as map;
 ghost use Rattle.std.specs.FinSet as set;
 ghost use Rattle.atl_world.specs.Limits.{number_count};
-ghost use Rattle.atl_world.specs.Tracking.{marked_with, with_value, without_value, without_values, taken_out, Lists};
+ghost use Rattle.atl_world.specs.Tracking.{marked_with, with_value, without_value, without_values, without_new_value, IsAscendingListOf};
 
 use crate::let_go;
 use crate::marked_numbers::MarkedNumbers;
@@ -108,8 +108,8 @@ impl<V: Drop> MarkedMap<V> {
         if self.values.get(number).is_none() {
             return self.insert(number, value);
         }
-        if let Some(place) = self.get_mut(number) {
-            *place = value;
+        if let Some(index) = self.get_mut(number) {
+            *index = value;
         }
         Ok(())
     }
@@ -126,7 +126,7 @@ impl<V: Drop> MarkedMap<V> {
     /// Undoes an insert: takes out the value, if it is there, and clears the number's mark unless
     /// `was_marked` says that the number was marked before the insert. It takes no memory.
     pub fn take_out(&mut self, number: u32, was_marked: bool)
-        ensures { self.new ≡ taken_out self.old number was_marked }
+        ensures { self.new ≡ without_new_value self.old number was_marked }
     {
         if was_marked {
             self.remove(number);
@@ -137,7 +137,7 @@ impl<V: Drop> MarkedMap<V> {
     }
 
     /// Makes a `MarkedMap` of a map, with nothing marked and with room to mark each of its numbers.
-    pub fn of(alloc: Global, values: Numbered<V>) -> Result<Self, AllocError>
+    pub fn from_values(alloc: Global, values: Numbered<V>) -> Result<Self, AllocError>
         ensures { IfOk result (λ made. made ≡ record { values = values; marks = set.empty }) }
     {
         let marks = Marks::with_room(alloc, values.len())?;
@@ -197,13 +197,13 @@ impl<V: Drop> MarkedMap<V> {
 
     /// The marked numbers, in ascending order. It takes no memory.
     pub fn marked_numbers(&self) -> MarkedNumbers<'_>
-        ensures { Lists self.now.marks result }
+        ensures { IsAscendingListOf self.now.marks result }
     {
         self.marks.iter()
     }
 
     /// How many numbers are marked.
-    pub fn marked(&self) -> usize
+    pub fn marked_count(&self) -> usize
         ensures value { result ≡ set.len self.now.marks }
         ensures small { result ≤ number_count }
     {

@@ -3,8 +3,8 @@ ghost use Rattle.std.specs.Prelude.{◌≡◌, true, ◌+◌, ◌<◌, ◌≤◌
 ghost use Rattle.std.specs.FinMap as map;
 ghost use Rattle.std.specs.FinSet as set;
 ghost use Rattle.atl_world.specs.Limits.{number_count};
-ghost use Rattle.atl_world.specs.RoomySets.{held, HasRoomForMarks};
-ghost use Rattle.atl_world.specs.Tracking.{marked_with, Lists};
+ghost use Rattle.atl_world.specs.RoomySets.{valued_or_marked, HasRoomForMarks};
+ghost use Rattle.atl_world.specs.Tracking.{marked_with, IsAscendingListOf};
 
 use crate::let_go;
 use crate::marked_numbers::MarkedNumbers;
@@ -44,7 +44,10 @@ impl Model for Marks {
 
     ghost coded = { roomy_set_code };
 
-    ghost view = { λ a. record { numbers = set.union a.numbers.numbers a.recent.numbers; room = a.numbers.room } };
+    ghost view = { λ a. record {
+      numbers = set.union a.numbers.numbers a.recent.numbers;
+      room = a.numbers.room;
+    } };
 
     ghost invariant = { λ a. AreMarks a.numbers a.recent };
 }
@@ -119,7 +122,10 @@ impl Marks {
     /// It takes no memory.
     pub fn mark_all<V: Drop>(&mut self, values: &Numbered<V>)
         requires { HasRoomForMarks values.now self.old }
-        ensures { self.new ≡ record self.old { numbers = held values.now self.old.numbers } }
+        ensures { self.new ≡ record self.old {
+          numbers = valued_or_marked values.now
+              self.old.numbers;
+        } }
     {
         for (number, _) in values.iter() {
             self.add(number);
@@ -159,7 +165,7 @@ impl Marks {
 
     /// The marked numbers, in ascending order. It takes no memory.
     pub fn iter(&self) -> MarkedNumbers<'_>
-        ensures { Lists self.now.numbers result }
+        ensures { IsAscendingListOf self.now.numbers result }
     {
         MarkedNumbers {
             numbers: self.numbers.as_slice().iter(),

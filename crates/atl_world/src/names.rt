@@ -1,7 +1,7 @@
 //! The rules for names and pass texts. See docs/RULES.md, "Names and pass texts".
 ghost use Rattle.std.specs.Prelude.{◌≡◌};
 ghost use Rattle.std.specs.List.{list_all};
-ghost use Rattle.atl_world.specs.Names.{name_ok, pass_ok, is_short, is_name_byte, is_pass_byte, has_no_edge_space};
+ghost use Rattle.atl_world.specs.Names.{name_ok, pass_ok, has_allowed_length, is_name_byte, is_pass_byte, has_no_edge_space};
 ghost use Rattle.atl_world.specs.Lookup.{name_of};
 
 use crate::letters::{QUOTE, SPACE, TILDE};
@@ -9,8 +9,8 @@ use crate::limits::MOST_NAME_BYTES;
 use crate::lookup::letter_of;
 
 /// Whether a text has 1 to 40 bytes.
-fn is_short(text: &[u8]) -> bool
-    ensures { result ≡ is_short text.now }
+fn has_allowed_length(text: &[u8]) -> bool
+    ensures { result ≡ has_allowed_length text.now }
 {
     1 <= text.len() && text.len() <= MOST_NAME_BYTES
 }
@@ -63,7 +63,7 @@ fn are_pass_bytes(text: &[u8]) -> bool
 pub fn word_ok(word: &[u8], quoted: bool) -> bool
     ensures { result ≡ name_ok (name_of word.now quoted) }
 {
-    is_short(word) && has_no_edge_space(word, quoted) && are_name_bytes(word, quoted)
+    has_allowed_length(word) && has_no_edge_space(word, quoted) && are_name_bytes(word, quoted)
 }
 
 /// Whether a text keeps the rule of names: 1 to 40 bytes from 32 to 126, no quotation mark, and no
@@ -80,5 +80,5 @@ pub fn name_ok(text: &[u8]) -> bool
 pub fn pass_ok(text: &[u8]) -> bool
     ensures { result ≡ pass_ok text.now }
 {
-    is_short(text) && are_pass_bytes(text)
+    has_allowed_length(text) && are_pass_bytes(text)
 }

@@ -109,7 +109,7 @@ impl<V: Drop> Numbered<Numbered<V>> {
     }
 
     /// Puts a value under a number in the inner map under the number `group`, in place of any that
-    /// is there, and adds the inner map if it is missing; without memory it changes nothing.
+    /// is there, and adds the inner map if it is missing. Without memory it changes nothing.
     pub fn insert_under(
         &mut self,
         alloc: Global,

@@ -1,12 +1,12 @@
 //! Checks whether two worlds are equal but for their markets. See docs/RULES.md, "Upgrading".
 ghost use Rattle.std.specs.Prelude.{◌≡◌, ◌↔◌, IsTrue};
 ghost use Rattle.atl_world.specs.Worlds.{without_market, without_markets};
-ghost use Rattle.atl_world.specs.Sums.{mapped};
+ghost use Rattle.atl_world.specs.Sums.{map_values};
 
 use crate::numbered::Numbered;
 use crate::world::{Item, Kind, RegionPlan, Rules, Skill, Terrain, World};
 
-/// Whether two values are equal in each field of a list: `agree!(one other: land wage)`.
+/// Whether two values are equal in each of the fields named: `agree!(one other: land wage)`.
 macro_rules! agree {
     ($one:ident $other:ident: $first:ident $($field:ident)*) => {
         $one.$first == $other.$first $(&& $one.$field == $other.$field)*
@@ -89,7 +89,8 @@ fn is_same_region(plan: &RegionPlan, other: &RegionPlan) -> bool
 
 /// Whether two maps of regions are equal but for the markets of the regions.
 fn are_same_regions(plans: &Numbered<RegionPlan>, others: &Numbered<RegionPlan>) -> bool
-    ensures { IsTrue result ↔ (mapped without_market plans.now ≡ mapped without_market others.now) }
+    ensures { IsTrue result ↔ (map_values without_market plans.now ≡ map_values without_market
+        others.now) }
 {
     let mut rest = others.iter();
     for (number, plan) in plans.iter() {

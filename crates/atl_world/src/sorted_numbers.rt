@@ -7,7 +7,7 @@ ghost use Rattle.std.specs.Set.{sorted_merge};
 ghost use Rattle.std.specs.FinSet as set;
 ghost use Rattle.atl_world.specs.Limits.{number_count};
 ghost use Rattle.atl_world.specs.SortedNumbers.{IsAt, BelongsAt, AreApart};
-ghost use Rattle.atl_world.specs.Tracking.{Lists};
+ghost use Rattle.atl_world.specs.Tracking.{IsAscendingListOf};
 
 use std::alloc::{AllocError, Global};
 use std::marker::Model;
@@ -32,7 +32,10 @@ impl Model for SortedNumbers {
 
     ghost coded = { roomy_set_code };
 
-    ghost view = { λ a. record { numbers = set.from_list a.numbers.items; room = vec_capacity a.numbers } };
+    ghost view = { λ a. record {
+      numbers = set.from_list a.numbers.items;
+      room = vec_capacity a.numbers;
+    } };
 
     ghost invariant = { λ a. IsStrictlySortedBy nat_cmp a.numbers.items };
 }
@@ -75,7 +78,7 @@ impl SortedNumbers {
     {
         match index_of(&self.numbers, number) {
             Ok(_) => {}
-            Err(place) => put_at(&mut self.numbers, place, number),
+            Err(index) => put_at(&mut self.numbers, index, number),
         }
     }
 
@@ -88,7 +91,7 @@ impl SortedNumbers {
             ≡ record self.old { numbers = set.union self.old.numbers others.old.numbers } }
         ensures others { others.new ≡ record others.old { numbers = set.empty } }
     {
-        unite(&mut self.numbers, &others.numbers);
+        merge_into(&mut self.numbers, &others.numbers);
         others.numbers.clear();
     }
 
@@ -97,8 +100,8 @@ impl SortedNumbers {
         ensures { self.new ≡ record self.old { numbers = set.remove self.old.numbers number } }
     {
         match index_of(&self.numbers, number) {
-            Ok(place) => {
-                self.numbers.remove(place);
+            Ok(index) => {
+                self.numbers.remove(index);
             }
             Err(_) => {}
         }
@@ -141,7 +144,7 @@ impl SortedNumbers {
 
     /// The numbers of the list, in ascending order.
     pub fn as_slice(&self) -> &[u32]
-        ensures { Lists self.now.numbers result.now }
+        ensures { IsAscendingListOf self.now.numbers result.now }
     {
         &self.numbers
     }
@@ -151,20 +154,20 @@ impl SortedNumbers {
 /// at which it belongs.
 fn index_of(numbers: &[u32], number: u32) -> Result<usize, usize>
     requires { IsStrictlySortedBy nat_cmp numbers.now }
-    ensures found { IfOk result (λ place. IsAt numbers.now number place) }
-    ensures missing { IfErr result (λ place. BelongsAt numbers.now number place) }
+    ensures found { IfOk result (λ index. IsAt numbers.now number index) }
+    ensures missing { IfErr result (λ index. BelongsAt numbers.now number index) }
 {
     numbers.binary_search(&number)
 }
 
 /// Inserts a number at an index of a list that has room for it.
-fn put_at(numbers: &mut Vec<u32>, place: usize, number: u32)
-    requires within { place ≤ length numbers.old.items }
+fn put_at(numbers: &mut Vec<u32>, index: usize, number: u32)
+    requires within { index ≤ length numbers.old.items }
     requires room { length numbers.old.items < vec_capacity numbers.old }
-    ensures items { numbers.new.items ≡ insert numbers.old.items place number }
+    ensures items { numbers.new.items ≡ insert numbers.old.items index number }
     ensures room { vec_capacity numbers.new ≡ vec_capacity numbers.old }
 {
-    let _ = numbers.insert(place, number);
+    let _ = numbers.insert(index, number);
 }
 
 /// The length of a list of numbers. Its clause `small` tells `SortedNumbers::len` that the number
@@ -210,7 +213,7 @@ fn is_last_above(numbers: &[u32], count: usize, other: u32) -> bool
 /// number in common. The largest number is put in place first, so each is moved at most once.
 fn merge(numbers: &mut [u32], own: usize, others: &[u32])
     requires size { length numbers.old ≡ own + length others.now }
-    requires rising { IsStrictlySortedBy nat_cmp (take own numbers.old) }
+    requires ascending { IsStrictlySortedBy nat_cmp (take own numbers.old) }
     requires others { IsStrictlySortedBy nat_cmp others.now }
     requires apart { AreApart (set.from_list (take own numbers.old)) (set.from_list others.now) }
     ensures { numbers.new ≡ sorted_merge nat_cmp true (take own numbers.old) others.now }
@@ -231,9 +234,9 @@ fn merge(numbers: &mut [u32], own: usize, others: &[u32])
 
 /// Merges the numbers of a sorted list into another sorted list that has none of them, and room for
 /// all.
-fn unite(numbers: &mut Vec<u32>, others: &[u32])
+fn merge_into(numbers: &mut Vec<u32>, others: &[u32])
     requires room { length numbers.old.items + length others.now ≤ vec_capacity numbers.old }
-    requires rising { IsStrictlySortedBy nat_cmp numbers.old.items }
+    requires ascending { IsStrictlySortedBy nat_cmp numbers.old.items }
     requires others { IsStrictlySortedBy nat_cmp others.now }
     requires apart { AreApart (set.from_list numbers.old.items) (set.from_list others.now) }
     ensures items { numbers.new.items ≡ sorted_merge nat_cmp true numbers.old.items others.now }

@@ -176,11 +176,11 @@ impl Drop for RegionPlan {
 
 /// Looks up the neighbours of a region.
 impl RegionPlan {
-    ghost use Rattle.atl_world.specs.Worlds.{beside};
+    ghost use Rattle.atl_world.specs.Worlds.{neighbour_to};
 
     /// The number of the region's neighbour in a direction, `None` if there is none.
-    pub fn beside(&self, direction: Direction) -> Option<u32>
-        ensures { result ≡ beside direction self.now }
+    pub fn neighbour_to(&self, direction: Direction) -> Option<u32>
+        ensures { result ≡ neighbour_to direction self.now }
     {
         match direction {
             Direction::North => self.north,
@@ -228,7 +228,8 @@ impl Model for World {
 
     ghost invariant = { λ a.
         IsWorld (world_of_parts a.rules a.terrains a.items a.skills a.kinds a.regions)
-        × (a.land ≡ land_of (world_of_parts a.rules a.terrains a.items a.skills a.kinds a.regions)) };
+        × (a.land ≡ land_of (world_of_parts a.rules a.terrains a.items a.skills a.kinds
+        a.regions)) };
 }
 
 /// Makes a world of its parts, and gives the parts.

@@ -2,7 +2,7 @@
 //! out, the answer is AllocError.
 ghost use Rattle.std.specs.Prelude.{◌≡◌, OnOk, true};
 ghost use Rattle.std.specs.List.{list_all};
-ghost use Rattle.atl_world.specs.Sums.{changed};
+ghost use Rattle.atl_world.specs.Sums.{with_changed_value};
 ghost use Rattle.atl_campaign.specs.Assembling.{with_has_row, with_market_row, with_rows_added};
 ghost use Rattle.atl_campaign.specs.FromRows.{as_u32};
 ghost use Rattle.atl_campaign.specs.RowRules.{has_in_range};
@@ -20,7 +20,7 @@ use std::alloc::AllocError;
 fn put_thing(units: &mut Arena<Unit>, row: &StoredHas) -> Result<(), AllocError>
     requires { has_in_range row.now ≡ true }
     ensures { OnOk result (units.new
-        ≡ changed (with_has_row row.now) units.old (as_u32 row.now.unit)) }
+        ≡ with_changed_value (with_has_row row.now) units.old (as_u32 row.now.unit)) }
 {
     let Some(unit) = units.get_mut(as_u32(row.unit)) else {
         return Ok(());
@@ -48,7 +48,7 @@ pub(super) fn put_things(units: &mut Arena<Unit>, rows: &[StoredHas]) -> Result<
 /// Puts the stock of a row of `market` into its region, if there is such a region.
 fn put_stock(regions: &mut Numbered<Region>, row: &StoredMarket) -> Result<(), AllocError>
     ensures { OnOk result (regions.new
-        ≡ changed (with_market_row row.now) regions.old (as_u32 row.now.region)) }
+        ≡ with_changed_value (with_market_row row.now) regions.old (as_u32 row.now.region)) }
 {
     match regions.get_mut(as_u32(row.region)) {
         Some(region) => region.stocks.insert(as_u32(row.item), as_u32(row.stock)),

@@ -129,7 +129,7 @@ fn unmarked_factions(
         ≡ without_marks (by_number (λ r. as_u32 r.number) faction_of rows.now)) }
 {
     let factions = factions_of(alloc, rows)?;
-    MarkedMap::of(alloc, factions)
+    MarkedMap::from_values(alloc, factions)
 }
 
 /// The regions that rows of `region` and `market` say, with their stocks, and nothing marked.
@@ -156,7 +156,7 @@ fn unmarked_structures(
         ≡ without_marks (by_number (λ r. as_u32 r.number) structure_of rows.now)) }
 {
     let structures = structures_of(alloc, rows)?;
-    MarkedMap::of(alloc, structures)
+    MarkedMap::from_values(alloc, structures)
 }
 
 /// The mail that rows of `mail` say, by the factions' numbers, with nothing marked.
@@ -165,7 +165,7 @@ fn unmarked_mail(alloc: Global, rows: &[StoredMail]) -> Result<MarkedMap<Sequenc
         ≡ without_marks (by_number (λ r. as_u32 r.faction) (λ r. r.text) rows.now)) }
 {
     let mail = mail_of(alloc, rows)?;
-    MarkedMap::of(alloc, mail)
+    MarkedMap::from_values(alloc, mail)
 }
 
 /// The reports that rows of `report` say, by the factions' numbers, with nothing marked.
@@ -174,7 +174,7 @@ fn unmarked_reports(alloc: Global, rows: &[StoredReport]) -> Result<MarkedMap<Te
         ≡ without_marks (by_number (λ r. as_u32 r.faction) (λ r. r.text) rows.now)) }
 {
     let reports = reports_of(alloc, rows)?;
-    MarkedMap::of(alloc, reports)
+    MarkedMap::from_values(alloc, reports)
 }
 
 /// The factions, regions, structures, mail and reports that are read from rows, with nothing

@@ -3,7 +3,7 @@ ghost use Rattle.std.specs.Prelude.{◌≡◌, ◌≤◌, ◌+◌, IsTrue, IfOk,
 ghost use Rattle.std.specs.FinMap as map;
 ghost use Rattle.atl_world.specs.Limits.{most_regions};
 ghost use Rattle.atl_world.specs.Names.{pass_ok};
-ghost use Rattle.atl_world.specs.Sums.{sum_over, mapped};
+ghost use Rattle.atl_world.specs.Sums.{sum_over, map_values};
 ghost use Rattle.atl_records.specs.declared.books.BooksEntry.TheVariants.{Founding};
 ghost use Rattle.atl_records.specs.declared.books.Thing.TheVariants.{Money, People};
 ghost use Rattle.atl_records.specs.Limits.{most_things, possible_things, most_founded};
@@ -25,7 +25,7 @@ use std::alloc::{AllocError, Global};
 /// and nothing marked.
 fn make_regions(alloc: Global, plans: &Numbered<RegionPlan>) -> Result<Regions, AllocError>
     ensures { IfOk result (λ regions. regions
-        ≡ unmarked_regions (mapped founded_region plans.now)) }
+        ≡ unmarked_regions (map_values founded_region plans.now)) }
 {
     let mut regions = Numbered::new(alloc);
     for (number, plan) in plans.iter() {

@@ -11,7 +11,7 @@ ghost use Rattle.atl_records.specs.declared.books.BooksEntry.TheVariants.{Joinin
 ghost use Rattle.atl_records.specs.declared.books.Thing.TheVariants.{Money, People};
 ghost use Rattle.atl_records.specs.Books.{amount_in, after_booking, LeavesRoomForJoining};
 ghost use Rattle.atl_campaign.specs.Good.{IsGood, IsSound};
-ghost use Rattle.atl_campaign.specs.Joining.{name_taken, is_full, home_of, new_faction, joined, Joins};
+ghost use Rattle.atl_campaign.specs.Joining.{name_taken, is_full, home_of, new_faction, after_join, Joins};
 ghost use Rattle.atl_records.specs.Limits.{holding_limit, last_unit};
 ghost use Rattle.atl_campaign.specs.Marking.{mark_join};
 
@@ -179,7 +179,7 @@ impl Campaign {
         requires name { IsUtf8 name.now }
         requires pass { IsUtf8 pass.now }
         ensures ok { OnOk result
-            (self.new.value ≡ joined world.now name.now pass.now word self.old.value) }
+            (self.new.value ≡ after_join world.now name.now pass.now word self.old.value) }
         ensures numbers { IfOk result
             (λ numbers. numbers ≡ (self.old.value.next_faction, self.old.value.next_unit)) }
         ensures err { OnErr result (self.new ≡ self.old) }

@@ -2,9 +2,9 @@
 ghost use Rattle.std.specs.Prelude.{◌≡◌, ◌<◌};
 ghost use Rattle.std.specs.FinMap as map;
 ghost use Rattle.std.specs.FinSet as set;
-ghost use Rattle.atl_world.specs.Tracking.{Lists};
+ghost use Rattle.atl_world.specs.Tracking.{IsAscendingListOf};
 ghost use Rattle.atl_records.specs.Books.{thing_index, amount_number};
-ghost use Rattle.atl_campaign.specs.Marks.{AreStocksWithin, AreWithin, no_marks, marks_in};
+ghost use Rattle.atl_campaign.specs.Marks.{AreStocksWithin, AreUnitPartsWithin, no_marks, marks_in};
 
 use super::Campaign;
 use atl_records::{BooksEntry, Thing, amount_number};
@@ -17,27 +17,32 @@ impl Campaign {
     /// is marked, and so do the stocks of a region. It takes no memory.
     pub fn marks(&self) -> usize
         ensures value { result ≡ marks_in self.now.marks }
-        ensures units { AreWithin self.now.marks.units self.now.marks.rows self.now.marks.goods
+        ensures units { AreUnitPartsWithin self.now.marks.units self.now.marks.rows
+            self.now.marks.goods
             self.now.marks.items self.now.marks.skills }
         ensures stocks { AreStocksWithin self.now.marks.markets self.now.marks.stocks
             self.now.marks.stock_items }
     {
         let row = if self.row_marked { 1 } else { 0 };
-        let named = self.factions.marked() + self.mail.marked() + self.reports.marked();
-        let placed = self.regions.marked() + self.units.marked() + self.structures.marked();
+        let named = self.factions.marked_count()
+            + self.mail.marked_count()
+            + self.reports.marked_count();
+        let placed = self.regions.marked_count()
+            + self.units.marked_count()
+            + self.structures.marked_count();
         named + placed + self.amounts_marked.len() + row
     }
 
     /// The numbers of the marked factions, in rising order. It takes no memory.
     pub fn marked_factions(&self) -> MarkedNumbers<'_>
-        ensures { Lists self.now.marks.factions result }
+        ensures { IsAscendingListOf self.now.marks.factions result }
     {
         self.factions.marked_numbers()
     }
 
     /// The numbers of the regions whose rows are marked, in rising order. It takes no memory.
     pub fn marked_regions(&self) -> MarkedNumbers<'_>
-        ensures { Lists self.now.marks.regions result }
+        ensures { IsAscendingListOf self.now.marks.regions result }
     {
         self.regions.marked_rows()
     }
@@ -45,7 +50,7 @@ impl Campaign {
     /// The numbers of the regions all of whose stocks are marked, in rising order. It takes no
     /// memory.
     pub fn marked_stocks(&self) -> MarkedNumbers<'_>
-        ensures { Lists self.now.marks.stocks result }
+        ensures { IsAscendingListOf self.now.marks.stocks result }
     {
         self.regions.marked_stocks()
     }
@@ -61,7 +66,7 @@ impl Campaign {
     /// The numbers of the units of which something is marked, in rising order. Units that are gone
     /// are among them. It takes no memory.
     pub fn marked_units(&self) -> MarkedNumbers<'_>
-        ensures { Lists self.now.marks.units result }
+        ensures { IsAscendingListOf self.now.marks.units result }
     {
         self.units.marked_numbers()
     }
@@ -69,7 +74,7 @@ impl Campaign {
     /// The numbers of the units whose rows are marked, in rising order. Units that are gone are
     /// among them. It takes no memory.
     pub fn marked_rows(&self) -> MarkedNumbers<'_>
-        ensures { Lists self.now.marks.rows result }
+        ensures { IsAscendingListOf self.now.marks.rows result }
     {
         self.units.marked_rows()
     }
@@ -77,7 +82,7 @@ impl Campaign {
     /// The numbers of the units all of whose goods are marked, in rising order. Units that are gone
     /// are among them. It takes no memory.
     pub fn marked_goods(&self) -> MarkedNumbers<'_>
-        ensures { Lists self.now.marks.goods result }
+        ensures { IsAscendingListOf self.now.marks.goods result }
     {
         self.units.marked_goods()
     }
@@ -100,7 +105,7 @@ impl Campaign {
 
     /// The numbers of the marked structures, in rising order. It takes no memory.
     pub fn marked_structures(&self) -> MarkedNumbers<'_>
-        ensures { Lists self.now.marks.structures result }
+        ensures { IsAscendingListOf self.now.marks.structures result }
     {
         self.structures.marked_numbers()
     }
@@ -108,14 +113,14 @@ impl Campaign {
     /// The numbers of the factions whose mail is marked, in rising order. Factions whose mail was
     /// removed are among them. It takes no memory.
     pub fn marked_mail(&self) -> MarkedNumbers<'_>
-        ensures { Lists self.now.marks.mail result }
+        ensures { IsAscendingListOf self.now.marks.mail result }
     {
         self.mail.marked_numbers()
     }
 
     /// The numbers of the factions whose report is marked, in rising order. It takes no memory.
     pub fn marked_reports(&self) -> MarkedNumbers<'_>
-        ensures { Lists self.now.marks.reports result }
+        ensures { IsAscendingListOf self.now.marks.reports result }
     {
         self.reports.marked_numbers()
     }

@@ -1,10 +1,10 @@
-//! Tests that a command has run even if its reply can't be written to the end, and of the numbers
-//! of faults.
+//! Tests that a command has run even if its reply can't be written to the end, and tests of the
+//! numbers of faults.
 use super::compare::{assert_count, assert_fault, assert_number, assert_true};
-use super::making::begun;
-use super::readers_and_writers::Narrow;
+use super::making::new_service;
+use super::readers_and_writers::NarrowWriter;
 use super::requests::{JOIN, JOINED};
-use super::serving::Served;
+use super::serving::HttpService;
 use atl_http::HttpFault;
 use std::alloc::Global;
 use std::process::Abort;
@@ -12,11 +12,11 @@ use std::test::Fail;
 
 /// Serves a join to a writer that takes `taken` bytes; asserts WriteFault, the bytes written, and
 /// that the faction has joined.
-pub(crate) fn breaks_off(
+pub(crate) fn assert_breaks_off(
     rt: &impl Abort,
     alloc: Global,
-    service: &mut impl Served,
-    writer: &mut Narrow,
+    service: &mut impl HttpService,
+    writer: &mut NarrowWriter,
     taken: usize,
 ) {
     let mut reader = JOIN.as_bytes();
@@ -30,9 +30,9 @@ pub(crate) fn breaks_off(
 /// Asserts WriteFault, the bytes written, and that the faction has joined, in a new campaign. The
 /// writer takes `most` bytes; then it fails if `fails`, and takes none otherwise.
 fn breaks_off_after(rt: &impl Abort, alloc: Global, most: usize, fails: bool) -> Result<(), Fail> {
-    let mut service = begun(alloc)?;
-    let mut writer = Narrow::of(alloc, most, fails);
-    breaks_off(rt, alloc, &mut service, &mut writer, most);
+    let mut service = new_service(alloc)?;
+    let mut writer = NarrowWriter::of(alloc, most, fails);
+    assert_breaks_off(rt, alloc, &mut service, &mut writer, most);
     let _conn = service.end();
     Ok(())
 }
@@ -71,8 +71,8 @@ fn assert_numbers(rt: &impl Abort, faults: &[(HttpFault, Option<u8>)]) {
     }
 }
 
-/// Each fault of HTTP has its number.
+/// Each fault of a request has the number that docs/FORMATS.md, "For developers", lists.
 #[test]
-fn numbers(rt: HostRuntime) {
+fn faults_have_their_numbers(rt: HostRuntime) {
     assert_numbers(&rt, &NUMBERS);
 }

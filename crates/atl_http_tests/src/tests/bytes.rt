@@ -1,7 +1,7 @@
 //! Tests of requests with bytes that are not UTF-8.
-use super::making::{assert_reply, begun};
+use super::making::{assert_reply, new_service};
 use super::requests::{BAD_JSON, BAD_REQUEST, JOIN, JOINED};
-use super::serving::Served;
+use super::serving::HttpService;
 use std::alloc::Global;
 use std::process::Abort;
 use std::test::Fail;
@@ -31,7 +31,7 @@ static CASES: [(&[u8], &str); 6] = [
 ];
 
 /// Lets Avalon join, and asserts the reply to each request of `CASES`.
-fn no_texts(rt: &impl Abort, alloc: Global, service: &mut impl Served) {
+fn no_texts(rt: &impl Abort, alloc: Global, service: &mut impl HttpService) {
     assert_reply(rt, alloc, service, &mut JOIN.as_bytes(), JOINED);
     for (request, wanted) in CASES.iter() {
         let mut reader = *request;
@@ -42,7 +42,7 @@ fn no_texts(rt: &impl Abort, alloc: Global, service: &mut impl Served) {
 /// Requests with bytes that aren't UTF-8 in target, field or body are refused with the right reply.
 #[test]
 fn no_text(rt: HostRuntime) -> Result<(), Fail> {
-    let mut service = begun(rt.alloc())?;
+    let mut service = new_service(rt.alloc())?;
     no_texts(&rt, rt.alloc(), &mut service);
     let _conn = service.end();
     Ok(())

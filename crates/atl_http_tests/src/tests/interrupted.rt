@@ -1,11 +1,11 @@
 //! Tests that a request is served after up to 1,000,000 reads and fewer than 1,000,000 interrupted
 //! writes, and ends in a fault beyond that.
-use super::broken::breaks_off;
+use super::broken::assert_breaks_off;
 use super::compare::{assert_count, assert_text};
-use super::making::{assert_reply, begun, told};
-use super::readers_and_writers::{Narrow, Pieces};
+use super::making::{assert_reply, new_service, outcome_text};
+use super::readers_and_writers::{NarrowWriter, Pieces};
 use super::requests::{JOIN, JOINED};
-use super::serving::Served;
+use super::serving::HttpService;
 use std::alloc::Global;
 use std::process::Abort;
 use std::test::Fail;
@@ -29,10 +29,10 @@ static TOO_MANY_READS: [(usize, usize); 4] = [
 
 /// Serves a join from a reader, and asserts the reply or the fault (`words`), and how many reads
 /// there were.
-fn joins_by(
+fn assert_join_read(
     rt: &impl Abort,
     alloc: Global,
-    service: &mut impl Served,
+    service: &mut impl HttpService,
     reader: &mut Pieces,
     words: &str,
     reads: usize,
@@ -42,12 +42,12 @@ fn joins_by(
 }
 
 /// Asserts for each row of `READS` that a join is served after this number of reads.
-fn are_read(rt: &impl Abort, alloc: Global) -> Result<(), Fail> {
+fn assert_reads_are_enough(rt: &impl Abort, alloc: Global) -> Result<(), Fail> {
     for (piece, interruptions, reads) in READS.iter() {
-        let mut service = begun(alloc)?;
+        let mut service = new_service(alloc)?;
         let mut reader = Pieces::of(JOIN.as_bytes(), *piece);
         reader.interruptions = *interruptions;
-        joins_by(rt, alloc, &mut service, &mut reader, JOINED, *reads);
+        assert_join_read(rt, alloc, &mut service, &mut reader, JOINED, *reads);
         let _conn = service.end();
     }
     Ok(())
@@ -56,16 +56,16 @@ fn are_read(rt: &impl Abort, alloc: Global) -> Result<(), Fail> {
 /// A request that is whole after at most 1,000,000 reads is served.
 #[test]
 fn reads_within_the_bound(rt: HostRuntime) -> Result<(), Fail> {
-    are_read(&rt, rt.alloc())
+    assert_reads_are_enough(&rt, rt.alloc())
 }
 
 /// Asserts for each row of `TOO_MANY_READS` that 1,000,000 reads end in ReadFault. No command is
 /// run: the faction that joins next is the first.
-fn are_too_many(rt: &impl Abort, alloc: Global, service: &mut impl Served) {
+fn assert_reads_are_too_many(rt: &impl Abort, alloc: Global, service: &mut impl HttpService) {
     for (piece, interruptions) in TOO_MANY_READS.iter() {
         let mut reader = Pieces::of(JOIN.as_bytes(), *piece);
         reader.interruptions = *interruptions;
-        joins_by(rt, alloc, service, &mut reader, "read fault", 1_000_000);
+        assert_join_read(rt, alloc, service, &mut reader, "read fault", 1_000_000);
     }
     assert_reply(rt, alloc, service, &mut JOIN.as_bytes(), JOINED);
 }
@@ -73,8 +73,8 @@ fn are_too_many(rt: &impl Abort, alloc: Global, service: &mut impl Served) {
 /// A request that isn't whole after 1,000,000 reads ends in a fault, and no command is run.
 #[test]
 fn reads_beyond_the_bound(rt: HostRuntime) -> Result<(), Fail> {
-    let mut service = begun(rt.alloc())?;
-    are_too_many(&rt, rt.alloc(), &mut service);
+    let mut service = new_service(rt.alloc())?;
+    assert_reads_are_too_many(&rt, rt.alloc(), &mut service);
     let _conn = service.end();
     Ok(())
 }
@@ -94,20 +94,25 @@ static TOO_MANY_WRITES: [(usize, usize, usize, usize); 4] = [
 ];
 
 /// Serves a join to a writer, and asserts that it gets the whole reply.
-fn joins_over(rt: &impl Abort, alloc: Global, service: &mut impl Served, writer: &mut Narrow) {
+fn assert_join_written(
+    rt: &impl Abort,
+    alloc: Global,
+    service: &mut impl HttpService,
+    writer: &mut NarrowWriter,
+) {
     let mut reader = JOIN.as_bytes();
     let served = service.serve(alloc, &mut reader, writer);
-    assert_text(rt, told(served, &writer.taken), JOINED);
+    assert_text(rt, outcome_text(served, &writer.taken), JOINED);
 }
 
 /// Asserts for each row of `WRITES` that the whole reply to a join is written.
-fn are_written(rt: &impl Abort, alloc: Global) -> Result<(), Fail> {
+fn assert_replies_are_written(rt: &impl Abort, alloc: Global) -> Result<(), Fail> {
     for (piece, interruptions) in WRITES.iter() {
-        let mut service = begun(alloc)?;
-        let mut writer = Narrow::of(alloc, usize::MAX, true);
+        let mut service = new_service(alloc)?;
+        let mut writer = NarrowWriter::of(alloc, usize::MAX, true);
         writer.piece = *piece;
         writer.interruptions = *interruptions;
-        joins_over(rt, alloc, &mut service, &mut writer);
+        assert_join_written(rt, alloc, &mut service, &mut writer);
         let _conn = service.end();
     }
     Ok(())
@@ -116,18 +121,18 @@ fn are_written(rt: &impl Abort, alloc: Global) -> Result<(), Fail> {
 /// A reply is written whole if fewer than 1,000,000 writes are interrupted.
 #[test]
 fn writes_within_the_bound(rt: HostRuntime) -> Result<(), Fail> {
-    are_written(&rt, rt.alloc())
+    assert_replies_are_written(&rt, rt.alloc())
 }
 
 /// Asserts WriteFault, the bytes written and the number of writes for each row of
 /// `TOO_MANY_WRITES`.
-fn break_off(rt: &impl Abort, alloc: Global) -> Result<(), Fail> {
+fn assert_replies_break_off(rt: &impl Abort, alloc: Global) -> Result<(), Fail> {
     for (piece, interruptions, taken, writes) in TOO_MANY_WRITES.iter() {
-        let mut service = begun(alloc)?;
-        let mut writer = Narrow::of(alloc, usize::MAX, true);
+        let mut service = new_service(alloc)?;
+        let mut writer = NarrowWriter::of(alloc, usize::MAX, true);
         writer.piece = *piece;
         writer.interruptions = *interruptions;
-        breaks_off(rt, alloc, &mut service, &mut writer, *taken);
+        assert_breaks_off(rt, alloc, &mut service, &mut writer, *taken);
         assert_count(rt, writer.writes, *writes);
         let _conn = service.end();
     }
@@ -137,5 +142,5 @@ fn break_off(rt: &impl Abort, alloc: Global) -> Result<(), Fail> {
 /// A reply breaks off with WriteFault once 1,000,000 writes were interrupted.
 #[test]
 fn writes_beyond_the_bound(rt: HostRuntime) -> Result<(), Fail> {
-    break_off(&rt, rt.alloc())
+    assert_replies_break_off(&rt, rt.alloc())
 }

@@ -1,5 +1,5 @@
 //! Tests that a campaign at its limits of months and units refuses a join and a closing over HTTP.
-use super::making::{Case, assert_replies, begun};
+use super::making::{Case, assert_replies, new_service};
 use super::requests::JOIN;
 use atl_service::{Service, open};
 use sqlite::MemStore;
@@ -22,8 +22,8 @@ static AT_LIMITS: [Case; 2] = [
 ];
 
 /// The service of a new campaign whose tables the statements `sql` changed.
-fn changed(alloc: Global, sql: &str) -> Result<Service<MemStore>, Fail> {
-    let mut conn = begun(alloc)?.end();
+fn changed_service(alloc: Global, sql: &str) -> Result<Service<MemStore>, Fail> {
+    let mut conn = new_service(alloc)?.end();
     conn.execute_batch(sql)?;
     match open(alloc, conn) {
         Ok(service) => Ok(service),
@@ -34,7 +34,7 @@ fn changed(alloc: Global, sql: &str) -> Result<Service<MemStore>, Fail> {
 /// After the last month and the last unit number, a join and a closing are refused over HTTP.
 #[test]
 fn at_the_limits(rt: HostRuntime) -> Result<(), Fail> {
-    let mut service = changed(rt.alloc(), LIMITS)?;
+    let mut service = changed_service(rt.alloc(), LIMITS)?;
     assert_replies(&rt, rt.alloc(), &mut service, &AT_LIMITS);
     let _conn = service.end();
     Ok(())

@@ -1,9 +1,9 @@
 //! Tests of serving connections over a socket, in one process: each peer has sent its request
 //! before any is served.
 use super::compare::{assert_text, assert_true};
-use super::making::{assert_reply, begun};
+use super::making::{assert_reply, new_service};
 use super::requests::{JOIN, JOINED, REPORT, REPORTED, TOO_LONG};
-use super::serving::Served;
+use super::serving::HttpService;
 use atl_http::listening::ListenFault;
 use std::alloc::Global;
 use std::io::{self, Read, Write};
@@ -62,9 +62,9 @@ fn assert_received(
     wanted: &str,
 ) -> io::Result<()> {
     let mut reader = stream;
-    let mut told = String::new(alloc);
-    reader.read_to_string(&mut told)?;
-    assert_text(rt, told.as_str(), wanted);
+    let mut actual = String::new(alloc);
+    reader.read_to_string(&mut actual)?;
+    assert_text(rt, actual.as_str(), wanted);
     Ok(())
 }
 
@@ -81,7 +81,7 @@ fn four_are_served<R: Net<Stream = TcpStream> + Clock + Abort>(
     rt: &R,
     alloc: Global,
     listener: &TcpListener,
-    service: &mut impl Served,
+    service: &mut impl HttpService,
 ) -> io::Result<()> {
     let streams = peers(rt, alloc, listener.local_addr()?)?;
     let done = service.serve_each(alloc, rt, listener, 4);
@@ -95,7 +95,7 @@ fn over_a_socket(rt: HostRuntime) -> Result<(), Fail> {
     let Ok(listener) = TcpListener::bind(&rt, (Ipv4Addr::LOCALHOST, 0)) else {
         return Err(Fail::new("bind"));
     };
-    let mut service = begun(rt.alloc())?;
+    let mut service = new_service(rt.alloc())?;
     let done = four_are_served(&rt, rt.alloc(), &listener, &mut service);
     let _conn = service.end();
     match done {
@@ -104,13 +104,13 @@ fn over_a_socket(rt: HostRuntime) -> Result<(), Fail> {
     }
 }
 
-/// Asserts that serving ends in the fault Net if the listener doesn't wait and has no connection,
-/// and that no command was run: the faction that joins next is the first.
+/// Asserts that serving ends in the fault Net if the listener doesn't wait and has no connection.
+/// No command was run: the faction that joins next is the first.
 fn nobody_is_served<R: Clock + Abort>(
     rt: &R,
     alloc: Global,
     listener: &TcpListener,
-    service: &mut impl Served,
+    service: &mut impl HttpService,
 ) -> io::Result<()> {
     listener.set_nonblocking(true)?;
     let done = service.serve_each(alloc, rt, listener, 4);
@@ -126,7 +126,7 @@ fn no_connection_is_taken(rt: HostRuntime) -> Result<(), Fail> {
     let Ok(listener) = TcpListener::bind(&rt, (Ipv4Addr::LOCALHOST, 0)) else {
         return Err(Fail::new("bind"));
     };
-    let mut service = begun(rt.alloc())?;
+    let mut service = new_service(rt.alloc())?;
     let done = nobody_is_served(&rt, rt.alloc(), &listener, &mut service);
     let _conn = service.end();
     match done {

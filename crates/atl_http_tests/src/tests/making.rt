@@ -1,9 +1,9 @@
 //! Makes services, and plays tables of requests with their wanted replies.
 use super::compare::{assert_text, assert_true};
-use super::serving::Served;
+use super::serving::HttpService;
 use atl_http::HttpFault;
 use atl_service::{Service, found};
-use atl_test_worlds::SMALL;
+use atl_test_worlds::SMALL_WORLD;
 use sqlite::{Connection, MemStore};
 use std::alloc::Global;
 use std::io::Read;
@@ -15,8 +15,13 @@ use std::test::Fail;
 pub(crate) type Case = (&'static str, &'static str);
 
 /// The service of the small world's campaign, just founded in memory.
-pub(crate) fn begun(alloc: Global) -> Result<Service<MemStore>, Fail> {
-    match found(alloc, Connection::open_in_memory(alloc)?, SMALL, b"gm") {
+pub(crate) fn new_service(alloc: Global) -> Result<Service<MemStore>, Fail> {
+    match found(
+        alloc,
+        Connection::open_in_memory(alloc)?,
+        SMALL_WORLD,
+        b"gm",
+    ) {
         Ok(service) => Ok(service),
         Err(_) => Err(Fail::new("found")),
     }
@@ -41,7 +46,7 @@ fn reply_of(status: u16, written: &[u8]) -> &str {
 
 /// How serving a request ended, as text: the reply, or the name of the fault; `a part` if there was
 /// a fault after bytes were written.
-pub(crate) fn told(served: Result<u16, HttpFault>, written: &[u8]) -> &str {
+pub(crate) fn outcome_text(served: Result<u16, HttpFault>, written: &[u8]) -> &str {
     match served {
         Ok(status) => reply_of(status, written),
         Err(_) if !written.is_empty() => "a part",
@@ -55,7 +60,7 @@ pub(crate) fn told(served: Result<u16, HttpFault>, written: &[u8]) -> &str {
 /// Asserts that a service isn't closed, and that the text of its books is `wanted`.
 pub(crate) fn assert_books(
     rt: &impl Abort,
-    service: &impl Served,
+    service: &impl HttpService,
     wanted: &str,
 ) -> Result<(), Fail> {
     match service.books() {
@@ -69,20 +74,20 @@ pub(crate) fn assert_books(
 pub(crate) fn assert_reply(
     rt: &impl Abort,
     alloc: Global,
-    service: &mut impl Served,
+    service: &mut impl HttpService,
     reader: &mut impl Read,
     wanted: &str,
 ) {
     let mut written = Vec::new(alloc);
     let served = service.serve(alloc, reader, &mut written);
-    assert_text(rt, told(served, &written), wanted);
+    assert_text(rt, outcome_text(served, &written), wanted);
 }
 
 /// Serves requests in turn, each readable at once, and asserts each reply.
 pub(crate) fn assert_replies(
     rt: &impl Abort,
     alloc: Global,
-    service: &mut impl Served,
+    service: &mut impl HttpService,
     cases: &[Case],
 ) {
     for (request, wanted) in cases.iter() {
@@ -93,7 +98,7 @@ pub(crate) fn assert_replies(
 
 /// Serves requests in turn on a new campaign of the small world, and asserts each reply.
 pub(crate) fn plays(rt: &impl Abort, alloc: Global, cases: &[Case]) -> Result<(), Fail> {
-    let mut service = begun(alloc)?;
+    let mut service = new_service(alloc)?;
     assert_replies(rt, alloc, &mut service, cases);
     let _conn = service.end();
     Ok(())

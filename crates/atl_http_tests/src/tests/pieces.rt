@@ -1,10 +1,10 @@
 //! Tests of requests that arrive in pieces or cut short, of replies written in pieces, and of long
 //! heads and bodies.
 use super::compare::{assert_count, assert_number, assert_text};
-use super::making::{assert_books, assert_reply, begun, told};
-use super::readers_and_writers::{Narrow, Pieces};
+use super::making::{assert_books, assert_reply, new_service, outcome_text};
+use super::readers_and_writers::{NarrowWriter, Pieces};
 use super::requests::{BAD_REQUEST, JOIN, JOINED, NO_ROUTE, REPORT, REPORTED, TOO_LONG};
-use super::serving::Served;
+use super::serving::HttpService;
 use std::alloc::Global;
 use std::process::Abort;
 use std::test::Fail;
@@ -17,7 +17,11 @@ people total 1000
 ";
 
 /// Asserts that a request cut short changes nothing, and that a whole one in two pieces joins.
-fn cut_and_whole(rt: &impl Abort, alloc: Global, service: &mut impl Served) -> Result<(), Fail> {
+fn cut_and_whole(
+    rt: &impl Abort,
+    alloc: Global,
+    service: &mut impl HttpService,
+) -> Result<(), Fail> {
     assert_reply(
         rt,
         alloc,
@@ -42,7 +46,7 @@ static BY_PIECES: [(usize, usize); 3] = [(1, JOIN.len()), (8, 11), (JOIN.len(), 
 
 /// Asserts that a read that fails before the request is whole runs no command, whichever read it
 /// is.
-fn fails_at_each_read(rt: &impl Abort, alloc: Global, service: &mut impl Served) {
+fn fails_at_each_read(rt: &impl Abort, alloc: Global, service: &mut impl HttpService) {
     for (piece, reads) in BY_PIECES.iter() {
         for done in 0..*reads {
             let mut reader = Pieces::of(JOIN.as_bytes(), *piece);
@@ -54,7 +58,7 @@ fn fails_at_each_read(rt: &impl Abort, alloc: Global, service: &mut impl Served)
 
 /// Asserts that failed reads run no command, that a join is served which comes byte by byte with
 /// interruptions, and that a reply can be written so.
-fn joins_in_pieces(rt: &impl Abort, alloc: Global, service: &mut impl Served) {
+fn joins_in_pieces(rt: &impl Abort, alloc: Global, service: &mut impl HttpService) {
     fails_at_each_read(rt, alloc, service);
     let mut reader = Pieces::of(JOIN.as_bytes(), 1);
     reader.interruptions = 1;
@@ -64,7 +68,7 @@ fn joins_in_pieces(rt: &impl Abort, alloc: Global, service: &mut impl Served) {
 }
 
 /// Asserts that each proper beginning of a request gives the fault Cut and runs no command.
-fn no_front_is_enough(rt: &impl Abort, alloc: Global, service: &mut impl Served) {
+fn no_front_is_enough(rt: &impl Abort, alloc: Global, service: &mut impl HttpService) {
     for len in 0..JOIN.len() {
         assert_reply(rt, alloc, service, &mut &JOIN.as_bytes()[..len], "cut");
     }
@@ -73,12 +77,12 @@ fn no_front_is_enough(rt: &impl Abort, alloc: Global, service: &mut impl Served)
 
 /// Asserts that Avalon's report is written whole to a writer that takes one byte at a time and is
 /// interrupted before each.
-fn writes_in_pieces(rt: &impl Abort, alloc: Global, service: &mut impl Served) {
-    let mut writer = Narrow::of(alloc, REPORTED.len(), true);
+fn writes_in_pieces(rt: &impl Abort, alloc: Global, service: &mut impl HttpService) {
+    let mut writer = NarrowWriter::of(alloc, REPORTED.len(), true);
     writer.interruptions = 1;
     let mut reader = REPORT.as_bytes();
     let served = service.serve(alloc, &mut reader, &mut writer);
-    assert_text(rt, told(served, &writer.taken), REPORTED);
+    assert_text(rt, outcome_text(served, &writer.taken), REPORTED);
 }
 
 /// Requests with bytes after their end, how many bytes are read if each read gives one, and the
@@ -103,7 +107,7 @@ static NO_FURTHER: [(&str, usize, &str); 4] = [
 ];
 
 /// Asserts that nothing after the end of a request is read.
-fn reads_no_further(rt: &impl Abort, alloc: Global, service: &mut impl Served) {
+fn reads_no_further(rt: &impl Abort, alloc: Global, service: &mut impl HttpService) {
     for (request, reads, wanted) in NO_FURTHER.iter() {
         let mut reader = Pieces::of(request.as_bytes(), 1);
         assert_reply(rt, alloc, service, &mut reader, wanted);
@@ -131,7 +135,7 @@ fn longest_request(alloc: Global) -> Result<Vec<u8>, Fail> {
 fn mails_byte_by_byte(
     rt: &impl Abort,
     alloc: Global,
-    service: &mut impl Served,
+    service: &mut impl HttpService,
 ) -> Result<(), Fail> {
     assert_reply(rt, alloc, service, &mut JOIN.as_bytes(), JOINED);
     let request = longest_request(alloc)?;
@@ -165,7 +169,7 @@ static LONG_HEADS: [(usize, usize, &str); 4] = [
 fn long_head(
     rt: &impl Abort,
     alloc: Global,
-    service: &mut impl Served,
+    service: &mut impl HttpService,
     long: usize,
     fields: usize,
     wanted: &str,
@@ -176,7 +180,7 @@ fn long_head(
 }
 
 /// Asserts the reply to each head of `LONG_HEADS`.
-fn long_heads(rt: &impl Abort, alloc: Global, service: &mut impl Served) -> Result<(), Fail> {
+fn long_heads(rt: &impl Abort, alloc: Global, service: &mut impl HttpService) -> Result<(), Fail> {
     assert_reply(rt, alloc, service, &mut JOIN.as_bytes(), JOINED);
     for (long, fields, wanted) in LONG_HEADS.iter() {
         long_head(rt, alloc, service, *long, *fields, wanted)?;
@@ -188,7 +192,7 @@ fn long_heads(rt: &impl Abort, alloc: Global, service: &mut impl Served) -> Resu
 /// byte.
 #[test]
 fn in_pieces(rt: HostRuntime) -> Result<(), Fail> {
-    let mut service = begun(rt.alloc())?;
+    let mut service = new_service(rt.alloc())?;
     joins_in_pieces(&rt, rt.alloc(), &mut service);
     let _conn = service.end();
     Ok(())
@@ -196,8 +200,8 @@ fn in_pieces(rt: HostRuntime) -> Result<(), Fail> {
 
 /// A request cut short at any byte runs no command.
 #[test]
-fn fronts(rt: HostRuntime) -> Result<(), Fail> {
-    let mut service = begun(rt.alloc())?;
+fn cut_requests_run_no_command(rt: HostRuntime) -> Result<(), Fail> {
+    let mut service = new_service(rt.alloc())?;
     no_front_is_enough(&rt, rt.alloc(), &mut service);
     let _conn = service.end();
     Ok(())
@@ -206,7 +210,7 @@ fn fronts(rt: HostRuntime) -> Result<(), Fail> {
 /// A request cut short changes nothing, and one in two pieces joins.
 #[test]
 fn in_two_pieces(rt: HostRuntime) -> Result<(), Fail> {
-    let mut service = begun(rt.alloc())?;
+    let mut service = new_service(rt.alloc())?;
     let done = cut_and_whole(&rt, rt.alloc(), &mut service);
     let _conn = service.end();
     done
@@ -215,7 +219,7 @@ fn in_two_pieces(rt: HostRuntime) -> Result<(), Fail> {
 /// Nothing after the end of a request is read.
 #[test]
 fn no_further(rt: HostRuntime) -> Result<(), Fail> {
-    let mut service = begun(rt.alloc())?;
+    let mut service = new_service(rt.alloc())?;
     reads_no_further(&rt, rt.alloc(), &mut service);
     let _conn = service.end();
     Ok(())
@@ -224,7 +228,7 @@ fn no_further(rt: HostRuntime) -> Result<(), Fail> {
 /// A head of 8,192 bytes and one of 32 fields are accepted; one byte or one field more is refused.
 #[test]
 fn heads_at_the_limit(rt: HostRuntime) -> Result<(), Fail> {
-    let mut service = begun(rt.alloc())?;
+    let mut service = new_service(rt.alloc())?;
     let done = long_heads(&rt, rt.alloc(), &mut service);
     let _conn = service.end();
     done
@@ -233,7 +237,7 @@ fn heads_at_the_limit(rt: HostRuntime) -> Result<(), Fail> {
 /// The longest mailing is stored if it comes byte by byte.
 #[test]
 fn the_longest_mailing(rt: HostRuntime) -> Result<(), Fail> {
-    let mut service = begun(rt.alloc())?;
+    let mut service = new_service(rt.alloc())?;
     let done = mails_byte_by_byte(&rt, rt.alloc(), &mut service);
     let _conn = service.end();
     done

@@ -56,7 +56,7 @@ impl<'a> Read for Pieces<'a> {
 /// A writer that takes pieces of `piece` bytes, with `interruptions` interrupted writes before each
 /// piece. After `most` bytes it fails, or takes none; it counts its writes.
 #[derive(Drop)]
-pub(crate) struct Narrow {
+pub(crate) struct NarrowWriter {
     pub(crate) taken: Vec<u8>,
     most: usize,
     fails: bool,
@@ -67,11 +67,11 @@ pub(crate) struct Narrow {
 }
 
 /// Makes a writer that takes bytes in pieces.
-impl Narrow {
+impl NarrowWriter {
     /// A writer that takes one byte at a time without interruption, up to `most` bytes; then it
     /// fails or takes none.
-    pub(crate) fn of(alloc: Global, most: usize, fails: bool) -> Narrow {
-        Narrow {
+    pub(crate) fn of(alloc: Global, most: usize, fails: bool) -> NarrowWriter {
+        NarrowWriter {
             taken: Vec::new(alloc),
             most,
             fails,
@@ -84,7 +84,7 @@ impl Narrow {
 }
 
 /// Takes the next piece; or gives Interrupted, and after `most` bytes BrokenPipe or takes none.
-impl Write for Narrow {
+impl Write for NarrowWriter {
     /// Takes the next piece and returns its length, 0 if the writer takes none; counts the write.
     fn write(&mut self, buf: &[u8]) -> io::Result<usize> {
         self.writes = self.writes.saturating_add(1);

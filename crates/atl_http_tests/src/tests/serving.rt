@@ -14,7 +14,7 @@ const DICE: Dice = Dice { seed: 1 };
 
 /// What these tests call of a service: serving requests, the number of its next faction, and its
 /// books.
-pub(crate) trait Served {
+pub(crate) trait HttpService {
     /// Serves one request from a reader, and writes the reply; the result is the reply's status.
     fn serve<R: Read, W: Write>(
         &mut self,
@@ -40,7 +40,7 @@ pub(crate) trait Served {
 }
 
 /// A service over any store serves by the calls of atl_http, with the words of `DICE`.
-impl<S: Alter> Served for Service<S> {
+impl<S: Alter> HttpService for Service<S> {
     /// Serves one request, by `serve_one` of atl_http.
     fn serve<R: Read, W: Write>(
         &mut self,

@@ -3,7 +3,7 @@
 use super::making::{Case, assert_replies};
 use super::requests::{JOIN, REPORT};
 use atl_service::found;
-use atl_test_worlds::SMALL;
+use atl_test_worlds::SMALL_WORLD;
 use sqlite::{Connection, FileStore, Options};
 use sqlite_disk::{Disk, Files, Fuse, Memory};
 use std::alloc::Global;
@@ -35,7 +35,7 @@ fn stops<D: Disk + Drop>(rt: &impl Abort, alloc: Global, files: Files<D>) -> boo
     let Some(conn) = open(alloc, files) else {
         return false;
     };
-    let Ok(mut service) = found(alloc, conn, SMALL, b"gm") else {
+    let Ok(mut service) = found(alloc, conn, SMALL_WORLD, b"gm") else {
         return false;
     };
     assert_replies(rt, alloc, &mut service, &STOPPED);
@@ -44,7 +44,7 @@ fn stops<D: Disk + Drop>(rt: &impl Abort, alloc: Global, files: Files<D>) -> boo
 }
 
 /// Empty files; the disk of the log stops after `calls` calls.
-fn stopping(alloc: Global, calls: u64) -> Files<Fuse<Memory>> {
+fn stopping_files(alloc: Global, calls: u64) -> Files<Fuse<Memory>> {
     Files {
         log: Fuse::new(Memory::new(alloc), calls),
         db: Fuse::new(Memory::new(alloc), u64::MAX),
@@ -60,7 +60,7 @@ const FEW_CALLS: u64 = 24;
 #[test]
 fn a_disk_that_stops(rt: HostRuntime) -> Result<(), Fail> {
     for calls in FEW_CALLS..FEW_CALLS + 8 {
-        if stops(&rt, rt.alloc(), stopping(rt.alloc(), calls)) {
+        if stops(&rt, rt.alloc(), stopping_files(rt.alloc(), calls)) {
             return Ok(());
         }
     }

@@ -5,8 +5,8 @@ ghost use Rattle.atl_campaign.specs.Good.{IsGood};
 ghost use Rattle.atl_phase.specs.Fit.{AreFit};
 
 use super::crowd::{crowd, crowd_month, crowd_world};
-use super::reference::plain::Plain;
-use super::reference::sharing::Sharing;
+use super::reference::plain::PlainCampaign;
+use super::reference::sharing::SharingPhase;
 use super::reference::trade::PlainTrade;
 use super::reference::{shares, sharing, upkeep};
 use super::shares::{are_small, assert_shares};
@@ -21,39 +21,39 @@ use std::test::Fail;
 
 // ---- what is compared
 
-/// Asserts that the list `told` is the list `wanted`; the message names what is listed (`what`) and
-/// the index of the first difference.
-fn assert_equal_lists<T: PartialEq>(rt: &impl Abort, what: &str, told: &[T], wanted: &[T]) {
-    assert!(rt; told.len() == wanted.len(), "so many {what}");
-    for (place, (told, wanted)) in told.iter().zip(wanted.iter()).enumerate() {
-        assert!(rt; told == wanted, "{what}, at {place}");
+/// Asserts that a list is the wanted one. The message names what is listed (`what`), and the index
+/// of the first difference if both lists are equally long.
+fn assert_equal_lists<T: PartialEq>(rt: &impl Abort, what: &str, actual: &[T], wanted: &[T]) {
+    assert!(rt; actual.len() == wanted.len(), "so many {what}");
+    for (place, (actual, wanted)) in actual.iter().zip(wanted.iter()).enumerate() {
+        assert!(rt; actual == wanted, "{what}, at {place}");
     }
 }
 
-/// Asserts that goods, stocks and books of a campaign (`told`) are those of the reference's
-/// (`wanted`), both sorted and without amounts of 0.
+/// Asserts that a campaign has the goods, stocks and books of the reference's campaign; their order
+/// and amounts of 0 don't matter.
 fn assert_amounts(
     rt: &impl Abort,
     alloc: Global,
-    told: &Plain,
-    wanted: &Plain,
+    actual: &PlainCampaign,
+    wanted: &PlainCampaign,
 ) -> Result<(), AllocError> {
     assert_equal_lists(
         rt,
         "goods",
-        &told.sorted_goods(alloc)?,
+        &actual.sorted_goods(alloc)?,
         &wanted.sorted_goods(alloc)?,
     );
     assert_equal_lists(
         rt,
         "stocks",
-        &told.sorted_stocks(alloc)?,
+        &actual.sorted_stocks(alloc)?,
         &wanted.sorted_stocks(alloc)?,
     );
     assert_equal_lists(
         rt,
         "books",
-        &told.sorted_books(alloc)?,
+        &actual.sorted_books(alloc)?,
         &wanted.sorted_books(alloc)?,
     );
     Ok(())
@@ -66,33 +66,33 @@ fn assert_campaign(
     alloc: Global,
     campaign: &Campaign,
     month: &Month,
-    wanted: &Plain,
+    wanted: &PlainCampaign,
 ) -> Result<(), AllocError> {
-    let told = Plain::of(alloc, campaign)?;
-    assert_equal_lists(rt, "units", &told.people, &wanted.people);
-    assert_equal_lists(rt, "regions", &told.lands, &wanted.lands);
+    let actual = PlainCampaign::from_campaign(alloc, campaign)?;
+    assert_equal_lists(rt, "units", &actual.people, &wanted.people);
+    assert_equal_lists(rt, "regions", &actual.lands, &wanted.lands);
     assert_equal_lists(rt, "events", month.events(), &wanted.events);
-    assert_amounts(rt, alloc, &told, wanted)
+    assert_amounts(rt, alloc, &actual, wanted)
 }
 
 // ---- the phases
 
 /// A phase that is compared with the reference: one that shares pots, or upkeep.
 #[derive(Clone, Copy, Drop)]
-enum Played {
-    Sharing(Sharing),
+enum ComparedPhase {
+    SharingPhase(SharingPhase),
     Upkeep,
 }
 
 /// All phases that are compared with the reference.
-static PLAYED: [Played; 7] = [
-    Played::Sharing(Sharing::Trade(PlainTrade::Sell)),
-    Played::Sharing(Sharing::Trade(PlainTrade::Buy)),
-    Played::Sharing(Sharing::Tax),
-    Played::Sharing(Sharing::Recruit),
-    Played::Sharing(Sharing::Produce),
-    Played::Sharing(Sharing::Work),
-    Played::Upkeep,
+static COMPARED_PHASES: [ComparedPhase; 7] = [
+    ComparedPhase::SharingPhase(SharingPhase::Trade(PlainTrade::Sell)),
+    ComparedPhase::SharingPhase(SharingPhase::Trade(PlainTrade::Buy)),
+    ComparedPhase::SharingPhase(SharingPhase::Tax),
+    ComparedPhase::SharingPhase(SharingPhase::Recruit),
+    ComparedPhase::SharingPhase(SharingPhase::Produce),
+    ComparedPhase::SharingPhase(SharingPhase::Work),
+    ComparedPhase::Upkeep,
 ];
 
 /// Plays SELL as the program does; the result is the campaign and the month after it.
@@ -198,7 +198,7 @@ fn run_upkeep(
 fn run_sharing(
     alloc: Global,
     world: &World,
-    sharing: Sharing,
+    sharing: SharingPhase,
     campaign: Campaign,
     month: Month,
 ) -> Result<(Campaign, Month), AllocError>
@@ -206,21 +206,21 @@ fn run_sharing(
     requires read { AreFit world.now month.readings }
 {
     match sharing {
-        Sharing::Trade(PlainTrade::Sell) => run_sell(alloc, world, campaign, month),
-        Sharing::Trade(PlainTrade::Buy) => run_buy(alloc, world, campaign, month),
-        Sharing::Tax => run_tax(alloc, world, campaign, month),
-        Sharing::Recruit => run_recruit(alloc, world, campaign, month),
-        Sharing::Produce => run_produce(alloc, world, campaign, month),
-        Sharing::Work => run_work(alloc, world, campaign, month),
+        SharingPhase::Trade(PlainTrade::Sell) => run_sell(alloc, world, campaign, month),
+        SharingPhase::Trade(PlainTrade::Buy) => run_buy(alloc, world, campaign, month),
+        SharingPhase::Tax => run_tax(alloc, world, campaign, month),
+        SharingPhase::Recruit => run_recruit(alloc, world, campaign, month),
+        SharingPhase::Produce => run_produce(alloc, world, campaign, month),
+        SharingPhase::Work => run_work(alloc, world, campaign, month),
     }
 }
 
-/// Plays a phase of `PLAYED` as the program does; the result is the campaign and the month after
-/// it. The campaign must be good, and the month's mailings read with its world.
-fn run_on(
+/// Plays a phase of `COMPARED_PHASES` as the program does; the result is the campaign and the month
+/// after it. The campaign must be good, and the month's mailings read with its world.
+fn run_phase(
     alloc: Global,
     world: &World,
-    played: Played,
+    played: ComparedPhase,
     campaign: Campaign,
     month: Month,
 ) -> Result<(Campaign, Month), AllocError>
@@ -228,53 +228,59 @@ fn run_on(
     requires read { AreFit world.now month.readings }
 {
     match played {
-        Played::Sharing(sharing) => run_sharing(alloc, world, sharing, campaign, month),
-        Played::Upkeep => run_upkeep(alloc, world, campaign, month),
+        ComparedPhase::SharingPhase(sharing) => run_sharing(alloc, world, sharing, campaign, month),
+        ComparedPhase::Upkeep => run_upkeep(alloc, world, campaign, month),
     }
 }
 
-/// Plays a phase of `PLAYED` on the reference's campaign by the reference calculation.
-fn reckon(
+/// Plays a phase of `COMPARED_PHASES` on the reference's campaign by the reference calculation.
+fn calculate_phase(
     alloc: Global,
     world: &World,
-    played: Played,
-    plain: &mut Plain,
+    played: ComparedPhase,
+    plain: &mut PlainCampaign,
     month: &Month,
 ) -> Result<(), AllocError> {
     match played {
-        Played::Sharing(sharing) => sharing::play(alloc, sharing, world, plain, month),
-        Played::Upkeep => upkeep::play(alloc, world, plain),
+        ComparedPhase::SharingPhase(sharing) => sharing::play(alloc, sharing, world, plain, month),
+        ComparedPhase::Upkeep => upkeep::play(alloc, world, plain),
     }
 }
 
-/// The campaign that the reference calculates for a phase of `PLAYED`, from a campaign and a month.
-fn reckoned(
+/// The campaign that the reference calculates for a phase of `COMPARED_PHASES`, from a campaign and
+/// a month.
+fn calculated_campaign(
     alloc: Global,
     world: &World,
-    played: Played,
+    played: ComparedPhase,
     campaign: &Campaign,
     month: &Month,
-) -> Result<Plain, AllocError> {
-    let mut plain = Plain::of(alloc, campaign)?;
-    reckon(alloc, world, played, &mut plain, month)?;
+) -> Result<PlainCampaign, AllocError> {
+    let mut plain = PlainCampaign::from_campaign(alloc, campaign)?;
+    calculate_phase(alloc, world, played, &mut plain, month)?;
     Ok(plain)
 }
 
 /// Asserts that a phase makes of the campaign of `crowd` the campaign and the events that the
 /// reference calculates.
-fn agrees(rt: &impl Abort, alloc: Global, world: &World, played: Played) -> Result<(), Fail> {
+fn agrees(
+    rt: &impl Abort,
+    alloc: Global,
+    world: &World,
+    played: ComparedPhase,
+) -> Result<(), Fail> {
     let campaign = crowd(alloc, world)?;
     let month = crowd_month(alloc, world)?;
-    let wanted = reckoned(alloc, world, played, &campaign, &month)?;
-    let (campaign, month) = run_on(alloc, world, played, campaign, month)?;
+    let wanted = calculated_campaign(alloc, world, played, &campaign, &month)?;
+    let (campaign, month) = run_phase(alloc, world, played, campaign, month)?;
     assert_campaign(rt, alloc, &campaign, &month, &wanted)?;
     Ok(())
 }
 
-/// Asserts that each phase of `PLAYED` makes of the campaign of `crowd` what the reference
+/// Asserts that each phase of `COMPARED_PHASES` makes of the campaign of `crowd` what the reference
 /// calculates.
 fn all_agree(rt: &impl Abort, alloc: Global, world: &World) -> Result<(), Fail> {
-    for played in PLAYED.iter() {
+    for played in COMPARED_PHASES.iter() {
         agrees(rt, alloc, world, *played)?;
     }
     Ok(())
@@ -290,8 +296,8 @@ fn phases_agree(rt: HostRuntime) -> Result<(), Fail> {
 
 // ---- shares
 
-/// Lists of wants. Each is tried with every pot from 0 to `MOST_SHARED`, which is more than all
-/// wants of any list together.
+/// Lists of wants among which a test shares every pot from 0 to `MOST_SHARED`. The largest pot is
+/// more than all wants of any list together.
 static WANTS: [&[u64]; 6] = [
     &[50, 60, 70],
     &[1, 1, 1, 1, 1, 1, 1],
@@ -310,9 +316,9 @@ fn pot_agrees(rt: &impl Abort, alloc: Global, pot: u64, wants: &[u64]) -> Result
     if pot > MOST_SHARED || !are_small(wants) {
         return Err(Fail::new("a pot and wants that are small enough"));
     }
-    let told = share(alloc, pot, wants)?;
+    let actual = share(alloc, pot, wants)?;
     let wanted = shares::share(alloc, pot, wants)?;
-    assert_shares(rt, pot, &told, &wanted);
+    assert_shares(rt, pot, &actual, &wanted);
     Ok(())
 }
 

@@ -103,7 +103,7 @@ const ITEMS: u32 = 5;
 
 /// A market of a region: its item with its name, its price and what it pays for one, and its limit.
 #[derive(Clone, Copy, Drop)]
-struct Stall {
+struct CrowdMarket {
     item: u32,
     name: &'static str,
     price: u32,
@@ -113,36 +113,36 @@ struct Stall {
 
 /// The markets to pick from: each region has two that follow one another here, or the last and the
 /// first.
-static STALLS: [Stall; 5] = [
-    Stall {
+static CROWD_MARKETS: [CrowdMarket; 5] = [
+    CrowdMarket {
         item: 0,
         name: "wood",
         price: 6,
         pays: 4,
         limit: 40,
     },
-    Stall {
+    CrowdMarket {
         item: 1,
         name: "stone",
         price: 30,
         pays: 90,
         limit: 9,
     },
-    Stall {
+    CrowdMarket {
         item: 0,
         name: "wood",
         price: 2,
         pays: 1,
         limit: 1_000_000,
     },
-    Stall {
+    CrowdMarket {
         item: 2,
         name: "grain",
         price: 1,
         pays: 3,
         limit: 301,
     },
-    Stall {
+    CrowdMarket {
         item: 4,
         name: "relic",
         price: 700,
@@ -171,11 +171,11 @@ static LANDS: [(&str, u32, u32); 7] = [
 /// How many men a unit has, picked by its number.
 static MEN: [i64; 11] = [1, 1, 2, 3, 5, 8, 13, 40, 90, 2, 1];
 
-/// How much money a unit has, picked by its number, if the number is no multiple of `RICH`.
+/// How much money a unit has, picked by its number, if the number is no multiple of `RICH_DIVISOR`.
 static MONEY: [i64; 7] = [0, 3, 20, 150, 900, 0, 4_000];
 
 /// Each unit whose number is a multiple of this has `FULL_PURSE` of money.
-const RICH: u32 = 37;
+const RICH_DIVISOR: u32 = 37;
 
 /// Money that leaves a unit hardly any room for more, since it may have 999,999,999.
 const FULL_PURSE: i64 = 999_999_990;
@@ -234,19 +234,19 @@ static RECRUITED: [u32; 5] = [1, 20, 3, 7, 400];
 
 /// The orders picked by a multiple of this number are written for the next unit, which is another
 /// faction's, and not for the unit with that number.
-const ASTRAY: u32 = 29;
+const MISDIRECTED_DIVISOR: u32 = 29;
 
 /// The number of Joining among the entries of the books.
 const JOINING: i64 = 2;
 
-/// The number of money among the things of the books.
-const MONEY_BOOKED: i64 = 0;
+/// The number of the thing money in the books.
+const MONEY_THING: i64 = 0;
 
-/// The number of people among the things of the books.
-const PEOPLE_BOOKED: i64 = 1;
+/// The number of the thing people in the books.
+const PEOPLE_THING: i64 = 1;
 
 /// The number of the first item among the things of the books.
-const FIRST_ITEM_BOOKED: i64 = 2;
+const FIRST_ITEM_THING: i64 = 2;
 
 /// The value that `number` picks from a table: the one at the index `number`, modulo its length.
 fn picked<T: Copy + Drop>(table: &[T], number: u32) -> T
@@ -258,16 +258,16 @@ fn picked<T: Copy + Drop>(table: &[T], number: u32) -> T
 // ---- the world
 
 /// The two markets of a region, picked by its number.
-fn stalls_of(region: u32) -> [Stall; 2] {
+fn markets_of(region: u32) -> [CrowdMarket; 2] {
     [
-        picked(&STALLS, region),
-        picked(&STALLS, region.wrapping_add(1)),
+        picked(&CROWD_MARKETS, region),
+        picked(&CROWD_MARKETS, region.wrapping_add(1)),
     ]
 }
 
 /// Appends a market to the world text.
-fn add_stall(alloc: Global, stall: Stall, text: &mut String) -> Result<(), AllocError> {
-    let Stall {
+fn add_market(alloc: Global, stall: CrowdMarket, text: &mut String) -> Result<(), AllocError> {
+    let CrowdMarket {
         item: _,
         name,
         price,
@@ -281,9 +281,9 @@ fn add_stall(alloc: Global, stall: Stall, text: &mut String) -> Result<(), Alloc
 }
 
 /// Appends the markets of a region to the world text.
-fn add_stalls(alloc: Global, number: u32, text: &mut String) -> Result<(), AllocError> {
-    for stall in stalls_of(number).iter() {
-        add_stall(alloc, *stall, text)?;
+fn add_markets(alloc: Global, number: u32, text: &mut String) -> Result<(), AllocError> {
+    for stall in markets_of(number).iter() {
+        add_market(alloc, *stall, text)?;
     }
     Ok(())
 }
@@ -295,7 +295,7 @@ fn add_region(alloc: Global, number: u32, text: &mut String) -> Result<(), Alloc
         "[[region]]\nnumber = {number}\nname = \"Vale\"\nterrain = \"{terrain}\"\npeasants = {peasants}\nmoney = {money}\n"
     )?;
     text.push_str(table.as_str())?;
-    add_stalls(alloc, number, text)
+    add_markets(alloc, number, text)
 }
 
 /// The world of the campaign of 300 units, with the markets of its twelve regions.
@@ -326,7 +326,7 @@ fn guards(number: u32) -> bool {
 
 /// The money of the unit with this number.
 fn money_of(number: u32) -> i64 {
-    if number % RICH == 0 {
+    if number % RICH_DIVISOR == 0 {
         FULL_PURSE
     } else {
         picked(&MONEY, number)
@@ -412,14 +412,14 @@ fn has(alloc: Global) -> Result<Sequence<StoredHas>, AllocError> {
 // ---- the stocks
 
 /// How much a region's market `stall` has in stock.
-fn stock_of(region: u32, stall: Stall) -> i64 {
+fn stock_of(region: u32, stall: CrowdMarket) -> i64 {
     let thirds = picked(&FILLED, region.wrapping_add(stall.item));
     i64::from(stall.limit.wrapping_mul(thirds) / 3)
 }
 
 /// Adds a region's stocks that aren't 0 to the rows of the table `market`.
 fn add_stocks(region: u32, markets: &mut Sequence<StoredMarket>) -> Result<(), AllocError> {
-    for stall in stalls_of(region).iter() {
+    for stall in markets_of(region).iter() {
         let stock = stock_of(region, *stall);
         if stock != 0 {
             markets.push(StoredMarket {
@@ -541,10 +541,10 @@ fn book_all(
     books: &mut Sequence<StoredBooks>,
 ) -> Result<(), AllocError> {
     let (money, men) = money_and_men();
-    book(MONEY_BOOKED, money, books)?;
-    book(PEOPLE_BOOKED, men, books)?;
+    book(MONEY_THING, money, books)?;
+    book(PEOPLE_THING, men, books)?;
     for item in 0..ITEMS {
-        let thing = FIRST_ITEM_BOOKED.wrapping_add(i64::from(item));
+        let thing = FIRST_ITEM_THING.wrapping_add(i64::from(item));
         let pieces = all_pieces(item).wrapping_add(all_in_stock(markets, item));
         book(thing, pieces, books)?;
     }
@@ -590,9 +590,9 @@ pub(crate) fn crowd(alloc: Global, world: &World) -> Result<Campaign, Fail>
 // ---- the month
 
 /// The unit for which the orders that `number` picks are written: the unit with this number, or the
-/// next one if the number is a multiple of `ASTRAY`.
+/// next one if the number is a multiple of `MISDIRECTED_DIVISOR`.
 fn ordered_unit(number: u32) -> u32 {
-    if number % ASTRAY == 0 {
+    if number % MISDIRECTED_DIVISOR == 0 {
         number.wrapping_add(1)
     } else {
         number

@@ -11,7 +11,7 @@ use atl_market::{units_trade_all_at_once, work_pays_all_at_once};
 use atl_month::{
     each_unit_can_spare, months_have_no_order, one_phase_has_room, phases_move_little,
 };
-use atl_phase::{mailings_have_no_order, one_order_stands, orders_are_in_mailings};
+use atl_phase::{mailings_have_no_order, one_order_counts, orders_are_in_mailings};
 use atl_report::{only_what_is_seen_is_reported, others_events_are_not_reported};
 
 /// Calls each law of the crates under test and asserts nothing: the clause of each is proved.
@@ -19,7 +19,7 @@ use atl_report::{only_what_is_seen_is_reported, others_events_are_not_reported};
 fn states_laws_of_the_month() {
     mailings_have_no_order();
     orders_are_in_mailings();
-    one_order_stands();
+    one_order_counts();
     takers_alone_get();
     each_pot_is_shared();
     splitting_keeps_others();

@@ -5,7 +5,7 @@ ghost use Rattle.atl_campaign.specs.Good.{IsGood};
 
 use super::crowd::checked;
 use super::months::{own_mailings, small_world};
-use super::telling::assert_row;
+use super::row_text::assert_row;
 use atl_campaign::parts::{Parts, StoredBooks, StoredHas};
 use atl_campaign::{Campaign, LAST_MONTH, founded};
 use atl_month::close_month;
@@ -82,8 +82,8 @@ fn paid(alloc: Global, world: &World) -> Result<Campaign, Fail> {
 }
 
 /// Asserts that a condition is true.
-fn assert_true(rt: &impl Abort, told: bool) {
-    assert!(rt; told);
+fn assert_true(rt: &impl Abort, output: bool) {
+    assert!(rt; output);
 }
 
 /// Whether unit 1 has two men and the name `Watch`, as it has after a month of the mailing
@@ -151,57 +151,56 @@ fn island_after_month(alloc: Global, world: &World, mailing: &str) -> Result<Cam
     after_month(alloc, world, campaign, &[mailing], &[0, 0, 0, 0])
 }
 
-/// Appends the numbers of marked units to the text `told`, each with a blank after it, and then
-/// `|`.
-fn tell_numbers(
+/// Appends the numbers of marked units to a text, each with a blank after it, and then `|`.
+fn write_numbers(
     alloc: Global,
     numbers: MarkedNumbers<'_>,
-    told: &mut String,
+    output: &mut String,
 ) -> Result<(), AllocError> {
     for number in numbers {
-        told.push_str(&format!(in alloc; "{number} ")?)?;
+        output.push_str(&format!(in alloc; "{number} ")?)?;
     }
-    told.push_str("|")
+    output.push_str("|")
 }
 
-/// Appends the items, or the skills, that are marked one by one of one unit to the text `told`,
-/// each as `unit:thing` with a blank after it.
-fn tell_things_of(
+/// Appends to a text the items, or the skills, of one unit that are marked one by one. Each is
+/// written as `unit:thing` with a blank after it.
+fn write_things_of(
     alloc: Global,
     unit: u32,
     things: &Numbered<()>,
-    told: &mut String,
+    output: &mut String,
 ) -> Result<(), AllocError> {
     for (thing, _) in things.iter() {
-        told.push_str(&format!(in alloc; "{unit}:{thing} ")?)?;
+        output.push_str(&format!(in alloc; "{unit}:{thing} ")?)?;
     }
     Ok(())
 }
 
-/// Appends the items, or the skills, that are marked one by one of all units to the text `told`,
-/// each as `unit:thing` with a blank after it, and then `|`.
-fn tell_things(
+/// Appends to a text the items, or the skills, of all units that are marked one by one. Each is
+/// written as `unit:thing` with a blank after it; `|` ends the list.
+fn write_things(
     alloc: Global,
     units: Entries<'_, Numbered<()>>,
-    told: &mut String,
+    output: &mut String,
 ) -> Result<(), AllocError> {
     for (unit, things) in units {
-        tell_things_of(alloc, unit, things, told)?;
+        write_things_of(alloc, unit, things, output)?;
     }
-    told.push_str("|")
+    output.push_str("|")
 }
 
 /// What a campaign has marked of units, as five lists in a text, each ended by `|`. They are the
 /// marked units, those with marked rows, those with all their goods marked, single items, and
 /// single skills.
 fn marks_of(alloc: Global, campaign: &Campaign) -> Result<String, AllocError> {
-    let mut told = String::new(alloc);
-    tell_numbers(alloc, campaign.marked_units(), &mut told)?;
-    tell_numbers(alloc, campaign.marked_rows(), &mut told)?;
-    tell_numbers(alloc, campaign.marked_goods(), &mut told)?;
-    tell_things(alloc, campaign.marked_items(), &mut told)?;
-    tell_things(alloc, campaign.marked_skills(), &mut told)?;
-    Ok(told)
+    let mut output = String::new(alloc);
+    write_numbers(alloc, campaign.marked_units(), &mut output)?;
+    write_numbers(alloc, campaign.marked_rows(), &mut output)?;
+    write_numbers(alloc, campaign.marked_goods(), &mut output)?;
+    write_things(alloc, campaign.marked_items(), &mut output)?;
+    write_things(alloc, campaign.marked_skills(), &mut output)?;
+    Ok(output)
 }
 
 /// Asserts which marks of units a campaign has, as `marks_of` prints them; the message names `row`,
@@ -213,8 +212,8 @@ fn assert_marks(
     campaign: &Campaign,
     wanted: &str,
 ) -> Result<(), AllocError> {
-    let told = marks_of(alloc, campaign)?;
-    assert_row(rt, row, told.as_str(), wanted);
+    let output = marks_of(alloc, campaign)?;
+    assert_row(rt, row, output.as_str(), wanted);
     Ok(())
 }
 

@@ -8,7 +8,7 @@ use atl_orders::{Mailing, read_mailing};
 use atl_phase::Month;
 use atl_state::are_distinct;
 use atl_tables::read_world;
-use atl_test_worlds::{SMALL, WOOD_AND_SAILING};
+use atl_test_worlds::{SMALL_WORLD, WOOD_AND_SAILING};
 use atl_world::World;
 use std::alloc::{AllocError, Global};
 use std::test::Fail;
@@ -20,7 +20,7 @@ pub(crate) fn world(alloc: Global) -> Result<World, Fail> {
 
 /// The small world: one region, without items, skills and markets.
 pub(crate) fn small_world(alloc: Global) -> Result<World, Fail> {
-    Ok(read_world(alloc, SMALL)?)
+    Ok(read_world(alloc, SMALL_WORLD)?)
 }
 
 /// The mailings that are read from some texts, in the same order; a text that is refused is a

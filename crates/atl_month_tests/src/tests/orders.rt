@@ -2,7 +2,7 @@
 //! and events.
 use super::months::{month, world};
 use super::phases::{Studying, Working};
-use super::telling::assert_row;
+use super::row_text::assert_row;
 use atl_campaign::{Event, EventVerb, Outcome};
 use atl_instant::{FormPhase, GivePhase};
 use atl_market::RecruitPhase;
@@ -13,14 +13,14 @@ use std::alloc::Global;
 use std::process::Abort;
 use std::test::Fail;
 
-/// Appends the orders that a phase gets of a month to the text `told`, each as unit, line, faction
-/// and keyword, and then `|`.
-fn tell<P: PhaseVerbs>(
+/// Appends the orders that a phase gets in a month to a text, each as unit, line, faction and
+/// keyword, and then `|`.
+fn write_orders<P: PhaseVerbs>(
     alloc: Global,
     month: &Month,
     phase: &P,
     arrangement: Arrangement,
-    told: &mut String,
+    output: &mut String,
 ) -> Result<(), Fail> {
     for order in month.orders(alloc, phase, arrangement)?.iter() {
         let line = format!(in alloc;
@@ -30,25 +30,37 @@ fn tell<P: PhaseVerbs>(
             order.faction,
             order.order.verb.keyword()
         )?;
-        told.push_str(&line)?;
+        output.push_str(&line)?;
     }
-    told.push_str("|")?;
+    output.push_str("|")?;
     Ok(())
 }
 
 /// The orders that the phases of FORM, GIVE, RECRUIT, STUDY and WORK get, as text, each phase ended
 /// by `|`.
-fn told_of(alloc: Global, month: &Month) -> Result<String, Fail> {
-    let mut told = String::new(alloc);
-    tell(alloc, month, &FormPhase, Arrangement::ByFaction, &mut told)?;
-    tell(alloc, month, &GivePhase, Arrangement::ByUnit, &mut told)?;
-    tell(alloc, month, &RecruitPhase, Arrangement::ByUnit, &mut told)?;
-    tell(alloc, month, &Studying, Arrangement::ByUnit, &mut told)?;
-    tell(alloc, month, &Working, Arrangement::ByUnit, &mut told)?;
-    Ok(told)
+fn orders_text(alloc: Global, month: &Month) -> Result<String, Fail> {
+    let mut output = String::new(alloc);
+    write_orders(
+        alloc,
+        month,
+        &FormPhase,
+        Arrangement::ByFaction,
+        &mut output,
+    )?;
+    write_orders(alloc, month, &GivePhase, Arrangement::ByUnit, &mut output)?;
+    write_orders(
+        alloc,
+        month,
+        &RecruitPhase,
+        Arrangement::ByUnit,
+        &mut output,
+    )?;
+    write_orders(alloc, month, &Studying, Arrangement::ByUnit, &mut output)?;
+    write_orders(alloc, month, &Working, Arrangement::ByUnit, &mut output)?;
+    Ok(output)
 }
 
-/// Mailings, and the orders that each of five phases gets of them, as `told_of` prints them.
+/// Mailings, and the orders that each of five phases gets of them, as `orders_text` prints them.
 static ORDERS_OF_PHASES: [(&[&str], &str); 9] = [
     (&[], "|||||"),
     // Of a unit's month-long orders the last counts, whatever its verb.
@@ -103,7 +115,7 @@ static ORDERS_OF_PHASES: [(&[&str], &str); 9] = [
     ),
 ];
 
-/// Asserts which orders the five phases of `told_of` get of the mailings of one row of
+/// Asserts which orders the five phases of `orders_text` get of the mailings of one row of
 /// `ORDERS_OF_PHASES`.
 fn assert_row_orders(
     rt: &impl Abort,
@@ -114,13 +126,13 @@ fn assert_row_orders(
     wanted: &str,
 ) -> Result<(), Fail> {
     let month = month(alloc, world, texts)?;
-    let told = told_of(alloc, &month)?;
-    assert_row(rt, row, told.as_str(), wanted);
+    let output = orders_text(alloc, &month)?;
+    assert_row(rt, row, output.as_str(), wanted);
     Ok(())
 }
 
-/// Asserts, for each row of `ORDERS_OF_PHASES`, which orders the five phases of `told_of` get of
-/// its mailings.
+/// Asserts, for each row of `ORDERS_OF_PHASES`, which orders the five phases of `orders_text` get
+/// of its mailings.
 fn assert_all_orders(rt: &impl Abort, alloc: Global, world: &World) -> Result<(), Fail> {
     for (row, (texts, wanted)) in ORDERS_OF_PHASES.iter().enumerate() {
         assert_row_orders(rt, alloc, world, row, texts, wanted)?;
@@ -146,7 +158,7 @@ fn formed(alloc: Global, world: &World) -> Result<Month, Fail> {
     Ok(month)
 }
 
-/// Asserts which month-long orders of the mailings `texts` count, as `tell` prints them.
+/// Asserts which month-long orders of the mailings `texts` count, as `write_orders` prints them.
 fn month_long_are(
     rt: &impl Abort,
     alloc: Global,
@@ -155,15 +167,15 @@ fn month_long_are(
     wanted: &str,
 ) -> Result<(), Fail> {
     let month = month(alloc, world, texts)?;
-    let mut told = String::new(alloc);
-    tell(
+    let mut output = String::new(alloc);
+    write_orders(
         alloc,
         &month,
         &MonthLongVerbs,
         Arrangement::ByUnit,
-        &mut told,
+        &mut output,
     )?;
-    assert_row(rt, 0, told.as_str(), wanted);
+    assert_row(rt, 0, output.as_str(), wanted);
     Ok(())
 }
 
@@ -184,8 +196,7 @@ fn month_long_orders(rt: HostRuntime) -> Result<(), Fail> {
     )
 }
 
-/// Asserts which unit each of four aliases stands for in the month of `formed`: two aliases have no
-/// unit.
+/// Asserts which units four aliases mean in the month of `formed`: two of them have no unit.
 fn aliases_are(rt: &impl Abort, month: &Month) {
     assert!(rt; month.alias(1, 1) == Some(7));
     assert!(rt; month.alias(1, 2).is_none());
@@ -193,22 +204,21 @@ fn aliases_are(rt: &impl Abort, month: &Month) {
     assert!(rt; month.alias(3, 1).is_none());
 }
 
-/// Asserts the aliases of the month of `formed`, and which orders the five phases of `told_of` get
-/// of it.
+/// Asserts the aliases of the month of `formed`, and which orders the five phases of `orders_text`
+/// get of it.
 fn assert_formed(rt: &impl Abort, alloc: Global, month: &Month) -> Result<(), Fail> {
     aliases_are(rt, month);
-    let told = told_of(alloc, month)?;
+    let output = orders_text(alloc, month)?;
     assert_row(
         rt,
         0,
-        told.as_str(),
+        output.as_str(),
         "4 3 1 FORM;4 6 1 FORM;5 3 2 FORM;5 6 2 FORM;|||0 4 2 STUDY;|0 7 1 WORK;6 7 2 WORK;7 4 1 WORK;|",
     );
     Ok(())
 }
 
-/// An alias belongs to one faction, and an order for it goes to the unit that the faction's FORM
-/// made.
+/// An alias belongs to one faction: an order for it is for the unit that the faction's FORM made.
 #[test]
 fn aliases_of_factions(rt: HostRuntime) -> Result<(), Fail> {
     let world = world(rt.alloc())?;
@@ -226,8 +236,8 @@ const EVENT: Event = Event {
 };
 
 /// Asserts that the verb of an order is the wanted one; None means that there is no such order.
-fn assert_verb(rt: &impl Abort, told: Option<Verb>, wanted: Option<Verb>) {
-    assert!(rt; told == wanted);
+fn assert_verb(rt: &impl Abort, output: Option<Verb>, wanted: Option<Verb>) {
+    assert!(rt; output == wanted);
 }
 
 /// The verb of the order with an index in a faction's mailing; None if there is no such order.

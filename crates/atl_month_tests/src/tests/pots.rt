@@ -4,7 +4,7 @@ ghost use Rattle.std.specs.Prelude.{IfOk, ⊤};
 ghost use Rattle.atl_market.specs.Pots.{AreWants};
 ghost use Rattle.atl_month_tests.specs.Places.{pot_in};
 
-use super::telling::{assert_row, tell_pair};
+use super::row_text::{assert_row, write_pair};
 use atl_campaign::{Campaign, Holding, LAST_UNIT, Unit, founded};
 use atl_market::{Pots, pot_shares};
 use atl_tables::read_world;
@@ -16,13 +16,13 @@ use std::test::Fail;
 
 /// The pots of regions 1 and 2; a pot is how much there is to share. All other regions have none.
 #[derive(Drop)]
-struct Places {
+struct TwoPots {
     first: u16,
     second: u16,
 }
 
 /// The pot of region 1 is `first`, that of region 2 is `second`, and that of any other region is 0.
-impl Pots for Places {
+impl Pots for TwoPots {
     ghost pot_of = { λ places. pot_in places.first places.second };
 
     ghost ready = { λ _. ⊤ };
@@ -110,7 +110,7 @@ fn campaign_of(alloc: Global, world: &World, takers: &[Taker]) -> Result<Campaig
     Ok(campaign)
 }
 
-/// How much each unit wants, by unit numbers from 1; units that want None are left out.
+/// How much each unit wants, by unit numbers from 1; units without a want are left out.
 fn wants_of(alloc: Global, takers: &[Taker]) -> Result<Numbered<u32>, Fail>
     ensures { IfOk result (λ wants. AreWants wants) }
 {
@@ -126,12 +126,12 @@ fn wants_of(alloc: Global, takers: &[Taker]) -> Result<Numbered<u32>, Fail>
 }
 
 /// The shares that units got, as text: each unit's number and its share.
-fn told_of(alloc: Global, given: &Numbered<u32>) -> Result<String, AllocError> {
-    let mut told = String::new(alloc);
+fn shares_text(alloc: Global, given: &Numbered<u32>) -> Result<String, AllocError> {
+    let mut output = String::new(alloc);
     for (number, share) in given.iter() {
-        tell_pair(alloc, u64::from(number), u64::from(*share), &mut told)?;
+        write_pair(alloc, u64::from(number), u64::from(*share), &mut output)?;
     }
-    Ok(told)
+    Ok(output)
 }
 
 /// What `pot_shares` gives each taker of the pots of regions 1 and 2, as text.
@@ -143,19 +143,19 @@ fn shares(
 ) -> Result<String, Fail> {
     let campaign = campaign_of(alloc, world, takers)?;
     let wants = wants_of(alloc, takers)?;
-    let places = Places {
+    let places = TwoPots {
         first: pots.0,
         second: pots.1,
     };
     let given = pot_shares(alloc, &campaign, &places, &wants)?;
-    Ok(told_of(alloc, &given)?)
+    Ok(shares_text(alloc, &given)?)
 }
 
 /// Asserts, for each row of `SHARED`, what `pot_shares` gives each taker.
-fn shares_all(rt: &impl Abort, alloc: Global, world: &World) -> Result<(), Fail> {
+fn assert_pot_cases(rt: &impl Abort, alloc: Global, world: &World) -> Result<(), Fail> {
     for (row, (takers, pots, wanted)) in SHARED.iter().enumerate() {
-        let told = shares(alloc, world, takers, *pots)?;
-        assert_row(rt, row, told.as_str(), wanted);
+        let output = shares(alloc, world, takers, *pots)?;
+        assert_row(rt, row, output.as_str(), wanted);
     }
     Ok(())
 }
@@ -164,5 +164,5 @@ fn shares_all(rt: &impl Abort, alloc: Global, world: &World) -> Result<(), Fail>
 #[test]
 fn pots_are_shared(rt: HostRuntime) -> Result<(), Fail> {
     let world = read_world(rt.alloc(), TWO_REGIONS)?;
-    shares_all(&rt, rt.alloc(), &world)
+    assert_pot_cases(&rt, rt.alloc(), &world)
 }

@@ -3,7 +3,7 @@
 ghost use Rattle.std.specs.Prelude.{All, IfOk};
 ghost use Rattle.atl_month.specs.UpkeepSharing.{AreInOrder, IsUpkeepInput};
 
-use super::telling::{assert_row, tell_pair};
+use super::row_text::{assert_row, write_pair};
 use atl_month::{UpkeepInput, upkeep_payments};
 use std::alloc::{AllocError, Global};
 use std::test::Fail;
@@ -64,26 +64,26 @@ fn upkeep_inputs_of(
 
 /// What upkeep takes from each unit of a case, as text: the money that it pays, and how many of its
 /// men starve.
-fn told_of(alloc: Global, units: &[(u8, u8, u16, u16)]) -> Result<String, Fail> {
+fn units_text(alloc: Global, units: &[(u8, u8, u16, u16)]) -> Result<String, Fail> {
     let purses = upkeep_inputs_of(alloc, units)?;
-    let mut told = String::new(alloc);
+    let mut output = String::new(alloc);
     for unit in upkeep_payments(alloc, MAINTENANCE, &purses)?.iter() {
-        tell_pair(
+        write_pair(
             alloc,
             u64::from(unit.paid),
             u64::from(unit.starved),
-            &mut told,
+            &mut output,
         )?;
     }
-    Ok(told)
+    Ok(output)
 }
 
 /// Each unit pays its own upkeep, then its faction's units in the region pay for each other, and
 /// men left unpaid starve.
 #[test]
-fn upkeep_is_settled(rt: HostRuntime) -> Result<(), Fail> {
+fn upkeep_is_shared(rt: HostRuntime) -> Result<(), Fail> {
     for (row, (units, wanted)) in SETTLED.iter().enumerate() {
-        assert_row(&rt, row, told_of(rt.alloc(), units)?.as_str(), wanted);
+        assert_row(&rt, row, units_text(rt.alloc(), units)?.as_str(), wanted);
     }
     Ok(())
 }

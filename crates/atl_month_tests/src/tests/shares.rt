@@ -22,10 +22,9 @@ static SHARED: [(u64, &[u64], &[u64]); 8] = [
     ),
 ];
 
-/// Asserts that what the takers of a pot got (`told`) is what each has to get (`wanted`); the
-/// message names the pot.
-pub(crate) fn assert_shares(rt: &impl Abort, pot: u64, told: &[u64], wanted: &[u64]) {
-    assert_eq!(rt; told, wanted, "of {pot}");
+/// Asserts that the takers of a pot got the wanted shares; the message names the pot.
+pub(crate) fn assert_shares(rt: &impl Abort, pot: u64, actual: &[u64], wanted: &[u64]) {
+    assert_eq!(rt; actual, wanted, "of {pot}");
 }
 
 /// Whether no want is more than 999,999,999.
@@ -37,7 +36,7 @@ pub(crate) fn are_small(wants: &[u64]) -> bool
 
 /// Asserts that `share` splits a pot among the wants `wants` into the shares `wanted`, as a row of
 /// `SHARED` says.
-fn shares(
+fn assert_split(
     rt: &impl Abort,
     alloc: Global,
     pot: u64,
@@ -53,9 +52,9 @@ fn shares(
 }
 
 /// Asserts, for each row of `SHARED`, that `share` splits its pot as the row says.
-fn shares_all(rt: &impl Abort, alloc: Global) -> Result<(), Fail> {
+fn assert_splits(rt: &impl Abort, alloc: Global) -> Result<(), Fail> {
     for (pot, wants, wanted) in SHARED.iter() {
-        shares(rt, alloc, *pot, wants, wanted)?;
+        assert_split(rt, alloc, *pot, wants, wanted)?;
     }
     Ok(())
 }
@@ -63,7 +62,7 @@ fn shares_all(rt: &impl Abort, alloc: Global) -> Result<(), Fail> {
 /// `share` splits each pot of `SHARED` as worked out by hand.
 #[test]
 fn a_pot_is_shared(rt: HostRuntime) -> Result<(), Fail> {
-    shares_all(&rt, rt.alloc())
+    assert_splits(&rt, rt.alloc())
 }
 
 /// How much `share` gives of a pot of 999,999,999 to all takers together; `wants` has what each

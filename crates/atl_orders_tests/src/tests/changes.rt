@@ -1,7 +1,7 @@
 //! Lists of edits to world texts, each with the first fault that the reader of worlds then reports.
-//! The small world (`SMALL`) has one region, without items, skills, kinds and markets; each other
-//! world is the small one with more appended (module `worlds`).
-use atl_test_worlds::SMALL;
+//! The small world (`SMALL_WORLD`) has one region, without items, skills, kinds and markets; each
+//! other world is the small one with more appended (module `worlds`).
+use atl_test_worlds::SMALL_WORLD;
 
 /// An edit: a piece of the world text, what replaces it, and the first fault of the new text
 /// (`none`: a good world).
@@ -10,8 +10,8 @@ pub(crate) type Change = (&'static str, &'static str, &'static str);
 /// Edits of the small world's text: keys that are missing, faulty or allowed, and pairs of faults
 /// of which one is reported first. The first two rows replace the whole text.
 pub(crate) static SMALL_CHANGES: [Change; 26] = [
-    (SMALL, "a = = b", "1 NotToml"),
-    (SMALL, "", "2 Missing rules"),
+    (SMALL_WORLD, "a = = b", "1 NotToml"),
+    (SMALL_WORLD, "", "2 Missing rules"),
     ("growth = 0", "growth = \"x\"", "3 WrongType rules.growth"),
     ("growth = 0", "growth = 101", "4 OutOfRange rules.growth"),
     (
@@ -428,8 +428,8 @@ pub(crate) static OUTPUT_CHANGES: [Change; 6] = [
     ),
 ];
 
-/// Edits of the world with an item, a skill, a kind and one market: of the market, in the last two
-/// rows also of its region, whose fault comes first.
+/// Wrong edits of a world's market, each with the fault that is wanted. In the last two rows the
+/// market's region is wrong too, and the fault of the region is reported first.
 pub(crate) static MARKET_CHANGES: [Change; 12] = [
     ("item = \"wood\"", "", "2 Missing region[0].market[0].item"),
     (
@@ -481,8 +481,9 @@ pub(crate) static MARKET_CHANGES: [Change; 12] = [
     ),
 ];
 
-/// Edits of the world with two equal markets, whose item comes twice: once it is written in another
-/// case, once it is replaced by an unknown one, and once an earlier fault is added in `output`.
+/// Edits of the world with two equal markets, whose item comes twice. The first writes it in
+/// another case, the second replaces it by an unknown one, and the third adds an earlier fault in
+/// `output`.
 pub(crate) static TWIN_CHANGES: [Change; 3] = [
     (
         "item = \"wood\"",

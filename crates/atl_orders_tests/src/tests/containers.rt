@@ -31,7 +31,7 @@ static TEXTS: [&str; 4] = ["", "a", "Big Bob", "\u{e9}\u{1f600}"];
 
 /// A `Text` has the bytes that it is made of, in whichever way it is made, and so has a copy of it.
 #[test]
-fn texts(rt: HostRuntime) -> Result<(), Fail> {
+fn texts_have_their_bytes(rt: HostRuntime) -> Result<(), Fail> {
     for text in TEXTS.iter() {
         made_in_each_way(&rt, rt.alloc(), text)?;
     }
@@ -46,7 +46,7 @@ fn assert_list(rt: &impl Abort, list: &Sequence<u32>, wanted: &[u32]) {
 
 /// A `Sequence` has the values that it is made of and those that are pushed, in this order.
 #[test]
-fn sequences(rt: HostRuntime) -> Result<(), Fail> {
+fn sequences_keep_their_values(rt: HostRuntime) -> Result<(), Fail> {
     let mut list = Sequence::new(rt.alloc());
     assert_list(&rt, &list, &[]);
     list.push(3)?;
@@ -76,7 +76,7 @@ pub(crate) fn assert_map(
 }
 
 /// A map of the numbers 1, 20 and 30, with the values 1, 2 and 3.
-pub(crate) fn filled(alloc: Global) -> Result<Numbered<u32>, Fail> {
+pub(crate) fn map_of_three(alloc: Global) -> Result<Numbered<u32>, Fail> {
     let mut map = Numbered::new(alloc);
     map.insert(30, 3)?;
     map.insert(1, 1)?;
@@ -84,8 +84,8 @@ pub(crate) fn filled(alloc: Global) -> Result<Numbered<u32>, Fail> {
     Ok(map)
 }
 
-/// Reads, changes and removes entries of the map of `filled`, also under a number that it doesn't
-/// have, and asserts what is read.
+/// Reads, changes and removes entries of the map of `map_of_three`, also under a number that it
+/// doesn't have, and asserts what is read.
 fn changes_entries(rt: &impl Abort, map: &mut Numbered<u32>) {
     assert!(rt; map.get(20) == Some(&2));
     assert!(rt; map.get(2).is_none());
@@ -99,9 +99,9 @@ fn changes_entries(rt: &impl Abort, map: &mut Numbered<u32>) {
 
 /// A `Numbered` keeps values by number, in ascending order, through inserts, changes and removals.
 #[test]
-fn numbered(rt: HostRuntime) -> Result<(), Fail> {
+fn numbered_maps_keep_their_values(rt: HostRuntime) -> Result<(), Fail> {
     assert_map(&rt, rt.alloc(), &Numbered::new(rt.alloc()), &[])?;
-    let mut map = filled(rt.alloc())?;
+    let mut map = map_of_three(rt.alloc())?;
     assert_map(&rt, rt.alloc(), &map, &[1, 1, 20, 2, 30, 3])?;
     changes_entries(&rt, &mut map);
     assert_map(&rt, rt.alloc(), &map, &[20, 9, 30, 3])

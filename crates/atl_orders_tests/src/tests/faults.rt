@@ -1,23 +1,23 @@
 //! Tests that a faulty world text gets the right first fault with its path, and of the faults'
-//! numbers and names (docs/FORMATS.md, "Faults of a world file"). The small world (`SMALL`) has one
-//! region, without items, skills, kinds and markets.
+//! numbers and names (docs/FORMATS.md, "Faults of a world file"). The small world (`SMALL_WORLD`)
+//! has one region, without items, skills, kinds and markets.
 use super::asserts::{assert_number, assert_text};
 use super::changes::{
     ARRAY_CHANGES, Change, EQUAL_MARKETS, HEAD_CHANGES, KEY_CHANGES, MARKET_CHANGES, NAME_CHANGES,
     NEIGHBOUR_CHANGES, OUTPUT_CHANGES, REFERENCE_CHANGES, RULES_CHANGES, SMALL_CHANGES,
     TITLE_CHANGES, TOO_MANY_MARKETS, TRUTH_CHANGES, TWIN_CHANGES, TWO_FAULTS,
 };
-use super::worlds::{ITEM_SKILL_KIND, changed, fault, small_with, with_markets};
+use super::worlds::{ITEM_SKILL_KIND, fault, small_with, with_markets, with_replaced};
 use atl_tables::WorldFault;
-use atl_test_worlds::SMALL;
+use atl_test_worlds::SMALL_WORLD;
 use atl_world::{Format, Text};
 use std::alloc::Global;
 use std::process::Abort;
 use std::test::Fail;
 
 /// The text of the small world above the first occurrence of `header`.
-fn before(header: &str) -> &'static str {
-    match SMALL.split_once(header) {
+fn small_world_above(header: &str) -> &'static str {
+    match SMALL_WORLD.split_once(header) {
         Some((before, _)) => before,
         None => "",
     }
@@ -33,8 +33,8 @@ fn old_fault(fault: &str) -> &str {
     }
 }
 
-/// Asserts that the first fault of `text` is `second` if it is read in the second format, and
-/// `first` if it is read in the first; the message of a failure names `row`.
+/// Asserts the first fault of `text`: `second` if it is read in the second format, and `first` if
+/// in the first. The message of a failure names `row`.
 fn faults_are(
     rt: &impl Abort,
     alloc: Global,
@@ -43,10 +43,10 @@ fn faults_are(
     second: &str,
     first: &str,
 ) -> Result<(), Fail> {
-    let told = fault(alloc, Format::Second, text)?;
-    assert_text(rt, row, told.as_str(), second);
-    let told = fault(alloc, Format::First, text)?;
-    assert_text(rt, row, told.as_str(), first);
+    let actual = fault(alloc, Format::Second, text)?;
+    assert_text(rt, row, actual.as_str(), second);
+    let actual = fault(alloc, Format::First, text)?;
+    assert_text(rt, row, actual.as_str(), first);
     Ok(())
 }
 
@@ -60,7 +60,7 @@ pub(crate) fn assert_change(
     to: &str,
     wanted: &str,
 ) -> Result<(), Fail> {
-    let text = changed(alloc, text, from, to)?;
+    let text = with_replaced(alloc, text, from, to)?;
     faults_are(rt, alloc, to, text.as_str(), wanted, old_fault(wanted))
 }
 
@@ -80,14 +80,24 @@ fn assert_changes(
 /// The reader reports the first fault of each edit of the small world.
 #[test]
 fn faulty_worlds(rt: HostRuntime) -> Result<(), Fail> {
-    assert_changes(&rt, rt.alloc(), SMALL, &SMALL_CHANGES)?;
-    assert_changes(&rt, rt.alloc(), before("[[region]]"), &HEAD_CHANGES)?;
-    assert_changes(&rt, rt.alloc(), before("[[terrain]]"), &RULES_CHANGES)
+    assert_changes(&rt, rt.alloc(), SMALL_WORLD, &SMALL_CHANGES)?;
+    assert_changes(
+        &rt,
+        rt.alloc(),
+        small_world_above("[[region]]"),
+        &HEAD_CHANGES,
+    )?;
+    assert_changes(
+        &rt,
+        rt.alloc(),
+        small_world_above("[[terrain]]"),
+        &RULES_CHANGES,
+    )
 }
 
 /// Asserts the first faults that each edit makes in `text`, the small world with an item, a skill
 /// and a kind.
-fn things_are(rt: &impl Abort, alloc: Global, text: &str) -> Result<(), Fail> {
+fn assert_thing_changes(rt: &impl Abort, alloc: Global, text: &str) -> Result<(), Fail> {
     assert_changes(rt, alloc, text, &KEY_CHANGES)?;
     assert_changes(rt, alloc, text, &NAME_CHANGES)?;
     assert_changes(rt, alloc, text, &TITLE_CHANGES)?;
@@ -101,11 +111,11 @@ fn things_are(rt: &impl Abort, alloc: Global, text: &str) -> Result<(), Fail> {
 #[test]
 fn faulty_things(rt: HostRuntime) -> Result<(), Fail> {
     let text = small_with(rt.alloc(), ITEM_SKILL_KIND)?;
-    things_are(&rt, rt.alloc(), text.as_str())
+    assert_thing_changes(&rt, rt.alloc(), text.as_str())
 }
 
 /// Asserts the first faults that each edit makes in the world with `count` markets.
-fn markets_are(
+fn assert_market_changes(
     rt: &impl Abort,
     alloc: Global,
     count: usize,
@@ -119,7 +129,7 @@ fn markets_are(
 fn later_faults_are(rt: &impl Abort, alloc: Global) -> Result<(), Fail> {
     let one = with_markets(alloc, 1)?;
     for (from, to, second, first) in TWO_FAULTS.iter() {
-        let text = changed(alloc, one.as_str(), from, to)?;
+        let text = with_replaced(alloc, one.as_str(), from, to)?;
         faults_are(rt, alloc, to, text.as_str(), second, first)?;
     }
     Ok(())
@@ -128,11 +138,11 @@ fn later_faults_are(rt: &impl Abort, alloc: Global) -> Result<(), Fail> {
 /// The reader reports the first fault of each edit of worlds with markets, in both formats.
 #[test]
 fn faulty_markets(rt: HostRuntime) -> Result<(), Fail> {
-    markets_are(&rt, rt.alloc(), 0, &ARRAY_CHANGES)?;
-    markets_are(&rt, rt.alloc(), 1, &MARKET_CHANGES)?;
-    markets_are(&rt, rt.alloc(), 2, &TWIN_CHANGES)?;
-    markets_are(&rt, rt.alloc(), 200, &EQUAL_MARKETS)?;
-    markets_are(&rt, rt.alloc(), 201, &TOO_MANY_MARKETS)?;
+    assert_market_changes(&rt, rt.alloc(), 0, &ARRAY_CHANGES)?;
+    assert_market_changes(&rt, rt.alloc(), 1, &MARKET_CHANGES)?;
+    assert_market_changes(&rt, rt.alloc(), 2, &TWIN_CHANGES)?;
+    assert_market_changes(&rt, rt.alloc(), 200, &EQUAL_MARKETS)?;
+    assert_market_changes(&rt, rt.alloc(), 201, &TOO_MANY_MARKETS)?;
     later_faults_are(&rt, rt.alloc())
 }
 
@@ -174,7 +184,7 @@ level = 1
 /// A text to append to the small world: `front`, `open` n times, `inside`, `close` n times, and
 /// `end`. Each row of a test has an n of its own.
 #[derive(Clone, Copy)]
-struct Long {
+struct RepeatedText {
     front: &'static str,
     open: &'static str,
     inside: &'static str,
@@ -182,8 +192,9 @@ struct Long {
     end: &'static str,
 }
 
-/// A `Long` that appends nothing; the other ones take from it the pieces that they don't set.
-const EMPTY: Long = Long {
+/// A `RepeatedText` that appends nothing; the other ones take from it the pieces that they don't
+/// set.
+const EMPTY: RepeatedText = RepeatedText {
     front: "",
     open: "",
     inside: "",
@@ -191,39 +202,39 @@ const EMPTY: Long = Long {
     end: "",
 };
 
-/// A `Long` that appends n regions.
-const MANY_REGIONS: Long = Long {
+/// A `RepeatedText` that appends n regions.
+const MANY_REGIONS: RepeatedText = RepeatedText {
     open: REGION,
     ..EMPTY
 };
 
-/// A `Long` that appends n terrains.
-const MANY_TERRAINS: Long = Long {
+/// A `RepeatedText` that appends n terrains.
+const MANY_TERRAINS: RepeatedText = RepeatedText {
     open: TERRAIN,
     ..EMPTY
 };
 
-/// A `Long` that appends n items.
-const MANY_ITEMS: Long = Long {
+/// A `RepeatedText` that appends n items.
+const MANY_ITEMS: RepeatedText = RepeatedText {
     open: ITEM,
     ..EMPTY
 };
 
-/// A `Long` that appends n skills.
-const MANY_SKILLS: Long = Long {
+/// A `RepeatedText` that appends n skills.
+const MANY_SKILLS: RepeatedText = RepeatedText {
     open: SKILL,
     ..EMPTY
 };
 
-/// A `Long` that appends n kinds.
-const MANY_KINDS: Long = Long {
+/// A `RepeatedText` that appends n kinds.
+const MANY_KINDS: RepeatedText = RepeatedText {
     open: KIND,
     ..EMPTY
 };
 
 /// What is appended to the small world, how often, and the first fault: up to the limit of a list
 /// names come twice, beyond it there are too many.
-static MANY: [(Long, usize, &str); 11] = [
+static MANY: [(RepeatedText, usize, &str); 11] = [
     (MANY_REGIONS, 1, "5 TwoNames region[1].number"),
     (MANY_REGIONS, 9_999, "5 TwoNames region[1].number"),
     (MANY_REGIONS, 10_000, "4 OutOfRange region"),
@@ -237,8 +248,8 @@ static MANY: [(Long, usize, &str); 11] = [
     (MANY_KINDS, 101, "4 OutOfRange kind"),
 ];
 
-/// A `Long` that appends tables inside tables, n deep.
-const TABLES: Long = Long {
+/// A `RepeatedText` that appends tables inside tables, n deep.
+const TABLES: RepeatedText = RepeatedText {
     front: "a = ",
     open: "{ a = ",
     inside: "1",
@@ -246,40 +257,40 @@ const TABLES: Long = Long {
     end: "",
 };
 
-/// A `Long` that appends arrays inside arrays, n deep.
-const ARRAYS: Long = Long {
+/// A `RepeatedText` that appends arrays inside arrays, n deep.
+const ARRAYS: RepeatedText = RepeatedText {
     front: "a = ",
     open: "[",
     close: "]",
     ..EMPTY
 };
 
-/// A `Long` that appends a table's header whose key has n + 1 parts.
-const HEADER: Long = Long {
+/// A `RepeatedText` that appends a table's header whose key has n + 1 parts.
+const HEADER: RepeatedText = RepeatedText {
     front: "[a",
     open: ".a",
     end: "]\n",
     ..EMPTY
 };
 
-/// A `Long` that appends the header of an array of tables, whose key has n + 1 parts.
-const ARRAY_HEADER: Long = Long {
+/// A `RepeatedText` that appends the header of an array of tables, whose key has n + 1 parts.
+const ARRAY_HEADER: RepeatedText = RepeatedText {
     front: "[[a",
     open: ".a",
     end: "]]\n",
     ..EMPTY
 };
 
-/// A `Long` that appends a dotted key with n + 1 parts.
-const DOTTED: Long = Long {
+/// A `RepeatedText` that appends a dotted key with n + 1 parts.
+const DOTTED: RepeatedText = RepeatedText {
     front: "b",
     open: ".b",
     end: " = 1\n",
     ..EMPTY
 };
 
-/// A `Long` that appends a dotted key of n + 1 parts below a table's header of n + 1 parts.
-const DOTTED_BELOW: Long = Long {
+/// A `RepeatedText` that appends a dotted key of n + 1 parts below a table's header of n + 1 parts.
+const DOTTED_BELOW: RepeatedText = RepeatedText {
     front: "[a",
     open: ".a",
     inside: "]\nb",
@@ -289,7 +300,7 @@ const DOTTED_BELOW: Long = Long {
 
 /// What is appended to the small world, how deep (n), and the first fault. Keys that the format
 /// doesn't name are ignored. A key of 80 parts below a header of 80 is 160 deep.
-static NESTED: [(Long, usize, &str); 16] = [
+static NESTED: [(RepeatedText, usize, &str); 16] = [
     (TABLES, 80, "none"),
     (TABLES, 81, "1 NotToml"),
     (TABLES, 200, "1 NotToml"),
@@ -310,8 +321,8 @@ static NESTED: [(Long, usize, &str); 16] = [
 
 /// The text of the small world with that of `long` appended, its `open` and its `close` repeated
 /// `times` times.
-fn long_text(alloc: Global, long: &Long, times: usize) -> Result<String, Fail> {
-    let Long {
+fn long_text(alloc: Global, long: &RepeatedText, times: usize) -> Result<String, Fail> {
+    let RepeatedText {
         front,
         open,
         inside,
@@ -320,19 +331,19 @@ fn long_text(alloc: Global, long: &Long, times: usize) -> Result<String, Fail> {
     } = *long;
     let open = open.repeat(alloc, times)?;
     let close = close.repeat(alloc, times)?;
-    Ok(format!(in alloc; "{SMALL}{front}{open}{inside}{close}{end}")?)
+    Ok(format!(in alloc; "{SMALL_WORLD}{front}{open}{inside}{close}{end}")?)
 }
 
 /// Asserts for each row the first fault of the small world with the row's text appended.
 fn long_texts_are(
     rt: &impl Abort,
     alloc: Global,
-    rows: &[(Long, usize, &str)],
+    rows: &[(RepeatedText, usize, &str)],
 ) -> Result<(), Fail> {
     for (long, times, wanted) in rows.iter() {
         let text = long_text(alloc, long, *times)?;
-        let told = fault(alloc, Format::Second, text.as_str())?;
-        assert_text(rt, long.open, told.as_str(), wanted);
+        let actual = fault(alloc, Format::Second, text.as_str())?;
+        assert_text(rt, long.open, actual.as_str(), wanted);
     }
     Ok(())
 }
@@ -351,7 +362,7 @@ fn nested_texts(rt: HostRuntime) -> Result<(), Fail> {
 
 /// The text of the small world with `count` regions, numbered from 1, instead of its own.
 fn with_regions(alloc: Global, count: u32) -> Result<String, Fail> {
-    let mut text = String::from_str(alloc, before("[[region]]"))?;
+    let mut text = String::from_str(alloc, small_world_above("[[region]]"))?;
     for number in 1..=count {
         let region = format!(in alloc;
             "[[region]]\nnumber = {number}\nname = \"Vale\"\nterrain = \"plain\"\npeasants = 1000\nmoney = 500\n"
@@ -364,8 +375,8 @@ fn with_regions(alloc: Global, count: u32) -> Result<String, Fail> {
 /// Asserts the first fault of the small world with `count` regions.
 fn regions_are(rt: &impl Abort, alloc: Global, count: u32, wanted: &str) -> Result<(), Fail> {
     let text = with_regions(alloc, count)?;
-    let told = fault(alloc, Format::Second, text.as_str())?;
-    assert_text(rt, "regions", told.as_str(), wanted);
+    let actual = fault(alloc, Format::Second, text.as_str())?;
+    assert_text(rt, "regions", actual.as_str(), wanted);
     Ok(())
 }
 

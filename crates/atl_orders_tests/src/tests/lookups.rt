@@ -92,12 +92,12 @@ fn word_names(
 ) -> Result<(), Fail> {
     let (word, quoted, wanted) = *row;
     let bytes = word.as_bytes();
-    let told = [
+    let actual = [
         world.item_named(bytes, quoted),
         world.skill_named(bytes, quoted),
         world.kind_named(bytes, quoted),
     ];
-    assert_shown(rt, alloc, word, &told, wanted)
+    assert_shown(rt, alloc, word, &actual, wanted)
 }
 
 /// Asserts what each word of `NAMES` names.

@@ -9,42 +9,42 @@ use std::process::Abort;
 use std::test::Fail;
 
 /// Appends each order of a mailing to a text: its line, its unit, its verb and its operands.
-fn tell_orders(alloc: Global, mailing: &Mailing, told: &mut String) -> Result<(), Fail> {
+fn write_orders(alloc: Global, mailing: &Mailing, output: &mut String) -> Result<(), Fail> {
     for entry in mailing.entries.as_slice().iter() {
         let order = format!(in alloc; "{}: {:?} {:?}", entry.line, entry.target, entry.order.verb)?;
-        told.push_str(&order)?;
+        output.push_str(&order)?;
         let operands = format!(in alloc; " {:?};", entry.order.operands)?;
-        told.push_str(&operands)?;
+        output.push_str(&operands)?;
     }
     Ok(())
 }
 
 /// Appends each faulty line of a mailing to a text: its number and its fault.
-fn tell_faults(alloc: Global, mailing: &Mailing, told: &mut String) -> Result<(), Fail> {
+fn write_faults(alloc: Global, mailing: &Mailing, output: &mut String) -> Result<(), Fail> {
     for faulty in mailing.faults.as_slice().iter() {
         let fault = format!(in alloc; "{}: {};", faulty.line, faulty.fault)?;
-        told.push_str(&fault)?;
+        output.push_str(&fault)?;
     }
     Ok(())
 }
 
-/// What a mailing was read as, told as text: its orders, followed by its faulty lines.
-fn told_of(alloc: Global, mailing: &Mailing) -> Result<String, Fail> {
-    let mut told = String::new(alloc);
-    tell_orders(alloc, mailing, &mut told)?;
-    tell_faults(alloc, mailing, &mut told)?;
-    Ok(told)
+/// A mailing as text: its orders, followed by its faulty lines.
+fn mailing_text(alloc: Global, mailing: &Mailing) -> Result<String, Fail> {
+    let mut output = String::new(alloc);
+    write_orders(alloc, mailing, &mut output)?;
+    write_faults(alloc, mailing, &mut output)?;
+    Ok(output)
 }
 
 /// What a text is read as: its orders and faults as text, or `refused` with the number of the mail
 /// fault.
-fn told(alloc: Global, world: &World, text: &[u8]) -> Result<String, Fail> {
+fn reading_text(alloc: Global, world: &World, text: &[u8]) -> Result<String, Fail> {
     match read_mailing(alloc, world, text) {
         Ok(mailing) => {
             if mailing.text.as_slice() != text {
                 return Err(Fail::new("another text"));
             }
-            told_of(alloc, &mailing)
+            mailing_text(alloc, &mailing)
         }
         Err(fault) => {
             let number = fault.number().unwrap_or(0);
@@ -61,8 +61,8 @@ fn assert_read(
     text: &[u8],
     wanted: &str,
 ) -> Result<(), Fail> {
-    let told = told(alloc, world, text)?;
-    assert_text(rt, wanted, told.as_str(), wanted);
+    let actual = reading_text(alloc, world, text)?;
+    assert_text(rt, wanted, actual.as_str(), wanted);
     Ok(())
 }
 
@@ -215,28 +215,28 @@ static BAD_WORK: [(&str, &str); 20] = [
 
 /// Asserts how each line is read as line 3 of a mailing, after `UNIT 7`; `front` is put before the
 /// text that a row wants.
-fn lines_tell(
+fn assert_lines(
     rt: &impl Abort,
     alloc: Global,
     world: &World,
     front: &str,
     rows: &[(&str, &str)],
 ) -> Result<(), Fail> {
-    for (line, told) in rows.iter() {
+    for (line, read) in rows.iter() {
         let text = format!(in alloc; "#ATLANTIS 1\nUNIT 7\n{line}")?;
-        let wanted = format!(in alloc; "3: {front}{told};")?;
+        let wanted = format!(in alloc; "3: {front}{read};")?;
         assert_read(rt, alloc, world, text.as_bytes(), wanted.as_str())?;
     }
     Ok(())
 }
 
 /// Asserts how each line in the lists from `GOOD` to `BAD_WORK` is read.
-fn forms_tell(rt: &impl Abort, alloc: Global, world: &World) -> Result<(), Fail> {
-    lines_tell(rt, alloc, world, "Number(7) ", &GOOD)?;
-    lines_tell(rt, alloc, world, "Number(7) ", &NAMING)?;
-    lines_tell(rt, alloc, world, "", &BAD_NAMES)?;
-    lines_tell(rt, alloc, world, "", &BAD_GOODS)?;
-    lines_tell(rt, alloc, world, "", &BAD_WORK)
+fn assert_order_forms(rt: &impl Abort, alloc: Global, world: &World) -> Result<(), Fail> {
+    assert_lines(rt, alloc, world, "Number(7) ", &GOOD)?;
+    assert_lines(rt, alloc, world, "Number(7) ", &NAMING)?;
+    assert_lines(rt, alloc, world, "", &BAD_NAMES)?;
+    assert_lines(rt, alloc, world, "", &BAD_GOODS)?;
+    assert_lines(rt, alloc, world, "", &BAD_WORK)
 }
 
 /// Texts of whole mailings, with blocks, line ends and headers, and what each is read as.
@@ -290,7 +290,7 @@ static LONG: [(&str, &str, usize, &str, &str); 8] = [
 ];
 
 /// Asserts which orders and faults, or which refusal, each whole text is read as.
-fn texts_tell(
+fn assert_texts(
     rt: &impl Abort,
     alloc: Global,
     world: &World,
@@ -315,7 +315,7 @@ fn repeated(
 }
 
 /// Asserts which orders and faults, or which refusal, each long text is read as.
-fn long_texts_tell(
+fn assert_long_texts(
     rt: &impl Abort,
     alloc: Global,
     world: &World,
@@ -329,8 +329,8 @@ fn long_texts_tell(
 }
 
 /// Asserts what each whole text, each text that is not UTF-8, and each long text is read as.
-fn all_texts_tell(rt: &impl Abort, alloc: Global, world: &World) -> Result<(), Fail> {
-    texts_tell(rt, alloc, world, &TEXTS)?;
+fn assert_all_texts(rt: &impl Abort, alloc: Global, world: &World) -> Result<(), Fail> {
+    assert_texts(rt, alloc, world, &TEXTS)?;
     assert_read(rt, alloc, world, b"#ATLANTIS 1 \xc8", "")?;
     assert_read(
         rt,
@@ -339,7 +339,7 @@ fn all_texts_tell(rt: &impl Abort, alloc: Global, world: &World) -> Result<(), F
         NO_TEXT,
         "4: Number(1) Tax Nothing;3: 6 BadByte;",
     )?;
-    long_texts_tell(rt, alloc, world, &LONG)
+    assert_long_texts(rt, alloc, world, &LONG)
 }
 
 /// The keyword of each order of a mailing, followed by the name that it gives, if any.
@@ -425,9 +425,9 @@ fn faction_of(alloc: Global, world: &World, text: &[u8]) -> Result<usize, Fail> 
 }
 
 /// Asserts how all mailings in the lists of this module are read, and the faction of two more.
-fn all_is_read(rt: &impl Abort, alloc: Global, world: &World) -> Result<(), Fail> {
-    forms_tell(rt, alloc, world)?;
-    all_texts_tell(rt, alloc, world)?;
+fn assert_all_readings(rt: &impl Abort, alloc: Global, world: &World) -> Result<(), Fail> {
+    assert_order_forms(rt, alloc, world)?;
+    assert_all_texts(rt, alloc, world)?;
     words_are(rt, alloc, world)?;
     spans_name(rt, alloc, world)?;
     assert_number(rt, faction_of(alloc, world, b"#ATLANTIS 1")?, 1);
@@ -444,7 +444,7 @@ fn all_is_read(rt: &impl Abort, alloc: Global, world: &World) -> Result<(), Fail
 #[test]
 fn mailings(rt: HostRuntime) -> Result<(), Fail> {
     let world = world_with(rt.alloc(), NAMED_THINGS)?;
-    all_is_read(&rt, rt.alloc(), &world)?;
+    assert_all_readings(&rt, rt.alloc(), &world)?;
     assert!(rt; MailFault::Memory.number().is_none());
     Ok(())
 }

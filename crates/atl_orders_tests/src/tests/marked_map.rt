@@ -1,7 +1,7 @@
 //! Tests of `MarkedMap`, a map with a dirty set: the numbers whose values changed since the last
 //! `unmark`.
 use super::asserts::{assert_number, assert_numbers};
-use super::containers::{assert_map, filled};
+use super::containers::{assert_map, map_of_three};
 use atl_world::MarkedMap;
 use std::alloc::Global;
 use std::process::Abort;
@@ -31,8 +31,8 @@ enum Step {
 /// A call, how many values the map has after it, and which numbers are marked after it.
 type Row = (Step, usize, &'static [u32]);
 
-/// Calls, made in turn on the map of `filled` (numbers 1, 20 and 30), by which numbers get marked.
-/// Each has the count of values and the marked numbers after it.
+/// Calls, made in turn on the map of `map_of_three` (numbers 1, 20 and 30), by which numbers get
+/// marked. Each has the count of values and the marked numbers after it.
 static CHANGES: [Row; 12] = [
     (Step::Remove(2), 3, &[]),
     (Step::Change(2, 5), 3, &[]),
@@ -48,8 +48,8 @@ static CHANGES: [Row; 12] = [
     (Step::TakeOut(8), 4, &[1, 4, 5, 20, 30]),
 ];
 
-/// Calls, made in turn on the map of `filled`, by which marks are set and cleared, also those of
-/// numbers without a value. Each has the count of values and the marked numbers after it.
+/// Calls, made in turn on the map of `map_of_three`, by which marks are set and cleared, also those
+/// of numbers without a value. Each has the count of values and the marked numbers after it.
 static MARKS: [Row; 13] = [
     (Step::Remove(20), 2, &[20]),
     (Step::Unmark, 2, &[]),
@@ -66,8 +66,8 @@ static MARKS: [Row; 13] = [
     (Step::Unmark, 0, &[]),
 ];
 
-/// Calls, made in turn on the map of `filled`, after which the map has the values from before: a
-/// value is removed and inserted again, and a new value is inserted and removed.
+/// Calls, made in turn on the map of `map_of_three`, after which the map has the values from
+/// before. A value is removed and inserted again, and a new value is inserted and removed.
 static ROUND: [Row; 5] = [
     (Step::Remove(20), 2, &[20]),
     (Step::Insert(20, 2), 3, &[20]),
@@ -113,9 +113,9 @@ fn assert_marks(
     map: &MarkedMap<u32>,
     wanted: &[u32],
 ) -> Result<(), Fail> {
-    let told: Vec<u32> = map.marked_numbers().collect(alloc)?;
-    assert_numbers(rt, told.as_slice(), wanted);
-    assert_number(rt, map.marked(), wanted.len());
+    let actual: Vec<u32> = map.marked_numbers().collect(alloc)?;
+    assert_numbers(rt, actual.as_slice(), wanted);
+    assert_number(rt, map.marked_count(), wanted.len());
     Ok(())
 }
 
@@ -135,7 +135,7 @@ fn assert_steps(
 }
 
 /// Asserts the values and the marks of the map after the calls of `CHANGES`.
-fn is_changed(rt: &impl Abort, alloc: Global, map: &MarkedMap<u32>) -> Result<(), Fail> {
+fn assert_changed_values(rt: &impl Abort, alloc: Global, map: &MarkedMap<u32>) -> Result<(), Fail> {
     assert!(rt; map.get(20) == Some(&6));
     assert!(rt; map.get(5).is_none());
     assert!(rt; map.is_marked(5));
@@ -148,10 +148,10 @@ fn is_changed(rt: &impl Abort, alloc: Global, map: &MarkedMap<u32>) -> Result<()
 /// takes its mark along.
 #[test]
 fn changes_are_marked(rt: HostRuntime) -> Result<(), Fail> {
-    let mut map = MarkedMap::of(rt.alloc(), filled(rt.alloc())?)?;
+    let mut map = MarkedMap::from_values(rt.alloc(), map_of_three(rt.alloc())?)?;
     assert_marks(&rt, rt.alloc(), &map, &[])?;
     assert_steps(&rt, rt.alloc(), &mut map, &CHANGES)?;
-    is_changed(&rt, rt.alloc(), &map)
+    assert_changed_values(&rt, rt.alloc(), &map)
 }
 
 /// Makes the calls of `ROUND` 200 times, and then those of `MARKS`.
@@ -164,8 +164,8 @@ fn repeats_round(rt: &impl Abort, alloc: Global, map: &mut MarkedMap<u32>) -> Re
 
 /// A removed number stays marked, and `mark` marks only numbers that have a value or are marked.
 #[test]
-fn marks_of_what_is_gone(rt: HostRuntime) -> Result<(), Fail> {
-    let mut map = MarkedMap::of(rt.alloc(), filled(rt.alloc())?)?;
+fn removed_numbers_stay_marked(rt: HostRuntime) -> Result<(), Fail> {
+    let mut map = MarkedMap::from_values(rt.alloc(), map_of_three(rt.alloc())?)?;
     repeats_round(&rt, rt.alloc(), &mut map)
 }
 
@@ -202,7 +202,7 @@ fn puts_thirds(map: &mut MarkedMap<u32>) -> Result<(), Fail> {
 /// Asserts that `count` numbers are marked, and that they come in ascending order from 1: all
 /// numbers if `thirds`, otherwise those that 3 doesn't divide.
 fn count_up(rt: &impl Abort, map: &MarkedMap<u32>, thirds: bool, count: usize) {
-    assert_number(rt, map.marked(), count);
+    assert_number(rt, map.marked_count(), count);
     let mut wanted = 1;
     for number in map.marked_numbers() {
         assert_number(rt, number as usize, wanted);
@@ -221,7 +221,7 @@ fn mixes_marks(rt: &impl Abort, map: &mut MarkedMap<u32>, falling: bool) -> Resu
     puts_thirds(map)?;
     count_up(rt, map, true, 1008);
     map.unmark();
-    assert_number(rt, map.marked(), 0);
+    assert_number(rt, map.marked_count(), 0);
     Ok(())
 }
 

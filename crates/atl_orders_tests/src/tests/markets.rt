@@ -1,7 +1,7 @@
 //! Tests of a world's markets in both formats, and of whether two worlds differ in their markets
 //! alone. The world with one market has one region, and an item, a skill and a kind.
 use super::asserts::assert_shown;
-use super::worlds::{MARKET, changed, read_in, with_markets};
+use super::worlds::{MARKET, read_in, with_markets, with_replaced};
 use atl_tables::read_world;
 use atl_world::{Format, World};
 use std::alloc::Global;
@@ -9,7 +9,7 @@ use std::process::Abort;
 use std::test::Fail;
 
 /// Asserts which markets a world has in region 1 for the items 0 and 1, and in region 2 for item 0.
-fn markets_are(
+fn assert_markets(
     rt: &impl Abort,
     alloc: Global,
     format: Format,
@@ -17,11 +17,11 @@ fn markets_are(
     wanted: &str,
 ) -> Result<(), Fail> {
     let world = read_in(alloc, format, text)?;
-    let told = [world.market(1, 0), world.market(1, 1), world.market(2, 0)];
-    assert_shown(rt, alloc, "markets", &told, wanted)
+    let actual = [world.market(1, 0), world.market(1, 1), world.market(2, 0)];
+    assert_shown(rt, alloc, "markets", &actual, wanted)
 }
 
-/// What `markets_are` wants if region 1 has a market for item 0, and there is no other market.
+/// What `assert_markets` wants if region 1 has a market for item 0, and there is no other market.
 const OF_WOOD: &str =
     "[Some(Market { item: 0, price: 7, pays: 5, limit: 30, restock: 20 }), None, None]";
 
@@ -29,8 +29,8 @@ const OF_WOOD: &str =
 #[test]
 fn markets_in_both_formats(rt: HostRuntime) -> Result<(), Fail> {
     let text = with_markets(rt.alloc(), 1)?;
-    markets_are(&rt, rt.alloc(), Format::Second, text.as_str(), OF_WOOD)?;
-    markets_are(
+    assert_markets(&rt, rt.alloc(), Format::Second, text.as_str(), OF_WOOD)?;
+    assert_markets(
         &rt,
         rt.alloc(),
         Format::First,
@@ -103,7 +103,7 @@ fn assert_difference(
 fn all_differ(rt: &impl Abort, alloc: Global, text: &str) -> Result<(), Fail> {
     let world = read_world(alloc, text)?;
     for (from, to, alone) in CHANGES.iter() {
-        let other = changed(alloc, text, from, to)?;
+        let other = with_replaced(alloc, text, from, to)?;
         assert_difference(rt, alloc, other.as_str(), &world, *alone)?;
     }
     Ok(())

@@ -45,8 +45,8 @@ static TEXTS: [(&str, bool, bool); 26] = [
 /// Asserts for each text whether it may be a name, and whether it may be a pass text.
 fn texts_are(rt: &impl Abort, rows: &[(&str, bool, bool)]) {
     for (text, name, pass) in rows.iter() {
-        let told = (name_ok(text.as_bytes()), pass_ok(text.as_bytes()));
-        assert!(rt; told.0 == *name && told.1 == *pass, "{text}");
+        let actual = (name_ok(text.as_bytes()), pass_ok(text.as_bytes()));
+        assert!(rt; actual.0 == *name && actual.1 == *pass, "{text}");
     }
 }
 

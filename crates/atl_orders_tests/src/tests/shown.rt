@@ -2,7 +2,7 @@
 //! read in full, part by part.
 use super::asserts::{assert_number, assert_numbers, assert_shown, assert_text};
 use atl_tables::read_world;
-use atl_test_worlds::{ISLE, SMALL};
+use atl_test_worlds::{ISLE, SMALL_WORLD};
 use atl_world::{RegionPlan, World};
 use std::alloc::Global;
 use std::process::Abort;
@@ -146,6 +146,6 @@ fn assert_world(rt: &impl Abort, alloc: Global, text: &str, wanted: &Shown) -> R
 /// The small world and the island are read in full.
 #[test]
 fn worlds_are_shown(rt: HostRuntime) -> Result<(), Fail> {
-    assert_world(&rt, rt.alloc(), SMALL, &SMALL_SHOWN)?;
+    assert_world(&rt, rt.alloc(), SMALL_WORLD, &SMALL_SHOWN)?;
     assert_world(&rt, rt.alloc(), ISLE, &ISLE_SHOWN)
 }

@@ -1,7 +1,7 @@
-//! World texts for these tests, made of the small world (`SMALL`, one region), and what the reader
-//! makes of them.
+//! World texts for these tests, made of the small world (`SMALL_WORLD`, one region), and what the
+//! reader makes of them.
 use atl_tables::{WorldFault, read_old_world, read_world};
-use atl_test_worlds::SMALL;
+use atl_test_worlds::SMALL_WORLD;
 use atl_world::{Format, Text, World};
 use std::alloc::Global;
 use std::test::Fail;
@@ -58,13 +58,13 @@ level = 1
 
 /// The text of the small world with `more` appended.
 pub(crate) fn small_with(alloc: Global, more: &str) -> Result<String, Fail> {
-    Ok(format!(in alloc; "{SMALL}{more}")?)
+    Ok(format!(in alloc; "{SMALL_WORLD}{more}")?)
 }
 
 /// The text of the small world with `count` equal markets and `ITEM_SKILL_KIND` appended.
 pub(crate) fn with_markets(alloc: Global, count: usize) -> Result<String, Fail> {
     let markets = MARKET.repeat(alloc, count)?;
-    Ok(format!(in alloc; "{SMALL}{markets}{ITEM_SKILL_KIND}")?)
+    Ok(format!(in alloc; "{SMALL_WORLD}{markets}{ITEM_SKILL_KIND}")?)
 }
 
 /// The world of the small world's text with `more` appended.
@@ -96,7 +96,12 @@ fn text_of(alloc: Global, fault: Option<&WorldFault>) -> Result<Text, Fail> {
 }
 
 /// A text with the first occurrence of `from` replaced by `to`.
-pub(crate) fn changed(alloc: Global, text: &str, from: &str, to: &str) -> Result<String, Fail> {
+pub(crate) fn with_replaced(
+    alloc: Global,
+    text: &str,
+    from: &str,
+    to: &str,
+) -> Result<String, Fail> {
     match text.split_once(from) {
         None => Err(Fail::new("no such piece")),
         Some((before, after)) => Ok(format!(in alloc; "{before}{to}{after}")?),

@@ -1,17 +1,17 @@
 //! Tests of `Close`: the reports, books and tables after a month, and the refusals.
-use super::commands::AVALON;
+use super::commands::JOIN_OF_AVALON;
 use super::mailings::FAULTY;
-use super::script::{Asked, Course, Step, plays, plays_course};
+use super::script::{CommandSpec, Course, Step, plays, plays_course};
 use super::tables::{
-    BOOKED, FACTIONS, INCOME, MAIL_BYTES, MAILINGS, MONEY, MONTH, NEXT, REGION_MONEY, REPORT_BYTES,
-    UNITS, UPKEEP, WAGES,
+    BOOKS_SUM, FACTIONS, INCOME, MAIL_BYTES, MAILINGS, MONEY, MONTH, NEXT, REGION_MONEY,
+    REPORT_BYTES, UNITS, UPKEEP, WAGES,
 };
-use super::unchanged::{EVERY_TABLE, refuses};
-use atl_test_worlds::{BARREN, SMALL};
+use super::unchanged::{EVERY_TABLE, assert_unchanged};
+use atl_test_worlds::{NO_WORK_PLACES, SMALL_WORLD};
 use std::test::Fail;
 
 /// The command that closes month 1 of a world with one region.
-pub(crate) const MONTH_ONE: Asked = Asked::Close(1, "gm", &[0]);
+pub(crate) const MONTH_ONE: CommandSpec = CommandSpec::Close(1, "gm", &[0]);
 
 /// Avalon's report on a month without mail: the unit works for 12 and pays 10, and 1,000 peasants
 /// bring 1 each to the region.
@@ -42,7 +42,7 @@ pub(crate) const AFTER_MONTH_ONE: [(&str, Option<i64>); 12] = [
     (NEXT, Some(200002)),
     (FACTIONS, Some(1)),
     (UNITS, Some(1)),
-    (BOOKED, Some(3503)),
+    (BOOKS_SUM, Some(3503)),
     (INCOME, Some(1000)),
     (WAGES, Some(12)),
     (UPKEEP, Some(-10)),
@@ -67,25 +67,25 @@ people total 1001
 /// Courses of a first month: without mail, and with a faulty mailing.
 static FIRST_MONTHS: [Course; 2] = [
     Course {
-        world: SMALL,
+        world: SMALL_WORLD,
         rows: "",
         steps: &[
-            Step::Told(AVALON, "joined"),
+            Step::Answers(JOIN_OF_AVALON, "joined"),
             Step::Closed(MONTH_ONE, 1),
-            Step::Told(Asked::Report(1, "pw"), AFTER_WORK),
+            Step::Answers(CommandSpec::Report(1, "pw"), AFTER_WORK),
             Step::Books(BOOKS_AFTER_WORK),
         ],
         after: &AFTER_MONTH_ONE,
     },
     Course {
-        world: SMALL,
+        world: SMALL_WORLD,
         rows: "",
         steps: &[
-            Step::Told(AVALON, "joined"),
-            Step::Mailed(Asked::Mail(1, "pw", FAULTY), 1, &[(5, 2)]),
+            Step::Answers(JOIN_OF_AVALON, "joined"),
+            Step::Mailed(CommandSpec::Mail(1, "pw", FAULTY), 1, &[(5, 2)]),
             Step::Closed(MONTH_ONE, 1),
             Step::Keeps(None),
-            Step::Told(Asked::Report(1, "pw"), AFTER_FAULTY),
+            Step::Answers(CommandSpec::Report(1, "pw"), AFTER_FAULTY),
         ],
         after: &AFTER_MONTH_ONE,
     },
@@ -100,26 +100,26 @@ fn a_month_is_closed(rt: HostRuntime) -> Result<(), Fail> {
 /// Closing a month reports a faulty line of a mailing, carries out the mailing's good order, and
 /// removes the mailing.
 #[test]
-fn a_faulty_line_is_told_and_the_mail_is_gone(rt: HostRuntime) -> Result<(), Fail> {
+fn a_faulty_line_is_reported_and_the_mail_is_gone(rt: HostRuntime) -> Result<(), Fail> {
     plays_course(&rt, rt.alloc(), &FIRST_MONTHS[1])
 }
 
 /// Closings that are refused: wrong pass text, wrong month, and a wrong number of words of the
 /// dice.
 static REFUSED: [Step; 7] = [
-    Step::Told(Asked::Close(2, "no", &[]), "wrong pass"),
-    Step::Told(Asked::Close(1, "pw", &[0]), "wrong pass"),
-    Step::Told(Asked::Close(0, "gm", &[]), "wrong month"),
-    Step::Told(Asked::Close(2, "gm", &[0]), "wrong month"),
-    Step::Told(Asked::Close(4294967295, "gm", &[0]), "wrong month"),
-    Step::Told(Asked::Close(1, "gm", &[]), "wrong dice"),
-    Step::Told(Asked::Close(1, "gm", &[0, 0]), "wrong dice"),
+    Step::Answers(CommandSpec::Close(2, "no", &[]), "wrong pass"),
+    Step::Answers(CommandSpec::Close(1, "pw", &[0]), "wrong pass"),
+    Step::Answers(CommandSpec::Close(0, "gm", &[]), "wrong month"),
+    Step::Answers(CommandSpec::Close(2, "gm", &[0]), "wrong month"),
+    Step::Answers(CommandSpec::Close(4294967295, "gm", &[0]), "wrong month"),
+    Step::Answers(CommandSpec::Close(1, "gm", &[]), "wrong dice"),
+    Step::Answers(CommandSpec::Close(1, "gm", &[0, 0]), "wrong dice"),
 ];
 
 /// A closing with wrong pass text, month or number of dice words is refused and changes no row.
 #[test]
 fn a_refused_closing_changes_nothing(rt: HostRuntime) -> Result<(), Fail> {
-    refuses(&rt, rt.alloc(), EVERY_TABLE, &REFUSED)
+    assert_unchanged(&rt, rt.alloc(), EVERY_TABLE, &REFUSED)
 }
 
 /// SELECTs and what they return after two months in which nobody had joined.
@@ -127,20 +127,20 @@ static AFTER_NOBODY: [(&str, Option<i64>); 5] = [
     (MONTH, Some(2)),
     (FACTIONS, Some(0)),
     (REPORT_BYTES, None),
-    (BOOKED, Some(3500)),
+    (BOOKS_SUM, Some(3500)),
     (REGION_MONEY, Some(2500)),
 ];
 
 /// The steps of two months in a campaign that no faction has joined: a closing of each.
 static NOBODY: [Step; 2] = [
     Step::Closed(MONTH_ONE, 1),
-    Step::Closed(Asked::Close(2, "gm", &[7]), 2),
+    Step::Closed(CommandSpec::Close(2, "gm", &[7]), 2),
 ];
 
 /// Two months are closed in a campaign that no faction has joined: only the region's money grows.
 #[test]
 fn a_month_without_factions(rt: HostRuntime) -> Result<(), Fail> {
-    plays(&rt, rt.alloc(), SMALL, &NOBODY, &AFTER_NOBODY)
+    plays(&rt, rt.alloc(), SMALL_WORLD, &NOBODY, &AFTER_NOBODY)
 }
 
 /// Avalon's report where nobody finds work: 5 money don't keep one man for a month, so he starves
@@ -153,12 +153,12 @@ Unit 1: 1 starved.
 
 /// Steps in which a faction starves; afterwards its mail is refused, and its report stays.
 static STARVED: [Step; 6] = [
-    Step::Joined(AVALON, 1, 1),
+    Step::Joined(JOIN_OF_AVALON, 1, 1),
     Step::Closed(MONTH_ONE, 1),
-    Step::Told(Asked::Report(1, "pw"), AFTER_STARVING),
-    Step::Told(Asked::Mail(1, "pw", FAULTY), "gone"),
-    Step::Closed(Asked::Close(2, "gm", &[0]), 2),
-    Step::Told(Asked::Report(1, "pw"), AFTER_STARVING),
+    Step::Answers(CommandSpec::Report(1, "pw"), AFTER_STARVING),
+    Step::Answers(CommandSpec::Mail(1, "pw", FAULTY), "gone"),
+    Step::Closed(CommandSpec::Close(2, "gm", &[0]), 2),
+    Step::Answers(CommandSpec::Report(1, "pw"), AFTER_STARVING),
 ];
 
 /// SELECTs and what they return after the faction starved and a second month: there is the faction,
@@ -175,5 +175,11 @@ static AFTER_ALL_STARVED: [(&str, Option<i64>); 6] = [
 /// A faction whose last man starves is gone: its mail is refused, and its report stays.
 #[test]
 fn a_faction_that_starves_is_gone(rt: HostRuntime) -> Result<(), Fail> {
-    plays(&rt, rt.alloc(), BARREN, &STARVED, &AFTER_ALL_STARVED)
+    plays(
+        &rt,
+        rt.alloc(),
+        NO_WORK_PLACES,
+        &STARVED,
+        &AFTER_ALL_STARVED,
+    )
 }

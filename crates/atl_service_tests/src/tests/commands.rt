@@ -1,15 +1,15 @@
 //! Tests of `Join` and `Report`, and that a list run by `run_all` gets the answers of its commands.
 use super::closing::{AFTER_MONTH_ONE, AFTER_WORK, MONTH_ONE};
 use super::compare::assert_count;
-use super::making::begun_in_memory;
-use super::script::{Asked, Step, assert_answer, commands_of, plays};
-use super::serving::Served;
+use super::making::found_in_memory;
+use super::script::{CommandSpec, Step, assert_answer, commands_of, plays};
+use super::serving::AnyService;
 use super::tables::{
-    AFTER_JOINING, BOOKED, FACTIONS, MAIL_BYTES, MAILINGS, MONEY, NEXT, REPORT_BYTES, UNITS,
+    AFTER_JOINING, BOOKS_SUM, FACTIONS, MAIL_BYTES, MAILINGS, MONEY, NEXT, REPORT_BYTES, UNITS,
     assert_tables,
 };
 use atl_service::{Answer, Command};
-use atl_test_worlds::{ISLE, SMALL};
+use atl_test_worlds::{ISLE, SMALL_WORLD};
 use std::alloc::Global;
 use std::process::Abort;
 use std::test::Fail;
@@ -24,7 +24,7 @@ Exits: none.
 ";
 
 /// The first report of Bree, when it joins the small world as faction 2.
-pub(crate) const SECOND_REPORT: &str = "Atlantis report, month 0, faction 2 \"Bree\".
+pub(crate) const REPORT_OF_BREE: &str = "Atlantis report, month 0, faction 2 \"Bree\".
 Orders:
 None.
 Region 1 \"Vale\", plain: 1000 peasants, 500 money.
@@ -43,26 +43,26 @@ Exits: north 4, west 2.
 ";
 
 /// The command by which Avalon joins, with 0 as the word of the dice.
-pub(crate) const AVALON: Asked = Asked::Join("Avalon", "pw", 0);
+pub(crate) const JOIN_OF_AVALON: CommandSpec = CommandSpec::Join("Avalon", "pw", 0);
 
 /// Steps in which one faction joins and asks for its report.
 static ONE_JOINS: [Step; 2] = [
-    Step::Joined(AVALON, 1, 1),
-    Step::Told(Asked::Report(1, "pw"), FIRST_REPORT),
+    Step::Joined(JOIN_OF_AVALON, 1, 1),
+    Step::Answers(CommandSpec::Report(1, "pw"), FIRST_REPORT),
 ];
 
 /// A faction that joins gets its first report.
 #[test]
 fn first_report(rt: HostRuntime) -> Result<(), Fail> {
     assert_count(&rt, FIRST_REPORT.len(), 161);
-    plays(&rt, rt.alloc(), SMALL, &ONE_JOINS, &AFTER_JOINING)
+    plays(&rt, rt.alloc(), SMALL_WORLD, &ONE_JOINS, &AFTER_JOINING)
 }
 
 /// Steps in which two factions join, and the second asks for its report.
 static TWO_JOIN: [Step; 3] = [
-    Step::Told(AVALON, "joined"),
-    Step::Told(Asked::Join("Bree", "pb", 0), "joined"),
-    Step::Told(Asked::Report(2, "pb"), SECOND_REPORT),
+    Step::Answers(JOIN_OF_AVALON, "joined"),
+    Step::Answers(CommandSpec::Join("Bree", "pb", 0), "joined"),
+    Step::Answers(CommandSpec::Report(2, "pb"), REPORT_OF_BREE),
 ];
 
 /// SELECTs and what they return after two factions have joined.
@@ -75,13 +75,13 @@ static AFTER_TWO: [(&str, Option<i64>); 3] = [
 /// The first report of a second faction shows the first faction's unit, but not its money.
 #[test]
 fn another_faction_is_seen_without_money(rt: HostRuntime) -> Result<(), Fail> {
-    plays(&rt, rt.alloc(), SMALL, &TWO_JOIN, &AFTER_TWO)
+    plays(&rt, rt.alloc(), SMALL_WORLD, &TWO_JOIN, &AFTER_TWO)
 }
 
 /// Steps in which a faction joins in the island's second land region, and asks for its report.
 static FAR_JOINS: [Step; 2] = [
-    Step::Told(Asked::Join("Avalon", "pw", 1), "joined"),
-    Step::Told(Asked::Report(1, "pw"), FAR_REPORT),
+    Step::Answers(CommandSpec::Join("Avalon", "pw", 1), "joined"),
+    Step::Answers(CommandSpec::Report(1, "pw"), FAR_REPORT),
 ];
 
 /// SELECTs and what they return after a faction joined in the island's second land region.
@@ -95,21 +95,24 @@ fn the_second_land_region(rt: HostRuntime) -> Result<(), Fail> {
 
 /// Steps of a club: joins, mailings and reports, some of them refused.
 const CLUB: [Step; 12] = [
-    Step::Told(Asked::Join(" x", "pw", 0), "bad name"),
-    Step::Told(Asked::Join("Avalon", "a b", 0), "bad pass text"),
-    Step::Told(AVALON, "joined"),
-    Step::Told(AVALON, "name taken"),
-    Step::Told(Asked::Mail(9, "no", "hello"), "no faction"),
-    Step::Told(Asked::Mail(1, "no", "hello"), "wrong pass"),
-    Step::Told(Asked::Mail(1, "pw", "hello"), "no header"),
-    Step::Told(
-        Asked::Mail(1, "pw", "#ATLANTIS 1\nUNIT 1\nWORK\n"),
+    Step::Answers(CommandSpec::Join(" x", "pw", 0), "bad name"),
+    Step::Answers(CommandSpec::Join("Avalon", "a b", 0), "bad pass text"),
+    Step::Answers(JOIN_OF_AVALON, "joined"),
+    Step::Answers(JOIN_OF_AVALON, "name taken"),
+    Step::Answers(CommandSpec::Mail(9, "no", "hello"), "no faction"),
+    Step::Answers(CommandSpec::Mail(1, "no", "hello"), "wrong pass"),
+    Step::Answers(CommandSpec::Mail(1, "pw", "hello"), "no header"),
+    Step::Answers(
+        CommandSpec::Mail(1, "pw", "#ATLANTIS 1\nUNIT 1\nWORK\n"),
         "mailed",
     ),
-    Step::Told(Asked::Mail(1, "pw", "#ATLANTIS 1\nUNIT 1\n"), "mailed"),
-    Step::Told(Asked::Report(1, "pw"), FIRST_REPORT),
-    Step::Told(Asked::Report(9, "pw"), "no faction"),
-    Step::Told(Asked::Report(1, "no"), "wrong pass"),
+    Step::Answers(
+        CommandSpec::Mail(1, "pw", "#ATLANTIS 1\nUNIT 1\n"),
+        "mailed",
+    ),
+    Step::Answers(CommandSpec::Report(1, "pw"), FIRST_REPORT),
+    Step::Answers(CommandSpec::Report(9, "pw"), "no faction"),
+    Step::Answers(CommandSpec::Report(1, "no"), "wrong pass"),
 ];
 
 /// SELECTs and what they return after `CLUB`: one faction has joined and sent its second mailing.
@@ -118,14 +121,14 @@ const AFTER_CLUB: [(&str, Option<i64>); 8] = [
     (FACTIONS, Some(1)),
     (UNITS, Some(1)),
     (REPORT_BYTES, Some(161)),
-    (BOOKED, Some(2501)),
+    (BOOKS_SUM, Some(2501)),
     (MONEY, Some(1000)),
     (MAILINGS, Some(1)),
     (MAIL_BYTES, Some(19)),
 ];
 
 /// Asserts that there is one answer for each step, and that it is the one that the step wants.
-fn are_told(rt: &impl Abort, answers: &[Answer], steps: &[Step]) {
+fn assert_answers(rt: &impl Abort, answers: &[Answer], steps: &[Step]) {
     assert_count(rt, answers.len(), steps.len());
     for (answer, step) in answers.iter().zip(steps.iter()) {
         assert_answer(rt, answer, step);
@@ -134,61 +137,66 @@ fn are_told(rt: &impl Abort, answers: &[Answer], steps: &[Step]) {
 
 /// Runs the commands of steps as one list, and asserts that each answer is the one that its step
 /// wants.
-fn runs_all(rt: &impl Abort, service: &mut impl Served, commands: &[Command], steps: &[Step]) {
+fn runs_all(rt: &impl Abort, service: &mut impl AnyService, commands: &[Command], steps: &[Step]) {
     match service.run_all(commands) {
-        Ok(answers) => are_told(rt, &answers, steps),
+        Ok(answers) => assert_answers(rt, &answers, steps),
         Err(_) => assert!(rt; false),
     }
 }
 
 /// Steps whose commands are run as one list, with the wanted answers, and SELECTs with what they
 /// return afterwards.
-struct AtOnce {
+struct CommandList {
     steps: &'static [Step],
     after: &'static [(&'static str, Option<i64>)],
 }
 
-/// Runs the commands of an `AtOnce` as one list in a new campaign, and asserts the answers and the
-/// tables.
-fn is_run(rt: &impl Abort, alloc: Global, commands: &[Command], list: &AtOnce) -> Result<(), Fail> {
-    let mut service = begun_in_memory(alloc, SMALL)?;
+/// Runs the commands of an `CommandList` as one list in a new campaign, and asserts the answers and
+/// the tables.
+fn run_commands(
+    rt: &impl Abort,
+    alloc: Global,
+    commands: &[Command],
+    list: &CommandList,
+) -> Result<(), Fail> {
+    let mut service = found_in_memory(alloc, SMALL_WORLD)?;
     runs_all(rt, &mut service, commands, list.steps);
     assert_tables(rt, &mut service.end(), list.after);
     Ok(())
 }
 
-/// Makes the commands of an `AtOnce`, runs them as one list in a new campaign, and asserts the
+/// Makes the commands of an `CommandList`, runs them as one list in a new campaign, and asserts the
 /// answers and the tables.
-fn at_once(rt: &impl Abort, alloc: Global, list: &AtOnce) -> Result<(), Fail> {
+fn run_list(rt: &impl Abort, alloc: Global, list: &CommandList) -> Result<(), Fail> {
     let commands = commands_of(alloc, list.steps)?;
-    is_run(rt, alloc, &commands, list)
+    run_commands(rt, alloc, &commands, list)
 }
 
 /// Steps to run as one list: a join, a closing, the same closing again, which is refused, and a
 /// report. `closing` tests the same month one command at a time.
 const A_MONTH: [Step; 4] = [
-    Step::Told(AVALON, "joined"),
-    Step::Told(MONTH_ONE, "month done"),
-    Step::Told(MONTH_ONE, "wrong month"),
-    Step::Told(Asked::Report(1, "pw"), AFTER_WORK),
+    Step::Answers(JOIN_OF_AVALON, "joined"),
+    Step::Answers(MONTH_ONE, "month done"),
+    Step::Answers(MONTH_ONE, "wrong month"),
+    Step::Answers(CommandSpec::Report(1, "pw"), AFTER_WORK),
 ];
 
 /// Steps whose commands are run as one list, with the wanted answers and the tables afterwards.
-static LISTS: [AtOnce; 2] = [
-    AtOnce {
+static LISTS: [CommandList; 2] = [
+    CommandList {
         steps: &CLUB,
         after: &AFTER_CLUB,
     },
-    AtOnce {
+    CommandList {
         steps: &A_MONTH,
         after: &AFTER_MONTH_ONE,
     },
 ];
 
 /// Runs each list of `LISTS` in a campaign of its own, and asserts the answers and the tables.
-fn are_run(rt: &impl Abort, alloc: Global) -> Result<(), Fail> {
+fn run_lists(rt: &impl Abort, alloc: Global) -> Result<(), Fail> {
     for list in LISTS.iter() {
-        at_once(rt, alloc, list)?;
+        run_list(rt, alloc, list)?;
     }
     Ok(())
 }
@@ -197,6 +205,6 @@ fn are_run(rt: &impl Abort, alloc: Global) -> Result<(), Fail> {
 /// tables.
 #[test]
 fn a_list_is_run_as_one_by_one(rt: HostRuntime) -> Result<(), Fail> {
-    plays(&rt, rt.alloc(), SMALL, LISTS[0].steps, LISTS[0].after)?;
-    are_run(&rt, rt.alloc())
+    plays(&rt, rt.alloc(), SMALL_WORLD, LISTS[0].steps, LISTS[0].after)?;
+    run_lists(&rt, rt.alloc())
 }

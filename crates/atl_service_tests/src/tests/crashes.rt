@@ -3,11 +3,11 @@
 use super::compare::assert_text;
 use super::courses::COURSES;
 use super::files::connected;
-use super::founding::told as cause_of;
-use super::making::{begun_in_memory, filled, told};
+use super::founding::cause_text as cause_of;
+use super::making::{answer_text, found_in_memory, open_after_sql};
 use super::opening::rows_in;
 use super::script::{Course, commands_of};
-use super::serving::Served;
+use super::serving::AnyService;
 use atl_service::{Answer, Command, Refused, Service, found, open};
 use atl_world::let_go;
 use sqlite::{Alter, Connection, MemStore, Options};
@@ -16,8 +16,9 @@ use std::alloc::Global;
 use std::process::Abort;
 use std::test::Fail;
 
-/// A course, its commands, and `stages`: an empty text for the time before the first write, and
-/// after each write all rows of the campaign.
+/// What is played while a disk stops: a course, its commands, and the stages of its campaign.
+/// `stages` begins with an empty text, before the first write; then come all rows of the campaign
+/// after each write.
 struct Plan {
     course: Course,
     commands: Vec<Command>,
@@ -31,19 +32,20 @@ impl Drop for Plan {
     }
 }
 
-/// The service in which the commands of a course are to be run, in memory; the campaign's rows are
-/// appended to `stages` after the founding, and after the course's rows are added, if it has any.
+/// The service in memory in which the commands of a course are to be run. The campaign's rows are
+/// appended to `stages` after the founding and, if the course has rows of its own, after these are
+/// added.
 fn set_up(
     alloc: Global,
     course: &Course,
     stages: &mut Vec<String>,
 ) -> Result<Service<MemStore>, Fail> {
-    let service = begun_in_memory(alloc, course.world)?;
+    let service = found_in_memory(alloc, course.world)?;
     stages.push(rows_in(alloc, &service)?)?;
     if course.rows.is_empty() {
         return Ok(service);
     }
-    let service = filled(alloc, service.end(), course.rows)?;
+    let service = open_after_sql(alloc, service.end(), course.rows)?;
     stages.push(rows_in(alloc, &service)?)?;
     Ok(service)
 }
@@ -51,7 +53,7 @@ fn set_up(
 /// Runs the commands, and appends the campaign's rows to `stages` after each command.
 fn run_noted(
     alloc: Global,
-    service: &mut impl Served,
+    service: &mut impl AnyService,
     commands: &[Command],
     stages: &mut Vec<String>,
 ) -> Result<(), Fail> {
@@ -89,22 +91,22 @@ fn planned(alloc: Global, course: &Course) -> Result<Plan, Fail> {
 
 /// Whether an answer says that a join, a mailing or a closing was done.
 fn is_done(answer: &Answer) -> bool {
-    matches!(told(answer), "joined" | "mailed" | "month done")
+    matches!(answer_text(answer), "joined" | "mailed" | "month done")
 }
 
 /// Runs the commands, and returns how many were done. The command at which the disk stops must be
 /// answered Store, and all later ones Closed; then there is no campaign, and there are no books.
-fn run_each(rt: &impl Abort, service: &mut impl Served, commands: &[Command]) -> usize {
+fn run_each(rt: &impl Abort, service: &mut impl AnyService, commands: &[Command]) -> usize {
     let mut done = 0usize;
     let mut stopped = false;
     for command in commands {
         let answer = service.run(command);
         if stopped {
-            assert_text(rt, told(&answer), "closed");
+            assert_text(rt, answer_text(&answer), "closed");
         } else if is_done(&answer) {
             done = done.saturating_add(1);
         } else {
-            assert_text(rt, told(&answer), "store");
+            assert_text(rt, answer_text(&answer), "store");
             stopped = true;
         }
     }
@@ -115,7 +117,7 @@ fn run_each(rt: &impl Abort, service: &mut impl Served, commands: &[Command]) ->
 
 /// The service that a founding or an opening (`tried`) gave, or the connection if the disk stopped;
 /// asserts that the cause is then Store.
-fn served<S: Alter>(
+fn service_or_connection<S: Alter>(
     rt: &impl Abort,
     tried: Result<Service<S>, Refused<S>>,
 ) -> Result<Service<S>, Connection<S>> {
@@ -143,7 +145,7 @@ fn runs<S: Alter>(
 
 /// Inserts the rows of a plan's course, opens the campaign again, and runs the commands; the result
 /// is how many writes were done, and the connection.
-fn goes_on<S: Alter + Drop>(
+fn reopen_and_run<S: Alter + Drop>(
     rt: &impl Abort,
     alloc: Global,
     conn: Connection<S>,
@@ -153,7 +155,7 @@ fn goes_on<S: Alter + Drop>(
     if conn.execute_batch(plan.course.rows).is_err() {
         return (1, conn);
     }
-    match served(rt, open(alloc, conn)) {
+    match service_or_connection(rt, open(alloc, conn)) {
         Ok(service) => runs(rt, service, plan, 2),
         Err(conn) => (2, conn),
     }
@@ -161,15 +163,15 @@ fn goes_on<S: Alter + Drop>(
 
 /// Founds a plan's campaign, inserts the course's rows and runs the commands; the result is how
 /// many writes were done, and the connection.
-fn works<S: Alter + Drop>(
+fn found_and_run<S: Alter + Drop>(
     rt: &impl Abort,
     alloc: Global,
     conn: Connection<S>,
     plan: &Plan,
 ) -> (usize, Connection<S>) {
-    match served(rt, found(alloc, conn, plan.course.world, b"gm")) {
+    match service_or_connection(rt, found(alloc, conn, plan.course.world, b"gm")) {
         Ok(service) if plan.course.rows.is_empty() => runs(rt, service, plan, 1),
-        Ok(service) => goes_on(rt, alloc, service.end(), plan),
+        Ok(service) => reopen_and_run(rt, alloc, service.end(), plan),
         Err(conn) => (0, conn),
     }
 }
@@ -226,7 +228,7 @@ fn stopped<D: Crash + Drop>(
     }
     let (done, files) = match Connection::open_files(alloc, files, options()) {
         Ok(conn) => {
-            let (done, conn) = works(rt, alloc, conn, plan);
+            let (done, conn) = found_and_run(rt, alloc, conn, plan);
             (done, conn.into_store().close())
         }
         Err((_, left)) => (0, left.into_files()),
@@ -260,8 +262,8 @@ fn stopping(alloc: Global, which: WhichDisk, calls: u64) -> Files<Fuse<Memory>> 
 /// More calls than a disk gets in any course.
 const MANY_CALLS: u64 = 1_000;
 
-/// Asserts what a crash leaves (`stopped`) after one disk stops at each of its calls in turn, up to
-/// the run in which all writes of the plan are done.
+/// Stops one disk at each of its calls in turn, and asserts each time what a crash then leaves
+/// (`stopped`). The last run is the one in which all writes of the plan are done.
 fn stops(rt: &impl Abort, alloc: Global, plan: &Plan, which: WhichDisk) -> Result<(), Fail> {
     for calls in 0..MANY_CALLS {
         let done = stopped(rt, alloc, stopping(alloc, which, calls), plan)?;
@@ -275,7 +277,7 @@ fn stops(rt: &impl Abort, alloc: Global, plan: &Plan, which: WhichDisk) -> Resul
 
 /// Asserts, for each course of `COURSES`, what a crash leaves after one disk stops at each of its
 /// calls in turn.
-fn stops_each(rt: &impl Abort, alloc: Global, which: WhichDisk) -> Result<(), Fail> {
+fn assert_stops_of_all(rt: &impl Abort, alloc: Global, which: WhichDisk) -> Result<(), Fail> {
     for course in COURSES.iter() {
         let plan = planned(alloc, course)?;
         stops(rt, alloc, &plan, which)?;
@@ -287,12 +289,12 @@ fn stops_each(rt: &impl Abort, alloc: Global, which: WhichDisk) -> Result<(), Fa
 /// it.
 #[test]
 fn the_log_stops(rt: HostRuntime) -> Result<(), Fail> {
-    stops_each(&rt, rt.alloc(), WhichDisk::Log)
+    assert_stops_of_all(&rt, rt.alloc(), WhichDisk::Log)
 }
 
 /// If the database's disk stops at any of its calls, a crash leaves the campaign before a write or
 /// after it.
 #[test]
 fn the_database_stops(rt: HostRuntime) -> Result<(), Fail> {
-    stops_each(&rt, rt.alloc(), WhichDisk::Database)
+    assert_stops_of_all(&rt, rt.alloc(), WhichDisk::Database)
 }

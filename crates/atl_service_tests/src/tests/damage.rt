@@ -1,7 +1,7 @@
 //! Tests of what `open` answers on a database that was changed by hand (docs/FORMATS.md, "Tables").
 use super::files::{connected, new_files};
-use super::making::begun;
-use super::script::{Asked, Step, follow};
+use super::making::found_service;
+use super::script::{CommandSpec, Step, follow};
 use super::serving::Tables;
 use atl_service::{Cause, Refused, open};
 use atl_test_worlds::ISLE_WITH_MARKET;
@@ -50,8 +50,8 @@ fn asked<S: Alter + Drop>(alloc: Global, conn: Connection<S>) -> Opening {
 }
 
 /// Asserts the outcome of opening; the message names the statements that changed the database.
-fn assert_opening(rt: &impl Abort, told: Opening, wanted: Opening, sql: &str) {
-    assert_eq!(rt; told, wanted, "after {sql}");
+fn assert_opening(rt: &impl Abort, actual: Opening, wanted: Opening, sql: &str) {
+    assert_eq!(rt; actual, wanted, "after {sql}");
 }
 
 /// SQL statements that change rows, or add a table or an index, and the outcome of opening
@@ -198,7 +198,7 @@ static SHAPES: [(&str, Opening); 10] = [
 /// SQL statements that make two faults, and the outcome of opening, which is the first fault in the
 /// order of checks. The order is: the campaign's own row can't be read; it breaks the first rule;
 /// another table can't be read; a value has another type; tables differ; rows break a later rule.
-static MEETINGS: [(&str, Opening); 16] = [
+static TWO_FAULTS: [(&str, Opening); 16] = [
     (
         "DROP TABLE campaign; DROP TABLE unit",
         Opening::NotACampaign,
@@ -261,8 +261,8 @@ static MEETINGS: [(&str, Opening); 16] = [
 
 /// The steps by which Avalon and Bree join the island.
 static BOTH_JOIN: [Step; 2] = [
-    Step::Joined(Asked::Join("Avalon", "pw", 1), 1, 1),
-    Step::Joined(Asked::Join("Bree", "pb", 1), 2, 2),
+    Step::Joined(CommandSpec::Join("Avalon", "pw", 1), 1, 1),
+    Step::Joined(CommandSpec::Join("Bree", "pb", 1), 2, 2),
 ];
 
 /// The database of an island with a market that Avalon and Bree have joined, changed by SQL
@@ -273,7 +273,7 @@ pub(crate) fn changed<S: Alter + Drop>(
     conn: Connection<S>,
     sql: &str,
 ) -> Result<Connection<S>, Fail> {
-    let mut service = begun(alloc, conn, ISLE_WITH_MARKET)?;
+    let mut service = found_service(alloc, conn, ISLE_WITH_MARKET)?;
     follow(rt, alloc, &mut service, &BOTH_JOIN)?;
     let mut conn = service.end();
     conn.change(sql)?;
@@ -304,14 +304,14 @@ fn assert_openings(rt: &impl Abort, alloc: Global, cases: &[(&str, Opening)]) ->
 
 /// Opening a database whose rows break a rule reports the first rule that they break.
 #[test]
-fn the_first_rule_that_rows_break_is_told(rt: HostRuntime) -> Result<(), Fail> {
+fn the_first_rule_that_rows_break_is_reported(rt: HostRuntime) -> Result<(), Fail> {
     assert_openings(&rt, rt.alloc(), &ROWS)
 }
 
 /// Opening a database reports the rule that its stocks, or an entry 17 of the books, break; a table
 /// of stocks without its key is answered Store.
 #[test]
-fn stocks_that_break_a_rule_are_told(rt: HostRuntime) -> Result<(), Fail> {
+fn stocks_that_break_a_rule_are_reported(rt: HostRuntime) -> Result<(), Fail> {
     assert_openings(&rt, rt.alloc(), &STOCKS)
 }
 
@@ -323,8 +323,8 @@ fn tables_made_otherwise_are_refused(rt: HostRuntime) -> Result<(), Fail> {
 
 /// Opening a database with two faults reports the one that is checked first.
 #[test]
-fn of_two_faults_the_first_is_told(rt: HostRuntime) -> Result<(), Fail> {
-    assert_openings(&rt, rt.alloc(), &MEETINGS)
+fn of_two_faults_the_first_is_reported(rt: HostRuntime) -> Result<(), Fail> {
+    assert_openings(&rt, rt.alloc(), &TWO_FAULTS)
 }
 
 /// Opening an empty database is answered NotACampaign.
@@ -351,7 +351,7 @@ static BEGUN: [&str; 5] = [
 
 /// Asserts that opening a database is answered Store after SQL statements that leave a transaction
 /// open.
-fn waits_for_the_end(rt: &impl Abort, alloc: Global, sql: &str) -> Result<(), Fail> {
+fn assert_store_in_transaction(rt: &impl Abort, alloc: Global, sql: &str) -> Result<(), Fail> {
     let conn = changed(rt, alloc, Connection::open_in_memory(alloc)?, sql)?;
     assert_opening(rt, asked(alloc, conn), Opening::Store, sql);
     Ok(())
@@ -359,9 +359,9 @@ fn waits_for_the_end(rt: &impl Abort, alloc: Global, sql: &str) -> Result<(), Fa
 
 /// Asserts that opening a database is answered Store after the SQL statements of each row of
 /// `BEGUN`.
-fn wait_for_the_end(rt: &impl Abort, alloc: Global) -> Result<(), Fail> {
+fn assert_store_in_transactions(rt: &impl Abort, alloc: Global) -> Result<(), Fail> {
     for sql in BEGUN.iter() {
-        waits_for_the_end(rt, alloc, sql)?;
+        assert_store_in_transaction(rt, alloc, sql)?;
     }
     Ok(())
 }
@@ -369,5 +369,5 @@ fn wait_for_the_end(rt: &impl Abort, alloc: Global) -> Result<(), Fail> {
 /// Opening a connection in a transaction is answered Store, whatever else is wrong.
 #[test]
 fn a_transaction_is_not_opened(rt: HostRuntime) -> Result<(), Fail> {
-    wait_for_the_end(&rt, rt.alloc())
+    assert_store_in_transactions(&rt, rt.alloc())
 }

@@ -1,5 +1,5 @@
 //! Tests of `found`: its refusals, and that a join without money books none.
-use super::commands::AVALON;
+use super::commands::JOIN_OF_AVALON;
 use super::compare::assert_text;
 use super::damage::changed;
 use super::script::{Step, plays};
@@ -7,14 +7,14 @@ use super::serving::Tables;
 use super::tables::MONEY;
 use super::unchanged::{EVERY_TABLE, all_rows, assert_all_rows};
 use atl_service::{Cause, Refused, Service, found};
-use atl_test_worlds::{POOR, SMALL};
+use atl_test_worlds::{NO_START_MONEY, SMALL_WORLD};
 use sqlite::{Alter, Connection};
 use std::alloc::Global;
 use std::process::Abort;
 use std::test::Fail;
 
 /// The name of a cause for which a founding, an opening or an upgrade is refused.
-pub(crate) fn told(cause: &Cause) -> &'static str {
+pub(crate) fn cause_text(cause: &Cause) -> &'static str {
     match cause {
         Cause::World(_) => "world",
         Cause::BadPassText => "bad pass text",
@@ -41,7 +41,7 @@ pub(crate) fn assert_refused<S: Alter>(
             service.end()
         }
         Err(Refused { why, conn }) => {
-            assert_text(rt, told(&why), words);
+            assert_text(rt, cause_text(&why), words);
             conn
         }
     }
@@ -51,33 +51,33 @@ pub(crate) fn assert_refused<S: Alter>(
 /// the name of the first check that fails.
 static REFUSED: [(&str, &str, &str, &str); 8] = [
     ("", "a = = b", "a b", "world"),
-    ("", SMALL, "a b", "bad pass text"),
+    ("", SMALL_WORLD, "a b", "bad pass text"),
     ("BEGIN", "a = = b", "gm", "world"),
     (
         "CREATE TABLE campaign (x INTEGER)",
-        SMALL,
+        SMALL_WORLD,
         "a b",
         "bad pass text",
     ),
     (
         "CREATE TABLE campaign (x INTEGER); INSERT INTO campaign VALUES (7); BEGIN",
-        SMALL,
+        SMALL_WORLD,
         "gm",
         "not empty",
     ),
     (
         "CREATE TABLE notes (words TEXT); CREATE TABLE campaign (x INTEGER)",
-        SMALL,
+        SMALL_WORLD,
         "gm",
         "not empty",
     ),
     (
         "CREATE TABLE notes (words TEXT); INSERT INTO notes VALUES ('pay the printer')",
-        SMALL,
+        SMALL_WORLD,
         "gm",
         "store",
     ),
-    ("BEGIN", SMALL, "gm", "store"),
+    ("BEGIN", SMALL_WORLD, "gm", "store"),
 ];
 
 /// Asserts why a founding by a world and a pass text is refused, and that it changes no row of the
@@ -118,14 +118,14 @@ fn are_refused(rt: &impl Abort, alloc: Global) -> Result<(), Fail> {
 
 /// A refused founding reports the first check that fails, and changes no row.
 #[test]
-fn the_first_check_that_fails_is_told(rt: HostRuntime) -> Result<(), Fail> {
+fn the_first_check_that_fails_is_reported(rt: HostRuntime) -> Result<(), Fail> {
     are_refused(&rt, rt.alloc())
 }
 
 /// Asserts that no second campaign is founded in a database that holds one.
 fn refuses_another(rt: &impl Abort, alloc: Global) -> Result<(), Fail> {
     let conn = changed(rt, alloc, Connection::open_in_memory(alloc)?, EVERY_TABLE)?;
-    founds_nothing(rt, alloc, conn, (SMALL, "gm"), "not empty")
+    founds_nothing(rt, alloc, conn, (SMALL_WORLD, "gm"), "not empty")
 }
 
 /// A database that holds a campaign refuses a second founding.
@@ -134,14 +134,14 @@ fn a_campaign_is_founded_once(rt: HostRuntime) -> Result<(), Fail> {
     refuses_another(&rt, rt.alloc())
 }
 
-/// Counts the rows of the books for money under Joining.
+/// The SELECT that counts the rows of the books for money under Joining.
 const JOINING_MONEY: &str = "SELECT count(*) FROM books WHERE entry = 2 AND thing = 0";
 
-/// Sums the people booked under Joining.
+/// The SELECT that sums the people booked under Joining.
 const JOINING_PEOPLE: &str = "SELECT sum(amount) FROM books WHERE entry = 2 AND thing = 1";
 
 /// The one step by which Avalon joins.
-static AVALON_JOINS: [Step; 1] = [Step::Told(AVALON, "joined")];
+static AVALON_JOINS: [Step; 1] = [Step::Answers(JOIN_OF_AVALON, "joined")];
 
 /// SELECTs and what they return after a faction joined without money: none is booked under Joining.
 static AFTER_NO_MONEY: [(&str, Option<i64>); 3] = [
@@ -153,5 +153,11 @@ static AFTER_NO_MONEY: [(&str, Option<i64>); 3] = [
 /// A faction that joins without money has no money booked under Joining.
 #[test]
 fn nothing_is_booked_of_no_money(rt: HostRuntime) -> Result<(), Fail> {
-    plays(&rt, rt.alloc(), POOR, &AVALON_JOINS, &AFTER_NO_MONEY)
+    plays(
+        &rt,
+        rt.alloc(),
+        NO_START_MONEY,
+        &AVALON_JOINS,
+        &AFTER_NO_MONEY,
+    )
 }

@@ -1,10 +1,10 @@
 //! Tests that `Join` succeeds among 10,000 units, and is refused in a full campaign.
-use super::commands::AVALON;
-use super::making::{begun_in_memory, opened};
-use super::script::{Asked, Step, follow};
+use super::commands::JOIN_OF_AVALON;
+use super::making::{found_in_memory, opened};
+use super::script::{CommandSpec, Step, follow};
 use super::serving::Tables;
 use super::tables::{FACTIONS, NEXT, UNITS, assert_tables};
-use atl_test_worlds::SMALL;
+use atl_test_worlds::SMALL_WORLD;
 use sqlite::{Connection, MemStore, params};
 use std::alloc::Global;
 use std::process::Abort;
@@ -21,7 +21,7 @@ const MORE_FACTIONS: &str =
 
 /// By how much `MORE_UNITS` or `MORE_FACTIONS` raises the numbers each time it is run (`?1`): each
 /// run doubles the rows.
-static STEPS: [i64; 17] = [
+static DOUBLINGS: [i64; 17] = [
     1, 2, 4, 8, 16, 32, 64, 128, 256, 512, 1024, 2048, 4096, 8192, 16384, 32768, 65536,
 ];
 
@@ -45,28 +45,29 @@ UPDATE campaign SET next_faction = 10000";
 const NUMBERS_ARE_FULL: &str = "UPDATE campaign SET next_unit = 1000000000";
 
 /// The command by which Bree joins.
-const BREE: Asked = Asked::Join("Bree", "pb", 0);
+const JOIN_OF_BREE: CommandSpec = CommandSpec::Join("Bree", "pb", 0);
 
 /// The one step by which Bree joins.
-const BREE_JOINS: [Step; 1] = [Step::Told(BREE, "joined")];
+const BREE_JOINS: [Step; 1] = [Step::Answers(JOIN_OF_BREE, "joined")];
 
 /// The one step by which Bree tries to join, and is refused as the campaign is full.
-const NOBODY_JOINS: [Step; 1] = [Step::Told(BREE, "full")];
+const NOBODY_JOINS: [Step; 1] = [Step::Answers(JOIN_OF_BREE, "full")];
 
 /// A campaign filled by hand, a join in it, and what the tables hold afterwards.
 /// The SQL of `more` doubles the rows up to a number, and that of `then` makes the campaign good
 /// again.
-struct Filled {
+struct FullCase {
     more: Option<(&'static str, i64)>,
     then: &'static str,
     steps: &'static [Step],
     rows: &'static [(&'static str, Option<i64>)],
 }
 
-/// Bree joins among 10,000 units. The other campaigns are full: 100,000 units, 9,999 factions (all
-/// but Avalon gone), or the last unit number given.
-static FILLED: [Filled; 4] = [
-    Filled {
+/// Campaigns filled by hand, each with the join that is run in it. In the first one Bree joins
+/// among 10,000 units. The others are full: 100,000 units, 9,999 factions (all but Avalon gone), or
+/// the last unit number given.
+static FULL_CASES: [FullCase; 4] = [
+    FullCase {
         more: Some((MORE_UNITS, 10_000)),
         then: MANY_ARE_BOOKED,
         steps: &BREE_JOINS,
@@ -76,7 +77,7 @@ static FILLED: [Filled; 4] = [
             (UNITS, Some(10001)),
         ],
     },
-    Filled {
+    FullCase {
         more: Some((MORE_UNITS, 100_000)),
         then: UNITS_ARE_FULL,
         steps: &NOBODY_JOINS,
@@ -86,7 +87,7 @@ static FILLED: [Filled; 4] = [
             (UNITS, Some(100000)),
         ],
     },
-    Filled {
+    FullCase {
         more: Some((MORE_FACTIONS, 9_999)),
         then: FACTIONS_ARE_FULL,
         steps: &NOBODY_JOINS,
@@ -96,7 +97,7 @@ static FILLED: [Filled; 4] = [
             (UNITS, Some(1)),
         ],
     },
-    Filled {
+    FullCase {
         more: None,
         then: NUMBERS_ARE_FULL,
         steps: &NOBODY_JOINS,
@@ -109,39 +110,39 @@ static FILLED: [Filled; 4] = [
 ];
 
 /// The one step by which Avalon joins.
-static AVALON_JOINS: [Step; 1] = [Step::Told(AVALON, "joined")];
+static AVALON_JOINS: [Step; 1] = [Step::Answers(JOIN_OF_AVALON, "joined")];
 
 /// The database of the small world that Avalon has joined.
 fn joined(rt: &impl Abort, alloc: Global) -> Result<Connection<MemStore>, Fail> {
-    let mut service = begun_in_memory(alloc, SMALL)?;
+    let mut service = found_in_memory(alloc, SMALL_WORLD)?;
     follow(rt, alloc, &mut service, &AVALON_JOINS)?;
     Ok(service.end())
 }
 
-/// Runs the SQL of `MORE_UNITS` or `MORE_FACTIONS` for each of `STEPS`, until there are rows up to
-/// the number `last`.
+/// Runs the SQL of `MORE_UNITS` or `MORE_FACTIONS` for each of `DOUBLINGS`, until there are rows up
+/// to the number `last`.
 fn doubled(conn: &mut Connection<MemStore>, sql: &str, last: i64) -> Result<(), Fail> {
-    for step in STEPS.iter() {
+    for step in DOUBLINGS.iter() {
         conn.execute(sql, params![*step, last])?;
     }
     Ok(())
 }
 
-/// Fills the campaign of a database by the SQL of a `Filled`.
-fn fill(conn: &mut Connection<MemStore>, filled: &Filled) -> Result<(), Fail> {
+/// Fills the campaign of a database by the SQL of a `FullCase`.
+fn fill(conn: &mut Connection<MemStore>, filled: &FullCase) -> Result<(), Fail> {
     if let Some((sql, last)) = filled.more {
         doubled(conn, sql, last)?;
     }
     conn.change(filled.then)
 }
 
-/// Runs the join of a `Filled` in the campaign that it filled, and asserts its answer and what the
-/// tables hold afterwards.
+/// Runs the join of a `FullCase` in the campaign that it filled, and asserts its answer and what
+/// the tables hold afterwards.
 fn answers(
     rt: &impl Abort,
     alloc: Global,
     conn: Connection<MemStore>,
-    filled: &Filled,
+    filled: &FullCase,
 ) -> Result<(), Fail> {
     let mut service = opened(alloc, conn)?;
     let done = follow(rt, alloc, &mut service, filled.steps);
@@ -149,16 +150,16 @@ fn answers(
     done
 }
 
-/// Fills a campaign by a `Filled`, and asserts the answer to the join in it.
-fn join_is_answered(rt: &impl Abort, alloc: Global, filled: &Filled) -> Result<(), Fail> {
+/// Fills a campaign by a `FullCase`, and asserts the answer to the join in it.
+fn join_is_answered(rt: &impl Abort, alloc: Global, filled: &FullCase) -> Result<(), Fail> {
     let mut conn = joined(rt, alloc)?;
     fill(&mut conn, filled)?;
     answers(rt, alloc, conn, filled)
 }
 
-/// Fills each campaign of `FILLED`, and asserts the answer to the join in it.
+/// Fills each campaign of `FULL_CASES`, and asserts the answer to the join in it.
 fn joins_are_answered(rt: &impl Abort, alloc: Global) -> Result<(), Fail> {
-    for filled in FILLED.iter() {
+    for filled in FULL_CASES.iter() {
         join_is_answered(rt, alloc, filled)?;
     }
     Ok(())

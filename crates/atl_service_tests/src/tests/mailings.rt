@@ -1,9 +1,9 @@
 //! Tests of `Mail`: storing mailings, and refusals.
-use super::commands::AVALON;
-use super::script::{Asked, Step, plays};
+use super::commands::JOIN_OF_AVALON;
+use super::script::{CommandSpec, Step, plays};
 use super::tables::{MAIL_BYTES, MAILINGS};
-use super::unchanged::{EVERY_TABLE, refuses};
-use atl_test_worlds::SMALL;
+use super::unchanged::{EVERY_TABLE, assert_unchanged};
+use atl_test_worlds::SMALL_WORLD;
 use std::test::Fail;
 
 /// A mailing with a faulty line (ATTACK) and a good order.
@@ -15,8 +15,8 @@ const FORMS: &str = "#ATLANTIS 1\nUNIT 1\nFORM 1\nRECRUIT 2\nEND\nPAY NEW 1 100\
 
 /// Steps in which Avalon joins, and sends a mailing with a faulty line, which is stored whole.
 static ONE_FAULTY: [Step; 3] = [
-    Step::Told(AVALON, "joined"),
-    Step::Mailed(Asked::Mail(1, "pw", FAULTY), 1, &[(5, 2)]),
+    Step::Answers(JOIN_OF_AVALON, "joined"),
+    Step::Mailed(CommandSpec::Mail(1, "pw", FAULTY), 1, &[(5, 2)]),
     Step::Keeps(Some(FAULTY)),
 ];
 
@@ -26,14 +26,14 @@ static AFTER_ONE: [(&str, Option<i64>); 1] = [(MAILINGS, Some(1))];
 /// A mailing with a faulty line is stored whole, and the answer has the line's fault.
 #[test]
 fn one_faulty_line(rt: HostRuntime) -> Result<(), Fail> {
-    plays(&rt, rt.alloc(), SMALL, &ONE_FAULTY, &AFTER_ONE)
+    plays(&rt, rt.alloc(), SMALL_WORLD, &ONE_FAULTY, &AFTER_ONE)
 }
 
 /// Steps in which a faction sends two mailings: the second replaces the first.
 static TWO_SENT: [Step; 4] = [
-    Step::Told(AVALON, "joined"),
-    Step::Mailed(Asked::Mail(1, "pw", FAULTY), 1, &[(5, 2)]),
-    Step::Mailed(Asked::Mail(1, "pw", FORMS), 3, &[]),
+    Step::Answers(JOIN_OF_AVALON, "joined"),
+    Step::Mailed(CommandSpec::Mail(1, "pw", FAULTY), 1, &[(5, 2)]),
+    Step::Mailed(CommandSpec::Mail(1, "pw", FORMS), 3, &[]),
     Step::Keeps(Some(FORMS)),
 ];
 
@@ -43,34 +43,34 @@ static AFTER_TWO: [(&str, Option<i64>); 2] = [(MAILINGS, Some(1)), (MAIL_BYTES, 
 /// A faction's second mailing replaces its first.
 #[test]
 fn the_last_mailing_is_kept(rt: HostRuntime) -> Result<(), Fail> {
-    plays(&rt, rt.alloc(), SMALL, &TWO_SENT, &AFTER_TWO)
+    plays(&rt, rt.alloc(), SMALL_WORLD, &TWO_SENT, &AFTER_TWO)
 }
 
 /// Mailings that are refused, one for each refusal of `Mail`, in the campaign that the SQL
 /// `EVERY_TABLE` makes, where Avalon has sent a mailing and Bree is gone.
 static REFUSED: [Step; 7] = [
-    Step::Told(Asked::Mail(9, "no", "hello"), "no faction"),
-    Step::Told(Asked::Mail(1, "no", "hello"), "wrong pass"),
-    Step::Told(Asked::Mail(2, "pb", "hello"), "gone"),
-    Step::Told(Asked::LongMail("pw", 65_526), "too long"),
-    Step::Told(Asked::Mail(1, "pw", "hello"), "no header"),
-    Step::Told(Asked::Mail(1, "pw", "#ATLANTIS x"), "bad header"),
-    Step::Told(Asked::Mail(1, "pw", "#ATLANTIS 2"), "wrong faction"),
+    Step::Answers(CommandSpec::Mail(9, "no", "hello"), "no faction"),
+    Step::Answers(CommandSpec::Mail(1, "no", "hello"), "wrong pass"),
+    Step::Answers(CommandSpec::Mail(2, "pb", "hello"), "gone"),
+    Step::Answers(CommandSpec::LongMail("pw", 65_526), "too long"),
+    Step::Answers(CommandSpec::Mail(1, "pw", "hello"), "no header"),
+    Step::Answers(CommandSpec::Mail(1, "pw", "#ATLANTIS x"), "bad header"),
+    Step::Answers(CommandSpec::Mail(1, "pw", "#ATLANTIS 2"), "wrong faction"),
 ];
 
 /// A refused mailing changes no row, neither of the campaign nor of the tables, whatever the
 /// refusal.
 #[test]
 fn a_refused_mailing_changes_nothing(rt: HostRuntime) -> Result<(), Fail> {
-    refuses(&rt, rt.alloc(), EVERY_TABLE, &REFUSED)
+    assert_unchanged(&rt, rt.alloc(), EVERY_TABLE, &REFUSED)
 }
 
 /// Steps by which a mailing of 65,537 bytes is refused, and one of 65,536 is stored.
 static LIMITS: [Step; 4] = [
-    Step::Told(AVALON, "joined"),
-    Step::Told(Asked::LongMail("pw", 65_526), "too long"),
+    Step::Answers(JOIN_OF_AVALON, "joined"),
+    Step::Answers(CommandSpec::LongMail("pw", 65_526), "too long"),
     Step::Keeps(None),
-    Step::Told(Asked::LongMail("pw", 65_525), "mailed"),
+    Step::Answers(CommandSpec::LongMail("pw", 65_525), "mailed"),
 ];
 
 /// SELECTs and what they return after the mailing of 65,536 bytes.
@@ -79,5 +79,5 @@ static AFTER_LONG: [(&str, Option<i64>); 2] = [(MAILINGS, Some(1)), (MAIL_BYTES,
 /// A mailing of 65,536 bytes is stored, and one of 65,537 is refused.
 #[test]
 fn a_mailing_has_65536_bytes_at_most(rt: HostRuntime) -> Result<(), Fail> {
-    plays(&rt, rt.alloc(), SMALL, &LIMITS, &AFTER_LONG)
+    plays(&rt, rt.alloc(), SMALL_WORLD, &LIMITS, &AFTER_LONG)
 }

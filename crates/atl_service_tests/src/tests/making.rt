@@ -63,7 +63,7 @@ pub(crate) fn report(alloc: Global, faction: u32, pass: &str) -> Result<Command,
 }
 
 /// Founds the campaign of a world text in a database; the result is its service.
-pub(crate) fn begun<S: Alter + Drop>(
+pub(crate) fn found_service<S: Alter + Drop>(
     alloc: Global,
     conn: Connection<S>,
     world: &str,
@@ -75,8 +75,8 @@ pub(crate) fn begun<S: Alter + Drop>(
 }
 
 /// Founds the campaign of a world text in a new database in memory; the result is its service.
-pub(crate) fn begun_in_memory(alloc: Global, world: &str) -> Result<Service<MemStore>, Fail> {
-    begun(alloc, Connection::open_in_memory(alloc)?, world)
+pub(crate) fn found_in_memory(alloc: Global, world: &str) -> Result<Service<MemStore>, Fail> {
+    found_service(alloc, Connection::open_in_memory(alloc)?, world)
 }
 
 /// Opens the campaign that a database holds; the result is its service.
@@ -92,7 +92,7 @@ pub(crate) fn opened<S: Alter + Drop>(
 
 /// Runs SQL statements on a database, and opens the campaign that it holds; the result is its
 /// service.
-pub(crate) fn filled<S: Alter + Drop>(
+pub(crate) fn open_after_sql<S: Alter + Drop>(
     alloc: Global,
     conn: Connection<S>,
     rows: &str,
@@ -103,7 +103,7 @@ pub(crate) fn filled<S: Alter + Drop>(
 }
 
 /// An answer in words: its kind, the name of its refusal or fault, or its text.
-pub(crate) fn told(answer: &Answer) -> &str {
+pub(crate) fn answer_text(answer: &Answer) -> &str {
     match answer {
         Answer::Joined { .. } => "joined",
         Answer::Mailed { .. } => "mailed",

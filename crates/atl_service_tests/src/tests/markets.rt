@@ -1,9 +1,9 @@
 //! Tests of a market over three months: it is stocked, sells to a unit, and buys nothing when full.
 use super::closing::MONTH_ONE;
-use super::commands::AVALON;
-use super::script::{Asked, Step, plays};
+use super::commands::JOIN_OF_AVALON;
+use super::script::{CommandSpec, Step, plays};
 use super::tables::{FORMAT, GOODS, MONEY, MONTH, REGION_MONEY, STOCK, STOCKED};
-use atl_test_worlds::MART;
+use atl_test_worlds::WOOD_MARKET;
 use std::test::Fail;
 
 /// Avalon's first report, with an empty market.
@@ -17,7 +17,7 @@ Market wood: 0 in stock at 7, 30 wanted at 5.
 ";
 
 /// The mailing by which unit 1 buys 3 wood.
-const BUYS: Asked = Asked::Mail(1, "pw", "#ATLANTIS 1\nUNIT 1\nBUY 3 wood\n");
+const BUYS: CommandSpec = CommandSpec::Mail(1, "pw", "#ATLANTIS 1\nUNIT 1\nBUY 3 wood\n");
 
 /// Avalon's report on month 2: of 20 wood in stock 3 are bought for 7 each, and then the market is
 /// stocked up to its limit of 30.
@@ -47,7 +47,7 @@ item \"wood\" total 33
 ";
 
 /// The mailing by which unit 1 offers 2 wood.
-const SELLS: Asked = Asked::Mail(1, "pw", "#ATLANTIS 1\nUNIT 1\nSELL 2 wood\n");
+const SELLS: CommandSpec = CommandSpec::Mail(1, "pw", "#ATLANTIS 1\nUNIT 1\nSELL 2 wood\n");
 
 /// Avalon's report on month 3: the market is full and buys nothing.
 const AFTER_SELLING: &str = "Atlantis report, month 3, faction 1 \"Avalon\".
@@ -62,8 +62,8 @@ Market wood: 30 in stock at 7, 0 wanted at 5.
 
 /// The steps of a month that stocks the market: a join, the report before, and the closing.
 static STOCKED_ONCE: [Step; 3] = [
-    Step::Joined(AVALON, 1, 1),
-    Step::Told(Asked::Report(1, "pw"), NOTHING_IN_STOCK),
+    Step::Joined(JOIN_OF_AVALON, 1, 1),
+    Step::Answers(CommandSpec::Report(1, "pw"), NOTHING_IN_STOCK),
     Step::Closed(MONTH_ONE, 1),
 ];
 
@@ -80,21 +80,21 @@ static BEFORE_STOCKING: [(&str, Option<i64>); 2] = [(STOCKED, Some(0)), (STOCK, 
 /// A market is empty before the first month, and stocked after it.
 #[test]
 fn a_market_is_stocked(rt: HostRuntime) -> Result<(), Fail> {
-    plays(&rt, rt.alloc(), MART, &[], &BEFORE_STOCKING)?;
-    plays(&rt, rt.alloc(), MART, &STOCKED_ONCE, &AFTER_STOCKING)
+    plays(&rt, rt.alloc(), WOOD_MARKET, &[], &BEFORE_STOCKING)?;
+    plays(&rt, rt.alloc(), WOOD_MARKET, &STOCKED_ONCE, &AFTER_STOCKING)
 }
 
 /// The steps of three months: the market is stocked, a unit buys, and it tries to sell.
 static TRADES: [Step; 9] = [
-    Step::Joined(AVALON, 1, 1),
+    Step::Joined(JOIN_OF_AVALON, 1, 1),
     Step::Closed(MONTH_ONE, 1),
     Step::Mailed(BUYS, 1, &[]),
-    Step::Closed(Asked::Close(2, "gm", &[0]), 2),
-    Step::Told(Asked::Report(1, "pw"), AFTER_BUYING),
+    Step::Closed(CommandSpec::Close(2, "gm", &[0]), 2),
+    Step::Answers(CommandSpec::Report(1, "pw"), AFTER_BUYING),
     Step::Books(BOOKS_AFTER_BUYING),
     Step::Mailed(SELLS, 1, &[]),
-    Step::Closed(Asked::Close(3, "gm", &[0]), 3),
-    Step::Told(Asked::Report(1, "pw"), AFTER_SELLING),
+    Step::Closed(CommandSpec::Close(3, "gm", &[0]), 3),
+    Step::Answers(CommandSpec::Report(1, "pw"), AFTER_SELLING),
 ];
 
 /// SELECTs and what they return after the three months of `TRADES`.
@@ -110,5 +110,5 @@ static AFTER_TRADES: [(&str, Option<i64>); 6] = [
 /// A unit buys from a market in stock, and can't sell to it when it is full.
 #[test]
 fn a_unit_trades(rt: HostRuntime) -> Result<(), Fail> {
-    plays(&rt, rt.alloc(), MART, &TRADES, &AFTER_TRADES)
+    plays(&rt, rt.alloc(), WOOD_MARKET, &TRADES, &AFTER_TRADES)
 }

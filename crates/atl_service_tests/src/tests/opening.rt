@@ -1,18 +1,18 @@
 //! Tests of `open`: a campaign opened again, on its connection or from its files, has the same
 //! rows, and can be played on.
 use super::closing::{AFTER_WORK, MONTH_ONE};
-use super::commands::{AVALON, FIRST_REPORT, SECOND_REPORT};
+use super::commands::{FIRST_REPORT, JOIN_OF_AVALON, REPORT_OF_BREE};
 use super::compare::assert_text;
 use super::files::{connected, new_files};
 use super::founding::assert_refused;
-use super::making::{begun, opened};
-use super::script::{Asked, Step, follow};
-use super::serving::{Served, Tables};
+use super::making::{found_service, opened};
+use super::script::{CommandSpec, Step, follow};
+use super::serving::{AnyService, Tables};
 use super::tables::assert_tables;
 use atl_campaign::Campaign;
 use atl_service::{Service, found};
 use atl_state::check;
-use atl_test_worlds::SMALL;
+use atl_test_worlds::SMALL_WORLD;
 use atl_world::World;
 use sqlite::{Alter, Connection, MemStore};
 use sqlite_disk::{Disk, Files};
@@ -31,33 +31,40 @@ pub(crate) struct Session {
 
 /// Steps in which Avalon joins, sends a mailing, and asks for its report.
 const AVALON_COMES: [Step; 3] = [
-    Step::Joined(AVALON, 1, 1),
-    Step::Mailed(Asked::Mail(1, "pw", "#ATLANTIS 1\nUNIT 1\nWORK\n"), 1, &[]),
-    Step::Told(Asked::Report(1, "pw"), FIRST_REPORT),
+    Step::Joined(JOIN_OF_AVALON, 1, 1),
+    Step::Mailed(
+        CommandSpec::Mail(1, "pw", "#ATLANTIS 1\nUNIT 1\nWORK\n"),
+        1,
+        &[],
+    ),
+    Step::Answers(CommandSpec::Report(1, "pw"), FIRST_REPORT),
 ];
 
 /// Steps by which Avalon's report and mail are found as Avalon left them, and Bree joins.
 pub(crate) const BREE_COMES: [Step; 3] = [
-    Step::Told(Asked::Report(1, "pw"), FIRST_REPORT),
+    Step::Answers(CommandSpec::Report(1, "pw"), FIRST_REPORT),
     Step::Keeps(Some("#ATLANTIS 1\nUNIT 1\nWORK\n")),
-    Step::Joined(Asked::Join("Bree", "pb", 0), 2, 2),
+    Step::Joined(CommandSpec::Join("Bree", "pb", 0), 2, 2),
 ];
 
 /// Steps by which both factions and their first reports are found again.
 pub(crate) const BOTH_ARE_THERE: [Step; 3] = [
     Step::Numbers(3, 3, 2),
-    Step::Told(Asked::Report(1, "pw"), FIRST_REPORT),
-    Step::Told(Asked::Report(2, "pb"), SECOND_REPORT),
+    Step::Answers(CommandSpec::Report(1, "pw"), FIRST_REPORT),
+    Step::Answers(CommandSpec::Report(2, "pb"), REPORT_OF_BREE),
 ];
 
 /// Steps in which Avalon joins, and month 1 is closed.
-const A_MONTH: [Step; 2] = [Step::Joined(AVALON, 1, 1), Step::Closed(MONTH_ONE, 1)];
+const A_MONTH: [Step; 2] = [
+    Step::Joined(JOIN_OF_AVALON, 1, 1),
+    Step::Closed(MONTH_ONE, 1),
+];
 
 /// Steps by which month 1 is found closed, with its report, and isn't closed again.
 const AFTER_A_MONTH: [Step; 4] = [
     Step::Month(1),
-    Step::Told(MONTH_ONE, "wrong month"),
-    Step::Told(Asked::Report(1, "pw"), AFTER_WORK),
+    Step::Answers(MONTH_ONE, "wrong month"),
+    Step::Answers(CommandSpec::Report(1, "pw"), AFTER_WORK),
     Step::Keeps(None),
 ];
 
@@ -68,7 +75,7 @@ fn rows_of(alloc: Global, campaign: &Campaign) -> Result<String, Fail> {
 }
 
 /// All rows of a service's campaign, as `Debug` prints them.
-pub(crate) fn rows_in(alloc: Global, service: &impl Served) -> Result<String, Fail> {
+pub(crate) fn rows_in(alloc: Global, service: &impl AnyService) -> Result<String, Fail> {
     rows_of(alloc, service.campaign().ok_or("closed")?)
 }
 
@@ -76,7 +83,7 @@ pub(crate) fn rows_in(alloc: Global, service: &impl Served) -> Result<String, Fa
 fn rows_after(
     rt: &impl Abort,
     alloc: Global,
-    service: &mut impl Served,
+    service: &mut impl AnyService,
     steps: &[Step],
 ) -> Result<String, Fail> {
     follow(rt, alloc, service, steps)?;
@@ -87,23 +94,23 @@ fn rows_after(
 pub(crate) fn assert_rows(
     rt: &impl Abort,
     alloc: Global,
-    service: &impl Served,
+    service: &impl AnyService,
     rows: &str,
 ) -> Result<(), Fail> {
-    let told = rows_in(alloc, service)?;
-    assert_text(rt, told.as_str(), rows);
+    let actual = rows_in(alloc, service)?;
+    assert_text(rt, actual.as_str(), rows);
     Ok(())
 }
 
-/// The service of the campaign that is founded in a database of a world text; if that is None, the
-/// stored campaign is opened.
-fn served<S: Alter + Drop>(
+/// The service of a database's campaign, which is founded from the world text `world`, or opened if
+/// that is None.
+fn service_of<S: Alter + Drop>(
     alloc: Global,
     conn: Connection<S>,
     world: Option<&str>,
 ) -> Result<Service<S>, Fail> {
     match world {
-        Some(world) => begun(alloc, conn, world),
+        Some(world) => found_service(alloc, conn, world),
         None => opened(alloc, conn),
     }
 }
@@ -117,7 +124,7 @@ fn played<S: Alter + Drop>(
     session: &Session,
     rows: &str,
 ) -> Result<(String, Connection<S>), Fail> {
-    let mut service = served(alloc, conn, session.world)?;
+    let mut service = service_of(alloc, conn, session.world)?;
     if !rows.is_empty() {
         assert_rows(rt, alloc, &service, rows)?;
     }
@@ -131,7 +138,7 @@ fn played<S: Alter + Drop>(
 
 /// Plays sessions on one connection, each with the rows that the one before left; the result is the
 /// rows at the end, and the connection.
-fn on_connection(
+fn play_on_connection(
     rt: &impl Abort,
     alloc: Global,
     sessions: &[Session],
@@ -145,7 +152,7 @@ fn on_connection(
 }
 
 /// Plays sessions in files that are closed and opened between one session and the next.
-pub(crate) fn in_files<D: Disk + Drop>(
+pub(crate) fn play_in_files<D: Disk + Drop>(
     rt: &impl Abort,
     alloc: Global,
     files: Files<D>,
@@ -155,8 +162,8 @@ pub(crate) fn in_files<D: Disk + Drop>(
     let mut rows = String::new(alloc);
     for session in sessions {
         let conn = connected(alloc, files)?;
-        let (told, conn) = played(rt, alloc, conn, session, rows.as_str())?;
-        rows = told;
+        let (actual, conn) = played(rt, alloc, conn, session, rows.as_str())?;
+        rows = actual;
         files = conn.into_store().close();
     }
     Ok(())
@@ -199,9 +206,9 @@ fn assert_campaign(
 }
 
 /// Two sessions: one closes month 1, and one finds it closed.
-static MONTH_STANDS: [Session; 2] = [
+static MONTH_STAYS_CLOSED: [Session; 2] = [
     Session {
-        world: Some(SMALL),
+        world: Some(SMALL_WORLD),
         steps: &A_MONTH,
         by_hand: "",
         after: &[],
@@ -216,9 +223,9 @@ static MONTH_STANDS: [Session; 2] = [
 
 /// Asserts that neither a second closing nor another founding changes a row after a month was
 /// closed.
-fn a_month_stands(rt: &impl Abort, alloc: Global) -> Result<(), Fail> {
-    let (rows, conn) = on_connection(rt, alloc, &MONTH_STANDS)?;
-    let conn = assert_refused(rt, found(alloc, conn, SMALL, b"gm"), "not empty");
+fn assert_month_stays_closed(rt: &impl Abort, alloc: Global) -> Result<(), Fail> {
+    let (rows, conn) = play_on_connection(rt, alloc, &MONTH_STAYS_CLOSED)?;
+    let conn = assert_refused(rt, found(alloc, conn, SMALL_WORLD, b"gm"), "not empty");
     assert_campaign(rt, alloc, conn, rows.as_str())
 }
 
@@ -226,14 +233,14 @@ fn a_month_stands(rt: &impl Abort, alloc: Global) -> Result<(), Fail> {
 /// again.
 #[test]
 fn a_closed_month_is_opened_again(rt: HostRuntime) -> Result<(), Fail> {
-    a_month_stands(&rt, rt.alloc())
+    assert_month_stays_closed(&rt, rt.alloc())
 }
 
 /// Sessions in which a campaign is founded and Avalon joins, is opened and Bree joins, and is
 /// opened once more.
-static COMES_BACK: [Session; 3] = [
+static REOPENED_TWICE: [Session; 3] = [
     Session {
-        world: Some(SMALL),
+        world: Some(SMALL_WORLD),
         steps: &AVALON_COMES,
         by_hand: "",
         after: &[],
@@ -254,22 +261,22 @@ static COMES_BACK: [Session; 3] = [
 
 /// Asserts that a campaign is opened twice on its connection, and that no second campaign is
 /// founded there.
-fn comes_back(rt: &impl Abort, alloc: Global) -> Result<(), Fail> {
-    let (_, conn) = on_connection(rt, alloc, &COMES_BACK)?;
-    assert_refused(rt, found(alloc, conn, SMALL, b"gm"), "not empty");
+fn assert_reopened_twice(rt: &impl Abort, alloc: Global) -> Result<(), Fail> {
+    let (_, conn) = play_on_connection(rt, alloc, &REOPENED_TWICE)?;
+    assert_refused(rt, found(alloc, conn, SMALL_WORLD, b"gm"), "not empty");
     Ok(())
 }
 
 /// A campaign opened again on its connection has the rows that it had before.
 #[test]
 fn a_campaign_is_opened_on_its_connection(rt: HostRuntime) -> Result<(), Fail> {
-    comes_back(&rt, rt.alloc())
+    assert_reopened_twice(&rt, rt.alloc())
 }
 
 /// A campaign opened again from its files has the rows that it had before.
 #[test]
 fn a_campaign_is_opened_from_its_files(rt: HostRuntime) -> Result<(), Fail> {
-    in_files(&rt, rt.alloc(), new_files(rt.alloc()), &COMES_BACK)
+    play_in_files(&rt, rt.alloc(), new_files(rt.alloc()), &REOPENED_TWICE)
 }
 
 /// SQL that adds a person's own table with an index to the database: `notes`, which has one note.
@@ -286,10 +293,10 @@ pub(crate) const NOTED: [(&str, Option<i64>); 2] = [
     ),
 ];
 
-/// The sessions of `COMES_BACK`, in a database with a table of a person's own.
+/// The sessions of `REOPENED_TWICE`, in a database with a table of a person's own.
 static WITH_NOTES: [Session; 3] = [
     Session {
-        world: Some(SMALL),
+        world: Some(SMALL_WORLD),
         steps: &AVALON_COMES,
         by_hand: NOTES,
         after: &NOTED,
@@ -311,5 +318,5 @@ static WITH_NOTES: [Session; 3] = [
 /// A table that a person added to the database stays as it is.
 #[test]
 fn a_table_of_a_persons_own_is_carried_along(rt: HostRuntime) -> Result<(), Fail> {
-    in_files(&rt, rt.alloc(), new_files(rt.alloc()), &WITH_NOTES)
+    play_in_files(&rt, rt.alloc(), new_files(rt.alloc()), &WITH_NOTES)
 }

@@ -1,10 +1,10 @@
 //! Tests of months with orders: one that forms a unit without recruits, and one in which a faction
 //! quits.
 use super::closing::MONTH_ONE;
-use super::commands::AVALON;
-use super::script::{Asked, Step, plays};
+use super::commands::JOIN_OF_AVALON;
+use super::script::{CommandSpec, Step, plays};
 use super::tables::{FACTIONS, MAILINGS, MONEY, MONTH, NEXT, REGION_MONEY, UNITS};
-use atl_test_worlds::{SMALL, THREE_PEASANTS};
+use atl_test_worlds::{SMALL_WORLD, THREE_PEASANTS};
 use std::test::Fail;
 
 /// The mailing by which unit 1 forms a unit that is to recruit 2 men, and pays it 100. Three
@@ -32,10 +32,10 @@ Exits: none.
 
 /// The steps of the month with FORM: a join, the mailing, the closing and the report.
 static NOBODY_COMES: [Step; 5] = [
-    Step::Joined(AVALON, 1, 1),
-    Step::Mailed(Asked::Mail(1, "pw", FORMED), 3, &[]),
+    Step::Joined(JOIN_OF_AVALON, 1, 1),
+    Step::Mailed(CommandSpec::Mail(1, "pw", FORMED), 3, &[]),
     Step::Closed(MONTH_ONE, 1),
-    Step::Told(Asked::Report(1, "pw"), AFTER_FORMING),
+    Step::Answers(CommandSpec::Report(1, "pw"), AFTER_FORMING),
     Step::Numbers(2, 3, 1),
 ];
 
@@ -88,11 +88,11 @@ people total 1000
 /// The steps of a month in which the faction quits; afterwards its mail is refused, and its report
 /// is still answered.
 static IT_QUITS: [Step; 6] = [
-    Step::Joined(AVALON, 1, 1),
-    Step::Mailed(Asked::Mail(1, "pw", QUITS), 2, &[]),
+    Step::Joined(JOIN_OF_AVALON, 1, 1),
+    Step::Mailed(CommandSpec::Mail(1, "pw", QUITS), 2, &[]),
     Step::Closed(MONTH_ONE, 1),
-    Step::Told(Asked::Mail(1, "pw", QUITS), "gone"),
-    Step::Told(Asked::Report(1, "pw"), AFTER_QUITTING),
+    Step::Answers(CommandSpec::Mail(1, "pw", QUITS), "gone"),
+    Step::Answers(CommandSpec::Report(1, "pw"), AFTER_QUITTING),
     Step::Books(BOOKS_AFTER_QUITTING),
 ];
 
@@ -107,5 +107,5 @@ static AFTER_IT_QUIT: [(&str, Option<i64>); 4] = [
 /// A faction that quits is gone after the month: its mail is refused, and its report stays.
 #[test]
 fn a_faction_quits(rt: HostRuntime) -> Result<(), Fail> {
-    plays(&rt, rt.alloc(), SMALL, &IT_QUITS, &AFTER_IT_QUIT)
+    plays(&rt, rt.alloc(), SMALL_WORLD, &IT_QUITS, &AFTER_IT_QUIT)
 }

@@ -1,47 +1,47 @@
 //! Tests of refused joins and reports, which change nothing, and of the numbers of refusals.
-use super::commands::{AVALON, FIRST_REPORT};
+use super::commands::{FIRST_REPORT, JOIN_OF_AVALON};
 use super::compare::assert_number;
-use super::script::{Asked, Step, plays};
+use super::script::{CommandSpec, Step, plays};
 use super::tables::AFTER_JOINING;
-use super::unchanged::{EVERY_TABLE, refuses};
+use super::unchanged::{EVERY_TABLE, assert_unchanged};
 use atl_service::Refusal;
-use atl_test_worlds::SMALL;
+use atl_test_worlds::SMALL_WORLD;
 use std::test::Fail;
 
 /// The one step by which Avalon joins.
-static JOINS_ONCE: [Step; 1] = [Step::Told(AVALON, "joined")];
+static JOINS_ONCE: [Step; 1] = [Step::Answers(JOIN_OF_AVALON, "joined")];
 
 /// Steps in which Avalon joins, and is refused the second time.
 static JOINS_TWICE: [Step; 5] = [
-    Step::Told(AVALON, "joined"),
+    Step::Answers(JOIN_OF_AVALON, "joined"),
     Step::Numbers(2, 2, 1),
-    Step::Told(AVALON, "name taken"),
+    Step::Answers(JOIN_OF_AVALON, "name taken"),
     Step::Numbers(2, 2, 1),
-    Step::Told(Asked::Report(1, "pw"), FIRST_REPORT),
+    Step::Answers(CommandSpec::Report(1, "pw"), FIRST_REPORT),
 ];
 
 /// A second join under the name Avalon is refused.
 #[test]
 fn a_name_is_taken_once(rt: HostRuntime) -> Result<(), Fail> {
-    plays(&rt, rt.alloc(), SMALL, &JOINS_ONCE, &AFTER_JOINING)?;
-    plays(&rt, rt.alloc(), SMALL, &JOINS_TWICE, &AFTER_JOINING)
+    plays(&rt, rt.alloc(), SMALL_WORLD, &JOINS_ONCE, &AFTER_JOINING)?;
+    plays(&rt, rt.alloc(), SMALL_WORLD, &JOINS_TWICE, &AFTER_JOINING)
 }
 
 /// Joins and reports that are refused, each with its refusal, in the campaign that the SQL
 /// `EVERY_TABLE` makes, where no unit number is left and Bree is gone.
 static REFUSED: [Step; 6] = [
-    Step::Told(Asked::Join(" x", "a b", 0), "bad name"),
-    Step::Told(Asked::Join("Avalon", "a b", 0), "bad pass text"),
-    Step::Told(AVALON, "name taken"),
-    Step::Told(Asked::Join("Cork", "pc", 0), "full"),
-    Step::Told(Asked::Report(9, "no"), "no faction"),
-    Step::Told(Asked::Report(1, "no"), "wrong pass"),
+    Step::Answers(CommandSpec::Join(" x", "a b", 0), "bad name"),
+    Step::Answers(CommandSpec::Join("Avalon", "a b", 0), "bad pass text"),
+    Step::Answers(JOIN_OF_AVALON, "name taken"),
+    Step::Answers(CommandSpec::Join("Cork", "pc", 0), "full"),
+    Step::Answers(CommandSpec::Report(9, "no"), "no faction"),
+    Step::Answers(CommandSpec::Report(1, "no"), "wrong pass"),
 ];
 
 /// Refused joins and reports change no row, neither of the campaign nor of the tables.
 #[test]
 fn refused_joinings_and_reports_change_nothing(rt: HostRuntime) -> Result<(), Fail> {
-    refuses(&rt, rt.alloc(), EVERY_TABLE, &REFUSED)
+    assert_unchanged(&rt, rt.alloc(), EVERY_TABLE, &REFUSED)
 }
 
 /// Each refusal and its number.

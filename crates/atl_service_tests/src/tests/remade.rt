@@ -1,7 +1,7 @@
 //! Tests that a file that sqlite3 wrote, after ANALYZE, REINDEX and VACUUM and with a table and an
 //! index of one's own, is opened.
 use super::files::new_files;
-use super::opening::{BOTH_ARE_THERE, BREE_COMES, NOTED, Session, in_files};
+use super::opening::{BOTH_ARE_THERE, BREE_COMES, NOTED, Session, play_in_files};
 use super::script::Step;
 use sqlite_disk::{Disk, Files, Memory};
 use std::alloc::Global;
@@ -158,5 +158,5 @@ static GOES_ON: [Session; 3] = [
 /// A file that sqlite3 wrote is opened, played on, and opened once more.
 #[test]
 fn a_database_that_sqlite3_wrote_is_opened(rt: HostRuntime) -> Result<(), Fail> {
-    in_files(&rt, rt.alloc(), remade(rt.alloc())?, &GOES_ON)
+    play_in_files(&rt, rt.alloc(), remade(rt.alloc())?, &GOES_ON)
 }

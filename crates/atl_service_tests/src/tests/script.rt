@@ -1,8 +1,10 @@
 //! Tables of steps: commands with their wanted answers, and what the campaign must then be. Plays
 //! them and asserts each.
 use super::compare::{assert_count, assert_number, assert_text};
-use super::making::{begun_in_memory, close, filled, join, long_mail, mail, report, told};
-use super::serving::Served;
+use super::making::{
+    answer_text, close, found_in_memory, join, long_mail, mail, open_after_sql, report,
+};
+use super::serving::AnyService;
 use super::tables::assert_tables;
 use atl_service::{Answer, Command};
 use std::alloc::Global;
@@ -10,7 +12,7 @@ use std::process::Abort;
 use std::test::Fail;
 
 /// A command to run, with the texts and numbers that it is made of.
-pub(crate) enum Asked {
+pub(crate) enum CommandSpec {
     /// A name, a pass text and a dice word.
     Join(&'static str, &'static str, u32),
     /// A faction, its pass text and a mailing.
@@ -25,15 +27,15 @@ pub(crate) enum Asked {
 
 /// A command with its wanted answer, or something to assert of the campaign.
 pub(crate) enum Step {
-    /// A command, and its answer in words (`told` of `making`).
-    Told(Asked, &'static str),
+    /// A command, and its answer in words (`answer_text` of `making`).
+    Answers(CommandSpec, &'static str),
     /// A join, and the numbers of the faction and the unit in its answer.
-    Joined(Asked, u32, u32),
+    Joined(CommandSpec, u32, u32),
     /// A mailing that is stored: how many orders it has, and its faulty lines with the numbers of
     /// their faults.
-    Mailed(Asked, usize, &'static [(u32, u32)]),
+    Mailed(CommandSpec, usize, &'static [(u32, u32)]),
     /// A closing, and the month that it answers and that the campaign then has.
-    Closed(Asked, u32),
+    Closed(CommandSpec, u32),
     /// The month last closed.
     Month(u32),
     /// The numbers of the faction and the unit that come next, and how many units there are.
@@ -44,21 +46,21 @@ pub(crate) enum Step {
     Books(&'static str),
 }
 
-/// The command that an `Asked` describes.
-fn command_of(alloc: Global, asked: &Asked) -> Result<Command, Fail> {
+/// The command that an `CommandSpec` describes.
+fn command_of(alloc: Global, asked: &CommandSpec) -> Result<Command, Fail> {
     match asked {
-        Asked::Join(name, pass, word) => join(alloc, name, pass, *word),
-        Asked::Mail(faction, pass, text) => mail(alloc, *faction, pass, text),
-        Asked::LongMail(pass, feeds) => long_mail(alloc, pass, *feeds),
-        Asked::Close(month, pass, words) => close(alloc, *month, pass, words),
-        Asked::Report(faction, pass) => report(alloc, *faction, pass),
+        CommandSpec::Join(name, pass, word) => join(alloc, name, pass, *word),
+        CommandSpec::Mail(faction, pass, text) => mail(alloc, *faction, pass, text),
+        CommandSpec::LongMail(pass, feeds) => long_mail(alloc, pass, *feeds),
+        CommandSpec::Close(month, pass, words) => close(alloc, *month, pass, words),
+        CommandSpec::Report(faction, pass) => report(alloc, *faction, pass),
     }
 }
 
 /// The command of a step, or None if it only asserts something.
-fn asked_by(step: &Step) -> Option<&Asked> {
+fn command_in(step: &Step) -> Option<&CommandSpec> {
     match step {
-        Step::Told(asked, _)
+        Step::Answers(asked, _)
         | Step::Joined(asked, _, _)
         | Step::Mailed(asked, _, _)
         | Step::Closed(asked, _) => Some(asked),
@@ -69,7 +71,7 @@ fn asked_by(step: &Step) -> Option<&Asked> {
 /// Appends to `commands` the command of each step that has one.
 fn fill(alloc: Global, commands: &mut Vec<Command>, steps: &[Step]) -> Result<(), Fail> {
     for step in steps {
-        if let Some(asked) = asked_by(step) {
+        if let Some(asked) = command_in(step) {
             commands.push(command_of(alloc, asked)?)?;
         }
     }
@@ -83,8 +85,12 @@ pub(crate) fn commands_of(alloc: Global, steps: &[Step]) -> Result<Vec<Command>,
     Ok(commands)
 }
 
-/// Runs the command that an `Asked` describes, and returns its answer.
-fn answered(alloc: Global, service: &mut impl Served, asked: &Asked) -> Result<Answer, Fail> {
+/// Runs the command that an `CommandSpec` describes, and returns its answer.
+fn answered(
+    alloc: Global,
+    service: &mut impl AnyService,
+    asked: &CommandSpec,
+) -> Result<Answer, Fail> {
     let command = command_of(alloc, asked)?;
     Ok(service.run(&command))
 }
@@ -107,9 +113,9 @@ fn is_mailed(rt: &impl Abort, answer: &Answer, wanted: usize, faulty: &[(u32, u3
         Answer::Mailed { orders, faults } => {
             assert_count(rt, *orders, wanted);
             assert_count(rt, faults.len(), faulty.len());
-            for (told, (line, fault)) in faults.as_slice().iter().zip(faulty.iter()) {
-                assert_number(rt, i64::from(told.line), i64::from(*line));
-                assert_number(rt, i64::from(told.fault.number()), i64::from(*fault));
+            for (actual, (line, fault)) in faults.as_slice().iter().zip(faulty.iter()) {
+                assert_number(rt, i64::from(actual.line), i64::from(*line));
+                assert_number(rt, i64::from(actual.fault.number()), i64::from(*fault));
             }
         }
         _ => assert!(rt; false),
@@ -125,7 +131,7 @@ fn is_closed(rt: &impl Abort, answer: &Answer, wanted: u32) {
 }
 
 /// Asserts that this month is the last that was closed in the service's campaign.
-fn has_month(rt: &impl Abort, service: &impl Served, month: u32) {
+fn has_month(rt: &impl Abort, service: &impl AnyService, month: u32) {
     match service.campaign() {
         Some(campaign) => assert_number(rt, i64::from(campaign.month()), i64::from(month)),
         None => assert!(rt; false),
@@ -133,7 +139,7 @@ fn has_month(rt: &impl Abort, service: &impl Served, month: u32) {
 }
 
 /// Asserts the numbers that the campaign's next faction and unit get, and how many units it has.
-fn has_numbers(rt: &impl Abort, service: &impl Served, faction: u32, unit: u32, units: usize) {
+fn has_numbers(rt: &impl Abort, service: &impl AnyService, faction: u32, unit: u32, units: usize) {
     match service.campaign() {
         Some(campaign) => {
             assert_number(rt, i64::from(campaign.next_faction()), i64::from(faction));
@@ -145,7 +151,7 @@ fn has_numbers(rt: &impl Abort, service: &impl Served, faction: u32, unit: u32, 
 }
 
 /// Asserts which mail of faction 1 the campaign keeps; None if it keeps none.
-fn keeps(rt: &impl Abort, service: &impl Served, text: &Option<&str>) {
+fn keeps(rt: &impl Abort, service: &impl AnyService, text: &Option<&str>) {
     match service.campaign() {
         Some(campaign) => match (campaign.mail_of(1), text) {
             (Some(kept), Some(text)) => assert!(rt; kept.as_slice() == text.as_bytes()),
@@ -157,7 +163,7 @@ fn keeps(rt: &impl Abort, service: &impl Served, text: &Option<&str>) {
 }
 
 /// Asserts the text of the books of the service's campaign.
-fn has_books(rt: &impl Abort, service: &impl Served, wanted: &str) -> Result<(), Fail> {
+fn has_books(rt: &impl Abort, service: &impl AnyService, wanted: &str) -> Result<(), Fail> {
     match service.books() {
         Some(text) => assert_text(rt, text?.as_str(), wanted),
         None => assert!(rt; false),
@@ -168,7 +174,7 @@ fn has_books(rt: &impl Abort, service: &impl Served, wanted: &str) -> Result<(),
 /// Asserts that the answer to the command of a step is the one that the step wants.
 pub(crate) fn assert_answer(rt: &impl Abort, answer: &Answer, step: &Step) {
     match step {
-        Step::Told(_, words) => assert_text(rt, told(answer), words),
+        Step::Answers(_, words) => assert_text(rt, answer_text(answer), words),
         Step::Joined(_, faction, unit) => has_joined(rt, answer, *faction, *unit),
         Step::Mailed(_, orders, faulty) => is_mailed(rt, answer, *orders, faulty),
         Step::Closed(_, month) => is_closed(rt, answer, *month),
@@ -177,7 +183,7 @@ pub(crate) fn assert_answer(rt: &impl Abort, answer: &Answer, step: &Step) {
 }
 
 /// Asserts what a step says of the service's campaign, if it says anything.
-fn assert_campaign(rt: &impl Abort, service: &impl Served, step: &Step) -> Result<(), Fail> {
+fn assert_campaign(rt: &impl Abort, service: &impl AnyService, step: &Step) -> Result<(), Fail> {
     match step {
         Step::Closed(_, month) | Step::Month(month) => has_month(rt, service, *month),
         Step::Numbers(faction, unit, units) => has_numbers(rt, service, *faction, *unit, *units),
@@ -190,13 +196,13 @@ fn assert_campaign(rt: &impl Abort, service: &impl Served, step: &Step) -> Resul
 
 /// Runs the command of a step, if it has one, and asserts the answer and what the step says of the
 /// campaign.
-fn take(
+fn run_step(
     rt: &impl Abort,
     alloc: Global,
-    service: &mut impl Served,
+    service: &mut impl AnyService,
     step: &Step,
 ) -> Result<(), Fail> {
-    if let Some(asked) = asked_by(step) {
+    if let Some(asked) = command_in(step) {
         let answer = answered(alloc, service, asked)?;
         assert_answer(rt, &answer, step);
     }
@@ -208,11 +214,11 @@ fn take(
 pub(crate) fn follow(
     rt: &impl Abort,
     alloc: Global,
-    service: &mut impl Served,
+    service: &mut impl AnyService,
     steps: &[Step],
 ) -> Result<(), Fail> {
     for step in steps {
-        take(rt, alloc, service, step)?;
+        run_step(rt, alloc, service, step)?;
     }
     Ok(())
 }
@@ -226,13 +232,14 @@ pub(crate) fn plays(
     steps: &[Step],
     rows: &[(&str, Option<i64>)],
 ) -> Result<(), Fail> {
-    let mut service = begun_in_memory(alloc, world)?;
+    let mut service = found_in_memory(alloc, world)?;
     let done = follow(rt, alloc, &mut service, steps);
     assert_tables(rt, &mut service.end(), rows);
     done
 }
 
-/// A world, SQL that adds rows after the founding, steps, and what the tables hold at the end.
+/// A campaign to play: its world, SQL that adds rows after the founding, steps, and what the tables
+/// hold at the end.
 #[derive(Clone, Copy)]
 pub(crate) struct Course {
     pub(crate) world: &'static str,
@@ -244,8 +251,8 @@ pub(crate) struct Course {
 /// Plays a course in memory, and asserts all that it wants; the campaign is opened again after the
 /// rows are added.
 pub(crate) fn plays_course(rt: &impl Abort, alloc: Global, course: &Course) -> Result<(), Fail> {
-    let conn = begun_in_memory(alloc, course.world)?.end();
-    let mut service = filled(alloc, conn, course.rows)?;
+    let conn = found_in_memory(alloc, course.world)?.end();
+    let mut service = open_after_sql(alloc, conn, course.rows)?;
     let done = follow(rt, alloc, &mut service, course.steps);
     assert_tables(rt, &mut service.end(), course.after);
     done

@@ -7,7 +7,7 @@ use std::alloc::AllocError;
 use std::test::Fail;
 
 /// A service that runs commands, and shows its campaign and the text of the books.
-pub(crate) trait Served {
+pub(crate) trait AnyService {
     /// Runs one command, and returns its answer.
     fn run(&mut self, command: &Command) -> Answer;
 
@@ -22,7 +22,7 @@ pub(crate) trait Served {
 }
 
 /// A service over any store makes each call by its own call of that name.
-impl<S: Alter> Served for Service<S> {
+impl<S: Alter> AnyService for Service<S> {
     /// Runs one command, by the call of the service.
     fn run(&mut self, command: &Command) -> Answer {
         Service::run(self, command)
@@ -44,12 +44,12 @@ impl<S: Alter> Served for Service<S> {
     }
 }
 
-/// A database that answers queries with a number, and takes statements.
+/// A database that answers queries with a number, and runs SQL statements.
 pub(crate) trait Tables {
     /// The number that a query returns, if it returns one.
     fn number(&mut self, sql: &str) -> Option<i64>;
 
-    /// Runs statements.
+    /// Runs SQL statements.
     fn change(&mut self, sql: &str) -> Result<(), Fail>;
 }
 
@@ -63,7 +63,7 @@ impl<S: Alter> Tables for Connection<S> {
         }
     }
 
-    /// Runs statements on the connection.
+    /// Runs SQL statements on the connection.
     fn change(&mut self, sql: &str) -> Result<(), Fail> {
         self.execute_batch(sql)?;
         Ok(())

@@ -8,16 +8,16 @@ use super::compare::{assert_count, assert_number, assert_numbers, assert_text, a
 use atl_campaign::{BooksEntry, Campaign, MOST_UNITS, Thing, founded};
 use atl_report::{report_text, view};
 use atl_tables::read_world;
-use atl_test_worlds::SMALL;
+use atl_test_worlds::SMALL_WORLD;
 use atl_world::limits::MOST_REGIONS;
 use atl_world::{Text, World};
 use std::alloc::{AllocError, Global};
 use std::process::Abort;
 use std::test::Fail;
 
-/// The world that the text `SMALL` describes.
+/// The world that the text `SMALL_WORLD` describes.
 fn small_world(alloc: Global) -> Result<World, Fail> {
-    Ok(read_world(alloc, SMALL)?)
+    Ok(read_world(alloc, SMALL_WORLD)?)
 }
 
 /// The campaign of the small world just after its founding.

@@ -4,7 +4,7 @@ use super::damage::changed;
 use super::making::opened;
 use super::opening::{assert_rows, rows_in};
 use super::script::{Step, follow};
-use super::serving::Served;
+use super::serving::AnyService;
 use sqlite::{Alter, Connection, Row};
 use std::alloc::Global;
 use std::process::Abort;
@@ -63,7 +63,7 @@ pub(crate) fn assert_all_rows<S: Alter>(
 fn leaves_rows(
     rt: &impl Abort,
     alloc: Global,
-    service: &mut impl Served,
+    service: &mut impl AnyService,
     step: &Step,
 ) -> Result<(), Fail> {
     let rows = rows_in(alloc, service)?;
@@ -107,7 +107,7 @@ fn leave_all_rows<S: Alter + Drop>(
 /// Asserts the answer to each step, and that none changes a row of the campaign or of the tables.
 /// The steps run on the island with a market that Avalon and Bree have joined, after SQL
 /// statements.
-pub(crate) fn refuses(
+pub(crate) fn assert_unchanged(
     rt: &impl Abort,
     alloc: Global,
     sql: &str,

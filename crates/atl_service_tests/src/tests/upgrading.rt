@@ -1,15 +1,15 @@
 //! Tests of `upgrade`: a file of the first format is not opened, and is upgraded once
 //! (docs/FORMATS.md, "Upgrading a file").
-use super::commands::{AVALON, FAR_REPORT};
+use super::commands::{FAR_REPORT, JOIN_OF_AVALON};
 use super::founding::assert_refused;
-use super::making::{begun_in_memory, filled, opened};
+use super::making::{found_in_memory, open_after_sql, opened};
 use super::opening::{assert_rows, rows_in};
-use super::script::{Asked, Step, follow};
-use super::serving::{Served, Tables};
+use super::script::{CommandSpec, Step, follow};
+use super::serving::{AnyService, Tables};
 use super::tables::{FORMAT, STOCK, STOCKED, assert_tables};
 use atl_service::{open, upgrade};
 use atl_test_files::old_file;
-use atl_test_worlds::{ISLE, ISLE_WITH_MARKET, SMALL};
+use atl_test_worlds::{ISLE, ISLE_WITH_MARKET, SMALL_WORLD};
 use sqlite::{Connection, MemStore};
 use std::alloc::Global;
 use std::process::Abort;
@@ -20,14 +20,14 @@ use std::test::Fail;
 struct Story {
     before: &'static [Step],
     by_hand: &'static str,
-    behind: &'static [Step],
+    then: &'static [Step],
     after: &'static [(&'static str, Option<i64>)],
 }
 
 /// A file of the first format with the rows of a service's campaign, changed by SQL.
 fn written_old(
     alloc: Global,
-    service: &impl Served,
+    service: &impl AnyService,
     by_hand: &str,
 ) -> Result<Connection<MemStore>, Fail> {
     let mut conn = Connection::open_in_memory(alloc)?;
@@ -38,8 +38,12 @@ fn written_old(
 
 /// The file of a story before its upgrade, written from a campaign that was played in a database of
 /// its own.
-fn old(rt: &impl Abort, alloc: Global, story: &Story) -> Result<Connection<MemStore>, Fail> {
-    let mut service = begun_in_memory(alloc, ISLE)?;
+fn old_file_of(
+    rt: &impl Abort,
+    alloc: Global,
+    story: &Story,
+) -> Result<Connection<MemStore>, Fail> {
+    let mut service = found_in_memory(alloc, ISLE)?;
     follow(rt, alloc, &mut service, story.before)?;
     written_old(alloc, &service, story.by_hand)
 }
@@ -47,13 +51,13 @@ fn old(rt: &impl Abort, alloc: Global, story: &Story) -> Result<Connection<MemSt
 /// The rows that the upgraded campaign of a story must have: those that its first steps and its SQL
 /// make in the second format.
 fn rows_wanted(rt: &impl Abort, alloc: Global, story: &Story) -> Result<String, Fail> {
-    let mut service = begun_in_memory(alloc, ISLE)?;
+    let mut service = found_in_memory(alloc, ISLE)?;
     follow(rt, alloc, &mut service, story.before)?;
-    rows_in(alloc, &filled(alloc, service.end(), story.by_hand)?)
+    rows_in(alloc, &open_after_sql(alloc, service.end(), story.by_hand)?)
 }
 
 /// Asserts that a database isn't opened, and why; returns the connection.
-fn stays_shut(
+fn assert_not_opened(
     rt: &impl Abort,
     alloc: Global,
     conn: Connection<MemStore>,
@@ -63,7 +67,7 @@ fn stays_shut(
 }
 
 /// Asserts that a file isn't upgraded to a world text, and why; returns the connection.
-fn refuses(
+fn assert_not_upgraded(
     rt: &impl Abort,
     alloc: Global,
     conn: Connection<MemStore>,
@@ -75,15 +79,15 @@ fn refuses(
 
 /// Asserts that a file isn't opened, nor upgraded to two wrong world texts; then upgrades it, and
 /// asserts the campaign's rows.
-fn upgraded(
+fn assert_upgrade(
     rt: &impl Abort,
     alloc: Global,
     conn: Connection<MemStore>,
     rows: &str,
 ) -> Result<Connection<MemStore>, Fail> {
-    let conn = stays_shut(rt, alloc, conn, "old format");
-    let conn = refuses(rt, alloc, conn, SMALL, "differs");
-    let conn = refuses(rt, alloc, conn, "a = = b", "world");
+    let conn = assert_not_opened(rt, alloc, conn, "old format");
+    let conn = assert_not_upgraded(rt, alloc, conn, SMALL_WORLD, "differs");
+    let conn = assert_not_upgraded(rt, alloc, conn, "a = = b", "world");
     match upgrade(alloc, conn, ISLE_WITH_MARKET) {
         Ok(service) => {
             assert_rows(rt, alloc, &service, rows)?;
@@ -95,17 +99,17 @@ fn upgraded(
 
 /// Asserts that the upgraded file isn't upgraded again; opens it, and asserts the campaign's rows,
 /// the answers to the later steps, and the tables at the end.
-fn goes_on(
+fn assert_played_on(
     rt: &impl Abort,
     alloc: Global,
     conn: Connection<MemStore>,
     story: &Story,
     rows: &str,
 ) -> Result<(), Fail> {
-    let conn = refuses(rt, alloc, conn, ISLE_WITH_MARKET, "not old");
+    let conn = assert_not_upgraded(rt, alloc, conn, ISLE_WITH_MARKET, "not old");
     let mut service = opened(alloc, conn)?;
     assert_rows(rt, alloc, &service, rows)?;
-    let done = follow(rt, alloc, &mut service, story.behind);
+    let done = follow(rt, alloc, &mut service, story.then);
     assert_tables(rt, &mut service.end(), story.after);
     done
 }
@@ -113,14 +117,14 @@ fn goes_on(
 /// Asserts that the file of a story is upgraded and keeps its campaign's rows, and is opened and
 /// played on.
 fn is_upgraded(rt: &impl Abort, alloc: Global, story: &Story) -> Result<(), Fail> {
-    let conn = old(rt, alloc, story)?;
+    let conn = old_file_of(rt, alloc, story)?;
     let rows = rows_wanted(rt, alloc, story)?;
-    let conn = upgraded(rt, alloc, conn, rows.as_str())?;
-    goes_on(rt, alloc, conn, story, rows.as_str())
+    let conn = assert_upgrade(rt, alloc, conn, rows.as_str())?;
+    assert_played_on(rt, alloc, conn, story, rows.as_str())
 }
 
 /// The one step by which Avalon joins in the island's third region.
-const FAR_JOINS: [Step; 1] = [Step::Joined(Asked::Join("Avalon", "pw", 1), 1, 1)];
+const FAR_JOINS: [Step; 1] = [Step::Joined(CommandSpec::Join("Avalon", "pw", 1), 1, 1)];
 
 /// Avalon's report on month 1: its unit is in the third region, and the market in the first, so BUY
 /// has a fault.
@@ -134,19 +138,19 @@ Exits: north 4, west 2.
 ";
 
 /// The command that closes month 1 of the island.
-const MONTH_ONE: Asked = Asked::Close(1, "gm", &[0, 0, 0, 0]);
+const MONTH_ONE: CommandSpec = CommandSpec::Close(1, "gm", &[0, 0, 0, 0]);
 
 /// Steps after the upgrade: the report stored before is still answered; then a unit tries to buy,
 /// and a month is closed.
 const BUYS_NOTHING: [Step; 4] = [
-    Step::Told(Asked::Report(1, "pw"), FAR_REPORT),
+    Step::Answers(CommandSpec::Report(1, "pw"), FAR_REPORT),
     Step::Mailed(
-        Asked::Mail(1, "pw", "#ATLANTIS 1\nUNIT 1\nBUY 1 wood\n"),
+        CommandSpec::Mail(1, "pw", "#ATLANTIS 1\nUNIT 1\nBUY 1 wood\n"),
         1,
         &[],
     ),
     Step::Closed(MONTH_ONE, 1),
-    Step::Told(Asked::Report(1, "pw"), AFTER_BUYING),
+    Step::Answers(CommandSpec::Report(1, "pw"), AFTER_BUYING),
 ];
 
 /// SELECTs and what they return after the month in which nothing is bought.
@@ -160,7 +164,7 @@ const AFTER_NOTHING: [(&str, Option<i64>); 3] = [
 static FAR_FROM_MARKET: Story = Story {
     before: &FAR_JOINS,
     by_hand: "",
-    behind: &BUYS_NOTHING,
+    then: &BUYS_NOTHING,
     after: &AFTER_NOTHING,
 };
 
@@ -169,8 +173,8 @@ const SELLS: &str = "#ATLANTIS 1\nUNIT 1\nSELL 3 wood\n";
 
 /// Steps before the upgrade: Avalon joins, and sends a mailing with SELL.
 const SENDS_EARLY: [Step; 2] = [
-    Step::Joined(AVALON, 1, 1),
-    Step::Mailed(Asked::Mail(1, "pw", SELLS), 1, &[]),
+    Step::Joined(JOIN_OF_AVALON, 1, 1),
+    Step::Mailed(CommandSpec::Mail(1, "pw", SELLS), 1, &[]),
 ];
 
 /// SQL that gives 4 wood to unit 1, booked under Joining.
@@ -208,7 +212,7 @@ item \"cart\" total 0
 const SELLS_THREE: [Step; 4] = [
     Step::Keeps(Some(SELLS)),
     Step::Closed(MONTH_ONE, 1),
-    Step::Told(Asked::Report(1, "pw"), AFTER_SELLING),
+    Step::Answers(CommandSpec::Report(1, "pw"), AFTER_SELLING),
     Step::Books(BOOKS_AFTER_SELLING),
 ];
 
@@ -219,7 +223,7 @@ const AFTER_THREE: [(&str, Option<i64>); 2] = [(STOCKED, Some(1)), (STOCK, Some(
 static WITH_EARLY_MAIL: Story = Story {
     before: &SENDS_EARLY,
     by_hand: HAS_WOOD,
-    behind: &SELLS_THREE,
+    then: &SELLS_THREE,
     after: &AFTER_THREE,
 };
 
@@ -251,11 +255,11 @@ static REFUSED: [(&str, &str, &str); 8] = [
 /// Asserts for a row of `REFUSED` that the changed file is neither opened nor upgraded, and why.
 fn is_shut(rt: &impl Abort, alloc: Global, refused: &(&str, &str, &str)) -> Result<(), Fail> {
     let (sql, opening, upgrade) = *refused;
-    let mut conn = old(rt, alloc, &FAR_FROM_MARKET)?;
+    let mut conn = old_file_of(rt, alloc, &FAR_FROM_MARKET)?;
     conn.change(sql)?;
-    let conn = stays_shut(rt, alloc, conn, opening);
-    let conn = refuses(rt, alloc, conn, ISLE_WITH_MARKET, upgrade);
-    stays_shut(rt, alloc, conn, opening);
+    let conn = assert_not_opened(rt, alloc, conn, opening);
+    let conn = assert_not_upgraded(rt, alloc, conn, ISLE_WITH_MARKET, upgrade);
+    assert_not_opened(rt, alloc, conn, opening);
     Ok(())
 }
 
@@ -270,6 +274,6 @@ fn are_shut(rt: &impl Abort, alloc: Global) -> Result<(), Fail> {
 /// A changed file of the first format is neither opened nor upgraded; the first failed check is
 /// reported.
 #[test]
-fn the_first_check_of_an_old_file_is_told(rt: HostRuntime) -> Result<(), Fail> {
+fn the_first_check_of_an_old_file_is_reported(rt: HostRuntime) -> Result<(), Fail> {
     are_shut(&rt, rt.alloc())
 }

@@ -1,13 +1,13 @@
 //! A test of a whole month, worked out by hand: ten units of two factions with every kind of order
 //! but SELL and BUY.
-use super::script::{Asked, Course, Step, plays_course};
+use super::script::{CommandSpec, Course, Step, plays_course};
 use super::tables::{MAILINGS, MONTH, NEXT, UNITS};
 use atl_test_worlds::ISLE;
 use std::test::Fail;
 
 /// SQL that adds two factions, ten units, and a boat with a unit of each; all that they hold is
 /// booked under Joining.
-const BEFORE: &str =
+const ROWS_BEFORE: &str =
     "INSERT INTO faction VALUES (1, 'Avalon', 'Avalon', 'pw', 0), (2, 'Bree', 'Bree', 'pb', 0);
 INSERT INTO report VALUES (1, 'A report.'), (2, 'A report.');
 INSERT INTO unit VALUES (1, 1, 'Unit 1', 1, 0, 5, 100, 1), (2, 1, 'Unit 2', 1, 0, 4, 60, 0),
@@ -67,7 +67,7 @@ QUIT 1
 /// that it forms. With 3 men it takes 30 of 500 money in tax, so it can pay for one recruit, and 4
 /// men earn 48. Unit 2 pays 10 for each of its 4 men and gets 30 days for each and 30 more, as all
 /// are taught. The 40 men of two factions who can make wood share 20. Each man costs 10 of upkeep.
-const TOLD_AVALON: &str = "Atlantis report, month 1, faction 1 \"Avalon\".
+const REPORT_FOR_AVALON: &str = "Atlantis report, month 1, faction 1 \"Avalon\".
 Orders:
 Unit 1, line 4, FORM: done 11.
 Unit 1, line 3, NAME: done 0.
@@ -108,7 +108,7 @@ Structure 2 \"Ship 2\", boat, 3 of 10, owner 6.
 
 /// Bree's report on the month. There are no jobs at sea. Unit 10 has 14 money for two men, so one
 /// of them starves.
-const TOLD_BREE: &str = "Atlantis report, month 1, faction 2 \"Bree\".
+const REPORT_FOR_BREE: &str = "Atlantis report, month 1, faction 2 \"Bree\".
 Orders:
 Unit 8, line 3, LEAVE: done 0.
 Unit 8, line 4, ENTER: done 0.
@@ -137,7 +137,7 @@ Exits: south 3.
 ";
 
 /// The text of the books after the month of ten units.
-const BOOKED: &str = "money founding 650
+const BOOKS_AFTER_MONTH: &str = "money founding 650
 money joining 914
 money income 1299
 money wages 72
@@ -158,12 +158,12 @@ item \"cart\" total 0
 
 /// The steps of the month of ten units: both mailings, the closing, both reports and the books.
 const MONTH_OF_ORDERS: [Step; 6] = [
-    Step::Mailed(Asked::Mail(2, "pb", OF_BREE), 7, &[]),
-    Step::Mailed(Asked::Mail(1, "pw", OF_AVALON), 16, &[]),
-    Step::Closed(Asked::Close(1, "gm", &[0, 0, 0, 0]), 1),
-    Step::Told(Asked::Report(1, "pw"), TOLD_AVALON),
-    Step::Told(Asked::Report(2, "pb"), TOLD_BREE),
-    Step::Books(BOOKED),
+    Step::Mailed(CommandSpec::Mail(2, "pb", OF_BREE), 7, &[]),
+    Step::Mailed(CommandSpec::Mail(1, "pw", OF_AVALON), 16, &[]),
+    Step::Closed(CommandSpec::Close(1, "gm", &[0, 0, 0, 0]), 1),
+    Step::Answers(CommandSpec::Report(1, "pw"), REPORT_FOR_AVALON),
+    Step::Answers(CommandSpec::Report(2, "pb"), REPORT_FOR_BREE),
+    Step::Books(BOOKS_AFTER_MONTH),
 ];
 
 /// SELECTs and what they return after the month of ten units.
@@ -177,7 +177,7 @@ const AFTER_MONTH_OF_TEN: [(&str, Option<i64>); 4] = [
 /// The course of the month of ten units: its world, rows, steps, and the tables afterwards.
 static MONTH_OF_TEN: Course = Course {
     world: ISLE,
-    rows: BEFORE,
+    rows: ROWS_BEFORE,
     steps: &MONTH_OF_ORDERS,
     after: &AFTER_MONTH_OF_TEN,
 };

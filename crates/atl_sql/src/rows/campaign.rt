@@ -6,9 +6,9 @@ ghost use Rattle.atl_sql.specs.Tables.{Own, campaign_table};
 ghost use Rattle.atl_sql.specs.Written.{head_shown};
 ghost use Rattle.atl_sql.specs.PutsCampaignRow.{PutsCampaignRow, UpgradesCampaignRow};
 ghost use Rattle.atl_sql.specs.Shown.{campaign_row_values, campaign_row_stored, campaign_row_forms, campaign_stored, campaign_forms};
-ghost use Rattle.atl_sql.specs.Statements.{campaign_upsert, selection, upgrading_upsert, Only};
+ghost use Rattle.atl_sql.specs.Statements.{campaign_upsert, selection, upgrading_upsert, OneStatement};
 ghost use Rattle.atl_sql.specs.Writes.{Writes};
-ghost use Rattle.atl_sql.specs.Inside.{Inside, HasTables};
+ghost use Rattle.atl_sql.specs.Inside.{DoesInside, HasTables};
 ghost use Rattle.atl_sql.specs.Reading.{Asks};
 
 use crate::fault::ReadFault;
@@ -44,8 +44,8 @@ pub fn put_campaign<S: Alter>(
     world: &str,
 ) -> Result<(), Error>
     ensures { Writes S.Store
-        (Only campaign_upsert (campaign_row_values (head_shown row.now) world.now))
-        (Inside HasTables (PutsCampaignRow (head_shown row.now) world.now)) result tx.old.conn
+        (OneStatement campaign_upsert (campaign_row_values (head_shown row.now) world.now))
+        (DoesInside HasTables (PutsCampaignRow (head_shown row.now) world.now)) result tx.old.conn
         tx.new.conn }
 {
     run(
@@ -70,8 +70,9 @@ pub fn put_upgraded<S: Alter>(
     world: &str,
 ) -> Result<(), Error>
     ensures { Writes S.Store
-        (Only upgrading_upsert (campaign_row_values (head_shown row.now) world.now))
-        (Inside HasTables (UpgradesCampaignRow (head_shown row.now) world.now)) result tx.old.conn
+        (OneStatement upgrading_upsert (campaign_row_values (head_shown row.now) world.now))
+        (DoesInside HasTables (UpgradesCampaignRow (head_shown row.now) world.now)) result
+        tx.old.conn
         tx.new.conn }
 {
     run(
@@ -118,7 +119,7 @@ impl StoredCampaign {
 
 /// Reads all columns of a row of `campaign` but the world text; an error if a value is of another
 /// type, or if memory runs out.
-fn head(alloc: Global, row: &Row) -> Result<StoredCampaignRow, Error>
+fn parse_campaign_row(alloc: Global, row: &Row) -> Result<StoredCampaignRow, Error>
     ensures ok { IfOk result (λ head. campaign_row_stored head ≡ first_columns 7 row.now) }
     ensures typed { IfOk result (λ _. IsTyped campaign_row_forms row.now) }
     ensures other { IfErr result
@@ -145,14 +146,14 @@ impl Stored for StoredCampaign {
 
     /// Parses a row of `campaign`; an error if a value is of another type, or if memory runs out.
     fn from_row(alloc: Global, row: &Row) -> Result<StoredCampaign, Error> {
-        let head = head(alloc, row)?;
+        let head = parse_campaign_row(alloc, row)?;
         let world = utf8_text(row, 7)?;
         Ok(StoredCampaign { head, world })
     }
 }
 
 /// The SELECT of all columns of all rows of `campaign`, in the order of `id`.
-const ALL: &str =
+const SELECT_ALL: &str =
     "SELECT id, format, month, next_faction, next_unit, next_structure, pass, world FROM campaign ORDER BY id";
 
 /// Reads the rows of `campaign` as SQL shows them, whatever their values are. Nothing is changed.
@@ -161,7 +162,7 @@ pub fn select_campaign<S: Alter>(conn: &mut Connection<S>) -> Result<Vec<Row>, R
     requires { conn.old.in_transaction ≡ false }
     ensures { Asks S.Store (selection campaign_table 1) conn.old result conn.new }
 {
-    select(conn, ALL)
+    select(conn, SELECT_ALL)
 }
 
 /// Makes `campaign` a table that can be read, in the order of `id`.
@@ -173,6 +174,6 @@ impl HasSelect for StoredCampaign {
     /// The first format, since files of both formats have the table, and the SELECT of all rows of
     /// `campaign`.
     fn select_of() -> (Format, &'static str) {
-        (Format::First, ALL)
+        (Format::First, SELECT_ALL)
     }
 }

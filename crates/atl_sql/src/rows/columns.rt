@@ -3,7 +3,7 @@ ghost use Rattle.std.specs.Prelude.{◌≡◌, ◌+◌, ◌≤◌, IsTrue, not, 
 ghost use Rattle.sqlite.specs.declared.types.Value.TheVariants.{Int, Text, Blob};
 ghost use Rattle.sqlite.specs.Order.{column};
 ghost use Rattle.atl_sql.specs.Errors.{is_memory};
-ghost use Rattle.atl_sql.specs.Stored.{IsOf, Number, Utf8Text, TextBytes, Bytes};
+ghost use Rattle.atl_sql.specs.Stored.{HasForm, Number, Utf8Text, TextBytes, Bytes};
 
 use atl_world::Sequence;
 use sqlite::types::{Type, ValueRef};
@@ -14,7 +14,7 @@ use std::alloc::Global;
 pub(crate) fn integer(row: &Row, at: usize) -> Result<i64, Error>
     ensures ok { IfOk result (λ n. column row.now at ≡ Int n) }
     ensures other { IfErr result
-        (λ e. IsTrue (not (is_memory e)) → ¬ IsOf Number (column row.now at)) }
+        (λ e. IsTrue (not (is_memory e)) → ¬ HasForm Number (column row.now at)) }
 {
     let number = row.get(at)?;
     Ok(number)
@@ -24,7 +24,7 @@ pub(crate) fn integer(row: &Row, at: usize) -> Result<i64, Error>
 pub(crate) fn utf8_text(row: &Row, at: usize) -> Result<String, Error>
     ensures ok { IfOk result (λ s. column row.now at ≡ Text (string_bytes s)) }
     ensures other { IfErr result
-        (λ e. IsTrue (not (is_memory e)) → ¬ IsOf Utf8Text (column row.now at)) }
+        (λ e. IsTrue (not (is_memory e)) → ¬ HasForm Utf8Text (column row.now at)) }
 {
     let text = row.get(at)?;
     Ok(text)
@@ -35,7 +35,7 @@ pub(crate) fn utf8_text(row: &Row, at: usize) -> Result<String, Error>
 pub(crate) fn text_bytes(alloc: Global, row: &Row, at: usize) -> Result<Sequence<u8>, Error>
     ensures ok { IfOk result (λ b. column row.now at ≡ Text b) }
     ensures other { IfErr result
-        (λ e. IsTrue (not (is_memory e)) → ¬ IsOf TextBytes (column row.now at)) }
+        (λ e. IsTrue (not (is_memory e)) → ¬ HasForm TextBytes (column row.now at)) }
 {
     match row.get_ref(at)? {
         ValueRef::Text(text) => match Sequence::from_slice(alloc, text) {
@@ -50,7 +50,7 @@ pub(crate) fn text_bytes(alloc: Global, row: &Row, at: usize) -> Result<Sequence
 pub(crate) fn bytes(row: &Row, at: usize) -> Result<Sequence<u8>, Error>
     ensures ok { IfOk result (λ b. column row.now at ≡ Blob b) }
     ensures other { IfErr result
-        (λ e. IsTrue (not (is_memory e)) → ¬ IsOf Bytes (column row.now at)) }
+        (λ e. IsTrue (not (is_memory e)) → ¬ HasForm Bytes (column row.now at)) }
 {
     let bytes = row.get(at)?;
     Ok(Sequence::from_vec(bytes))
@@ -63,7 +63,7 @@ pub(crate) fn two_integers(row: &Row, first: usize) -> Result<(i64, i64), Error>
         (λ n. (column row.now first ≡ Int n.0) × (column row.now (first + 1) ≡ Int n.1)) }
     ensures other { IfErr result
         (λ e. IsTrue (not (is_memory e))
-        → ¬ (IsOf Number (column row.now first) × IsOf Number (column row.now (first + 1)))) }
+        → ¬ (HasForm Number (column row.now first) × HasForm Number (column row.now (first + 1)))) }
 {
     let one = integer(row, first)?;
     let two = integer(row, first + 1)?;
@@ -78,8 +78,8 @@ pub(crate) fn three_integers(row: &Row, first: usize) -> Result<(i64, i64, i64),
         × (column row.now (first + 2) ≡ Int n.2)) }
     ensures other { IfErr result
         (λ e. IsTrue (not (is_memory e))
-        → ¬ (IsOf Number (column row.now first) × IsOf Number (column row.now (first + 1))
-        × IsOf Number (column row.now (first + 2)))) }
+        → ¬ (HasForm Number (column row.now first) × HasForm Number (column row.now (first + 1))
+        × HasForm Number (column row.now (first + 2)))) }
 {
     let one = integer(row, first)?;
     let two = integer(row, first + 1)?;

@@ -1,7 +1,7 @@
 //! The rows of the table `faction`: a row for each faction, gone or not.
 ghost use Rattle.std.specs.Prelude.{refl};
 ghost use Rattle.atl_sql.specs.Tables.{Factions};
-ghost use Rattle.atl_sql.specs.Rows.{faction_line};
+ghost use Rattle.atl_sql.specs.Rows.{row_of_faction};
 ghost use Rattle.atl_sql.specs.Shown.{faction_stored, faction_forms};
 
 use crate::numbered_rows::{Mapped, NumberedRow};
@@ -20,7 +20,7 @@ impl NumberedRow for Faction {
 
     ghost is_numbered = { tt };
 
-    ghost line = { faction_line };
+    ghost line = { row_of_faction };
 
     ghost numbered = { λ n v. refl };
 
@@ -33,17 +33,17 @@ impl NumberedRow for Faction {
     ghost are_marked = { λ m r. refl };
 
     /// The faction with this number, gone or not; None if the campaign has none.
-    fn of(campaign: &Campaign, number: u32) -> Option<&Faction> {
+    fn find_value(campaign: &Campaign, number: u32) -> Option<&Faction> {
         campaign.faction(number)
     }
 
     /// The numbers of the factions whose rows are marked, in rising order.
-    fn marked(campaign: &Campaign) -> MarkedNumbers<'_> {
+    fn marked_numbers(campaign: &Campaign) -> MarkedNumbers<'_> {
         campaign.marked_factions()
     }
 
     /// The text of the DELETE of the row of `faction` with a given number.
-    fn removal() -> &'static str {
+    fn delete_text() -> &'static str {
         "DELETE FROM faction WHERE number = ?1"
     }
 

@@ -50,17 +50,17 @@ impl NumberedRow for Sequence<u8> {
     ghost are_marked = { λ m r. refl };
 
     /// The mailing of the faction with this number; None if it sent none.
-    fn of(campaign: &Campaign, number: u32) -> Option<&Sequence<u8>> {
+    fn find_value(campaign: &Campaign, number: u32) -> Option<&Sequence<u8>> {
         campaign.mail_of(number)
     }
 
     /// The numbers of the factions whose rows of `mail` are marked, in rising order.
-    fn marked(campaign: &Campaign) -> MarkedNumbers<'_> {
+    fn marked_numbers(campaign: &Campaign) -> MarkedNumbers<'_> {
         campaign.marked_mail()
     }
 
     /// The text of the DELETE of the row of `mail` with a given faction's number.
-    fn removal() -> &'static str {
+    fn delete_text() -> &'static str {
         "DELETE FROM mail WHERE faction = ?1"
     }
 

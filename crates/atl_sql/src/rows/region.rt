@@ -1,7 +1,7 @@
 //! The rows of the table `region`: a row for each region.
 ghost use Rattle.std.specs.Prelude.{refl};
 ghost use Rattle.atl_sql.specs.Tables.{Regions};
-ghost use Rattle.atl_sql.specs.Rows.{region_line};
+ghost use Rattle.atl_sql.specs.Rows.{row_of_region};
 ghost use Rattle.atl_sql.specs.Shown.{region_stored, region_forms};
 
 use crate::numbered_rows::{Mapped, NumberedRow};
@@ -20,7 +20,7 @@ impl NumberedRow for Region {
 
     ghost is_numbered = { tt };
 
-    ghost line = { region_line };
+    ghost line = { row_of_region };
 
     ghost numbered = { λ n v. refl };
 
@@ -33,17 +33,17 @@ impl NumberedRow for Region {
     ghost are_marked = { λ m r. refl };
 
     /// The region with this number; None if the campaign has none.
-    fn of(campaign: &Campaign, number: u32) -> Option<&Region> {
+    fn find_value(campaign: &Campaign, number: u32) -> Option<&Region> {
         campaign.region(number)
     }
 
     /// The numbers of the regions whose rows are marked, in rising order.
-    fn marked(campaign: &Campaign) -> MarkedNumbers<'_> {
+    fn marked_numbers(campaign: &Campaign) -> MarkedNumbers<'_> {
         campaign.marked_regions()
     }
 
     /// The text of the DELETE of the row of `region` with a given number.
-    fn removal() -> &'static str {
+    fn delete_text() -> &'static str {
         "DELETE FROM region WHERE number = ?1"
     }
 

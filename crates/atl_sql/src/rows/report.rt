@@ -32,17 +32,17 @@ impl NumberedRow for Text {
     ghost are_marked = { λ m r. refl };
 
     /// The last report of the faction with this number; None if it has none.
-    fn of(campaign: &Campaign, number: u32) -> Option<&Text> {
+    fn find_value(campaign: &Campaign, number: u32) -> Option<&Text> {
         campaign.report(number)
     }
 
     /// The numbers of the factions whose rows of `report` are marked, in rising order.
-    fn marked(campaign: &Campaign) -> MarkedNumbers<'_> {
+    fn marked_numbers(campaign: &Campaign) -> MarkedNumbers<'_> {
         campaign.marked_reports()
     }
 
     /// The text of the DELETE of the row of `report` with a given faction's number.
-    fn removal() -> &'static str {
+    fn delete_text() -> &'static str {
         "DELETE FROM report WHERE faction = ?1"
     }
 

@@ -9,7 +9,7 @@ ghost use Rattle.atl_sql.specs.Stored.{Form, first_columns, IsTyped, AreTyped};
 ghost use Rattle.atl_sql.specs.Tables.{Part, HasTablesOf};
 ghost use Rattle.atl_sql.specs.declared.fault.ReadFault.TheVariants.{Memory, OtherType};
 
-use crate::fault::{ReadFault, unread};
+use crate::fault::{ReadFault, fault_of_value};
 use crate::schema::has_tables_of;
 use atl_world::Format;
 use sqlite::{Alter, Connection, Error, Row};
@@ -79,14 +79,14 @@ pub fn parse_rows<T: Stored>(alloc: Global, rows: &[Row]) -> Result<Vec<T>, Read
     for row in rows {
         match T::from_row(alloc, row) {
             Ok(stored) => all.push(stored)?,
-            Err(error) => return Err(unread(error)),
+            Err(error) => return Err(fault_of_value(error)),
         }
     }
     Ok(all)
 }
 
-/// The rows that a SELECT shows in a transaction of its own, which is rolled back, so that nothing
-/// is changed, whatever the schema is; else the fault of the SELECT's refusal.
+/// Gives the rows that a SELECT shows, or the fault of its refusal. The SELECT is asked in a
+/// transaction of its own, which is rolled back: so nothing is changed, whatever the schema is.
 pub(crate) fn select<S: Alter>(conn: &mut Connection<S>, sql: &str) -> Result<Vec<Row>, ReadFault>
     requires { conn.old.in_transaction ≡ false }
     ensures { Asks S.Store sql.now conn.old result conn.new }
@@ -107,8 +107,8 @@ fn push_row<T: Stored>(alloc: Global, all: &mut Vec<T>, row: &Row) -> bool
     }
 }
 
-/// All rows that a query shows, each parsed as it comes; None if one couldn't be parsed or kept;
-/// else the fault of the query's refusal. Nothing is changed.
+/// Gives all rows that a query shows, each parsed as it comes; None if one couldn't be parsed or
+/// kept. The error is the fault of the query's refusal. Nothing is changed.
 fn stream<T: Stored, S: Alter>(
     alloc: Global,
     conn: &mut Connection<S>,
@@ -131,8 +131,9 @@ fn stream<T: Stored, S: Alter>(
     Ok(None)
 }
 
-/// All rows that a SELECT shows, parsed after all of them have come, whatever the schema is; else
-/// the fault of the SELECT's refusal, OtherType for a value of another type, or Memory.
+/// Gives all rows that a SELECT shows, whatever the schema is, parsed after all of them have come.
+/// The error is the fault of the SELECT's refusal, OtherType for a value of another type, or
+/// Memory.
 fn read_inside<T: Stored, S: Alter>(
     alloc: Global,
     conn: &mut Connection<S>,
@@ -145,9 +146,9 @@ fn read_inside<T: Stored, S: Alter>(
     parse_rows(alloc, rows.as_slice())
 }
 
-/// All rows that a SELECT shows, each parsed as it comes if the tables are those of the format
-/// `since`. Otherwise, or if one couldn't be parsed or kept, all are parsed after they have come,
-/// so that the first fault is reported.
+/// Gives all rows that a SELECT shows, each parsed as it comes if the tables are those of the
+/// format `since`. Otherwise, or if one couldn't be parsed or kept, all are parsed after they have
+/// come, so that the first fault is reported.
 pub(crate) fn read_all<T: Stored, S: Alter>(
     alloc: Global,
     conn: &mut Connection<S>,

@@ -1,7 +1,7 @@
 //! The rows of the table `structure`: a row for each structure.
 ghost use Rattle.std.specs.Prelude.{refl};
 ghost use Rattle.atl_sql.specs.Tables.{Structures};
-ghost use Rattle.atl_sql.specs.Rows.{structure_line};
+ghost use Rattle.atl_sql.specs.Rows.{row_of_structure};
 ghost use Rattle.atl_sql.specs.Shown.{structure_stored, structure_forms};
 
 use crate::numbered_rows::{Mapped, NumberedRow};
@@ -21,7 +21,7 @@ impl NumberedRow for Structure {
 
     ghost is_numbered = { tt };
 
-    ghost line = { structure_line };
+    ghost line = { row_of_structure };
 
     ghost numbered = { λ n v. refl };
 
@@ -34,17 +34,17 @@ impl NumberedRow for Structure {
     ghost are_marked = { λ m r. refl };
 
     /// The structure with this number; None if the campaign has none.
-    fn of(campaign: &Campaign, number: u32) -> Option<&Structure> {
+    fn find_value(campaign: &Campaign, number: u32) -> Option<&Structure> {
         campaign.structure(number)
     }
 
     /// The numbers of the structures whose rows are marked, in rising order.
-    fn marked(campaign: &Campaign) -> MarkedNumbers<'_> {
+    fn marked_numbers(campaign: &Campaign) -> MarkedNumbers<'_> {
         campaign.marked_structures()
     }
 
     /// The text of the DELETE of the row of `structure` with a given number.
-    fn removal() -> &'static str {
+    fn delete_text() -> &'static str {
         "DELETE FROM structure WHERE number = ?1"
     }
 

@@ -1,7 +1,7 @@
 //! The rows of the table `unit`: a row for each unit.
 ghost use Rattle.std.specs.Prelude.{refl};
 ghost use Rattle.atl_sql.specs.Tables.{Units, unit_table};
-ghost use Rattle.atl_sql.specs.Rows.{lines_of, unit_line};
+ghost use Rattle.atl_sql.specs.Rows.{rows_in_order, row_of_unit};
 ghost use Rattle.atl_sql.specs.Shown.{unit_stored, unit_forms};
 ghost use Rattle.atl_sql.specs.Writes.{WritesRows};
 
@@ -22,7 +22,7 @@ impl NumberedRow for Unit {
 
     ghost is_numbered = { tt };
 
-    ghost line = { unit_line };
+    ghost line = { row_of_unit };
 
     ghost numbered = { λ n v. refl };
 
@@ -35,17 +35,17 @@ impl NumberedRow for Unit {
     ghost are_marked = { λ m r. refl };
 
     /// The unit with this number; None if the campaign has none.
-    fn of(campaign: &Campaign, number: u32) -> Option<&Unit> {
+    fn find_value(campaign: &Campaign, number: u32) -> Option<&Unit> {
         campaign.unit(number)
     }
 
     /// The numbers of the units whose rows are marked, in rising order.
-    fn marked(campaign: &Campaign) -> MarkedNumbers<'_> {
+    fn marked_numbers(campaign: &Campaign) -> MarkedNumbers<'_> {
         campaign.marked_rows()
     }
 
     /// The text of the DELETE of the row of `unit` with a given number.
-    fn removal() -> &'static str {
+    fn delete_text() -> &'static str {
         "DELETE FROM unit WHERE number = ?1"
     }
 
@@ -73,7 +73,8 @@ pub fn put_units<S: Alter>(
     tx: &mut Transaction<'_, S>,
     units: SlotEntries<'_, Unit>,
 ) -> Result<(), Error>
-    ensures { WritesRows S.Store unit_table 1 (lines_of unit_line units.entry) result tx.old.conn
+    ensures { WritesRows S.Store unit_table 1 (rows_in_order row_of_unit units.entry) result
+        tx.old.conn
         tx.new.conn }
 {
     for (number, unit) in units {

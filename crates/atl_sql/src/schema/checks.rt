@@ -57,7 +57,7 @@ fn has_number_one(nodes: &[Op], root: usize) -> bool
 }
 
 /// Whether a table has exactly one CHECK, and this is `id = 1`.
-pub(crate) fn is_own_row(checks: &Terms) -> bool
+pub(crate) fn checks_id_is_one(checks: &Terms) -> bool
     ensures { IsTrue result ↔
         (checks.now ≡ op2 (Compare Eq Binary) (col 1 0) (lit (Int (pos 1))) ∷ []) }
 {

@@ -1,14 +1,14 @@
 //! Compares the columns of a table of a schema with the names and kinds that they should have.
 ghost use Rattle.std.specs.Prelude.{◌≡◌, map, ◌↔◌, IsTrue};
-ghost use Rattle.atl_sql.specs.Sets.{field};
+ghost use Rattle.atl_sql.specs.Sets.{strict_column};
 
 use sqlite_schema::schema::{Column, Kind};
 use sqlite_value::keys::Collation;
 use sqlite_value::value::Value;
 
 /// Whether the column is STRICT and NOT NULL, without a default, with this name and kind.
-fn is_field(column: &Column, name: &[u8], kind: Kind) -> bool
-    ensures { IsTrue result ↔ (column.now ≡ field name.now kind) }
+fn is_strict_column(column: &Column, name: &[u8], kind: Kind) -> bool
+    ensures { IsTrue result ↔ (column.now ≡ strict_column name.now kind) }
 {
     column.name.as_slice() == name
         && column.kind == kind
@@ -20,14 +20,14 @@ fn is_field(column: &Column, name: &[u8], kind: Kind) -> bool
 
 /// Whether the columns are STRICT and NOT NULL, without a default, and have these names and kinds
 /// in this order.
-pub(crate) fn are_fields(columns: &[Column], fields: &[(&[u8], Kind)]) -> bool
-    ensures { IsTrue result ↔ (columns.now ≡ map (λ f. field f.0.now f.1) fields.now) }
+pub(crate) fn are_strict_columns(columns: &[Column], fields: &[(&[u8], Kind)]) -> bool
+    ensures { IsTrue result ↔ (columns.now ≡ map (λ f. strict_column f.0.now f.1) fields.now) }
 {
     if columns.len() != fields.len() {
         return false;
     }
     for i in 0..columns.len() {
-        if !is_field(&columns[i], fields[i].0, fields[i].1) {
+        if !is_strict_column(&columns[i], fields[i].0, fields[i].1) {
             return false;
         }
     }

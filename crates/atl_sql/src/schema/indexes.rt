@@ -55,12 +55,12 @@ fn is_index_of(
     is_index(found, name, tree, made.tree, columns)
 }
 
-/// Whether an index is the one at index `place` of the four that the database makes for the unique
-/// keys of the ten tables, in the order of the tables.
-fn is_key_index(found: &Index, place: usize) -> bool
-    ensures { IsTrue result ↔ (slice_get all_indexes place ≡ Some found.now) }
+/// Whether an index is the one at index `position` of the four that the database makes for the
+/// unique keys of the ten tables, in the order of the tables.
+fn is_key_index(found: &Index, position: usize) -> bool
+    ensures { IsTrue result ↔ (slice_get all_indexes position ≡ Some found.now) }
 {
-    match place {
+    match position {
         0 => is_index_of(
             found,
             &FACTION,
@@ -99,8 +99,8 @@ fn are_first_indexes(indexes: &[Index], count: usize) -> bool
     requires { count ≤ length indexes.now }
     ensures { IsTrue result ↔ (take count indexes.now ≡ take count all_indexes) }
 {
-    for place in 0..count {
-        if !is_key_index(&indexes[place], place) {
+    for position in 0..count {
+        if !is_key_index(&indexes[position], position) {
             return false;
         }
     }
@@ -115,7 +115,7 @@ fn is_among(tree: u32, tables: &[TableDefinition]) -> bool
 }
 
 /// Whether a tree, given by its number, is that of one of the first `count` tables of a campaign.
-fn is_ours(tree: u32, count: usize) -> bool
+fn is_campaign_tree(tree: u32, count: usize) -> bool
     requires { count ≤ length all_tables }
     ensures { result ≡ list_any (λ t. tree == t.tree) (take count all_tables) }
 {
@@ -127,7 +127,7 @@ fn is_harmless(found: &Index, count: usize) -> bool
     requires { count ≤ length all_tables }
     ensures { IsTrue result ↔ (IsHarmless count found.now) }
 {
-    !found.is_unique || !is_ours(found.table, count)
+    !found.is_unique || !is_campaign_tree(found.table, count)
 }
 
 /// Whether no index makes anything unique in the first `count` tables of a campaign.

@@ -22,10 +22,10 @@ pub(crate) fn is_numbered(found: &Table) -> bool
 
 /// Whether the table has no INTEGER PRIMARY KEY, and its primary key has the columns at these
 /// indexes of a stored row.
-pub(crate) fn is_under(found: &Table, places: &[usize]) -> bool
-    ensures { IsTrue result ↔ ((found.now.key ≡ None) × (found.now.primary ≡ places.now)) }
+pub(crate) fn is_under(found: &Table, positions: &[usize]) -> bool
+    ensures { IsTrue result ↔ ((found.now.key ≡ None) × (found.now.primary ≡ positions.now)) }
 {
-    found.key.is_none() && found.primary.as_slice() == places
+    found.key.is_none() && found.primary.as_slice() == positions
 }
 
 /// Whether the table has no unique key besides the row's number.
@@ -44,11 +44,11 @@ pub(crate) fn is_plain(order: &Order) -> bool
 
 /// Whether the list of a table's unique keys has exactly one, with the columns at these indexes of
 /// a stored row.
-fn is_one_key(keys: &[Items<usize>], places: &[usize]) -> bool
-    ensures { IsTrue result ↔ (keys.now ≡ places.now ∷ []) }
+fn is_one_key(keys: &[Items<usize>], positions: &[usize]) -> bool
+    ensures { IsTrue result ↔ (keys.now ≡ positions.now ∷ []) }
 {
     match keys {
-        [key] => key.as_slice() == places,
+        [key] => key.as_slice() == positions,
         _ => false,
     }
 }
@@ -66,9 +66,9 @@ fn is_one_order(orders: &[Order]) -> bool
 
 /// Whether the columns at these indexes of a stored row are the only unique key besides the
 /// row's number.
-pub(crate) fn is_unique(found: &Table, places: &[usize]) -> bool
+pub(crate) fn is_unique(found: &Table, positions: &[usize]) -> bool
     ensures { IsTrue result ↔
-        ((found.now.uniques ≡ places.now ∷ []) × (found.now.orders ≡ plain ∷ [])) }
+        ((found.now.uniques ≡ positions.now ∷ []) × (found.now.orders ≡ plain ∷ [])) }
 {
-    is_one_key(found.uniques.as_slice(), places) && is_one_order(found.orders.as_slice())
+    is_one_key(found.uniques.as_slice(), positions) && is_one_order(found.orders.as_slice())
 }

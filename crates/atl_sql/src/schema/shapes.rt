@@ -1,9 +1,9 @@
 //! Compares a table of a schema with the definition of a campaign's table: its tree, name, columns
 //! and keys.
 ghost use Rattle.std.specs.Prelude.{◌≡◌, [], ◌∷◌, map, Some, None, false, ◌↔◌, IsTrue};
-ghost use Rattle.atl_sql.specs.Sets.{field, table};
+ghost use Rattle.atl_sql.specs.Sets.{strict_column, table};
 
-use crate::schema::columns::are_fields;
+use crate::schema::columns::are_strict_columns;
 use crate::schema::keys::{has_no_unique, is_numbered, is_under, is_unique};
 use crate::tables::TableDefinition;
 use sqlite_schema::schema::{Stamps, Table};
@@ -36,12 +36,12 @@ fn has_nothing_more(found: &Table) -> bool
 pub(crate) fn is_strict(found: &Table, made: &TableDefinition) -> bool
     ensures { IsTrue result ↔
         (found.now ≡ record (table made.now.tree made.now.name.now
-        (map (λ f. field f.0.now f.1) made.now.columns.now) found.now.key found.now.primary
+        (map (λ f. strict_column f.0.now f.1) made.now.columns.now) found.now.key found.now.primary
         found.now.uniques found.now.checks) { orders = found.now.orders }) }
 {
     found.tree == made.tree
         && found.name.as_slice() == made.name
-        && are_fields(found.columns.as_slice(), made.columns)
+        && are_strict_columns(found.columns.as_slice(), made.columns)
         && has_nothing_more(found)
 }
 
@@ -50,7 +50,7 @@ pub(crate) fn is_strict(found: &Table, made: &TableDefinition) -> bool
 fn is_unchecked(found: &Table, made: &TableDefinition) -> bool
     ensures { IsTrue result ↔
         (found.now ≡ record (table made.now.tree made.now.name.now
-        (map (λ f. field f.0.now f.1) made.now.columns.now) found.now.key found.now.primary
+        (map (λ f. strict_column f.0.now f.1) made.now.columns.now) found.now.key found.now.primary
         found.now.uniques []) { orders = found.now.orders }) }
 {
     is_strict(found, made) && found.checks.roots.is_empty()
@@ -60,7 +60,7 @@ fn is_unchecked(found: &Table, made: &TableDefinition) -> bool
 pub(crate) fn is_simple(found: &Table, made: &TableDefinition) -> bool
     ensures { IsTrue result ↔
         (found.now ≡ table made.now.tree made.now.name.now
-        (map (λ f. field f.0.now f.1) made.now.columns.now) (Some 0) (0 ∷ []) [] []) }
+        (map (λ f. strict_column f.0.now f.1) made.now.columns.now) (Some 0) (0 ∷ []) [] []) }
 {
     is_unchecked(found, made) && is_numbered(found) && has_no_unique(found)
 }
@@ -70,7 +70,8 @@ pub(crate) fn is_simple(found: &Table, made: &TableDefinition) -> bool
 pub(crate) fn is_keyed(found: &Table, made: &TableDefinition, key: &[usize]) -> bool
     ensures { IsTrue result ↔
         (found.now ≡ table made.now.tree made.now.name.now
-        (map (λ f. field f.0.now f.1) made.now.columns.now) None key.now (key.now ∷ []) []) }
+        (map (λ f. strict_column f.0.now f.1) made.now.columns.now) None key.now (key.now ∷ [])
+        []) }
 {
     is_unchecked(found, made) && is_under(found, key) && is_unique(found, key)
 }

@@ -2,7 +2,7 @@
 ghost use Rattle.std.specs.Prelude.{◌≡◌, ◌<◌, ℕ, length, pos, ◌↔◌, IsTrue};
 ghost use Rattle.atl_world.specs.Worlds.{IsWorld};
 ghost use Rattle.atl_records.specs.Books.{booked, thing_index, AreBooks};
-ghost use Rattle.atl_campaign.specs.Founding.{things_of};
+ghost use Rattle.atl_campaign.specs.Founding.{thing_count};
 ghost use Rattle.atl_records.specs.Every.{Every};
 ghost use Rattle.atl_campaign.specs.Good.{AreOfMarkets};
 ghost use Rattle.atl_campaign.specs.Totals.{total, Balances, IsCountable};
@@ -26,7 +26,7 @@ fn is_balanced(campaign: &Campaign, thing: Thing) -> bool
 /// Whether the total of each item of the world equals the sum booked of it under all entries.
 fn are_items_balanced(world: &World, campaign: &Campaign) -> bool
     requires few { IsCountable campaign.now.value }
-    requires things { campaign.now.value.books.things ≡ things_of world.now }
+    requires things { campaign.now.value.books.things ≡ thing_count world.now }
     ensures decision { IsTrue result ↔
         ((i : ℕ) → i < length world.now.items
         → pos (total campaign.now.value (Item i)) ≡ booked campaign.now.value.books (Item i)) }
@@ -56,7 +56,7 @@ fn are_people_balanced(campaign: &Campaign) -> bool
 /// memory.
 pub(crate) fn are_balanced(world: &World, campaign: &Campaign) -> bool
     requires few { IsCountable campaign.now.value }
-    requires books { AreBooks (things_of world.now) campaign.now.value.books }
+    requires books { AreBooks (thing_count world.now) campaign.now.value.books }
     requires items { Every (λ n u. Every (λ i amount. i < length world.now.items) u.holding.items)
         campaign.now.value.units }
     requires stocks { Every (λ n r. AreOfMarkets world.now n r.stocks) campaign.now.value.regions }

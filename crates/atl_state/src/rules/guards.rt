@@ -3,7 +3,7 @@ ghost use Rattle.std.specs.Prelude.{◌≡◌, None, ◌↔◌, IsTrue};
 ghost use Rattle.atl_state.specs.Deciding.{agree, guard_of, one_holder};
 ghost use Rattle.atl_records.specs.Every.{Every, HasValue};
 ghost use Rattle.atl_campaign.specs.Good.{AreOfOneFaction, guards};
-ghost use Rattle.atl_campaign.specs.Campaign.{numbers_in};
+ghost use Rattle.atl_campaign.specs.Campaign.{numbers_in_region};
 
 use atl_campaign::Campaign;
 
@@ -30,7 +30,7 @@ fn agree(one: Option<u32>, other: Option<u32>) -> bool
 /// Whether all units that guard a region are of one faction.
 fn has_one_holder(campaign: &Campaign, region: u32) -> bool
     ensures { result ≡ one_holder (guard_of campaign.now.value) None
-        (numbers_in region campaign.now.value.units) }
+        (numbers_in_region region campaign.now.value.units) }
 {
     let mut holder = None;
     for number in campaign.in_region(region) {

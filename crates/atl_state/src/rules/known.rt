@@ -140,7 +140,7 @@ fn is_inside_here(campaign: &Campaign, unit: &Unit) -> bool
 }
 
 /// Whether a unit's faction and region exist.
-fn is_somewhere(campaign: &Campaign, unit: &Unit) -> bool
+fn has_known_faction_and_region(campaign: &Campaign, unit: &Unit) -> bool
     ensures { IsTrue result ↔
         (HasValue campaign.now.value.factions unit.now.faction
         × HasValue campaign.now.value.regions unit.now.region) }
@@ -150,7 +150,7 @@ fn is_somewhere(campaign: &Campaign, unit: &Unit) -> bool
 
 /// Whether the world has all items and skills of a unit, and the unit's structure is 0 (none) or
 /// exists in the unit's region.
-fn has_known_goods(world: &World, campaign: &Campaign, unit: &Unit) -> bool
+fn has_known_goods_and_structure(world: &World, campaign: &Campaign, unit: &Unit) -> bool
     ensures { IsTrue result ↔
         ((unit.now.structure ≢ 0
         → (s : builds.Structure)
@@ -167,7 +167,8 @@ fn has_known_goods(world: &World, campaign: &Campaign, unit: &Unit) -> bool
 fn is_placed(world: &World, campaign: &Campaign, unit: &Unit) -> bool
     ensures { IsTrue result ↔ (IsPlaced world.now campaign.now.value unit.now) }
 {
-    is_somewhere(campaign, unit) && has_known_goods(world, campaign, unit)
+    has_known_faction_and_region(campaign, unit)
+        && has_known_goods_and_structure(world, campaign, unit)
 }
 
 /// Whether each unit's faction, region, items and skills exist, and the unit's structure is 0
@@ -241,7 +242,7 @@ fn are_reports_known(campaign: &Campaign) -> bool
 
 /// Whether the campaign's regions are the world's, and all that stocks, units and structures name
 /// exists.
-fn are_things_known(world: &World, campaign: &Campaign) -> bool
+fn are_stocks_units_and_structures_known(world: &World, campaign: &Campaign) -> bool
     ensures { IsTrue result ↔
         ((((n : ℕ) → HasValue campaign.now.value.regions n ↔ HasValue world.now.regions n)
         × Every (λ n r. AreOfMarkets world.now n r.stocks) campaign.now.value.regions)
@@ -253,7 +254,7 @@ fn are_things_known(world: &World, campaign: &Campaign) -> bool
 }
 
 /// Whether all mail and all reports are of factions that exist.
-fn are_posts_known(campaign: &Campaign) -> bool
+fn are_mail_and_reports_known(campaign: &Campaign) -> bool
     ensures { IsTrue result ↔ (ArePosted campaign.now.value) }
 {
     are_mail_known(campaign) && are_reports_known(campaign)
@@ -265,5 +266,5 @@ fn are_posts_known(campaign: &Campaign) -> bool
 pub(crate) fn are_known(world: &World, campaign: &Campaign) -> bool
     ensures { IsTrue result ↔ (AreKnown world.now campaign.now.value) }
 {
-    are_things_known(world, campaign) && are_posts_known(campaign)
+    are_stocks_units_and_structures_known(world, campaign) && are_mail_and_reports_known(campaign)
 }

@@ -2,7 +2,7 @@
 //! header.
 ghost use Rattle.std.specs.Prelude.{◌↔◌, IsTrue};
 ghost use Rattle.atl_orders.specs.Mailing.{IsMailingOf};
-ghost use Rattle.atl_campaign.specs.Good.{IsActive, IsMail};
+ghost use Rattle.atl_campaign.specs.Good.{IsActive, HasValidMail};
 
 use atl_campaign::Campaign;
 use atl_orders::is_mailing_of;
@@ -28,7 +28,7 @@ fn is_mailing_of_active(campaign: &Campaign, number: u32, text: &Sequence<u8>) -
 /// Whether each mail is of a faction that is not gone, is not too long and has a header that names
 /// the faction. Takes no memory.
 pub(crate) fn are_mailings(campaign: &Campaign) -> bool
-    ensures { IsTrue result ↔ (IsMail campaign.now.value) }
+    ensures { IsTrue result ↔ (HasValidMail campaign.now.value) }
 {
     campaign.mail().all(|(number, text)| is_mailing_of_active(campaign, number, text))
 }

@@ -10,7 +10,7 @@ use std::test::Fail;
 const THINGS: usize = 4;
 
 /// Books -7 money as wages in empty books of `THINGS` things.
-fn books_some(books: &mut Books) -> Result<(), Fail> {
+fn book_wages(books: &mut Books) -> Result<(), Fail> {
     if books.len() != THINGS || books.amount(BooksEntry::Wages, Thing::Money) != 0 {
         return Err(Fail::new("empty books"));
     }
@@ -18,8 +18,8 @@ fn books_some(books: &mut Books) -> Result<(), Fail> {
     Ok(())
 }
 
-/// Asserts the amount that `books_some` booked, and that three other amounts are 0.
-fn has_some(rt: &impl Abort, books: &Books) -> Result<(), Fail> {
+/// Asserts the amount that `book_wages` booked, and that three other amounts are 0.
+fn assert_wages(rt: &impl Abort, books: &Books) -> Result<(), Fail> {
     if books.len() != THINGS {
         return Err(Fail::new("four things"));
     }
@@ -34,8 +34,8 @@ fn has_some(rt: &impl Abort, books: &Books) -> Result<(), Fail> {
 #[test]
 fn books_of_four_things(rt: HostRuntime) -> Result<(), Fail> {
     let mut books = Books::new(rt.alloc(), THINGS)?;
-    books_some(&mut books)?;
-    has_some(&rt, &books)
+    book_wages(&mut books)?;
+    assert_wages(&rt, &books)
 }
 
 /// The amounts of carts that are booked, and their entries. Income comes twice, so its amounts are
@@ -62,17 +62,17 @@ fn books_carts(campaign: &mut Campaign, entry: BooksEntry, amount: i64) -> Resul
     Ok(())
 }
 
-/// Books every row of `BOOKED` in a campaign.
-fn books_all(campaign: &mut Campaign) -> Result<(), Fail> {
+/// Books each row of `BOOKED`, an entry and an amount of the item cart, in a campaign.
+fn book_all_carts(campaign: &mut Campaign) -> Result<(), Fail> {
     for (entry, amount) in BOOKED.iter() {
         books_carts(campaign, *entry, *amount)?;
     }
     Ok(())
 }
 
-/// Asserts three of the amounts that `books_all` booked and three that it doesn't book, and that
-/// five amounts are marked.
-fn has_all(rt: &impl Abort, campaign: &Campaign) -> Result<(), Fail> {
+/// Asserts three of the amounts that `book_all_carts` booked and three that it doesn't book, and
+/// that five amounts are marked.
+fn assert_booked_carts(rt: &impl Abort, campaign: &Campaign) -> Result<(), Fail> {
     if campaign.things() != THINGS {
         return Err(Fail::new("four things"));
     }
@@ -95,6 +95,6 @@ fn has_all(rt: &impl Abort, campaign: &Campaign) -> Result<(), Fail> {
 #[test]
 fn booking_in_a_campaign(rt: HostRuntime) -> Result<(), Fail> {
     let mut campaign = founded_by(rt.alloc(), ISLE)?;
-    books_all(&mut campaign)?;
-    has_all(&rt, &campaign)
+    book_all_carts(&mut campaign)?;
+    assert_booked_carts(&rt, &campaign)
 }

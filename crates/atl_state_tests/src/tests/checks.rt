@@ -145,8 +145,8 @@ fn assert_rules(
     cases: &[(Rows, u64)],
 ) -> Result<(), Fail> {
     for (at, (rows, wanted)) in cases.iter().enumerate() {
-        let told = rule_of(check_as(alloc, world, parts(alloc, rows)?, rows.asked));
-        assert_row(rt, at, told, *wanted);
+        let actual = rule_of(check_as(alloc, world, parts(alloc, rows)?, rows.asked));
+        assert_row(rt, at, actual, *wanted);
     }
     Ok(())
 }
@@ -173,9 +173,14 @@ fn assert_island(rt: &impl Abort, campaign: &Campaign) {
 /// The only row of the table `market` that the campaign of `GOOD` gives, as `Debug` prints it.
 const STOCK: &str = "[StoredMarket { region: 1, item: 0, stock: 20 }]";
 
-/// Asserts that the rows of campaign `first` in the second format give a campaign as
-/// `assert_island` wants it, and that the rows in the first format have no stock.
-fn comes_back(rt: &impl Abort, alloc: Global, world: &World, first: &Campaign) -> Result<(), Fail> {
+/// Asserts that `check` makes of the rows of a campaign (`first`) a campaign as `assert_island`
+/// wants it. The rows have its stock in the second format, and none in the first.
+fn assert_rows_come_back(
+    rt: &impl Abort,
+    alloc: Global,
+    world: &World,
+    first: &Campaign,
+) -> Result<(), Fail> {
     let old = first.parts_as(Format::First)?;
     assert_rows(rt, alloc, old.markets.as_slice(), "[]")?;
     let rows = first.parts_as(Format::Second)?;
@@ -185,12 +190,12 @@ fn comes_back(rt: &impl Abort, alloc: Global, world: &World, first: &Campaign) -
     Ok(())
 }
 
-/// Asserts that `check` makes the campaign of `assert_island` of the rows of `GOOD`, and again of
-/// the rows which that campaign gives.
+/// Asserts that `check` makes a campaign as `assert_island` wants it, first of the rows of `GOOD`,
+/// and then of that campaign's own rows.
 fn is_checked(rt: &impl Abort, alloc: Global, world: &World) -> Result<(), Fail> {
     let campaign = checked(alloc, world, parts(alloc, &GOOD)?)?;
     assert_island(rt, &campaign);
-    comes_back(rt, alloc, world, &campaign)
+    assert_rows_come_back(rt, alloc, world, &campaign)
 }
 
 /// Asserts for each case the first broken rule, and that the rows of `GOOD` give their campaign.
@@ -202,7 +207,7 @@ fn rows_are_judged(rt: &impl Abort, alloc: Global, world: &World) -> Result<(), 
 
 /// Tests that `check` reports the first broken rule, and accepts the rows of a good campaign.
 #[test]
-fn the_first_broken_rule_is_told(rt: HostRuntime) -> Result<(), Fail> {
+fn the_first_broken_rule_is_reported(rt: HostRuntime) -> Result<(), Fail> {
     let world = read_world(rt.alloc(), ISLE_WITH_MARKET)?;
     rows_are_judged(&rt, rt.alloc(), &world)
 }

@@ -1,7 +1,7 @@
 //! Tests of setting single items and skills of units: each is marked by itself.
 use super::making::joined_by;
 use super::shown::{Ask, Row, assert_steps};
-use super::steps::{OfUnit, Step};
+use super::steps::{Step, UnitChange};
 use atl_test_worlds::ISLE;
 use std::test::Fail;
 
@@ -14,48 +14,58 @@ const GOODS: Ask = Ask::Goods(1, 7, 3);
 static ONE_BY_ONE: [Row; 13] = [
     (Step::Unmark, GOODS, "0, 0 days", "0"),
     (
-        Step::Unit(1, OfUnit::Days(3, 30)),
+        Step::Unit(1, UnitChange::Days(3, 30)),
         GOODS,
         "0, 30 days",
         "1, units [1], skill 3 of unit 1",
     ),
     (
-        Step::Unit(1, OfUnit::Days(3, 60)),
+        Step::Unit(1, UnitChange::Days(3, 60)),
         GOODS,
         "0, 60 days",
         "1, units [1], skill 3 of unit 1",
     ),
     (Step::Unmark, GOODS, "0, 60 days", "0"),
     (
-        Step::Unit(1, OfUnit::Item(7, 4)),
+        Step::Unit(1, UnitChange::Item(7, 4)),
         GOODS,
         "4, 60 days",
         "1, units [1], item 7 of unit 1",
     ),
     (
-        Step::Unit(1, OfUnit::Item(2, 1)),
+        Step::Unit(1, UnitChange::Item(2, 1)),
         GOODS,
         "4, 60 days",
         "1, units [1], item 2 of unit 1, item 7 of unit 1",
     ),
     (Step::Unmark, GOODS, "4, 60 days", "0"),
-    (Step::Unit(1, OfUnit::Item(7, 4)), GOODS, "4, 60 days", "0"),
     (
-        Step::Unit(1, OfUnit::Item(7, 0)),
+        Step::Unit(1, UnitChange::Item(7, 4)),
+        GOODS,
+        "4, 60 days",
+        "0",
+    ),
+    (
+        Step::Unit(1, UnitChange::Item(7, 0)),
         GOODS,
         "0, 60 days",
         "1, units [1], item 7 of unit 1",
     ),
     (Step::Unmark, GOODS, "0, 60 days", "0"),
-    (Step::Unit(1, OfUnit::Item(7, 0)), GOODS, "0, 60 days", "0"),
     (
-        Step::Unit(9, OfUnit::Item(7, 4)),
+        Step::Unit(1, UnitChange::Item(7, 0)),
+        GOODS,
+        "0, 60 days",
+        "0",
+    ),
+    (
+        Step::Unit(9, UnitChange::Item(7, 4)),
         Ask::Goods(9, 7, 3),
         "none",
         "0",
     ),
     (
-        Step::Unit(9, OfUnit::Days(3, 30)),
+        Step::Unit(9, UnitChange::Days(3, 30)),
         Ask::Goods(9, 7, 3),
         "none",
         "0",
@@ -71,37 +81,37 @@ const WHOLE: &str = "1, units [1], rows [1], goods [1], item 7 of unit 1, skill 
 /// A skill is marked even if it is set to the days that the unit has.
 static AS_A_WHOLE: [Row; 8] = [
     (
-        Step::Unit(1, OfUnit::Item(7, 4)),
+        Step::Unit(1, UnitChange::Item(7, 4)),
         GOODS,
         "4, 60 days",
         "1, units [1], item 7 of unit 1",
     ),
     (
-        Step::Unit(1, OfUnit::Days(3, 30)),
+        Step::Unit(1, UnitChange::Days(3, 30)),
         GOODS,
         "4, 30 days",
         "1, units [1], item 7 of unit 1, skill 3 of unit 1",
     ),
     (
-        Step::Unit(1, OfUnit::LentMoney(7)),
+        Step::Unit(1, UnitChange::LentMoney(7)),
         GOODS,
         "4, 30 days",
         WHOLE,
     ),
     (Step::Unmark, GOODS, "4, 30 days", "0"),
     (
-        Step::Unit(1, OfUnit::Item(7, 5)),
+        Step::Unit(1, UnitChange::Item(7, 5)),
         GOODS,
         "5, 30 days",
         "1, units [1], item 7 of unit 1",
     ),
     (
-        Step::Unit(1, OfUnit::Days(3, 30)),
+        Step::Unit(1, UnitChange::Days(3, 30)),
         GOODS,
         "5, 30 days",
         "1, units [1], item 7 of unit 1, skill 3 of unit 1",
     ),
-    (Step::Unit(1, OfUnit::Remove), GOODS, "none", WHOLE),
+    (Step::Unit(1, UnitChange::Remove), GOODS, "none", WHOLE),
     (Step::Unmark, GOODS, "none", "0"),
 ];
 

@@ -3,7 +3,7 @@
 use super::compare::{assert_amount, assert_count};
 use super::making::{BOAT, avalon_joins, founded_in};
 use super::shown::{Ask, Row, assert_steps};
-use super::steps::{OfRegion, OfUnit, Step};
+use super::steps::{RegionChange, Step, UnitChange};
 use atl_tables::read_world;
 use atl_test_worlds::ISLE;
 use atl_world::World;
@@ -44,19 +44,19 @@ static CALLS: [Row; 14] = [
     ),
     // A unit that is lent is marked, once; one that is not there is neither lent nor marked.
     (
-        Step::Unit(1, OfUnit::LentMoney(7)),
+        Step::Unit(1, UnitChange::LentMoney(7)),
         Ask::Unit(1),
         "Unit 1: 1 men, 7 money, guard: false, [1, 3, 0]",
         "1, units [1], rows [1], goods [1]",
     ),
     (
-        Step::Unit(1, OfUnit::LentMoney(7)),
+        Step::Unit(1, UnitChange::LentMoney(7)),
         Ask::Unit(1),
         "Unit 1: 1 men, 7 money, guard: false, [1, 3, 0]",
         "1, units [1], rows [1], goods [1]",
     ),
     (
-        Step::Unit(9, OfUnit::LentMoney(7)),
+        Step::Unit(9, UnitChange::LentMoney(7)),
         Ask::Unit(9),
         "none",
         "1, units [1], rows [1], goods [1]",
@@ -64,19 +64,19 @@ static CALLS: [Row; 14] = [
     (Step::Unmark, Ask::Units, "[1, 2]", "0"),
     // What a unit that is gone had is marked until all marks go.
     (
-        Step::Unit(1, OfUnit::Money(5)),
+        Step::Unit(1, UnitChange::Money(5)),
         Ask::Unit(1),
         "Unit 1: 1 men, 5 money, guard: false, [1, 3, 0]",
         "1, units [1], rows [1]",
     ),
     (
-        Step::Region(3, OfRegion::Money(7)),
+        Step::Region(3, RegionChange::Money(7)),
         Ask::Region(3),
         "200 peasants, 7 money",
         "2, regions [3], units [1], rows [1]",
     ),
     (
-        Step::Unit(1, OfUnit::Remove),
+        Step::Unit(1, UnitChange::Remove),
         Ask::Units,
         "[2]",
         "2, regions [3], units [1], rows [1], goods [1]",

@@ -2,7 +2,7 @@
 //! is the world `ISLE` of atl_test_worlds.
 use super::compare::{assert_numbers, assert_row};
 use super::making::{BOAT, LODGE, founded_by};
-use super::steps::{OfStructure, OfUnit, Step, does, does_all};
+use super::steps::{Step, StructureChange, UnitChange, make_step, make_steps};
 use atl_campaign::Campaign;
 use atl_test_worlds::ISLE;
 use std::alloc::Global;
@@ -26,7 +26,7 @@ struct Case {
 static CASES: [Case; 13] = [
     // Who enters an ownerless structure owns it.
     Case {
-        step: Step::Unit(2, OfUnit::Place(3, 1)),
+        step: Step::Unit(2, UnitChange::Place(3, 1)),
         owners: (2, 0),
         inside: (&[2], &[]),
         region: &[1, 2, 3],
@@ -34,7 +34,7 @@ static CASES: [Case; 13] = [
         marks: 2,
     },
     Case {
-        step: Step::Unit(1, OfUnit::Place(3, 1)),
+        step: Step::Unit(1, UnitChange::Place(3, 1)),
         owners: (2, 0),
         inside: (&[1, 2], &[]),
         region: &[1, 2, 3],
@@ -42,7 +42,7 @@ static CASES: [Case; 13] = [
         marks: 1,
     },
     Case {
-        step: Step::Unit(3, OfUnit::Place(3, 1)),
+        step: Step::Unit(3, UnitChange::Place(3, 1)),
         owners: (2, 0),
         inside: (&[1, 2, 3], &[]),
         region: &[1, 2, 3],
@@ -51,7 +51,7 @@ static CASES: [Case; 13] = [
     },
     // The owner leaves for the other structure: the lowest-numbered unit inside is next.
     Case {
-        step: Step::Unit(2, OfUnit::Place(3, 2)),
+        step: Step::Unit(2, UnitChange::Place(3, 2)),
         owners: (1, 2),
         inside: (&[1, 3], &[2]),
         region: &[1, 2, 3],
@@ -59,7 +59,7 @@ static CASES: [Case; 13] = [
         marks: 3,
     },
     Case {
-        step: Step::Unit(3, OfUnit::Place(3, 1)),
+        step: Step::Unit(3, UnitChange::Place(3, 1)),
         owners: (1, 2),
         inside: (&[1, 3], &[2]),
         region: &[1, 2, 3],
@@ -68,7 +68,7 @@ static CASES: [Case; 13] = [
     },
     // The owner leaves for another region.
     Case {
-        step: Step::Unit(1, OfUnit::Place(4, 0)),
+        step: Step::Unit(1, UnitChange::Place(4, 0)),
         owners: (3, 2),
         inside: (&[3], &[2]),
         region: &[2, 3],
@@ -77,7 +77,7 @@ static CASES: [Case; 13] = [
     },
     // There is no such unit.
     Case {
-        step: Step::Unit(9, OfUnit::Place(3, 1)),
+        step: Step::Unit(9, UnitChange::Place(3, 1)),
         owners: (3, 2),
         inside: (&[3], &[2]),
         region: &[2, 3],
@@ -86,7 +86,7 @@ static CASES: [Case; 13] = [
     },
     // The last unit inside is removed.
     Case {
-        step: Step::Unit(3, OfUnit::Remove),
+        step: Step::Unit(3, UnitChange::Remove),
         owners: (0, 2),
         inside: (&[], &[2]),
         region: &[2],
@@ -94,7 +94,7 @@ static CASES: [Case; 13] = [
         marks: 2,
     },
     Case {
-        step: Step::Unit(3, OfUnit::Remove),
+        step: Step::Unit(3, UnitChange::Remove),
         owners: (0, 2),
         inside: (&[], &[2]),
         region: &[2],
@@ -102,7 +102,7 @@ static CASES: [Case; 13] = [
         marks: 0,
     },
     Case {
-        step: Step::Unit(1, OfUnit::Place(3, 2)),
+        step: Step::Unit(1, UnitChange::Place(3, 2)),
         owners: (0, 2),
         inside: (&[], &[1, 2]),
         region: &[1, 2],
@@ -111,7 +111,7 @@ static CASES: [Case; 13] = [
     },
     // The owner is removed, and another unit is inside.
     Case {
-        step: Step::Unit(2, OfUnit::Remove),
+        step: Step::Unit(2, UnitChange::Remove),
         owners: (0, 1),
         inside: (&[], &[1]),
         region: &[1],
@@ -119,7 +119,7 @@ static CASES: [Case; 13] = [
         marks: 2,
     },
     Case {
-        step: Step::Unit(1, OfUnit::Place(3, 0)),
+        step: Step::Unit(1, UnitChange::Place(3, 0)),
         owners: (0, 0),
         inside: (&[], &[]),
         region: &[1],
@@ -127,7 +127,7 @@ static CASES: [Case; 13] = [
         marks: 2,
     },
     Case {
-        step: Step::Unit(1, OfUnit::Remove),
+        step: Step::Unit(1, UnitChange::Remove),
         owners: (0, 0),
         inside: (&[], &[]),
         region: &[],
@@ -168,7 +168,7 @@ fn case_holds(
     case: &Case,
 ) -> Result<(), Fail> {
     campaign.unmark();
-    does(alloc, campaign, case.step)?;
+    make_step(alloc, campaign, case.step)?;
     has_owners(rt, row, campaign, case);
     has_lists(rt, row, campaign, case);
     Ok(())
@@ -188,7 +188,7 @@ fn cases_hold(
 }
 
 /// Steps that add units 1 and 3 of faction 1, unit 2 of faction 2, a boat and a lodge to region 3.
-static COMING: [Step; 5] = [
+static ARRIVALS: [Step; 5] = [
     Step::Comes(1, 1),
     Step::Comes(2, 2),
     Step::Comes(1, 3),
@@ -196,15 +196,16 @@ static COMING: [Step; 5] = [
     Step::Begins(LODGE, 2),
 ];
 
-/// The campaign of the island just founded, after the steps of `COMING`.
+/// The campaign of the island just founded, after the steps of `ARRIVALS`.
 fn peopled(alloc: Global) -> Result<Campaign, Fail> {
     let mut campaign = founded_by(alloc, ISLE)?;
-    does_all(alloc, &mut campaign, &COMING)?;
+    make_steps(alloc, &mut campaign, &ARRIVALS)?;
     Ok(campaign)
 }
 
-/// Tests that a unit that enters an ownerless structure owns it, that the lowest-numbered unit
-/// inside is next when the owner leaves or is removed, and that each unit is listed where it is.
+/// Tests who owns a structure as units enter it, leave it and are removed. A unit that enters an
+/// ownerless structure owns it. When the owner leaves or is removed, the lowest-numbered unit
+/// inside is next. Each unit is listed where it is.
 #[test]
 fn placing_and_removing(rt: HostRuntime) -> Result<(), Fail> {
     let mut campaign = peopled(rt.alloc())?;
@@ -213,27 +214,27 @@ fn placing_and_removing(rt: HostRuntime) -> Result<(), Fail> {
 
 /// Steps that move all three units into the boat. Unit 2 enters first, and so owns it.
 static ENTERING: [Step; 3] = [
-    Step::Unit(2, OfUnit::Place(3, 1)),
-    Step::Unit(1, OfUnit::Place(3, 1)),
-    Step::Unit(3, OfUnit::Place(3, 1)),
+    Step::Unit(2, UnitChange::Place(3, 1)),
+    Step::Unit(1, UnitChange::Place(3, 1)),
+    Step::Unit(3, UnitChange::Place(3, 1)),
 ];
 
 /// Cases of `owner_after`: a structure, a unit that leaves it, and who owns it then (0: nobody).
 /// Unit 2 owns the boat, and units 1 and 3 are inside.
-static AFTER: [(u32, u32, u32); 5] = [(1, 2, 1), (1, 1, 2), (1, 3, 2), (2, 1, 0), (9, 1, 0)];
+static OWNERS_AFTER: [(u32, u32, u32); 5] = [(1, 2, 1), (1, 1, 2), (1, 3, 2), (2, 1, 0), (9, 1, 0)];
 
-/// Asserts for each row of `AFTER` who would own the structure.
+/// Asserts for each row of `OWNERS_AFTER` who would own the structure.
 fn knows_owners(rt: &impl Abort, campaign: &Campaign) {
-    for (row, (structure, leaving, wanted)) in AFTER.iter().enumerate() {
-        let told = campaign.owner_after(*structure, *leaving);
-        assert_row(rt, row, u64::from(told), u64::from(*wanted));
+    for (row, (structure, leaving, wanted)) in OWNERS_AFTER.iter().enumerate() {
+        let actual = campaign.owner_after(*structure, *leaving);
+        assert_row(rt, row, u64::from(actual), u64::from(*wanted));
     }
 }
 
 /// Cases of a boat that is moved to region 2 with the units inside: its owner stays.
 static SAILING: [Case; 4] = [
     Case {
-        step: Step::Structure(1, OfStructure::Region(2)),
+        step: Step::Structure(1, StructureChange::Region(2)),
         owners: (2, 0),
         inside: (&[1, 2, 3], &[]),
         region: &[1, 2, 3],
@@ -241,7 +242,7 @@ static SAILING: [Case; 4] = [
         marks: 1,
     },
     Case {
-        step: Step::Unit(1, OfUnit::Place(2, 1)),
+        step: Step::Unit(1, UnitChange::Place(2, 1)),
         owners: (2, 0),
         inside: (&[1, 2, 3], &[]),
         region: &[2, 3],
@@ -249,7 +250,7 @@ static SAILING: [Case; 4] = [
         marks: 1,
     },
     Case {
-        step: Step::Unit(2, OfUnit::Place(2, 1)),
+        step: Step::Unit(2, UnitChange::Place(2, 1)),
         owners: (2, 0),
         inside: (&[1, 2, 3], &[]),
         region: &[3],
@@ -257,7 +258,7 @@ static SAILING: [Case; 4] = [
         marks: 1,
     },
     Case {
-        step: Step::Unit(3, OfUnit::Place(2, 1)),
+        step: Step::Unit(3, UnitChange::Place(2, 1)),
         owners: (2, 0),
         inside: (&[1, 2, 3], &[]),
         region: &[],
@@ -266,9 +267,9 @@ static SAILING: [Case; 4] = [
     },
 ];
 
-/// Moves all units into the boat, and then asserts the cases of `AFTER` and of `SAILING`.
+/// Moves all units into the boat, and then asserts the cases of `OWNERS_AFTER` and of `SAILING`.
 fn sails(rt: &impl Abort, alloc: Global, campaign: &mut Campaign) -> Result<(), Fail> {
-    does_all(alloc, campaign, &ENTERING)?;
+    make_steps(alloc, campaign, &ENTERING)?;
     knows_owners(rt, campaign);
     cases_hold(rt, alloc, campaign, &SAILING)?;
     assert_numbers(rt, 0, campaign.in_region(2), &[1, 2, 3]);

@@ -1,7 +1,7 @@
 //! Tests of `Campaign::parts`: the rows that a campaign gives to each table.
 use super::compare::assert_rows;
 use super::making::{LODGE, joined_by};
-use super::steps::{OfFaction, OfStructure, OfUnit, Step, does_all};
+use super::steps::{FactionChange, Step, StructureChange, UnitChange, make_steps};
 use atl_campaign::parts::Parts;
 use atl_test_worlds::ISLE;
 use std::alloc::Global;
@@ -12,18 +12,18 @@ use std::test::Fail;
 /// sailing and the guard flag, and store a mailing and a report of Avalon.
 static SETTLING: [Step; 7] = [
     Step::Begins(LODGE, 1),
-    Step::Structure(1, OfStructure::Owner(1)),
-    Step::Unit(1, OfUnit::LentItem(0, 12)),
-    Step::Unit(1, OfUnit::Days(3, 60)),
-    Step::Unit(1, OfUnit::Guard(true)),
-    Step::Faction(1, OfFaction::Mail("#ATLANTIS 1")),
-    Step::Faction(1, OfFaction::Report("A report.\n")),
+    Step::Structure(1, StructureChange::Owner(1)),
+    Step::Unit(1, UnitChange::LentItem(0, 12)),
+    Step::Unit(1, UnitChange::Days(3, 60)),
+    Step::Unit(1, UnitChange::Guard(true)),
+    Step::Faction(1, FactionChange::Mail("#ATLANTIS 1")),
+    Step::Faction(1, FactionChange::Report("A report.\n")),
 ];
 
 /// The rows of the campaign after Avalon has joined and `SETTLING`.
 fn rows(alloc: Global) -> Result<Parts, Fail> {
     let mut campaign = joined_by(alloc, ISLE)?;
-    does_all(alloc, &mut campaign, &SETTLING)?;
+    make_steps(alloc, &mut campaign, &SETTLING)?;
     Ok(campaign.parts()?)
 }
 

@@ -2,7 +2,7 @@
 //! alone.
 use super::making::{FAR, LODGE, joined_by};
 use super::shown::{Ask, Row, assert_unmarked_steps};
-use super::steps::{OfFaction, OfRegion, OfStructure, OfUnit, Step, does};
+use super::steps::{FactionChange, RegionChange, Step, StructureChange, UnitChange, make_step};
 use atl_campaign::Campaign;
 use atl_test_worlds::ISLE;
 use std::alloc::Global;
@@ -13,19 +13,19 @@ use std::test::Fail;
 static CALLS: [Row; 18] = [
     (Step::Month(12), Ask::Month, "12", "1, the campaign"),
     (
-        Step::Faction(1, OfFaction::Name("Bree")),
+        Step::Faction(1, FactionChange::Name("Bree")),
         Ask::Faction(1),
         "Bree, joined as Avalon pw, gone: false",
         "1, factions [1]",
     ),
     (
-        Step::Faction(1, OfFaction::Gone),
+        Step::Faction(1, FactionChange::Gone),
         Ask::Faction(1),
         "Bree, joined as Avalon pw, gone: true",
         "1, factions [1]",
     ),
     (
-        Step::Faction(1, OfFaction::Mail("#ATLANTIS 1")),
+        Step::Faction(1, FactionChange::Mail("#ATLANTIS 1")),
         Ask::Mail(1),
         "#ATLANTIS 1 of 1",
         "1, mail [1]",
@@ -34,73 +34,73 @@ static CALLS: [Row; 18] = [
     (Step::ClearMail, Ask::Mail(1), "none of 0", "1, mail [1]"),
     (Step::ClearMail, Ask::Mail(1), "none of 0", "0"),
     (
-        Step::Faction(1, OfFaction::Report("A report.\n")),
+        Step::Faction(1, FactionChange::Report("A report.\n")),
         Ask::Report(1),
         "A report.\n of 1",
         "1, reports [1]",
     ),
     (
-        Step::Region(FAR, OfRegion::Peasants(77)),
+        Step::Region(FAR, RegionChange::Peasants(77)),
         Ask::Region(FAR),
         "77 peasants, 100 money",
         "1, regions [3]",
     ),
     (
-        Step::Region(FAR, OfRegion::Money(88)),
+        Step::Region(FAR, RegionChange::Money(88)),
         Ask::Region(FAR),
         "77 peasants, 88 money",
         "1, regions [3]",
     ),
     (
-        Step::Unit(1, OfUnit::Name("Bill")),
+        Step::Unit(1, UnitChange::Name("Bill")),
         Ask::Unit(1),
         "Bill: 1 men, 1000 money, guard: false, [1, 3, 0]",
         "1, units [1], rows [1]",
     ),
     (
-        Step::Unit(1, OfUnit::Men(999_999)),
+        Step::Unit(1, UnitChange::Men(999_999)),
         Ask::Unit(1),
         "Bill: 999999 men, 1000 money, guard: false, [1, 3, 0]",
         "1, units [1], rows [1]",
     ),
     (
-        Step::Unit(1, OfUnit::Money(999_999_999)),
+        Step::Unit(1, UnitChange::Money(999_999_999)),
         Ask::Unit(1),
         "Bill: 999999 men, 999999999 money, guard: false, [1, 3, 0]",
         "1, units [1], rows [1]",
     ),
     (
-        Step::Unit(1, OfUnit::Guard(true)),
+        Step::Unit(1, UnitChange::Guard(true)),
         Ask::Unit(1),
         "Bill: 999999 men, 999999999 money, guard: true, [1, 3, 0]",
         "1, units [1], rows [1]",
     ),
     (
-        Step::Unit(1, OfUnit::Guard(false)),
+        Step::Unit(1, UnitChange::Guard(false)),
         Ask::Unit(1),
         "Bill: 999999 men, 999999999 money, guard: false, [1, 3, 0]",
         "1, units [1], rows [1]",
     ),
     (
-        Step::Structure(1, OfStructure::Done(20)),
+        Step::Structure(1, StructureChange::Done(20)),
         Ask::Structure(1),
         "A structure: kind 1, region 3, 20 done, owner 0",
         "1, structures [1]",
     ),
     (
-        Step::Structure(1, OfStructure::Name("Hut")),
+        Step::Structure(1, StructureChange::Name("Hut")),
         Ask::Structure(1),
         "Hut: kind 1, region 3, 20 done, owner 0",
         "1, structures [1]",
     ),
     (
-        Step::Structure(1, OfStructure::Region(4)),
+        Step::Structure(1, StructureChange::Region(4)),
         Ask::Structure(1),
         "Hut: kind 1, region 4, 20 done, owner 0",
         "1, structures [1]",
     ),
     (
-        Step::Structure(1, OfStructure::Owner(1)),
+        Step::Structure(1, StructureChange::Owner(1)),
         Ask::Structure(1),
         "Hut: kind 1, region 4, 20 done, owner 1",
         "1, structures [1]",
@@ -110,63 +110,68 @@ static CALLS: [Row; 18] = [
 /// Calls that change nothing and mark nothing, since nothing has their number 9.
 static NOBODY: [Row; 12] = [
     (
-        Step::Faction(9, OfFaction::Name("Bree")),
+        Step::Faction(9, FactionChange::Name("Bree")),
         Ask::Faction(9),
         "none",
         "0",
     ),
     (
-        Step::Faction(9, OfFaction::Gone),
+        Step::Faction(9, FactionChange::Gone),
         Ask::Faction(9),
         "none",
         "0",
     ),
     (
-        Step::Region(9, OfRegion::Peasants(1)),
+        Step::Region(9, RegionChange::Peasants(1)),
         Ask::Region(9),
         "none",
         "0",
     ),
     (
-        Step::Region(9, OfRegion::Money(1)),
+        Step::Region(9, RegionChange::Money(1)),
         Ask::Region(9),
         "none",
         "0",
     ),
     (
-        Step::Unit(9, OfUnit::Name("Bill")),
+        Step::Unit(9, UnitChange::Name("Bill")),
         Ask::Unit(9),
         "none",
         "0",
     ),
-    (Step::Unit(9, OfUnit::Men(1)), Ask::Unit(9), "none", "0"),
-    (Step::Unit(9, OfUnit::Money(1)), Ask::Unit(9), "none", "0"),
+    (Step::Unit(9, UnitChange::Men(1)), Ask::Unit(9), "none", "0"),
     (
-        Step::Unit(9, OfUnit::Guard(true)),
+        Step::Unit(9, UnitChange::Money(1)),
         Ask::Unit(9),
         "none",
         "0",
     ),
     (
-        Step::Structure(9, OfStructure::Done(1)),
+        Step::Unit(9, UnitChange::Guard(true)),
+        Ask::Unit(9),
+        "none",
+        "0",
+    ),
+    (
+        Step::Structure(9, StructureChange::Done(1)),
         Ask::Structure(9),
         "none",
         "0",
     ),
     (
-        Step::Structure(9, OfStructure::Name("Hut")),
+        Step::Structure(9, StructureChange::Name("Hut")),
         Ask::Structure(9),
         "none",
         "0",
     ),
     (
-        Step::Structure(9, OfStructure::Region(1)),
+        Step::Structure(9, StructureChange::Region(1)),
         Ask::Structure(9),
         "none",
         "0",
     ),
     (
-        Step::Structure(9, OfStructure::Owner(1)),
+        Step::Structure(9, StructureChange::Owner(1)),
         Ask::Structure(9),
         "none",
         "0",
@@ -176,7 +181,7 @@ static NOBODY: [Row; 12] = [
 /// Begins a lodge, as structure 1, makes the calls of `CALLS` and `NOBODY` in turn, and asserts
 /// what each sets and marks.
 fn sets_all(rt: &impl Abort, alloc: Global, campaign: &mut Campaign) -> Result<(), Fail> {
-    does(alloc, campaign, Step::Begins(LODGE, 1))?;
+    make_step(alloc, campaign, Step::Begins(LODGE, 1))?;
     assert_unmarked_steps(rt, alloc, campaign, &CALLS)?;
     assert_unmarked_steps(rt, alloc, campaign, &NOBODY)
 }
@@ -184,7 +189,7 @@ fn sets_all(rt: &impl Abort, alloc: Global, campaign: &mut Campaign) -> Result<(
 /// Tests that each call sets its part and marks that part alone, and that a number that nothing has
 /// changes nothing.
 #[test]
-fn setting_entries(rt: HostRuntime) -> Result<(), Fail> {
+fn each_call_sets_one_part(rt: HostRuntime) -> Result<(), Fail> {
     let mut campaign = joined_by(rt.alloc(), ISLE)?;
     sets_all(&rt, rt.alloc(), &mut campaign)
 }

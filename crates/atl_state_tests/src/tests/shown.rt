@@ -1,6 +1,6 @@
 //! Prints parts of a campaign and its marks as text, and runs tables of steps with both.
 use super::compare::assert_row_text;
-use super::steps::{Step, does};
+use super::steps::{Step, make_step};
 use atl_campaign::{BooksEntry, Campaign, MOST_UNITS, Thing};
 use atl_world::limits::MOST_REGIONS;
 use atl_world::{Entries, MarkedNumbers, Numbered};
@@ -231,8 +231,8 @@ fn add_lists(alloc: Global, text: &mut String, campaign: &Campaign) -> Result<()
     Ok(())
 }
 
-/// How the text of marks names one kind of amount that is marked by itself: the word for the amount
-/// (`item`), and the word for what has it (`unit`).
+/// Words of the text of marks for one kind of amount that is marked by itself: one for the amount,
+/// such as `item`, and one for its owner, such as `unit`.
 #[derive(Clone, Copy)]
 struct Singles {
     amount: &'static str,
@@ -297,7 +297,7 @@ fn add_all_singles(
 
 /// Appends to `text` whether the campaign row, and the money and people booked under Joining, are
 /// marked.
-fn add_own(text: &mut String, campaign: &Campaign) -> Result<(), Fail> {
+fn add_campaign_marks(text: &mut String, campaign: &Campaign) -> Result<(), Fail> {
     if campaign.is_row_marked() {
         text.push_str(", the campaign")?;
     }
@@ -321,7 +321,7 @@ fn marks_text(alloc: Global, campaign: &Campaign) -> Result<String, Fail> {
     for (index, singles) in SINGLES.iter().enumerate() {
         add_all_singles(alloc, &mut text, *singles, marked_singles(campaign, index))?;
     }
-    add_own(&mut text, campaign)?;
+    add_campaign_marks(&mut text, campaign)?;
     Ok(text)
 }
 
@@ -330,7 +330,7 @@ pub(crate) type Row = (Step, Ask, &'static str, &'static str);
 
 /// Makes the step of a row, and asserts the answer and the marks that the row wants; `place` is the
 /// row's index.
-fn is_so_after(
+fn assert_row_step(
     rt: &impl Abort,
     alloc: Global,
     campaign: &mut Campaign,
@@ -338,7 +338,7 @@ fn is_so_after(
     row: &Row,
 ) -> Result<(), Fail> {
     let (step, ask, answer, marks) = *row;
-    does(alloc, campaign, step)?;
+    make_step(alloc, campaign, step)?;
     assert_row_text(rt, place, text_of(alloc, campaign, ask)?.as_str(), answer);
     assert_row_text(rt, place, marks_text(alloc, campaign)?.as_str(), marks);
     Ok(())
@@ -352,7 +352,7 @@ pub(crate) fn assert_steps(
     rows: &[Row],
 ) -> Result<(), Fail> {
     for (place, row) in rows.iter().enumerate() {
-        is_so_after(rt, alloc, campaign, place, row)?;
+        assert_row_step(rt, alloc, campaign, place, row)?;
     }
     Ok(())
 }
@@ -367,7 +367,7 @@ pub(crate) fn assert_unmarked_steps(
 ) -> Result<(), Fail> {
     for (place, row) in rows.iter().enumerate() {
         campaign.unmark();
-        is_so_after(rt, alloc, campaign, place, row)?;
+        assert_row_step(rt, alloc, campaign, place, row)?;
     }
     Ok(())
 }

@@ -13,10 +13,10 @@ pub(crate) enum Step {
     Unmark,
     Month(u32),
     ClearMail,
-    Faction(u32, OfFaction),
-    Region(u32, OfRegion),
-    Unit(u32, OfUnit),
-    Structure(u32, OfStructure),
+    Faction(u32, FactionChange),
+    Region(u32, RegionChange),
+    Unit(u32, UnitChange),
+    Structure(u32, StructureChange),
     /// A unit of one man of a faction is added in region Far; the second number is the one it must
     /// get.
     Comes(u32, u32),
@@ -27,7 +27,7 @@ pub(crate) enum Step {
 
 /// A change of a faction: another name, that it is gone, its mail or its report.
 #[derive(Drop, Clone, Copy)]
-pub(crate) enum OfFaction {
+pub(crate) enum FactionChange {
     Name(&'static str),
     Gone,
     Mail(&'static str),
@@ -36,7 +36,7 @@ pub(crate) enum OfFaction {
 
 /// A change of a region: its peasants, its money or one of its stocks.
 #[derive(Drop, Clone, Copy)]
-pub(crate) enum OfRegion {
+pub(crate) enum RegionChange {
     Peasants(u32),
     Money(u32),
     /// An item, and how much of it is in stock.
@@ -45,7 +45,7 @@ pub(crate) enum OfRegion {
 
 /// A change of a unit: a value of its holding, its place, or its removal.
 #[derive(Drop, Clone, Copy)]
-pub(crate) enum OfUnit {
+pub(crate) enum UnitChange {
     Name(&'static str),
     Men(u32),
     Money(u32),
@@ -65,7 +65,7 @@ pub(crate) enum OfUnit {
 
 /// A change of a structure: its name, its region, how much of it is done, or its owner.
 #[derive(Drop, Clone, Copy)]
-pub(crate) enum OfStructure {
+pub(crate) enum StructureChange {
     Name(&'static str),
     Region(u32),
     Done(u32),
@@ -77,38 +77,41 @@ fn change_faction(
     alloc: Global,
     campaign: &mut Campaign,
     faction: u32,
-    change: OfFaction,
+    change: FactionChange,
 ) -> Result<(), Fail> {
     match change {
-        OfFaction::Name(name) => campaign.set_faction_name(faction, Text::from_str(alloc, name)?),
-        OfFaction::Gone => campaign.set_gone(faction),
-        OfFaction::Mail(text) => {
+        FactionChange::Name(name) => campaign.set_faction_name(
+            faction,
+            Text::from_str(alloc, name)?,
+        ),
+        FactionChange::Gone => campaign.set_gone(faction),
+        FactionChange::Mail(text) => {
             campaign.set_mail(faction, Sequence::from_slice(alloc, text.as_bytes())?)?;
         }
-        OfFaction::Report(text) => campaign.set_report(faction, Text::from_str(alloc, text)?)?,
+        FactionChange::Report(text) => campaign.set_report(faction, Text::from_str(alloc, text)?)?,
     }
     Ok(())
 }
 
 /// Makes the call that changes a region as `change` says.
-fn change_region(campaign: &mut Campaign, region: u32, change: OfRegion) -> Result<(), Fail> {
+fn change_region(campaign: &mut Campaign, region: u32, change: RegionChange) -> Result<(), Fail> {
     match change {
-        OfRegion::Peasants(peasants) => campaign.set_peasants(region, peasants),
-        OfRegion::Money(money) => campaign.set_region_money(region, money),
-        OfRegion::Stock(item, amount) => campaign.set_stock(region, item, amount)?,
+        RegionChange::Peasants(peasants) => campaign.set_peasants(region, peasants),
+        RegionChange::Money(money) => campaign.set_region_money(region, money),
+        RegionChange::Stock(item, amount) => campaign.set_stock(region, item, amount)?,
     }
     Ok(())
 }
 
 /// Changes the holding that `unit_mut` lent (a mutable reference), as `change` says; does nothing
 /// if no unit was there.
-fn changes_lent(lent: Option<&mut Holding>, change: OfUnit) -> Result<(), Fail> {
+fn changes_lent(lent: Option<&mut Holding>, change: UnitChange) -> Result<(), Fail> {
     let Some(holding) = lent else {
         return Ok(());
     };
     match change {
-        OfUnit::LentMoney(money) if money <= 999_999_999 => holding.set_money(money),
-        OfUnit::LentItem(item, amount) if amount <= 999_999_999 => {
+        UnitChange::LentMoney(money) if money <= 999_999_999 => holding.set_money(money),
+        UnitChange::LentItem(item, amount) if amount <= 999_999_999 => {
             holding.set_amount(item, amount)?;
         }
         _ => return Err(Fail::new("past a limit")),
@@ -122,19 +125,19 @@ fn change_unit(
     alloc: Global,
     campaign: &mut Campaign,
     unit: u32,
-    change: OfUnit,
+    change: UnitChange,
 ) -> Result<(), Fail> {
     match change {
-        OfUnit::Name(name) => campaign.set_unit_name(unit, Text::from_str(alloc, name)?),
-        OfUnit::Men(men) if men <= 999_999 => campaign.set_men(unit, men),
-        OfUnit::Money(money) if money <= 999_999_999 => campaign.set_money(unit, money),
-        OfUnit::Guard(guard) => campaign.set_guard(unit, guard),
-        OfUnit::Item(item, amount) if amount <= 999_999_999 => {
+        UnitChange::Name(name) => campaign.set_unit_name(unit, Text::from_str(alloc, name)?),
+        UnitChange::Men(men) if men <= 999_999 => campaign.set_men(unit, men),
+        UnitChange::Money(money) if money <= 999_999_999 => campaign.set_money(unit, money),
+        UnitChange::Guard(guard) => campaign.set_guard(unit, guard),
+        UnitChange::Item(item, amount) if amount <= 999_999_999 => {
             campaign.set_item(unit, item, amount)?;
         }
-        OfUnit::Days(skill, days) => campaign.set_days(unit, skill, days)?,
-        OfUnit::Place(region, structure) => campaign.place(unit, region, structure)?,
-        OfUnit::Remove => campaign.remove_unit(unit),
+        UnitChange::Days(skill, days) => campaign.set_days(unit, skill, days)?,
+        UnitChange::Place(region, structure) => campaign.place(unit, region, structure)?,
+        UnitChange::Remove => campaign.remove_unit(unit),
         _ => changes_lent(campaign.unit_mut(unit), change)?,
     }
     Ok(())
@@ -145,22 +148,22 @@ fn change_structure(
     alloc: Global,
     campaign: &mut Campaign,
     structure: u32,
-    change: OfStructure,
+    change: StructureChange,
 ) -> Result<(), Fail> {
     match change {
-        OfStructure::Name(name) => {
+        StructureChange::Name(name) => {
             campaign.set_structure_name(structure, Text::from_str(alloc, name)?);
         }
-        OfStructure::Region(region) => campaign.set_structure_region(structure, region),
-        OfStructure::Done(done) => campaign.set_done(structure, done),
-        OfStructure::Owner(owner) => campaign.set_owner(structure, owner),
+        StructureChange::Region(region) => campaign.set_structure_region(structure, region),
+        StructureChange::Done(done) => campaign.set_done(structure, done),
+        StructureChange::Owner(owner) => campaign.set_owner(structure, owner),
     }
     Ok(())
 }
 
 /// Fails unless a unit or structure that was added got the number that its step names.
-fn got_number(told: u32, number: u32) -> Result<(), Fail> {
-    if told == number {
+fn got_number(actual: u32, number: u32) -> Result<(), Fail> {
+    if actual == number {
         Ok(())
     } else {
         Err(Fail::new("another number"))
@@ -168,7 +171,7 @@ fn got_number(told: u32, number: u32) -> Result<(), Fail> {
 }
 
 /// Makes the call that a step names.
-pub(crate) fn does(alloc: Global, campaign: &mut Campaign, step: Step) -> Result<(), Fail> {
+pub(crate) fn make_step(alloc: Global, campaign: &mut Campaign, step: Step) -> Result<(), Fail> {
     match step {
         Step::Nothing => (),
         Step::Unmark => campaign.unmark(),
@@ -187,9 +190,13 @@ pub(crate) fn does(alloc: Global, campaign: &mut Campaign, step: Step) -> Result
 }
 
 /// Makes the calls of all steps, one after another.
-pub(crate) fn does_all(alloc: Global, campaign: &mut Campaign, steps: &[Step]) -> Result<(), Fail> {
+pub(crate) fn make_steps(
+    alloc: Global,
+    campaign: &mut Campaign,
+    steps: &[Step],
+) -> Result<(), Fail> {
     for step in steps.iter() {
-        does(alloc, campaign, *step)?;
+        make_step(alloc, campaign, *step)?;
     }
     Ok(())
 }

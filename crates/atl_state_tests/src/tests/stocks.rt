@@ -1,9 +1,9 @@
 //! Tests of the stocks of a region's market.
 use super::making::joined_by;
 use super::shown::{Ask, Row, assert_steps};
-use super::steps::{OfRegion, OfUnit, Step};
+use super::steps::{RegionChange, Step, UnitChange};
 use atl_campaign::Thing;
-use atl_test_worlds::MART;
+use atl_test_worlds::WOOD_MARKET;
 use std::test::Fail;
 
 /// The question how much wood all units and regions hold.
@@ -18,40 +18,40 @@ const STOCK: Ask = Ask::Stock(1, 0);
 static WOOD: [Row; 11] = [
     (Step::Unmark, ALL_WOOD, "0", "0"),
     (
-        Step::Unit(1, OfUnit::LentItem(0, 3)),
+        Step::Unit(1, UnitChange::LentItem(0, 3)),
         ALL_WOOD,
         "3",
         "1, units [1], rows [1], goods [1]",
     ),
     (
-        Step::Region(1, OfRegion::Stock(0, 25)),
+        Step::Region(1, RegionChange::Stock(0, 25)),
         ALL_WOOD,
         "28",
         "2, units [1], rows [1], goods [1], stock 0 of region 1",
     ),
     (Step::Unmark, STOCK, "25 of 1", "0"),
     (
-        Step::Region(1, OfRegion::Stock(0, 30)),
+        Step::Region(1, RegionChange::Stock(0, 30)),
         STOCK,
         "30 of 1",
         "1, stock 0 of region 1",
     ),
     (Step::Unmark, STOCK, "30 of 1", "0"),
     (
-        Step::Region(1, OfRegion::Stock(0, 30)),
+        Step::Region(1, RegionChange::Stock(0, 30)),
         STOCK,
         "30 of 1",
         "0",
     ),
     (
-        Step::Region(1, OfRegion::Stock(0, 0)),
+        Step::Region(1, RegionChange::Stock(0, 0)),
         STOCK,
         "0 of 0",
         "1, stock 0 of region 1",
     ),
     (Step::Unmark, STOCK, "0 of 0", "0"),
     (
-        Step::Region(9, OfRegion::Stock(0, 5)),
+        Step::Region(9, RegionChange::Stock(0, 5)),
         Ask::Stock(9, 0),
         "0 nowhere",
         "0",
@@ -62,6 +62,6 @@ static WOOD: [Row; 11] = [
 /// Tests that setting a stock changes the totals, and marks that stock alone.
 #[test]
 fn stocks_are_counted(rt: HostRuntime) -> Result<(), Fail> {
-    let mut campaign = joined_by(rt.alloc(), MART)?;
+    let mut campaign = joined_by(rt.alloc(), WOOD_MARKET)?;
     assert_steps(&rt, rt.alloc(), &mut campaign, &WOOD)
 }

@@ -3,7 +3,7 @@ use super::checks::checked;
 use super::compare::assert_count;
 use super::making::{FAR, joined_in};
 use super::shown::{Ask, Row, assert_steps};
-use super::steps::{OfFaction, OfRegion, OfUnit, Step, does_all};
+use super::steps::{FactionChange, RegionChange, Step, UnitChange, make_steps};
 use atl_campaign::Campaign;
 use atl_tables::read_world;
 use atl_test_worlds::ISLE;
@@ -14,31 +14,31 @@ use std::test::Fail;
 
 /// Steps that add and remove units in turn. Avalon gets its report and three men, who leave the
 /// peasants; then ten times a unit goes and another comes.
-static COMING: [Step; 25] = [
-    Step::Faction(1, OfFaction::Report("A report.\n")),
+static UNITS_IN_TURN: [Step; 25] = [
+    Step::Faction(1, FactionChange::Report("A report.\n")),
     Step::Comes(1, 2),
     Step::Comes(1, 3),
     Step::Comes(1, 4),
-    Step::Region(FAR, OfRegion::Peasants(197)),
-    Step::Unit(3, OfUnit::Remove),
+    Step::Region(FAR, RegionChange::Peasants(197)),
+    Step::Unit(3, UnitChange::Remove),
     Step::Comes(1, 5),
-    Step::Unit(2, OfUnit::Remove),
+    Step::Unit(2, UnitChange::Remove),
     Step::Comes(1, 6),
-    Step::Unit(5, OfUnit::Remove),
+    Step::Unit(5, UnitChange::Remove),
     Step::Comes(1, 7),
-    Step::Unit(4, OfUnit::Remove),
+    Step::Unit(4, UnitChange::Remove),
     Step::Comes(1, 8),
-    Step::Unit(8, OfUnit::Remove),
+    Step::Unit(8, UnitChange::Remove),
     Step::Comes(1, 9),
-    Step::Unit(6, OfUnit::Remove),
+    Step::Unit(6, UnitChange::Remove),
     Step::Comes(1, 10),
-    Step::Unit(10, OfUnit::Remove),
+    Step::Unit(10, UnitChange::Remove),
     Step::Comes(1, 11),
-    Step::Unit(7, OfUnit::Remove),
+    Step::Unit(7, UnitChange::Remove),
     Step::Comes(1, 12),
-    Step::Unit(11, OfUnit::Remove),
+    Step::Unit(11, UnitChange::Remove),
     Step::Comes(1, 13),
-    Step::Unit(9, OfUnit::Remove),
+    Step::Unit(9, UnitChange::Remove),
     Step::Comes(1, 14),
 ];
 
@@ -55,7 +55,7 @@ static MARKS: [Row; 6] = [
     ),
     (Step::Unmark, Ask::Units, "[1, 12, 13, 14]", "0"),
     (
-        Step::Unit(13, OfUnit::Remove),
+        Step::Unit(13, UnitChange::Remove),
         Ask::Units,
         "[1, 12, 14]",
         "1, units [13], rows [13], goods [13]",
@@ -67,7 +67,7 @@ static MARKS: [Row; 6] = [
         "3, units [13, 15], rows [13, 15], goods [13, 15], the campaign",
     ),
     (
-        Step::Unit(12, OfUnit::Money(0)),
+        Step::Unit(12, UnitChange::Money(0)),
         Ask::Units,
         "[1, 12, 14, 15]",
         "4, units [12, 13, 15], rows [12, 13, 15], goods [13, 15], the campaign",
@@ -75,24 +75,30 @@ static MARKS: [Row; 6] = [
     (Step::Unmark, Ask::Units, "[1, 12, 14, 15]", "0"),
 ];
 
-/// What holds of the campaign that `check` makes of the rows of the campaign after `MARKS`: it has
-/// the same units, and no mark.
-static AGAIN: [Row; 1] = [(Step::Nothing, Ask::Units, "[1, 12, 14, 15]", "0")];
+/// What `check` has to make of the campaign's rows after `MARKS`: a campaign with the same units,
+/// and without a mark.
+static MADE_AGAIN: [Row; 1] = [(Step::Nothing, Ask::Units, "[1, 12, 14, 15]", "0")];
 
-/// Asserts `AGAIN` on the campaign made from the rows of `first`, and that four units are in region
-/// Far.
-fn come_back(rt: &impl Abort, alloc: Global, world: &World, first: &Campaign) -> Result<(), Fail> {
+/// Asserts `MADE_AGAIN` on the campaign made from the rows of `first`, and that four units are in
+/// region Far.
+fn assert_made_again(
+    rt: &impl Abort,
+    alloc: Global,
+    world: &World,
+    first: &Campaign,
+) -> Result<(), Fail> {
     let mut again = checked(alloc, world, first.parts()?)?;
     assert_count(rt, again.in_region(FAR).len(), 4);
-    assert_steps(rt, alloc, &mut again, &AGAIN)
+    assert_steps(rt, alloc, &mut again, &MADE_AGAIN)
 }
 
-/// Makes the steps of `COMING`, asserts `MARKS`, and then `AGAIN` of the campaign from its rows.
-fn go_round(rt: &impl Abort, alloc: Global, world: &World) -> Result<(), Fail> {
+/// Makes the steps of `UNITS_IN_TURN`, and asserts the rows of `MARKS`. Then makes the campaign
+/// again from its rows, and asserts `MADE_AGAIN`.
+fn assert_units_in_turn(rt: &impl Abort, alloc: Global, world: &World) -> Result<(), Fail> {
     let mut campaign = joined_in(alloc, world)?;
-    does_all(alloc, &mut campaign, &COMING)?;
+    make_steps(alloc, &mut campaign, &UNITS_IN_TURN)?;
     assert_steps(rt, alloc, &mut campaign, &MARKS)?;
-    come_back(rt, alloc, world, &campaign)
+    assert_made_again(rt, alloc, world, &campaign)
 }
 
 /// Tests that, as units go and come, those that are there are listed, those that came or went are
@@ -100,5 +106,5 @@ fn go_round(rt: &impl Abort, alloc: Global, world: &World) -> Result<(), Fail> {
 #[test]
 fn units_go_and_come(rt: HostRuntime) -> Result<(), Fail> {
     let world = read_world(rt.alloc(), ISLE)?;
-    go_round(&rt, rt.alloc(), &world)
+    assert_units_in_turn(&rt, rt.alloc(), &world)
 }

@@ -3,7 +3,7 @@
 use super::compare::{assert_amount, assert_count, assert_text};
 use super::making::{LODGE, joined_by};
 use super::shown::{Ask, Row, assert_steps};
-use super::steps::{OfUnit, Step, does_all};
+use super::steps::{Step, UnitChange, make_steps};
 use atl_campaign::{Campaign, Thing};
 use atl_test_worlds::ISLE;
 use std::alloc::Global;
@@ -40,7 +40,7 @@ fn walks_structures(rt: &impl Abort, campaign: &Campaign) -> Result<(), Fail> {
 /// Steps that begin a lodge, give unit 1 12 wood, and clear the marks.
 static MAKING: [Step; 3] = [
     Step::Begins(LODGE, 1),
-    Step::Unit(1, OfUnit::LentItem(0, 12)),
+    Step::Unit(1, UnitChange::LentItem(0, 12)),
     Step::Unmark,
 ];
 
@@ -64,7 +64,7 @@ static TOTALS: [Row; 6] = [
 
 /// Asserts the walks over factions, regions and structures, and the rows of `TOTALS`.
 fn walks(rt: &impl Abort, alloc: Global, campaign: &mut Campaign) -> Result<(), Fail> {
-    does_all(alloc, campaign, &MAKING)?;
+    make_steps(alloc, campaign, &MAKING)?;
     walks_factions(rt, campaign)?;
     walks_regions(rt, campaign)?;
     walks_structures(rt, campaign)?;

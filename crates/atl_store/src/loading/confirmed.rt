@@ -2,7 +2,7 @@
 ghost use Rattle.std.specs.Prelude.{◌≡◌, false, OnOk, IfErr};
 ghost use Rattle.sqlite.specs.Held.{state};
 ghost use Rattle.sqlite.specs.State.{HasCleanDisk};
-ghost use Rattle.atl_store.specs.Gathering.{IsSettled, FailsToConfirm, IsConfirmed};
+ghost use Rattle.atl_store.specs.Gathering.{IsCommitted, FailsToConfirm, IsConfirmed};
 ghost use Rattle.atl_store.specs.Loading.{AfterReads};
 
 use crate::fault::LoadFault;
@@ -15,7 +15,7 @@ use sqlite::{Alter, Connection};
 /// back has shut the connection, which only the next statement shows.
 pub(crate) fn confirm<S: Alter>(conn: &mut Connection<S>, format: Format) -> Result<(), LoadFault>
     requires idle { conn.old.in_transaction ≡ false }
-    requires settled { IsSettled (state S.Store conn.old) }
+    requires settled { IsCommitted (state S.Store conn.old) }
     ensures ok { HasCleanDisk (state S.Store conn.new)
         → OnOk result (IsConfirmed format (state S.Store conn.old) (state S.Store conn.new)) }
     ensures fails { HasCleanDisk (state S.Store conn.new)

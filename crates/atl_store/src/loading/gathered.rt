@@ -6,7 +6,7 @@ ghost use Rattle.sqlite.specs.Held.{state};
 ghost use Rattle.sqlite.specs.Order.{Row as SqlRow};
 ghost use Rattle.atl_store.specs.declared.fault.LoadFault.TheVariants.{Store};
 ghost use Rattle.atl_world.specs.declared.format.Format.TheVariants.{First};
-ghost use Rattle.atl_store.specs.Gathering.{IsSettled, ReadRows, AreAllRows, AreNone, AreOfFormat, ReadsSome, FailsWithout, AreApart, rows_or_none, second_format_parts, selects_by};
+ghost use Rattle.atl_store.specs.Gathering.{IsCommitted, ReadRows, AreAllRows, AreNone, AreOfFormat, ReadsSome, FailsWithout, HaveDistinctRowids, rows_or_none, second_format_parts, selects_by};
 ghost use Rattle.atl_store.specs.Loading.{other_parts};
 ghost use Rattle.atl_sql.specs.Reading.{select_of_part};
 ghost use Rattle.atl_sql.specs.Stored.{Form};
@@ -37,12 +37,12 @@ pub(crate) trait AllRows: Drop + Sized {
         conn: &mut Connection<S>,
     ) -> Result<Option<Self>, LoadFault>
         requires idle { conn.old.in_transaction ≡ false }
-        requires settled { IsSettled (state S.Store conn.old) }
+        requires settled { IsCommitted (state S.Store conn.old) }
         ensures { ReadsSome S.Store conn.old selects
             (λ all. AreAllRows (state S.Store conn.old).now (rows all)) result conn.new };
 
-    /// No rows of any of the tables, as for tables that a format doesn't have.
-    fn none(alloc: Global) -> Self
+    /// Gives no rows of any of the tables, as for tables that a format doesn't have.
+    fn without_rows(alloc: Global) -> Self
         ensures { AreNone (rows result) };
 
     // What was read is of the parts `parts`, in their order.
@@ -80,8 +80,8 @@ impl<A: HasSelect> AllRows for Vec<A> {
         rows_or_none(A::read(alloc, conn))
     }
 
-    /// No rows of the table: an empty list.
-    fn none(alloc: Global) -> Vec<A> {
+    /// Gives no rows of the table: an empty list.
+    fn without_rows(alloc: Global) -> Vec<A> {
         Vec::new(alloc)
     }
 }
@@ -94,7 +94,10 @@ impl<X: AllRows, Y: AllRows> AllRows for (X, Y) {
 
     ghost rows = { λ both. X.AllRows.rows both.0 ++ Y.AllRows.rows both.1 };
 
-    ghost of_parts = { λ both. map-append (λ (read : Part × List SqlRow). read.0) (X.AllRows.rows both.0) (Y.AllRows.rows both.1) ∙ ap (λ parts. parts ++ map (λ read. read.0) (Y.AllRows.rows both.1)) (X.AllRows.of_parts both.0) ∙ ap (λ parts. X.AllRows.parts ++ parts) (Y.AllRows.of_parts both.1) };
+    ghost of_parts = { λ both. map-append (λ (read : Part × List SqlRow). read.0)
+        (X.AllRows.rows both.0) (Y.AllRows.rows both.1) ∙ ap
+        (λ parts. parts ++ map (λ read. read.0) (Y.AllRows.rows both.1)) (X.AllRows.of_parts both.0)
+        ∙ ap (λ parts. X.AllRows.parts ++ parts) (Y.AllRows.of_parts both.1) };
 
     /// Reads all rows of `X`, and then of `Y`; None if a value of either is of another type than
     /// its column.
@@ -107,9 +110,9 @@ impl<X: AllRows, Y: AllRows> AllRows for (X, Y) {
         Ok(some.zip(others))
     }
 
-    /// No rows of `X` and none of `Y`.
-    fn none(alloc: Global) -> (X, Y) {
-        (X::none(alloc), Y::none(alloc))
+    /// Gives no rows of the tables of `X`, and none of those of `Y`.
+    fn without_rows(alloc: Global) -> (X, Y) {
+        (X::without_rows(alloc), Y::without_rows(alloc))
     }
 }
 
@@ -121,7 +124,7 @@ pub(crate) fn read_by<X: AllRows, Y: AllRows, S: Alter>(
     format: Format,
 ) -> Result<Option<(X, Y)>, LoadFault>
     requires idle { conn.old.in_transaction ≡ false }
-    requires settled { IsSettled (state S.Store conn.old) }
+    requires settled { IsCommitted (state S.Store conn.old) }
     requires some { X.AllRows.parts ≡ other_parts First }
     requires others { Y.AllRows.parts ≡ second_format_parts }
     ensures { ReadsSome S.Store conn.old (selects_by format X.AllRows.selects Y.AllRows.selects)
@@ -131,7 +134,7 @@ pub(crate) fn read_by<X: AllRows, Y: AllRows, S: Alter>(
     match format {
         Format::First => {
             let some = X::read_all(alloc, conn)?;
-            Ok(some.zip(Some(Y::none(alloc))))
+            Ok(some.zip(Some(Y::without_rows(alloc))))
         }
         Format::Second => <(X, Y)>::read_all(alloc, conn),
     }
@@ -149,8 +152,8 @@ fn rowids_of<T>(alloc: Global, placed: &[RowWithId<T>]) -> Result<Vec<i64>, Allo
 }
 
 /// Whether no two of the rows `placed` have the same rowid.
-fn are_apart<T>(alloc: Global, placed: &[RowWithId<T>]) -> Result<bool, AllocError>
-    ensures { IfOk result (λ yes. IsTrue yes ↔ (AreApart placed.now)) }
+fn have_distinct_rowids<T>(alloc: Global, placed: &[RowWithId<T>]) -> Result<bool, AllocError>
+    ensures { IfOk result (λ yes. IsTrue yes ↔ (HaveDistinctRowids placed.now)) }
 {
     let rowids = rowids_of(alloc, placed)?;
     are_distinct(alloc, &rowids)
@@ -167,7 +170,7 @@ fn without_ids<T: Drop>(alloc: Global, placed: Vec<RowWithId<T>>) -> Result<Sequ
     Ok(Sequence::from_vec(rows))
 }
 
-/// Ok if no two rows of a table have the same rowid (`are_apart`), else the fault Store.
+/// Ok if no two rows of a table have the same rowid (`have_distinct_rowids`), else the fault Store.
 fn check_apart(are_apart: bool) -> Result<(), LoadFault>
     ensures { result ≡ (if are_apart then Ok tt else Err Store) }
 {
@@ -180,15 +183,15 @@ fn check_apart(are_apart: bool) -> Result<(), LoadFault>
 
 /// The rows of a table without their rowids; the fault Store if two of them have the same rowid, or
 /// Memory if memory runs out.
-pub(crate) fn rows_apart<T: Drop>(
+pub(crate) fn rows_after_check<T: Drop>(
     alloc: Global,
     placed: Vec<RowWithId<T>>,
 ) -> Result<Sequence<T>, LoadFault>
     ensures ok { IfOk result
-        (λ rows. (rows ≡ map (λ s. s.row) placed.items) × AreApart placed.items) }
-    ensures fails { IfErr result (FailsWithout (AreApart placed.items)) }
+        (λ rows. (rows ≡ map (λ s. s.row) placed.items) × HaveDistinctRowids placed.items) }
+    ensures fails { IfErr result (FailsWithout (HaveDistinctRowids placed.items)) }
 {
-    check_apart(are_apart(alloc, &placed)?)?;
+    check_apart(have_distinct_rowids(alloc, &placed)?)?;
     let rows = without_ids(alloc, placed)?;
     Ok(rows)
 }

@@ -1,11 +1,11 @@
 //! Reads all tables but `campaign`, and puts the rows of all tables together.
 ghost use Rattle.std.specs.Prelude.{◌≡◌, false, IfOk, IfErr};
 ghost use Rattle.sqlite.specs.Held.{state};
-ghost use Rattle.atl_store.specs.Gathering.{IsSettled, AreOfFormat, ReadsSome, FailsWithout, AreAllApart, IsMadeOf};
+ghost use Rattle.atl_store.specs.Gathering.{IsCommitted, AreOfFormat, ReadsSome, FailsWithout, AllHaveDistinctRowids, IsMadeOf};
 ghost use Rattle.atl_store.specs.Loading.{other_selects};
 
 use crate::fault::LoadFault;
-use crate::loading::gathered::{AllRows, read_by, rows_apart};
+use crate::loading::gathered::{AllRows, read_by, rows_after_check};
 use atl_campaign::parts::{
     Parts, StoredBooks, StoredCampaignRow, StoredFaction, StoredHas, StoredMail, StoredMarket,
     StoredRegion, StoredReport, StoredStructure, StoredUnit,
@@ -49,7 +49,7 @@ pub(crate) fn read_others<S: Alter>(
     format: Format,
 ) -> Result<Option<OtherRows>, LoadFault>
     requires idle { conn.old.in_transaction ≡ false }
-    requires settled { IsSettled (state S.Store conn.old) }
+    requires settled { IsCommitted (state S.Store conn.old) }
     ensures { ReadsSome S.Store conn.old (other_selects format)
         (λ others. AreOfFormat format (state S.Store conn.old).now
         (⟦<OtherRows as AllRows>⟧.rows others)) result conn.new }
@@ -65,14 +65,15 @@ pub(crate) fn parts_with(
     others: OtherRows,
 ) -> Result<Parts, LoadFault>
     ensures ok { IfOk result (λ parts. IsMadeOf head (⟦<OtherRows as AllRows>⟧.rows others) parts) }
-    ensures fails { IfErr result (FailsWithout (AreAllApart (⟦<OtherRows as AllRows>⟧.rows others))) }
+    ensures fails { IfErr result (FailsWithout
+        (AllHaveDistinctRowids (⟦<OtherRows as AllRows>⟧.rows others))) }
 {
     let ((people, works), markets) = others;
     let (factions, (regions, (units, has))) = people;
     let (structures, (mail, (reports, books))) = works;
-    let has = rows_apart(alloc, has)?;
-    let books = rows_apart(alloc, books)?;
-    let markets = rows_apart(alloc, markets)?;
+    let has = rows_after_check(alloc, has)?;
+    let books = rows_after_check(alloc, books)?;
+    let markets = rows_after_check(alloc, markets)?;
     let mut campaign = Sequence::new(alloc);
     campaign.push(head)?;
     Ok(Parts {

@@ -5,9 +5,9 @@ ghost use Rattle.sqlite.specs.Order.{column};
 ghost use Rattle.sqlite.specs.State.{HasCleanDisk};
 ghost use Rattle.atl_tables.specs.Faults.{Reads};
 ghost use Rattle.atl_world.specs.Formats.{format_number};
-ghost use Rattle.atl_tables.specs.World.{world_by};
-ghost use Rattle.atl_store.specs.Gathering.{IsSettled, own_fault, only_of, ReadsWorld, JudgesOwn, JudgesRows, JudgesFormat, OwnRead};
-ghost use Rattle.atl_store.specs.Loading.{AfterReads, RefusesToLoadIn, IsOther, other_format};
+ghost use Rattle.atl_tables.specs.World.{world_of_text};
+ghost use Rattle.atl_store.specs.Gathering.{IsCommitted, campaign_row_fault, only_of, ReadsWorld, JudgesOwn, JudgesRows, JudgesFormat, OwnRead};
+ghost use Rattle.atl_store.specs.Loading.{AfterReads, RefusesToLoadIn, AreOfOtherFormat, other_format};
 ghost use Rattle.atl_sql.specs.Shown.{int};
 
 use crate::fault::{LoadFault, ReadFault};
@@ -23,8 +23,8 @@ use std::alloc::Global;
 
 /// The fault of loading for a fault of reading `campaign`: Refused becomes NotACampaign, OtherType
 /// becomes Damaged by the first rule, and Store and Memory stay.
-fn own_fault(fault: ReadFault) -> LoadFault
-    ensures { result ≡ own_fault fault }
+fn campaign_row_fault(fault: ReadFault) -> LoadFault
+    ensures { result ≡ campaign_row_fault fault }
 {
     match fault {
         ReadFault::Store => LoadFault::Store,
@@ -34,7 +34,7 @@ fn own_fault(fault: ReadFault) -> LoadFault
     }
 }
 
-/// The only row of a list of one, else None.
+/// Gives the row of a list of just one campaign row, or None for any other list.
 fn only_row(mut rows: Vec<StoredCampaign>) -> Option<StoredCampaign>
     ensures { result ≡ only_of rows.items }
 {
@@ -43,7 +43,7 @@ fn only_row(mut rows: Vec<StoredCampaign>) -> Option<StoredCampaign>
 }
 
 /// Whether a row of `campaign` has the id 1 and this format.
-fn is_own(head: &StoredCampaignRow, format: Format) -> bool
+fn has_id_and_format(head: &StoredCampaignRow, format: Format) -> bool
     ensures { IsTrue result ↔
         ((head.now.id ≡ pos 1) × (head.now.format ≡ pos (format_number format))) }
 {
@@ -52,7 +52,7 @@ fn is_own(head: &StoredCampaignRow, format: Format) -> bool
 
 /// The world that a world text of this format describes, or why the text describes none.
 fn world_by(alloc: Global, text: &str, format: Format) -> Result<World, WorldFault>
-    ensures { Reads (λ w. w) result (world_by format text.now) }
+    ensures { Reads (λ w. w) result (world_of_text format text.now) }
 {
     match format {
         Format::First => read_old_world(alloc, text),
@@ -83,21 +83,26 @@ fn check_own_rows(
     let Some(own) = only_row(rows) else {
         return Err(LoadFault::Damaged(Rule::OneRow));
     };
-    if !is_own(&own.head, format) {
+    if !has_id_and_format(&own.head, format) {
         return Err(LoadFault::Damaged(Rule::OneRow));
     }
     let world = world_from(alloc, own.world.as_str(), format)?;
     Ok((own, world))
 }
 
-/// The campaign row and its world, from the rows that SQL shows of `campaign`; Damaged by the first
-/// rule if a value is of another type, or there isn't just one row that keeps the rule.
-fn own_of(alloc: Global, rows: &[Row], format: Format) -> Result<(StoredCampaign, World), LoadFault>
+/// Parses the rows that SQL shows of `campaign` and judges them by the first rule; gives the row
+/// and its world. Damaged by the first rule: a value is of another type, or there isn't just one
+/// row that keeps the rule. Memory: memory runs out.
+fn judge_rows(
+    alloc: Global,
+    rows: &[Row],
+    format: Format,
+) -> Result<(StoredCampaign, World), LoadFault>
     ensures { JudgesRows format rows.now result }
 {
     match parse_rows(alloc, rows) {
         Ok(rows) => check_own_rows(alloc, rows, format),
-        Err(fault) => Err(own_fault(fault)),
+        Err(fault) => Err(campaign_row_fault(fault)),
     }
 }
 
@@ -123,21 +128,26 @@ fn has_format(row: &Row, format: Format) -> bool
 }
 
 /// Whether `rows` is just one row, and of the other format than this one, whatever else it says.
-fn is_other(rows: &[Row], format: Format) -> bool
-    ensures { IsTrue result ↔ (IsOther format rows.now) }
+fn are_of_other_format(rows: &[Row], format: Format) -> bool
+    ensures { IsTrue result ↔ (AreOfOtherFormat format rows.now) }
 {
     rows.len() == 1 && has_format(&rows[0], other_format(format))
 }
 
-/// The campaign row and its world, from the rows that SQL shows of `campaign`; OtherFormat if there
-/// is just one row, and of the other format; else Damaged by the first rule if the rows break it.
-fn own_in(alloc: Global, rows: &[Row], format: Format) -> Result<(StoredCampaign, World), LoadFault>
+/// Gives the campaign row and its world, or OtherFormat if SQL shows just one row of `campaign`,
+/// and of the other format. Damaged by the first rule: other rows are shown, and they break the
+/// rule. Memory: memory runs out.
+fn judge_format(
+    alloc: Global,
+    rows: &[Row],
+    format: Format,
+) -> Result<(StoredCampaign, World), LoadFault>
     ensures { JudgesFormat format rows.now result }
 {
-    if is_other(rows, format) {
+    if are_of_other_format(rows, format) {
         return Err(LoadFault::OtherFormat);
     }
-    own_of(alloc, rows, format)
+    judge_rows(alloc, rows, format)
 }
 
 /// Reads the campaign row and its world, or gives the fault of the SELECT or of the row. Whether
@@ -148,7 +158,7 @@ pub(crate) fn read_own<S: Alter>(
     format: Format,
 ) -> Result<(StoredCampaign, World), LoadFault>
     requires idle { conn.old.in_transaction ≡ false }
-    requires settled { IsSettled (state S.Store conn.old) }
+    requires settled { IsCommitted (state S.Store conn.old) }
     ensures ok { HasCleanDisk (state S.Store conn.new)
         → IfOk result (λ both. OwnRead S.Store conn.old format both.0 both.1) }
     ensures err { HasCleanDisk (state S.Store conn.new)
@@ -156,7 +166,7 @@ pub(crate) fn read_own<S: Alter>(
     ensures leaves { AfterReads S.Store conn.old conn.new }
 {
     match select_campaign(conn) {
-        Ok(rows) => own_in(alloc, rows.as_slice(), format),
-        Err(fault) => Err(own_fault(fault)),
+        Ok(rows) => judge_format(alloc, rows.as_slice(), format),
+        Err(fault) => Err(campaign_row_fault(fault)),
     }
 }

@@ -6,15 +6,16 @@ ghost use Rattle.atl_store.specs.Arriving.{HasArrival};
 
 use atl_campaign::{Campaign, founded};
 use atl_tables::read_world;
-use atl_test_worlds::{ISLE, ISLE_WITH_MARKET, ISLE_WITH_MARKETS, SMALL};
+use atl_test_worlds::{ISLE, ISLE_WITH_MARKET, ISLE_WITH_MARKETS, SMALL_WORLD};
 use atl_world::{Text, World};
 use std::alloc::Global;
 use std::test::Fail;
 
-/// The world text that `name` stands for in scripts; any other name gives a text that is no world.
+/// The world text that scripts call `name`; a name that isn't listed here gives a text that is no
+/// world.
 pub(crate) fn world_text(name: &str) -> &'static str {
     match name {
-        "small" => SMALL,
+        "small" => SMALL_WORLD,
         "isle" => ISLE,
         "isle with market" => ISLE_WITH_MARKET,
         "isle with markets" => ISLE_WITH_MARKETS,
@@ -54,7 +55,7 @@ fn joined_in(alloc: Global, world: &World) -> Result<Campaign, Fail> {
 
 /// The campaign of the small world after Avalon has joined and got its first report.
 pub(crate) fn joined(alloc: Global) -> Result<Campaign, Fail> {
-    let world = read_world(alloc, SMALL)?;
+    let world = read_world(alloc, SMALL_WORLD)?;
     joined_in(alloc, &world)
 }
 

@@ -1,6 +1,6 @@
 //! Reads and changes a database by statements written by hand, past the store.
 use super::words::{done, text_of};
-use atl_test_worlds::month::ROWS;
+use atl_test_worlds::month::MONTH_ROWS;
 use sqlite::{Alter, Connection, params};
 use std::alloc::Global;
 use std::test::Fail;
@@ -18,7 +18,7 @@ pub(crate) fn run_statements<S: Alter>(
 /// Adds two factions, eleven units and a boat to the tables of the isle, where nobody has joined;
 /// the answer is `Done`.
 pub(crate) fn settle<S: Alter>(alloc: Global, conn: &mut Connection<S>) -> Result<String, Fail> {
-    run_statements(alloc, conn, ROWS)
+    run_statements(alloc, conn, MONTH_ROWS)
 }
 
 /// Overwrites the world text in the campaign's row; the answer is `Done`.

@@ -3,7 +3,7 @@
 use super::campaigns::founded_by;
 use super::words::{done, yes_or_no};
 use atl_campaign::Campaign;
-use atl_test_worlds::SMALL;
+use atl_test_worlds::SMALL_WORLD;
 use atl_world::let_go;
 use std::alloc::Global;
 use std::test::Fail;
@@ -25,7 +25,7 @@ impl Drop for Game {
 /// The game in which a script begins: the campaign of the small world just after its founding, and
 /// an empty text.
 pub(crate) fn new_game(alloc: Global) -> Result<Game, Fail> {
-    let campaign = founded_by(alloc, SMALL)?;
+    let campaign = founded_by(alloc, SMALL_WORLD)?;
     Ok(Game {
         campaign,
         kept: String::new(alloc),

@@ -5,7 +5,7 @@ use std::test::Fail;
 
 /// Reading answers OtherType if a unit's money is a word, in a table `unit` without STRICT.
 #[test]
-fn a_value_of_another_type_is_told(rt: HostRuntime) -> Result<(), Fail> {
+fn a_value_of_another_type_is_reported(rt: HostRuntime) -> Result<(), Fail> {
     let script = "create small
 join
 sql DROP TABLE unit
@@ -28,7 +28,7 @@ read report -> 1 "A report.\n""#;
 
 /// Reading answers Store if SQLite may take no step, and the rows once it may.
 #[test]
-fn a_read_that_takes_too_many_steps_is_told(rt: HostRuntime) -> Result<(), Fail> {
+fn a_read_that_takes_too_many_steps_is_reported(rt: HostRuntime) -> Result<(), Fail> {
     let script = r#"create small
 join
 no_steps
@@ -40,7 +40,7 @@ read unit -> 1 1 "Unit 1" 1 0 1 1000 0"#;
 
 /// A report that is not UTF-8 answers OtherType; a unit's name is read as its bytes, UTF-8 or not.
 #[test]
-fn a_text_that_is_no_utf_8_is_told(rt: HostRuntime) -> Result<(), Fail> {
+fn a_text_that_is_no_utf_8_is_reported(rt: HostRuntime) -> Result<(), Fail> {
     let script = "create small
 join
 sql UPDATE unit SET name = CAST(x'ff' AS TEXT)

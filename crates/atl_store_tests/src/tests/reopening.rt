@@ -18,7 +18,7 @@ fn opened_again<D: Crash + Drop>(
 }
 
 /// Asserts that a campaign just founded is loaded unchanged after a crash.
-fn comes_back<D: Crash + Drop>(
+fn assert_reloaded<D: Crash + Drop>(
     rt: &impl Abort,
     alloc: Global,
     mut conn: Connection<FileStore<D>>,
@@ -46,5 +46,5 @@ fn comes_back<D: Crash + Drop>(
 fn a_founded_campaign_is_there_after_a_crash(rt: HostRuntime) -> Result<(), Fail> {
     let alloc = rt.alloc();
     let conn = open(alloc, new_files(alloc)).ok_or("open")?;
-    comes_back(&rt, alloc, conn)
+    assert_reloaded(&rt, alloc, conn)
 }

@@ -21,16 +21,16 @@ fn quote(alloc: Global, bytes: &[u8]) -> Result<String, AllocError> {
 }
 
 /// A row of a table that can be printed.
-trait Line {
+trait PrintableRow {
     /// The row's columns as text, with blanks between them; texts are in quotation marks.
-    fn line(&self, alloc: Global) -> Result<String, AllocError>;
+    fn columns_text(&self, alloc: Global) -> Result<String, AllocError>;
 }
 
 /// Prints the campaign row: its id, format, month, next numbers of a faction, a unit and a
 /// structure, the pass text, and `small` or `another world` for the world text.
-impl Line for StoredCampaign {
+impl PrintableRow for StoredCampaign {
     /// The columns of the campaign row, with `small` or `another world` for the world text.
-    fn line(&self, alloc: Global) -> Result<String, AllocError> {
+    fn columns_text(&self, alloc: Global) -> Result<String, AllocError> {
         let head = &self.head;
         let pass = quote(alloc, head.pass.as_slice())?;
         let is_small = self.world.as_str() == world_text("small");
@@ -46,9 +46,9 @@ impl Line for StoredCampaign {
 
 /// Prints a faction: its number, the name under which it joined, its name, its pass text, and 1 if
 /// gone.
-impl Line for StoredFaction {
+impl PrintableRow for StoredFaction {
     /// The columns of the faction's row.
-    fn line(&self, alloc: Global) -> Result<String, AllocError> {
+    fn columns_text(&self, alloc: Global) -> Result<String, AllocError> {
         let joined_as = quote(alloc, self.joined_as.as_slice())?;
         let name = quote(alloc, self.name.as_slice())?;
         let pass = quote(alloc, self.pass.as_slice())?;
@@ -57,18 +57,18 @@ impl Line for StoredFaction {
 }
 
 /// Prints a region: its number, peasants and money.
-impl Line for StoredRegion {
+impl PrintableRow for StoredRegion {
     /// The columns of the region's row.
-    fn line(&self, alloc: Global) -> Result<String, AllocError> {
+    fn columns_text(&self, alloc: Global) -> Result<String, AllocError> {
         format!(in alloc; "{} {} {}", self.number, self.peasants, self.money)
     }
 }
 
 /// Prints a unit: its number, faction, name, region, structure, men, money, and 1 if its guard flag
 /// is on.
-impl Line for StoredUnit {
+impl PrintableRow for StoredUnit {
     /// The columns of the unit's row.
-    fn line(&self, alloc: Global) -> Result<String, AllocError> {
+    fn columns_text(&self, alloc: Global) -> Result<String, AllocError> {
         let name = quote(alloc, self.name.as_slice())?;
         let place = format!(in alloc; "{} {}", self.region, self.structure)?;
         let holding = format!(in alloc; "{} {} {}", self.men, self.money, self.guard)?;
@@ -78,9 +78,9 @@ impl Line for StoredUnit {
 
 /// Prints an item or a skill of a unit: the unit, 0 for an item or 1 for a skill, its number, the
 /// amount.
-impl Line for StoredHas {
+impl PrintableRow for StoredHas {
     /// The columns of the row of the table `has`.
-    fn line(&self, alloc: Global) -> Result<String, AllocError> {
+    fn columns_text(&self, alloc: Global) -> Result<String, AllocError> {
         format!(in alloc;
             "{} {} {} {}",
             self.unit, self.sort, self.thing, self.amount
@@ -89,9 +89,9 @@ impl Line for StoredHas {
 }
 
 /// Prints a structure: its number, kind, name, region, how much is done, and its owner.
-impl Line for StoredStructure {
+impl PrintableRow for StoredStructure {
     /// The columns of the structure's row.
-    fn line(&self, alloc: Global) -> Result<String, AllocError> {
+    fn columns_text(&self, alloc: Global) -> Result<String, AllocError> {
         let name = quote(alloc, self.name.as_slice())?;
         let work = format!(in alloc; "{} {} {}", self.region, self.done, self.owner)?;
         format!(in alloc; "{} {} {name} {work}", self.number, self.kind)
@@ -99,48 +99,48 @@ impl Line for StoredStructure {
 }
 
 /// Prints a mailing: its faction and its text.
-impl Line for StoredMail {
+impl PrintableRow for StoredMail {
     /// The columns of the mailing's row.
-    fn line(&self, alloc: Global) -> Result<String, AllocError> {
+    fn columns_text(&self, alloc: Global) -> Result<String, AllocError> {
         let text = quote(alloc, self.text.as_slice())?;
         format!(in alloc; "{} {text}", self.faction)
     }
 }
 
 /// Prints a report: its faction and its text.
-impl Line for StoredReport {
+impl PrintableRow for StoredReport {
     /// The columns of the report's row.
-    fn line(&self, alloc: Global) -> Result<String, AllocError> {
+    fn columns_text(&self, alloc: Global) -> Result<String, AllocError> {
         format!(in alloc; "{} {:?}", self.faction, self.text.as_str())
     }
 }
 
 /// Prints an amount of the books: the numbers of its entry and its thing, and the amount.
-impl Line for StoredBooks {
+impl PrintableRow for StoredBooks {
     /// The columns of the row of the table `books`.
-    fn line(&self, alloc: Global) -> Result<String, AllocError> {
+    fn columns_text(&self, alloc: Global) -> Result<String, AllocError> {
         format!(in alloc; "{} {} {}", self.entry, self.thing, self.amount)
     }
 }
 
 /// Prints a stock: its region, its item, and how much there is.
-impl Line for StoredMarket {
+impl PrintableRow for StoredMarket {
     /// The columns of the row of the table `market`.
-    fn line(&self, alloc: Global) -> Result<String, AllocError> {
+    fn columns_text(&self, alloc: Global) -> Result<String, AllocError> {
         format!(in alloc; "{} {} {}", self.region, self.item, self.stock)
     }
 }
 
 /// Prints a row that was read with its rowid: the columns of the row, without the rowid.
-impl<T: Line> Line for RowWithId<T> {
+impl<T: PrintableRow> PrintableRow for RowWithId<T> {
     /// The columns of the row, without its rowid.
-    fn line(&self, alloc: Global) -> Result<String, AllocError> {
-        self.row.line(alloc)
+    fn columns_text(&self, alloc: Global) -> Result<String, AllocError> {
+        self.row.columns_text(alloc)
     }
 }
 
 /// All rows of a list as text, separated by commas, or `nothing` if there is none.
-fn lines<T: Line>(alloc: Global, rows: &[T]) -> Result<String, AllocError> {
+fn rows_text<T: PrintableRow>(alloc: Global, rows: &[T]) -> Result<String, AllocError> {
     if rows.is_empty() {
         return String::from_str(alloc, "nothing");
     }
@@ -149,13 +149,13 @@ fn lines<T: Line>(alloc: Global, rows: &[T]) -> Result<String, AllocError> {
         if index > 0 {
             text.push_str(", ")?;
         }
-        text.push_str(row.line(alloc)?.as_str())?;
+        text.push_str(row.columns_text(alloc)?.as_str())?;
     }
     Ok(text)
 }
 
 /// The text of all rows of a table, or of the fault of reading them; fails in a transaction.
-fn rows_of<T: Line + HasSelect, S: Alter>(
+fn rows_of<T: PrintableRow + HasSelect, S: Alter>(
     alloc: Global,
     conn: &mut Connection<S>,
 ) -> Result<String, Fail> {
@@ -163,7 +163,7 @@ fn rows_of<T: Line + HasSelect, S: Alter>(
         return Err(Fail::new("a transaction is open"));
     }
     match T::read(alloc, conn) {
-        Ok(rows) => Ok(lines(alloc, &rows)?),
+        Ok(rows) => Ok(rows_text(alloc, &rows)?),
         Err(fault) => text_of(alloc, fault),
     }
 }

@@ -124,9 +124,10 @@ static CASES: [Case; 18] = [
     ),
 ];
 
-/// The last lines of a case's script: if the upgrade is to be done, a load that is Done; otherwise
-/// a comparison of the tables with those kept before, and a load that is answered as before.
-fn rest_of(alloc: Global, load: &str, upgrade: &str) -> Result<String, Fail> {
+/// The last lines of a case's script, which test what the upgrade left. If the upgrade is to be
+/// done, they are a load that is Done. Otherwise they compare the tables with those kept before,
+/// and load with the same answer as before.
+fn last_lines_of(alloc: Global, load: &str, upgrade: &str) -> Result<String, Fail> {
     if upgrade == "Done" {
         Ok(String::from_str(alloc, "load")?)
     } else {
@@ -141,7 +142,7 @@ fn assert_answer(rt: &impl Abort, alloc: Global, case: &Case) -> Result<(), Fail
     let before = format!(in alloc;
         "create_old isle\nsettle\nsql {sql}\nkeep_tables\nload -> {load}"
     )?;
-    let rest = rest_of(alloc, load, upgrade)?;
+    let rest = last_lines_of(alloc, load, upgrade)?;
     let script = format!(in alloc;
         "{}\nupgrade {world} -> {upgrade}\n{}",
         before.as_str(),
@@ -153,7 +154,7 @@ fn assert_answer(rt: &impl Abort, alloc: Global, case: &Case) -> Result<(), Fail
 /// `load` and `upgrade` answer with the fault of the first check that a file of the first format
 /// fails.
 #[test]
-fn the_first_check_that_fails_is_told(rt: HostRuntime) -> Result<(), Fail> {
+fn the_first_check_that_fails_is_reported(rt: HostRuntime) -> Result<(), Fail> {
     for case in CASES.iter() {
         assert_answer(&rt, rt.alloc(), case)?;
     }

@@ -3,7 +3,7 @@ use Rattle.std.specs.Prelude.{is_some}
 use Rattle.std.specs.FinMap.{get, insert}
 use Rattle.std.proofs.lemmas.List.{drop_more}
 use Rattle.atl_action.specs.Teach.{first_mentions}
-use Rattle.atl_action.proofs.MentionLaws.{all_new, is_new, mention, mentioned}
+use Rattle.atl_action.proofs.MentionLaws.{all_new, is_new, first_mention_is_kept, later_mention_is_dropped}
 use Rattle.atl_action.proofs.teach.first_mentions.Goals as goal
 use Rattle.atl_action.proofs.teach.first_mentions.Goals.{then-is_none+in_ok-insert+in_ok-push, else-is_none}
 
@@ -31,11 +31,11 @@ loop-number-preserved c =
           let pushed : c.if-is_none.list.items ≡ list ++ n ∷ [] = search rules in
           let noted : c.if-is_none.seen ≡ insert seen n n = search rules in
           ap (λ l. l ++ filter (is_new c.if-is_none.seen) (first_mentions rest)) pushed ∙ ap (λ s. (list ++ n ∷ []) ++ filter (is_new s) (first_mentions rest)) noted
-          ∙ append_assoc list (n ∷ []) last ∙ ap (λ l. list ++ l) (sym (more ∙ mention seen n rest new)) ∙ c.loop-number.invariant
+          ∙ append_assoc list (n ∷ []) last ∙ ap (λ l. list ++ l) (sym (more ∙ first_mention_is_kept seen n rest new)) ∙ c.loop-number.invariant
       | else-is_none w ↦
           let there : is_some (get seen n) ≡ true = search rules in
           let kept : c.if-is_none.list.items ≡ list = search rules in
           let same : c.if-is_none.seen ≡ seen = search rules in
           ap (λ l. l ++ filter (is_new c.if-is_none.seen) (first_mentions rest)) kept ∙ ap (λ s. list ++ filter (is_new s) (first_mentions rest)) same
-          ∙ ap (λ l. list ++ l) (sym (more ∙ mentioned seen n rest there)) ∙ c.loop-number.invariant
+          ∙ ap (λ l. list ++ l) (sym (more ∙ later_mention_is_dropped seen n rest there)) ∙ c.loop-number.invariant
     ]

@@ -8,7 +8,7 @@ use Rattle.atl_records.specs.Holdings.{amount_of}
 use Rattle.atl_phase.specs.Month.{MonthValue, with_events}
 use Rattle.atl_phase.specs.PhaseOrders.{orders_by_unit, task_of}
 use Rattle.atl_phase.specs.declared.phase_order.PhaseOrder.{PhaseOrder}
-use Rattle.atl_phase.proofs.FoldLaws.{fold_behind, fold_ended, fold_mapped}
+use Rattle.atl_phase.proofs.FoldLaws.{fold_after_step, fold_ended, fold_mapped}
 use Rattle.atl_action.specs.Teach.{TaughtMen, after_lessons, is_teaching, teach_order}
 use Rattle.atl_action.proofs.teach.teach_all.Goals as goal
 
@@ -33,7 +33,7 @@ loop-order-preserved c =
     let before : TaughtMen × MonthValue = (amount_of c.loop-order.taught, with_events c.args.month.now c.loop-order.events.items) in
     let one = λ (p : TaughtMen × MonthValue) (x : PhaseOrder). step p (task_of x) in
     let now : (amount_of c.teach.new.taught, with_events c.args.month.now c.push.new.self.items) ≡ one before c.order-item.result = search (rules, append_assoc) in
-    fold_behind one c.deref-order-items.result.now c.loop-order.order-index c.order-item.result before c.loop-order-test.true (now ∙ ap (one before) c.order-item.is) c.loop-order.invariant
+    fold_after_step one c.deref-order-items.result.now c.loop-order.order-index c.order-item.result before c.loop-order-test.true (now ∙ ap (one before) c.order-item.is) c.loop-order.invariant
 
 -- after the loop the men taught and the month are those that `after_lessons` gives
 pub returns-clause-meaning : goal.returns-clause-meaning
@@ -43,11 +43,11 @@ returns-clause-meaning c =
     let m = c.args.month.now in
     let xs = c.deref-order-items.result.now in
     let start : TaughtMen × MonthValue = ((λ n. 0), with_events m []) in
-    let behind : TaughtMen × MonthValue = (amount_of c.loop-order.taught, with_events m c.loop-order.events.items) in
+    let after : TaughtMen × MonthValue = (amount_of c.loop-order.taught, with_events m c.loop-order.events.items) in
     let none : start ≡ ((λ n. 0), m) = ap (λ es. ((λ n. 0), record m { events = es })) (append-nil m.events) in
     ap (λ n. (amount_of c.loop-order.taught, n)) c.in_ok-add_events.ensures
     ∙ ap (λ es. (amount_of c.loop-order.taught, with_events m es)) c.deref.ensures.value
-    ∙ fold_ended (λ p o. step p (task_of o)) xs c.loop-order.order-index behind (omega (arith, c.loop-order-test.false)) c.loop-order.invariant
+    ∙ fold_ended (λ p o. step p (task_of o)) xs c.loop-order.order-index after (omega (arith, c.loop-order-test.false)) c.loop-order.invariant
     ∙ fold_mapped step task_of start xs
     ∙ ap (fold step start) (ap (map task_of) c.deref-order-items.ensures.value ∙ c.in_ok-orders.ensures)
     ∙ ap (λ p. fold step p (orders_by_unit is_teaching m)) none

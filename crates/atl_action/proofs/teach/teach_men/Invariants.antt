@@ -5,8 +5,8 @@ use Rattle.atl_records.specs.Holdings.{amount_of}
 use Rattle.atl_action.specs.Teach.{taught_in_lesson, untaught_men}
 use Rattle.atl_action.proofs.teach.teach_men.Given as goal
 
--- a lesson to the units left, for the places left, and the men taught so far are together the whole lesson; the units
--- left are distinct
+-- The men taught so far and a lesson to the units left, for the places left, are together the whole lesson. The units
+-- left are distinct.
 abbrev pub invariant-loop-unit : goal.invariant-loop-unit
 invariant-loop-unit l = record {
   -- the men of each unit taught so far and in a lesson to the units left are those that the whole lesson leaves taught

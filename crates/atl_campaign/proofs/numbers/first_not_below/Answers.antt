@@ -2,13 +2,14 @@ use Rattle.std.proofs.Common.{rules, sym, arith, nat_le}
 use Rattle.std.specs.Prelude.{nat_lt}
 use Rattle.std.proofs.lemmas.List.Sorted.{IsPartitionPoint-from_clause}
 use Rattle.std.proofs.lemmas.List.Sums.{position_or_len_is}
-use Rattle.atl_campaign.proofs.SortedLaws.{parted, not_below, not_above}
+use Rattle.atl_campaign.proofs.SortedLaws.{sorted_is_partitioned, not_below, not_above}
 use Rattle.atl_campaign.proofs.numbers.first_not_below.Goals as goal
 
--- the point to which all numbers are below `number` is the index of the first that is not below it, or the length
-pub returns-clause-place : goal.returns-clause-place
-returns-clause-place c =
+-- the partition point that first_not_below returns is the index of the first number that is not below `number`, or the
+-- length where there is none
+pub returns-clause-position : goal.returns-clause-position
+returns-clause-position c =
     let number = c.args.number in
     let items = c.args.items.now in
-    let point = IsPartitionPoint-from_clause (λ y. nat_lt y number) items _ c.partition_point.ensures.partitioned (parted number items c.requires) (λ a r q k. search rules) in
+    let point = IsPartitionPoint-from_clause (λ y. nat_lt y number) items _ c.partition_point.ensures.partitioned (sorted_is_partitioned number items c.requires) (λ a r q k. search rules) in
     sym (position_or_len_is (nat_le number) items _ 0 c.partition_point.ensures.bound (λ k h. not_above number _ (point.0 k 0 (omega arith) h)) (λ h. not_below number _ (point.1 _ 0 (omega arith) h)))

@@ -5,8 +5,8 @@ use Rattle.atl_records.specs.Limits.{most_u32}
 use Rattle.atl_records.specs.Amounts.{region_amount}
 use Rattle.atl_campaign.proofs.totals.regions_total.Given as goal
 
--- the sum so far and what the regions left hold of the thing is what all regions hold of it, and the sum so far is at
--- most most_u32 times the number of regions counted
+-- the sum so far and what the regions left hold of the thing is what all regions hold of it. The sum so far is at most
+-- most_u32 times the number of regions counted.
 abbrev pub invariant-loop-region : goal.invariant-loop-region
 invariant-loop-region l = record {
   -- the sum so far and what the regions left hold of the thing are together what all regions hold of it

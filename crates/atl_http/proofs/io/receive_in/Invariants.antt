@@ -1,19 +1,20 @@
 use Rattle.std.proofs.Common.{◌≡◌, ◌≤◌, ◌-◌, length}
 use Rattle.std.specs.Io.KnownBytes.{Consumes}
-use Rattle.atl_http.specs.Heads.{IsReadSoFar, IsShortBy, most_at_once}
+use Rattle.atl_http.specs.Heads.{ReadsNoFurther, IsShortBy, most_at_once}
 use Rattle.atl_http.specs.Calls.{most_reads, GoesOn}
 use Rattle.atl_http.proofs.io.receive_in.Given as goal
 
--- `seen` is what was read, no read was done after the request was whole or refused, and with fewer than `lacking`
--- further bytes it isn't whole; the reads are within their limit, and the last one gave a piece or was interrupted.
+-- `seen` has the bytes that were read, and no read was done after the request was whole or refused. With fewer than
+-- `missing` further bytes the request isn't whole. The reads are within their limit, and the last one gave a piece or
+-- was interrupted.
 abbrev pub invariant-loop-outcome : goal.invariant-loop-outcome
 invariant-loop-outcome g l = record {
   -- the bytes that the reader has given are those of `seen`
   consumed : Consumes (g.R.Read.remaining l.fn.reader) (g.R.Read.remaining l.reader) l.seen.items;
-  -- no read was done after the request was whole or refused (`IsReadSoFar`)
-  progress : IsReadSoFar l.seen.items;
-  -- with fewer than `lacking` further bytes the request isn't whole (`IsShortBy`)
-  short : IsShortBy l.seen.items l.lacking;
+  -- no read was done after the request was whole or refused (`ReadsNoFurther`)
+  progress : ReadsNoFurther l.seen.items;
+  -- with fewer than `missing` further bytes the request isn't whole (`IsShortBy`)
+  short : IsShortBy l.seen.items l.missing;
   -- the buffer of a read is as long as one read can fill: most_at_once bytes
   room : length l.room ≡ most_at_once;
   -- at most `most_reads` reads were done

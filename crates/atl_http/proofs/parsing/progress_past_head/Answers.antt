@@ -7,6 +7,6 @@ use Rattle.atl_http.proofs.parsing.progress_past_head.Goals as goal
 -- (`ComesTo`)
 pub returns : goal.returns
 returns c =
-    let found = laws.finds_head c.args.seen.now c.args.front.now c.of-method.result.now c.of-target.result.now c.rest_after-rest.result.now c.args.fields.now c.first_fields-fields.result.now c.args.head.now c.requires.front c.requires.tells c.requires.room c.of-method.ensures c.of-target.ensures c.first_fields-fields.ensures c.rest_after-rest.ensures in
+    let found = laws.finds_head c.args.seen.now c.args.front.now c.of-method.result.now c.of-target.result.now c.rest_after-rest.result.now c.args.fields.now c.first_fields-fields.result.now c.args.head.now c.requires.front c.requires.finds c.requires.room c.of-method.ensures c.of-target.ensures c.first_fields-fields.ensures c.rest_after-rest.ensures in
     let checks = head_checks c.args.head.now.version c.of-method.result.now c.of-target.result.now (field_pairs c.args.front.now c.first_fields-fields.result.now) in
-    laws.if_ok c.progress_with_body.result (λ told h. laws.comes_whole c.args.seen.now c.rest_after-rest.result.now checks told found h) c.progress_with_body.ensures
+    laws.if_ok c.progress_with_body.result (λ outcome h. laws.comes_whole c.args.seen.now c.rest_after-rest.result.now checks outcome found h) c.progress_with_body.ensures

@@ -14,4 +14,4 @@ returns-in-Ok c =
 
 -- a path for which the router finds nothing has no route by `route_of`
 pub returns-in-Err : goal.returns-in-Err
-returns-in-Err c = sym (laws.missing c.args.path.now (subst (λ r. first r c.args.path.now ≡ None) c.requires c.in-Err.ensures.missing))
+returns-in-Err c = sym (laws.no_route_if_none_found c.args.path.now (subst (λ r. first r c.args.path.now ≡ None) c.requires c.in-Err.ensures.missing))

@@ -1,15 +1,15 @@
 use Rattle.std.proofs.Common.{◌≡◌, ◌+◌, ℕ, drop, get_or}
 use Rattle.atl_records.specs.declared.books.Thing.TheVariants.{Item}
 use Rattle.atl_campaign.proofs.CoverLaws.{marks-trans}
-use Rattle.atl_phase.proofs.FoldLaws.{fold_behind}
-use Rattle.atl_phase.specs.Bounds.{moving_items}
+use Rattle.atl_phase.proofs.FoldLaws.{fold_after_step}
+use Rattle.atl_phase.specs.Bounds.{items_bound}
 use Rattle.atl_instant.specs.Quit.{with_item_loss}
-use Rattle.atl_instant.proofs.QuitLaws.{gone_marks, known_ahead, next_room, rest_room, room_ahead}
+use Rattle.atl_instant.proofs.QuitLaws.{gone_marks, known_ahead, room_for_item, room_after_loss, room_for_item_and_later}
 use Rattle.atl_instant.proofs.quit.book_items.Goals as goal
 
 -- the books have room for the loss of the next item
 pub book_loss-requires-clause-room : goal.book_loss-requires-clause-room
-book_loss-requires-clause-room c = next_room c.args.items.now c.loop-item.item-index c.loop-item.campaign.value c.loop-item-test.true c.loop-item.invariant.room
+book_loss-requires-clause-room c = room_for_item c.args.items.now c.loop-item.item-index c.loop-item.campaign.value c.loop-item-test.true c.loop-item.invariant.room
 
 -- after one more item is booked as lost, booking the items left still gives what booking all gives, and the books have
 -- room for them
@@ -24,12 +24,12 @@ loop-item-preserved c =
     let known = known_ahead w list i c.loop-item-test.true old.known in
     let is : c.book_loss.new.campaign.value ≡ with_item_loss before x = c.book_loss.ensures.what in
     record {
-      rest = fold_behind with_item_loss list i (0, 0) before c.loop-item-test.true is old.rest;
+      rest = fold_after_step with_item_loss list i (0, 0) before c.loop-item-test.true is old.rest;
       things = rw is old.things;
       known = known.1;
       room =
-          rw is (rest_room (Item x.0) x.1 (moving_items (drop (i + 1) list)) before
-          (room_ahead list i before c.loop-item-test.true old.room));
+          rw is (room_after_loss (Item x.0) x.1 (items_bound (drop (i + 1) list)) before
+          (room_for_item_and_later list i before c.loop-item-test.true old.room));
       marks = marks-trans c.args.campaign.now c.loop-item.campaign c.book_loss.new.campaign old.marks
           (gone_marks c.loop-item.campaign c.book_loss.new.campaign (Item x.0) x.1 c.book_loss.ensures.what c.book_loss.ensures.marks);
     }

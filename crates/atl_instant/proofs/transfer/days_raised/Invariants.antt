@@ -6,8 +6,8 @@ use Rattle.atl_instant.specs.SkillDays.{raised_list}
 use Rattle.atl_instant.specs.Transfer.{days_going}
 use Rattle.atl_instant.proofs.transfer.days_raised.Given as goal
 
--- the skills listed so far, followed by those still to come with the days that the receiver then has, are the whole
--- list; each skill to come has 1 day or more, and at most 450 for each of the sender's men
+-- The skills listed so far, followed by those still to come with the days that the receiver then has, are the whole
+-- list. Each skill to come has 1 day or more, and at most 450 for each of the sender's men.
 abbrev pub invariant-loop-skill : goal.invariant-loop-skill
 invariant-loop-skill l =
     (goal.iterator-loop-skill).can_next l.skill-iterator ×

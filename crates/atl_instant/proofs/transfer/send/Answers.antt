@@ -8,7 +8,7 @@ use Rattle.atl_campaign.proofs.CoverLaws.{marks-trans}
 use Rattle.atl_phase.specs.Holdings.{with_days}
 use Rattle.atl_phase.proofs.ChangeLaws.{changed_held}
 use Rattle.atl_instant.specs.Transfer.{after_sending, after_receiving}
-use Rattle.atl_instant.proofs.DaysLaws.{fewer_is, more_is}
+use Rattle.atl_instant.proofs.DaysLaws.{sender_holding_is, receiver_holding_is}
 use Rattle.atl_instant.proofs.EffectLaws.{moved_is}
 use Rattle.atl_instant.proofs.transfer.send.Goals as goal
 
@@ -25,8 +25,8 @@ returns c =
     let listed : (x : Unit) (n : ℕ) → get before.value.units n ≡ Some x → Every (λ s days. 1 ≤ days) x.holding.days = (λ x n is s days there. (c.requires.days n x is s days there).0) in
     let h : HoldingValue = record u.holding { men = c.men.result - c.args.going; days = with_days u.holding.days c.deref.result.now } in
     let k : HoldingValue = record v.holding { men = c.men-2.result + c.args.going; days = with_days v.holding.days c.deref-2.result.now } in
-    let h_is : h ≡ after_sending c.args.going u.holding = rw (c.men.ensures.value, c.deref.ensures.value, c.in_ok-left.ensures) (fewer_is c.args.going u.holding (listed u c.args.from sender)) in
-    let k_is : k ≡ after_receiving c.args.going u.holding v.holding = rw (c.men-2.ensures.value, c.deref-2.ensures.value, c.in_ok-raised.ensures) (more_is c.args.going u.holding v.holding (listed v c.args.to receiver)) in
+    let h_is : h ≡ after_sending c.args.going u.holding = rw (c.men.ensures.value, c.deref.ensures.value, c.in_ok-left.ensures) (sender_holding_is c.args.going u.holding (listed u c.args.from sender)) in
+    let k_is : k ≡ after_receiving c.args.going u.holding v.holding = rw (c.men-2.ensures.value, c.deref-2.ensures.value, c.in_ok-raised.ensures) (receiver_holding_is c.args.going u.holding v.holding (listed v c.args.to receiver)) in
     let one = c.in_ok-set_people.ensures.what in
     let first = changed_held (λ x. record x { men = h.men; days = with_days x.days c.deref.result.now }) before.value between.value c.args.from one.value u sender in
     record {

@@ -4,8 +4,8 @@ use Rattle.atl_market.proofs.BuildLaws.{begin_done, can_begin, can_use, next_wit
 use Rattle.atl_market.proofs.build.begin.Goals as goal
 
 -- begin may call start: the unit can use as much of the kind's material as it adds to the structure
-pub start-requires-clause-uses : goal.start-requires-clause-uses
-start-requires-clause-uses c =
+pub start_structure-requires-clause-uses : goal.start_structure-requires-clause-uses
+start_structure-requires-clause-uses c =
     let w = c.args.world.now in
     let u = c.in-Some.unit.now in
     let k = c.args.kind.now in
@@ -17,8 +17,8 @@ pub begin_fault-requires : goal.begin_fault-requires
 begin_fault-requires c = c.requires.can.steady.next.structures
 
 -- begin may call start: the number of the next structure is at most 10,000
-pub start-requires-clause-room : goal.start-requires-clause-room
-start-requires-clause-room c =
+pub start_structure-requires-clause-room : goal.start_structure-requires-clause-room
+start_structure-requires-clause-room c =
     let none : begin_fault c.args.world.now c.args.campaign.now.value c.in-Some.unit.now c.args.kind.now ≡ None = sym c.in_default-begin_fault.ensures in
     next_within c.args.campaign.now.value c.requires.can.steady.next.structures (can_begin c.args.world.now c.args.campaign.now.value c.in-Some.unit.now c.args.kind.now none).room
 
@@ -30,4 +30,4 @@ returns-clause-what c =
     let u = c.in-Some.unit.now in
     let k = c.args.kind.now in
     let none : begin_fault w old u k ≡ None = sym c.in_default-begin_fault.ensures in
-    begin_done w old c.start.new.campaign.value c.args.order.faction c.args.order.unit c.args.number u k c.size_added-size.result c.from.result (sym c.in-Some.ensures.own) none c.in_ok-start.ensures.what c.from.ensures c.size_added-size.ensures
+    begin_done w old c.start_structure.new.campaign.value c.args.order.faction c.args.order.unit c.args.number u k c.size_added-size.result c.from.result (sym c.in-Some.ensures.own) none c.in_ok-start_structure.ensures.what c.from.ensures c.size_added-size.ensures

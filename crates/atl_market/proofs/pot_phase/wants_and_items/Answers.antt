@@ -4,7 +4,7 @@ use Rattle.std.specs.List.{filter_map}
 use Rattle.atl_world.specs.Limits.{most_amount}
 use Rattle.atl_records.proofs.EveryLaws.{every-empty}
 use Rattle.atl_market.specs.PotPhase.{item_by, want_by}
-use Rattle.atl_market.specs.Puts.{with_each}
+use Rattle.atl_market.specs.Puts.{with_entries}
 use Rattle.atl_market.proofs.PotLaws.{put_in_turn}
 use Rattle.atl_market.proofs.pot_phase.wants_and_items.Goals as goal
 
@@ -17,7 +17,7 @@ loop-order-init g c =
     let wanted = filter_map (want_by p c.args.world.now c.args.campaign.now.value) ts in
     let named = filter_map (item_by p c.args.world.now c.args.campaign.now.value) ts in
     record {
-      wants = ap (λ m. with_each m wanted) c.new-wants.ensures ∙ put_in_turn wanted;
+      wants = ap (λ m. with_entries m wanted) c.new-wants.ensures ∙ put_in_turn wanted;
       bound = rw c.new-wants.ensures (every-empty (λ (number want : ℕ). want ≤ most_amount));
-      items = ap (λ m. with_each m named) c.new-items.ensures ∙ put_in_turn named;
+      items = ap (λ m. with_entries m named) c.new-items.ensures ∙ put_in_turn named;
     }

@@ -2,12 +2,12 @@ use Rattle.std.proofs.Common.{◌≡◌, map}
 use Rattle.std.specs.List.{flat_map}
 use Rattle.std.specs.FinMap.{empty, keys}
 use Rattle.atl_market.specs.Pots.{shares_in}
-use Rattle.atl_market.specs.Puts.{with_each}
+use Rattle.atl_market.specs.Puts.{with_entries}
 use Rattle.atl_market.proofs.pots.pot_shares.Given as goal
 
 -- putting the shares of the regions still to come into the map so far gives the map into which those of all regions
 -- were put
 abbrev pub invariant-loop-region : goal.invariant-loop-region
 invariant-loop-region g l =
-    with_each l.given (flat_map (shares_in (g.P.Pots.pot_of l.pots) l.wants l.campaign.value.units) (map (λ e. e.0) l.region-iterator))
-    ≡ with_each empty (flat_map (shares_in (g.P.Pots.pot_of l.pots) l.wants l.campaign.value.units) (keys l.campaign.value.regions))
+    with_entries l.given (flat_map (shares_in (g.P.Pots.pot_of l.pots) l.wants l.campaign.value.units) (map (λ e. e.0) l.region-iterator))
+    ≡ with_entries empty (flat_map (shares_in (g.P.Pots.pot_of l.pots) l.wants l.campaign.value.units) (keys l.campaign.value.regions))

@@ -13,7 +13,7 @@ use Rattle.atl_phase.proofs.MarkLaws.{booked_marks}
 use Rattle.atl_phase.specs.Holdings.{ChangesHolding}
 use Rattle.atl_market.specs.Trade.{with_trade_result}
 use Rattle.atl_market.specs.declared.trade.TradeResult.{TradeResult}
-use Rattle.atl_market.proofs.TradeLaws.{settled_books, settled_marks, settled_what}
+use Rattle.atl_market.proofs.TradeLaws.{traded_books, traded_marks, traded_what}
 use Rattle.atl_market.proofs.trade.book_trade.Goals as goal
 
 -- setting a unit's money and then its amount of an item changes its holding by what a trade leaves (`ChangesHolding`)
@@ -28,7 +28,7 @@ pub book-requires-clause-there : goal.book-requires-clause-there
 book-requires-clause-there c =
     let can = c.requires in
     let set = goods_set c.args.campaign.now c.set_money.new.self c.set_item.new.self c.args.number c.args.item c.args.deal c.set_money.ensures.what c.set_money.ensures.marks c.in_ok-set_item.ensures.ok c.in_ok-set_item.ensures.marks in
-    let books = settled_books c.args.campaign.now c.set_item.new.self c.set_stock.new.self c.args.number c.args.region c.args.item c.args.deal.stock _ set c.in_ok-set_stock.ensures.ok in
+    let books = traded_books c.args.campaign.now c.set_item.new.self c.set_stock.new.self c.args.number c.args.region c.args.item c.args.deal.stock _ set c.in_ok-set_stock.ensures.ok in
     rw books (omega (arith, can.things))
 
 -- book_trade may call book: the money of the trade fits into the books, added to what was booked before
@@ -36,7 +36,7 @@ pub book-requires-clause-fits : goal.book-requires-clause-fits
 book-requires-clause-fits c =
     let can = c.requires in
     let set = goods_set c.args.campaign.now c.set_money.new.self c.set_item.new.self c.args.number c.args.item c.args.deal c.set_money.ensures.what c.set_money.ensures.marks c.in_ok-set_item.ensures.ok c.in_ok-set_item.ensures.marks in
-    let books = settled_books c.args.campaign.now c.set_item.new.self c.set_stock.new.self c.args.number c.args.region c.args.item c.args.deal.stock _ set c.in_ok-set_stock.ensures.ok in
+    let books = traded_books c.args.campaign.now c.set_item.new.self c.set_stock.new.self c.args.number c.args.region c.args.item c.args.deal.stock _ set c.in_ok-set_stock.ensures.ok in
     let same : to_z w64 (of_z w64 c.args.deal.booked) ≡ c.args.deal.booked = search (rules, to_z-of_z) in
     rw (same, books) (booking_fits (amount_in c.args.campaign.now.value.books c.args.entry Money) c.args.deal.booked holding_limit can.small can.room)
 
@@ -48,7 +48,7 @@ returns-clause-what c = λ u is at.
     let same : to_z w64 (of_z w64 deal.booked) ≡ deal.booked = search (rules, to_z-of_z) in
     (rw same at c.book.ensures.what)
     ∙ ap (λ d. with_booking d c.args.entry Money deal.booked)
-    (settled_what c.args.campaign.now c.set_item.new.self c.set_stock.new.self c.args.number c.args.region c.args.item deal.stock (λ h. with_trade_result h c.args.item deal) set c.in_ok-set_stock.ensures.ok u is
+    (traded_what c.args.campaign.now c.set_item.new.self c.set_stock.new.self c.args.number c.args.region c.args.item deal.stock (λ h. with_trade_result h c.args.item deal) set c.in_ok-set_stock.ensures.ok u is
     ∙ sym (ap (λ r. with_stock (with_holding c.args.campaign.now.value c.args.number (with_trade_result u.holding c.args.item deal)) r c.args.item deal.stock) at))
 
 -- all that book_trade changes is marked
@@ -58,7 +58,7 @@ returns-clause-marks c =
     let set = goods_set c.args.campaign.now c.set_money.new.self c.set_item.new.self c.args.number c.args.item c.args.deal c.set_money.ensures.what c.set_money.ensures.marks c.in_ok-set_item.ensures.ok c.in_ok-set_item.ensures.marks in
     let mid = c.set_stock.new.self in
     let same : to_z w64 (of_z w64 c.args.deal.booked) ≡ c.args.deal.booked = search (rules, to_z-of_z) in
-    let books = settled_books old c.set_item.new.self mid c.args.number c.args.region c.args.item c.args.deal.stock _ set c.in_ok-set_stock.ensures.ok in
+    let books = traded_books old c.set_item.new.self mid c.args.number c.args.region c.args.item c.args.deal.stock _ set c.in_ok-set_stock.ensures.ok in
     booked_marks old mid c.book.new.self c.args.entry Money c.args.deal.booked
-    (settled_marks old c.set_item.new.self mid c.args.number c.args.region c.args.item c.args.deal.stock _ set c.in_ok-set_stock.ensures.ok c.set_stock.ensures.marks)
+    (traded_marks old c.set_item.new.self mid c.args.number c.args.region c.args.item c.args.deal.stock _ set c.in_ok-set_stock.ensures.ok c.set_stock.ensures.marks)
     (rw same at c.book.ensures.what) c.book.ensures.marks

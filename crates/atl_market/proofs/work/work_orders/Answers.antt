@@ -8,5 +8,5 @@ use Rattle.atl_market.proofs.work.work_orders.Goals as goal
 -- the sorted list has the orders of the phase WORK by the definition (`work_orders`)
 pub returns : goal.returns
 returns c =
-    let all : map task_of c.add_idle.new.list.items ≡ all_work c.args.campaign.now.value (orders_by_unit is_month_long c.args.month.now) = search rules in
-    work_sorted c.args.campaign.now.value c.args.month.now c.add_idle.new.list.items c.sort.new.list.items all c.sort.ensures.moved c.sort.ensures.sorted
+    let all : map task_of c.add_idle_orders.new.list.items ≡ all_work c.args.campaign.now.value (orders_by_unit is_month_long c.args.month.now) = search rules in
+    work_sorted c.args.campaign.now.value c.args.month.now c.add_idle_orders.new.list.items c.sort_by_unit.new.list.items all c.sort_by_unit.ensures.moved c.sort_by_unit.ensures.sorted

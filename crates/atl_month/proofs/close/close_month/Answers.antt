@@ -4,7 +4,7 @@ use Rattle.atl_orders.specs.Mailing.{IsReadWith, reading_of}
 use Rattle.atl_campaign.proofs.GoodLaws.{sound_early}
 use Rattle.atl_phase.specs.Fit.{AreFit}
 use Rattle.atl_phase.specs.Month.{MonthValue, by_faction}
-use Rattle.atl_month.specs.Month.{month_keeps, new_month, phases_moving}
+use Rattle.atl_month.specs.Month.{month_keeps, new_month, phases_bound}
 use Rattle.atl_month.proofs.MonthLaws.{books_near, factions_stay, finished_good, month_is, phases_room, unmailed_left}
 use Rattle.atl_phase.proofs.FitLaws.{read_fit}
 use Rattle.atl_month.proofs.MoveLaws.{phases_little}
@@ -12,7 +12,7 @@ use Rattle.atl_month.proofs.close.close_month.Goals as goal
 
 -- once the month is counted and the mail is removed, which `close_month` doesn't do, the campaign is good again
 pub returns-clause-good : goal.returns-clause-good
-returns-clause-good c = finished_good c.args.world.now c.args.campaign.value c.in_ok-campaign.campaign.value phases_moving phases_little c.requires.month c.in_ok-campaign.ensures.leaves c.requires.good
+returns-clause-good c = finished_good c.args.world.now c.args.campaign.value c.in_ok-campaign.campaign.value phases_bound phases_little c.requires.month c.in_ok-campaign.ensures.leaves c.requires.good
 
 -- the number of the month last closed, the reports and the set of factions stay (`IsSameMonth`)
 pub returns-clause-same : goal.returns-clause-same

@@ -9,7 +9,7 @@ use Rattle.atl_records.proofs.EveryLaws.{sorted}
 use Rattle.atl_phase.specs.Bounds.{HaveRoom}
 use Rattle.atl_phase.proofs.MeaningLaws.{room_less}
 use Rattle.atl_month.specs.Restock.{after_market_restock, after_restock, stocks_by}
-use Rattle.atl_month.proofs.RestockLaws.{IsMarketOf, markets_are, markets_there, none_of, one_leaves_well, room_behind_market, room_for_market, stocking, stocks_little}
+use Rattle.atl_month.proofs.RestockLaws.{IsMarketOf, markets_are, markets_there, none_of, one_leaves_well, room_for_later_markets, room_for_market, stocking_bound, stocks_little}
 use Rattle.atl_month.proofs.restock.restock_region.Goals as goal
 
 -- restocking a region that the world doesn't have changes nothing
@@ -33,8 +33,8 @@ loop-item-init c =
       each = subst (EachEntry (IsMarketOf w n)) (sym listed) (markets_are w c.region.ensures.world n plan there);
       steady = c.requires.steady;
       room =
-          subst (λ (es : List (ℕ × Market)). HaveRoom (stocking es) before.value) (sym listed)
-          (room_less (stocking (entries plan.markets)) (stocks_by most_amount) before.value (stocks_little (entries plan.markets) (sorted plan.markets)) c.requires.room);
+          subst (λ (es : List (ℕ × Market)). HaveRoom (stocking_bound es) before.value) (sym listed)
+          (room_less (stocking_bound (entries plan.markets)) (stocks_by most_amount) before.value (stocks_little (entries plan.markets) (sorted plan.markets)) c.requires.room);
       marks = marks-refl before;
     }
 
@@ -42,7 +42,7 @@ loop-item-init c =
 pub restock_market-requires-clause-room : goal.restock_market-requires-clause-room
 restock_market-requires-clause-room c =
     room_for_market (c.in-Some-2.item, c.in-Some-2.market.now) c.next.new.self c.loop-item.campaign.value
-    (subst (λ (es : List (ℕ × Market)). HaveRoom (stocking es) c.loop-item.campaign.value) c.in-Some-2.ensures.steps c.loop-item.invariant.room)
+    (subst (λ (es : List (ℕ × Market)). HaveRoom (stocking_bound es) c.loop-item.campaign.value) c.in-Some-2.ensures.steps c.loop-item.invariant.room)
 
 -- After one more market got its new goods, restocking the markets still to come still makes what restocking all makes.
 -- The campaign is steady, its books have room, and all changes are marked.
@@ -56,7 +56,7 @@ loop-item-preserved c =
     let old = c.loop-item.invariant in
     let there : HasValue w.regions n = (c.in-Some.plan.now, sym c.in-Some.ensures.value) in
     let each = subst (EachEntry (IsMarketOf w n)) c.in-Some-2.ensures.steps old.each in
-    let room = subst (λ (es : List (ℕ × Market)). HaveRoom (stocking es) before) c.in-Some-2.ensures.steps old.room in
+    let room = subst (λ (es : List (ℕ × Market)). HaveRoom (stocking_bound es) before) c.in-Some-2.ensures.steps old.room in
     let is : c.restock_market.new.campaign.value ≡ after_market_restock n before x = c.in_ok-restock_market.ensures.what in
     record {
       can_next = tt;
@@ -64,6 +64,6 @@ loop-item-preserved c =
       rest = ap (λ s. fold (after_market_restock n) s rest) is ∙ sym (ap (fold (after_market_restock n) before) c.in-Some-2.ensures.steps) ∙ old.rest;
       each = each.1;
       steady = rw is (one_leaves_well w n there before x each.0 old.steady).leaves_it;
-      room = rw is (room_behind_market w n there x rest before each.0 old.steady room);
+      room = rw is (room_for_later_markets w n there x rest before each.0 old.steady room);
       marks = marks-trans c.args.campaign.now c.loop-item.campaign c.restock_market.new.campaign old.marks c.in_ok-restock_market.ensures.marks;
     }

@@ -6,7 +6,7 @@ use Rattle.atl_records.specs.Every.{EachEntry}
 use Rattle.atl_campaign.specs.Good.{IsSteady}
 use Rattle.atl_phase.specs.Bounds.{HaveRoom}
 use Rattle.atl_month.specs.Restock.{after_market_restock, after_restock, markets_of}
-use Rattle.atl_month.proofs.RestockLaws.{IsMarketOf, stocking}
+use Rattle.atl_month.proofs.RestockLaws.{IsMarketOf, stocking_bound}
 use Rattle.atl_month.proofs.restock.restock_region.Given as goal
 
 -- before each market: restocking those still to come makes what restocking all makes; the campaign is steady, its books
@@ -24,7 +24,7 @@ invariant-loop-item l = record {
   -- the campaign is steady
   steady : IsSteady l.world l.campaign.value;
   -- the books have room for the new goods of the markets still to come
-  room : HaveRoom (stocking l.item-iterator) l.campaign.value;
+  room : HaveRoom (stocking_bound l.item-iterator) l.campaign.value;
   -- no mark is lost and all that changed is marked (`MarksChanges`)
   marks : MarksChanges l.initial.campaign l.campaign;
 }

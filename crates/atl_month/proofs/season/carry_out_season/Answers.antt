@@ -2,7 +2,7 @@ use Rattle.std.proofs.Common.{sym, ◌+◌, arith}
 use Rattle.std.proofs.lemmas.Result.{on_ok_weaker}
 use Rattle.atl_world.specs.Limits.{most_amount}
 use Rattle.atl_campaign.proofs.CoverLaws.{marks-trans}
-use Rattle.atl_phase.proofs.MeaningLaws.{room_behind, room_less}
+use Rattle.atl_phase.proofs.MeaningLaws.{room_for_second, room_less}
 use Rattle.atl_month.specs.Restock.{stocks_by}
 use Rattle.atl_month.specs.Season.{grows_by, season_moves}
 use Rattle.atl_month.proofs.SeasonLaws.{births_fit, income_fits, limits_fit, region_grows_well}
@@ -46,7 +46,7 @@ restock_region-requires-clause-room c =
     let growth = region_grows_well c.args.world.now c.rules-rules.ensures.world c.args.campaign.now.value c.args.number c.args.word c.in-Some.terrain.now c.in-Some-region.region.now
     (sym c.in-Some.ensures.value) (sym c.in-Some-region.ensures) c.requires.steady in
     rw (c.add_births_and_income.ensures.what, c.income-earned.ensures, c.births-born.ensures, c.rules-rules.ensures.value)
-    (room_behind (grows_by most_amount) (stocks_by most_amount) c.args.world.now c.args.campaign.now.value _ growth c.requires.room)
+    (room_for_second (grows_by most_amount) (stocks_by most_amount) c.args.world.now c.args.campaign.now.value _ growth c.requires.room)
 
 -- all that the season of the region changes is marked
 pub returns-clause-marks : goal.returns-clause-marks

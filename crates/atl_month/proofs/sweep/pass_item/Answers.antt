@@ -7,7 +7,7 @@ use Rattle.atl_campaign.specs.Campaign.{CampaignValue}
 use Rattle.atl_campaign.proofs.CoverLaws.{marks-refl}
 use Rattle.atl_phase.proofs.ChangeLaws.{item_changes}
 use Rattle.atl_phase.proofs.MarkLaws.{booked_marks}
-use Rattle.atl_phase.proofs.MeaningLaws.{less_room}
+use Rattle.atl_phase.proofs.MeaningLaws.{amount_room_for_less}
 use Rattle.atl_month.proofs.SweepLaws.{passed_item_is}
 use Rattle.atl_month.proofs.sweep.pass_item.Goals as goal
 
@@ -19,7 +19,7 @@ book_taken-requires c =
       there = rw books (omega (arith, c.requires.steady.numbers.books.count, c.requires.known));
       room =
           rw books
-          (less_room (c.args.amount - c.accepted_of-taken.result) c.args.amount (amount_in c.args.campaign.now.value.books Lost (Item c.args.item))
+          (amount_room_for_less (c.args.amount - c.accepted_of-taken.result) c.args.amount (amount_in c.args.campaign.now.value.books Lost (Item c.args.item))
           (omega arith) c.requires.room);
     }
 

@@ -1,14 +1,14 @@
 use Rattle.std.proofs.Common.{◌≡◌, ◌+◌, ℕ, drop, get_or}
 use Rattle.atl_campaign.proofs.CoverLaws.{marks-trans}
-use Rattle.atl_phase.proofs.FoldLaws.{fold_behind}
-use Rattle.atl_instant.proofs.QuitLaws.{known_ahead, next_room, room_ahead}
+use Rattle.atl_phase.proofs.FoldLaws.{fold_after_step}
+use Rattle.atl_instant.proofs.QuitLaws.{known_ahead, room_for_item, room_for_item_and_later}
 use Rattle.atl_month.specs.Sweep.{after_passing_item}
 use Rattle.atl_month.proofs.SweepLaws.{item_passes, rest_room}
 use Rattle.atl_month.proofs.sweep.pass_items.Goals as goal
 
 -- pass_items may call pass_item: the books have room for what may be lost of the next item
 pub pass_item-requires-clause-room : goal.pass_item-requires-clause-room
-pass_item-requires-clause-room c = next_room c.args.items.now c.loop-item.item-index c.loop-item.campaign.value c.loop-item-test.true c.loop-item.invariant.room
+pass_item-requires-clause-room c = room_for_item c.args.items.now c.loop-item.item-index c.loop-item.campaign.value c.loop-item-test.true c.loop-item.invariant.room
 
 -- After one more item was passed on, passing on the items still to come still makes what passing on all makes. The
 -- campaign is steady, its books have room, and all changes are marked.
@@ -24,11 +24,11 @@ loop-item-preserved c =
     let known = known_ahead w list i c.loop-item-test.true old.known in
     let is : c.pass_item.new.campaign.value ≡ after_passing_item to before x = c.in_ok-pass_item.ensures.what in
     record {
-      rest = fold_behind (after_passing_item to) list i (0, 0) before c.loop-item-test.true is old.rest;
+      rest = fold_after_step (after_passing_item to) list i (0, 0) before c.loop-item-test.true is old.rest;
       steady = rw is (item_passes w before old.steady to x.0 x.1 known.0).steady;
       known = known.1;
       room =
           rw is (rest_room w before old.steady to x (drop (i + 1) list) known.0
-          (room_ahead list i before c.loop-item-test.true old.room));
+          (room_for_item_and_later list i before c.loop-item-test.true old.room));
       marks = marks-trans c.args.campaign.now c.loop-item.campaign c.pass_item.new.campaign old.marks c.in_ok-pass_item.ensures.marks;
     }

@@ -3,7 +3,7 @@ use Rattle.std.specs.Prelude.{fold}
 use Rattle.atl_campaign.specs.Covers.{MarksChanges}
 use Rattle.atl_records.specs.Every.{EachEntry}
 use Rattle.atl_campaign.specs.Good.{IsSteady}
-use Rattle.atl_phase.specs.Bounds.{HaveRoom, moving_items}
+use Rattle.atl_phase.specs.Bounds.{HaveRoom, items_bound}
 use Rattle.atl_month.specs.Sweep.{after_passing_item}
 use Rattle.atl_month.proofs.sweep.pass_items.Given as goal
 
@@ -18,7 +18,7 @@ invariant-loop-item l = record {
   -- the items still to come are items of the world
   known : EachEntry (λ i amount. i < length l.world.items) (drop l.item-index l.items);
   -- the books have room for what may be lost of the items still to come
-  room : HaveRoom (moving_items (drop l.item-index l.items)) l.campaign.value;
+  room : HaveRoom (items_bound (drop l.item-index l.items)) l.campaign.value;
   -- no mark is lost and all that changed is marked (`MarksChanges`)
   marks : MarksChanges l.initial.campaign l.campaign;
 }

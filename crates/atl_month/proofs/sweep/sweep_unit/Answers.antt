@@ -6,7 +6,7 @@ use Rattle.atl_records.specs.declared.books.Thing.TheVariants.{Money}
 use Rattle.atl_records.specs.Books.{amount_in}
 use Rattle.atl_campaign.proofs.CoverLaws.{marks-trans}
 use Rattle.atl_campaign.proofs.LeavingLaws.{marks-without}
-use Rattle.atl_phase.proofs.MeaningLaws.{less_room}
+use Rattle.atl_phase.proofs.MeaningLaws.{amount_room_for_less}
 use Rattle.atl_instant.proofs.QuitLaws.{known_held}
 use Rattle.atl_month.proofs.SweepLaws.{items_room, money_steady}
 use Rattle.atl_month.proofs.sweep.sweep_unit.Goals as goal
@@ -14,7 +14,7 @@ use Rattle.atl_month.proofs.sweep.sweep_unit.Goals as goal
 -- sweep_unit may call pass_money: the books have room for what may be lost of the unit's money
 pub pass_money-requires-clause-room : goal.pass_money-requires-clause-room
 pass_money-requires-clause-room c =
-    less_room c.money-money.result most_amount (amount_in c.args.campaign.now.value.books Lost Money)
+    amount_room_for_less c.money-money.result most_amount (amount_in c.args.campaign.now.value.books Lost Money)
     (omega (arith, c.money-money.ensures.value, c.money-money.ensures.fits)) (c.requires.room Lost Money)
 
 -- sweep_unit may call pass_items: after the money was passed on, the campaign is steady, the items are of the world,

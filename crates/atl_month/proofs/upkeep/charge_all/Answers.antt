@@ -13,28 +13,28 @@ use Rattle.atl_month.proofs.upkeep.charge_all.Goals as goal
 pub charge_upkeep-requires : goal.charge_upkeep-requires
 charge_upkeep-requires c =
     let list = c.args.list.now in
-    let i = c.loop-settled.settled-index in
+    let i = c.loop-upkeep_result.upkeep_result-index in
     let s : UpkeepResult = get_or list i (record { unit = 0; faction = 0; paid = 0; starved = 0 }) in
-    let behind : drop i list ≡ s ∷ drop (i + 1) list = drop_more list i _ c.loop-settled-test.true in
-    let (w, can) = c.loop-settled.invariant.can in
-    (w, (subst (CanInTurn (CanPayUpkeep w) upkeep_at c.loop-settled.campaign.value) behind can).0)
+    let later : drop i list ≡ s ∷ drop (i + 1) list = drop_more list i _ c.loop-upkeep_result-test.true in
+    let (w, can) = c.loop-upkeep_result.invariant.can in
+    (w, (subst (CanInTurn (CanPayUpkeep w) upkeep_at c.loop-upkeep_result.campaign.value) later can).0)
 
 -- After the upkeep of one more unit, the upkeep of the units still to come still makes the campaign that the upkeep of
 -- all makes. Each of these units can pay in turn, and all changes are marked.
-pub loop-settled-preserved : goal.loop-settled-preserved
-loop-settled-preserved c =
+pub loop-upkeep_result-preserved : goal.loop-upkeep_result-preserved
+loop-upkeep_result-preserved c =
     let list = c.args.list.now in
-    let i = c.loop-settled.settled-index in
+    let i = c.loop-upkeep_result.upkeep_result-index in
     let s : UpkeepResult = get_or list i (record { unit = 0; faction = 0; paid = 0; starved = 0 }) in
-    let before = c.loop-settled.campaign.value in
+    let before = c.loop-upkeep_result.campaign.value in
     let after = c.charge_upkeep.new.campaign.value in
-    let old = c.loop-settled.invariant in
-    let behind : drop i list ≡ s ∷ drop (i + 1) list = drop_more list i _ c.loop-settled-test.true in
+    let old = c.loop-upkeep_result.invariant in
+    let later : drop i list ≡ s ∷ drop (i + 1) list = drop_more list i _ c.loop-upkeep_result-test.true in
     let is : after ≡ upkeep_at before s = search rules in
     let marked = c.in_ok-charge_upkeep.ensures.marks in
     let (w, can) = old.can in
     record {
-      rest = ap (λ (d : CampaignValue). fold upkeep_at d (drop (i + 1) list)) is ∙ sym (ap (fold upkeep_at before) behind) ∙ old.rest;
-      can = (w, rw is (subst (CanInTurn (CanPayUpkeep w) upkeep_at before) behind can).1);
-      marks = marks-trans c.args.campaign.now c.loop-settled.campaign c.charge_upkeep.new.campaign old.marks marked;
+      rest = ap (λ (d : CampaignValue). fold upkeep_at d (drop (i + 1) list)) is ∙ sym (ap (fold upkeep_at before) later) ∙ old.rest;
+      can = (w, rw is (subst (CanInTurn (CanPayUpkeep w) upkeep_at before) later can).1);
+      marks = marks-trans c.args.campaign.now c.loop-upkeep_result.campaign c.charge_upkeep.new.campaign old.marks marked;
     }

@@ -9,12 +9,12 @@ use Rattle.atl_month.proofs.upkeep.charge_all.Given as goal
 
 -- Before each result: the upkeep of the units still to come makes the campaign that the upkeep of all makes, each of
 -- these units can pay in turn, and all changes are marked.
-abbrev pub invariant-loop-settled : goal.invariant-loop-settled
-invariant-loop-settled l = record {
+abbrev pub invariant-loop-upkeep_result : goal.invariant-loop-upkeep_result
+invariant-loop-upkeep_result l = record {
   -- the upkeep of the units still to come makes the campaign that the upkeep of all makes
-  rest : fold upkeep_at l.campaign.value (drop l.settled-index l.list) ≡ upkeep l.initial.campaign.value l.list;
+  rest : fold upkeep_at l.campaign.value (drop l.upkeep_result-index l.list) ≡ upkeep l.initial.campaign.value l.list;
   -- each unit still to come can pay what upkeep takes from it when its turn comes
-  can : (w : WorldValue) × CanInTurn (CanPayUpkeep w) upkeep_at l.campaign.value (drop l.settled-index l.list);
+  can : (w : WorldValue) × CanInTurn (CanPayUpkeep w) upkeep_at l.campaign.value (drop l.upkeep_result-index l.list);
   -- no mark is lost and all that changed is marked (`MarksChanges`)
   marks : MarksChanges l.initial.campaign l.campaign;
 }

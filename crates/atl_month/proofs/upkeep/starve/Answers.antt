@@ -12,14 +12,14 @@ use Rattle.atl_phase.proofs.ChangeLaws.{changed_held, money_changes, then_change
 use Rattle.atl_phase.proofs.MarkLaws.{on_ok_both}
 use Rattle.atl_month.specs.UpkeepSharing.{CanSpare}
 use Rattle.atl_month.specs.Upkeep.{after_upkeep}
-use Rattle.atl_month.proofs.UpkeepLaws.{starved_supplied}
+use Rattle.atl_month.proofs.UpkeepLaws.{starving_sets_holding}
 use Rattle.atl_month.proofs.upkeep.starve.Goals as goal
 
 -- the unit has what its upkeep leaves it, all changes are marked, and none of its items is marked
 pub returns : goal.returns
 returns c =
     let (w, can) = c.requires.can in
-    let s = c.args.settled.now in
+    let s = c.args.upkeep_result.now in
     let old = c.args.campaign.now in
     let mid = c.set_money.new.self in
     let after = c.set_people.new.campaign in
@@ -31,7 +31,7 @@ returns c =
     let spare : CanSpare s v.holding.men v.holding.money = subst (λ (x : Unit). CanSpare s x.holding.men x.holding.money) (same_Some _ _ (sym can.there ∙ there)) can.spare in
     let listed : Every (λ k d. 1 ≤ d) v.holding.days = (λ k d at. (can.steady.days s.unit v there k d at).0) in
     let h : HoldingValue = record v.holding { men = left; money = money; days = with_days v.holding.days days } in
-    let h_is : h ≡ after_upkeep s v.holding = rw (c.deref.ensures.value, c.in_ok-days.ensures, c.men.ensures.value, c.money.ensures.value) (starved_supplied s v.holding c.requires.some spare.starved listed) in
+    let h_is : h ≡ after_upkeep s v.holding = rw (c.deref.ensures.value, c.in_ok-days.ensures, c.men.ensures.value, c.money.ensures.value) (starving_sets_holding s v.holding c.requires.some spare.starved listed) in
     let all = λ (people : ChangesHolding mid after s.unit (λ x. record x { men = left; days = with_days x.days days })).
     then_changes old mid after s.unit (λ x. record x { money = money }) (λ x. record x { men = left; days = with_days x.days days })
     (money_changes old mid s.unit money c.set_money.ensures.what c.set_money.ensures.marks) people in

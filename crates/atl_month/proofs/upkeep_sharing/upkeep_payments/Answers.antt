@@ -4,7 +4,7 @@ use Rattle.atl_month.specs.declared.upkeep_sharing.UpkeepInput.{UpkeepInput}
 use Rattle.atl_month.specs.declared.upkeep_sharing.UpkeepResult.{UpkeepResult}
 use Rattle.atl_month.specs.Accounts.{account_after, account_at, with_account}
 use Rattle.atl_month.specs.UpkeepSharing.{peers_of, upkeep_result_among}
-use Rattle.atl_month.proofs.UpkeepSharingLaws.{lower_first, settled_is, settled_more}
+use Rattle.atl_month.proofs.UpkeepSharingLaws.{lower_first, upkeep_result_is, upkeep_result_more}
 use Rattle.atl_month.proofs.upkeep_sharing.upkeep_payments.Goals as goal
 
 -- After one more unit had its turn, the accounts are those after the turns so far, and the list has what upkeep takes
@@ -16,19 +16,19 @@ loop-input-preserved c =
     let i = c.loop-input.input-index in
     let none : UpkeepInput = record { unit = 0; region = 0; faction = 0; men = 0; money = 0 } in
     let p : UpkeepInput = get_or inputs i none in
-    let settled = λ (q : UpkeepInput). upkeep_result_among m (peers_of q.region q.faction inputs) q in
+    let upkeep_result = λ (q : UpkeepInput). upkeep_result_among m (peers_of q.region q.faction inputs) q in
     let old = c.loop-input.accounts in
-    let account = c.payment_of-settled.new.account in
+    let account = c.payment_of-upkeep_result.new.account in
     let more : take (i + 1) inputs ≡ take i inputs ++ p ∷ [] = take_more inputs i _ c.loop-input-test.true in
     let put : c.put_account.new.accounts ≡ with_account old p.region p.faction account = search rules in
     let is : account ≡ account_after m (account_at old p.region p.faction) p = search rules in
     let first = lower_first inputs i none c.requires.order c.loop-input-test.true in
-    let one : c.payment_of-settled.result ≡ upkeep_result_among m (peers_of p.region p.faction inputs) p =
-    search (rules, settled_is m inputs (take i inputs) p old c.loop-input.invariant.each first) in
-    let pushed : c.push.new.self.items ≡ c.loop-input.list.items ++ c.payment_of-settled.result ∷ [] = search rules in
+    let one : c.payment_of-upkeep_result.result ≡ upkeep_result_among m (peers_of p.region p.faction inputs) p =
+    search (rules, upkeep_result_is m inputs (take i inputs) p old c.loop-input.invariant.each first) in
+    let pushed : c.push.new.self.items ≡ c.loop-input.list.items ++ c.payment_of-upkeep_result.result ∷ [] = search rules in
     record {
-      each = λ s g. rw (put, more) (settled_more m inputs (take i inputs) p old c.loop-input.invariant.each account is s g);
+      each = λ s g. rw (put, more) (upkeep_result_more m inputs (take i inputs) p old c.loop-input.invariant.each account is s g);
       list =
-          pushed ∙ ap (λ (xs : List UpkeepResult). xs ++ c.payment_of-settled.result ∷ []) c.loop-input.invariant.list
-          ∙ ap (λ (s : UpkeepResult). map settled (take i inputs) ++ s ∷ []) one ∙ sym (map_more settled inputs i none c.loop-input-test.true);
+          pushed ∙ ap (λ (xs : List UpkeepResult). xs ++ c.payment_of-upkeep_result.result ∷ []) c.loop-input.invariant.list
+          ∙ ap (λ (s : UpkeepResult). map upkeep_result (take i inputs) ++ s ∷ []) one ∙ sym (map_more upkeep_result inputs i none c.loop-input-test.true);
     }

@@ -17,7 +17,7 @@ pub(crate) struct PlainUnit {
 
 /// How much of an item a unit has, or how many days of a skill.
 #[derive(Clone, Copy, Drop, PartialEq, Eq)]
-pub(crate) struct Good {
+pub(crate) struct PlainGood {
     pub unit: u32,
     pub is_skill: bool,
     pub thing: u32,
@@ -26,7 +26,7 @@ pub(crate) struct Good {
 
 /// A region: its number, peasants and money.
 #[derive(Clone, Copy, Drop, PartialEq, Eq)]
-pub(crate) struct Land {
+pub(crate) struct PlainRegion {
     pub number: u32,
     pub peasants: u64,
     pub money: u64,
@@ -42,31 +42,31 @@ pub(crate) struct Stock {
 
 /// The amount booked of a thing under an entry; entry and thing are numbers of the table `books`.
 #[derive(Clone, Copy, Drop, PartialEq, Eq)]
-pub(crate) struct Booked {
+pub(crate) struct PlainBooking {
     pub entry: u32,
     pub thing: u32,
     pub amount: i64,
 }
 
 /// A campaign as lists, and the events of the phase played on it.
-pub(crate) struct Plain {
+pub(crate) struct PlainCampaign {
     pub people: Vec<PlainUnit>,
-    pub goods: Vec<Good>,
-    pub lands: Vec<Land>,
+    pub goods: Vec<PlainGood>,
+    pub lands: Vec<PlainRegion>,
     pub stocks: Vec<Stock>,
-    pub books: Vec<Booked>,
+    pub books: Vec<PlainBooking>,
     pub events: Vec<Event>,
 }
 
 /// Drops all lists of the reference's campaign.
-impl Drop for Plain {
+impl Drop for PlainCampaign {
     fn drop(self) {
-        let_go!(self: Plain { people, goods, lands, stocks, books, events });
+        let_go!(self: PlainCampaign { people, goods, lands, stocks, books, events });
     }
 }
 
 /// A unit of the program as a `PlainUnit`, without its goods.
-fn person_of(number: u32, unit: &Unit) -> PlainUnit {
+fn plain_unit_of(number: u32, unit: &Unit) -> PlainUnit {
     PlainUnit {
         number,
         faction: unit.faction,
@@ -78,18 +78,18 @@ fn person_of(number: u32, unit: &Unit) -> PlainUnit {
 }
 
 /// All units of a campaign, each as a `PlainUnit`, without their goods.
-fn people_of(alloc: Global, campaign: &Campaign) -> Result<Vec<PlainUnit>, AllocError> {
+fn plain_units_of(alloc: Global, campaign: &Campaign) -> Result<Vec<PlainUnit>, AllocError> {
     let mut people = Vec::new(alloc);
     for (number, unit) in campaign.units() {
-        people.push(person_of(number, unit))?;
+        people.push(plain_unit_of(number, unit))?;
     }
     Ok(people)
 }
 
 /// Appends the items of a unit to the list of goods.
-fn add_items(number: u32, unit: &Unit, goods: &mut Vec<Good>) -> Result<(), AllocError> {
+fn add_items(number: u32, unit: &Unit, goods: &mut Vec<PlainGood>) -> Result<(), AllocError> {
     for (thing, amount) in unit.holding.items() {
-        goods.push(Good {
+        goods.push(PlainGood {
             unit: number,
             is_skill: false,
             thing,
@@ -100,9 +100,9 @@ fn add_items(number: u32, unit: &Unit, goods: &mut Vec<Good>) -> Result<(), Allo
 }
 
 /// Appends a unit's days of study to the list of goods.
-fn add_days(number: u32, unit: &Unit, goods: &mut Vec<Good>) -> Result<(), AllocError> {
+fn add_days(number: u32, unit: &Unit, goods: &mut Vec<PlainGood>) -> Result<(), AllocError> {
     for (thing, days) in unit.holding.days() {
-        goods.push(Good {
+        goods.push(PlainGood {
             unit: number,
             is_skill: true,
             thing,
@@ -113,7 +113,7 @@ fn add_days(number: u32, unit: &Unit, goods: &mut Vec<Good>) -> Result<(), Alloc
 }
 
 /// The items and days of study of all units of a campaign.
-fn goods_of(alloc: Global, campaign: &Campaign) -> Result<Vec<Good>, AllocError> {
+fn goods_of(alloc: Global, campaign: &Campaign) -> Result<Vec<PlainGood>, AllocError> {
     let mut goods = Vec::new(alloc);
     for (number, unit) in campaign.units() {
         add_items(number, unit, &mut goods)?;
@@ -123,10 +123,10 @@ fn goods_of(alloc: Global, campaign: &Campaign) -> Result<Vec<Good>, AllocError>
 }
 
 /// All regions of a campaign: number, peasants and money of each.
-fn lands_of(alloc: Global, campaign: &Campaign) -> Result<Vec<Land>, AllocError> {
+fn plain_regions_of(alloc: Global, campaign: &Campaign) -> Result<Vec<PlainRegion>, AllocError> {
     let mut lands = Vec::new(alloc);
     for (number, region) in campaign.regions() {
-        lands.push(Land {
+        lands.push(PlainRegion {
             number,
             peasants: u64::from(region.peasants),
             money: u64::from(region.money),
@@ -157,11 +157,11 @@ fn stocks_of(alloc: Global, campaign: &Campaign) -> Result<Vec<Stock>, AllocErro
 }
 
 /// All amounts of a campaign's books that aren't 0.
-fn books_of(alloc: Global, campaign: &Campaign) -> Result<Vec<Booked>, AllocError> {
+fn books_of(alloc: Global, campaign: &Campaign) -> Result<Vec<PlainBooking>, AllocError> {
     let mut books = Vec::new(alloc);
     let rows = campaign.parts()?;
     for row in rows.books.as_slice() {
-        books.push(Booked {
+        books.push(PlainBooking {
             entry: u32::try_from(row.entry).unwrap_or(0),
             thing: u32::try_from(row.thing).unwrap_or(0),
             amount: row.amount,
@@ -178,15 +178,15 @@ fn rise(before: u64, after: u64) -> i64 {
 }
 
 /// Makes the lists of a campaign, looks things up in them, and changes them.
-impl Plain {
+impl PlainCampaign {
     /// A campaign as lists, with no events yet.
-    pub fn of(alloc: Global, campaign: &Campaign) -> Result<Plain, AllocError> {
-        let people = people_of(alloc, campaign)?;
+    pub fn from_campaign(alloc: Global, campaign: &Campaign) -> Result<PlainCampaign, AllocError> {
+        let people = plain_units_of(alloc, campaign)?;
         let goods = goods_of(alloc, campaign)?;
-        let lands = lands_of(alloc, campaign)?;
+        let lands = plain_regions_of(alloc, campaign)?;
         let stocks = stocks_of(alloc, campaign)?;
         let books = books_of(alloc, campaign)?;
-        Ok(Plain {
+        Ok(PlainCampaign {
             people,
             goods,
             lands,
@@ -197,7 +197,7 @@ impl Plain {
     }
 
     /// The unit with a number, or None if there is none.
-    pub fn person(&self, number: u32) -> Option<PlainUnit> {
+    pub fn find_unit(&self, number: u32) -> Option<PlainUnit> {
         for person in self.people.iter() {
             if person.number == number {
                 return Some(*person);
@@ -207,7 +207,7 @@ impl Plain {
     }
 
     /// The region with a number, or None if there is none.
-    pub fn land(&self, number: u32) -> Option<Land> {
+    pub fn find_region(&self, number: u32) -> Option<PlainRegion> {
         for land in self.lands.iter() {
             if land.number == number {
                 return Some(*land);
@@ -237,7 +237,7 @@ impl Plain {
     }
 
     /// Sets the men and the money of a unit.
-    pub fn set_person(&mut self, number: u32, men: u64, money: u64) {
+    pub fn set_men_and_money(&mut self, number: u32, men: u64, money: u64) {
         for person in self.people.iter_mut() {
             if person.number == number {
                 person.men = men;
@@ -247,7 +247,7 @@ impl Plain {
     }
 
     /// Sets the peasants and the money of a region.
-    pub fn set_land(&mut self, number: u32, peasants: u64, money: u64) {
+    pub fn set_peasants_and_money(&mut self, number: u32, peasants: u64, money: u64) {
         for land in self.lands.iter_mut() {
             if land.number == number {
                 land.peasants = peasants;
@@ -258,7 +258,7 @@ impl Plain {
 
     /// Sets how much a unit has of an item, or its days of a skill; a good that isn't in the list
     /// is added at the end.
-    pub fn set_amount(&mut self, new: Good) -> Result<(), AllocError> {
+    pub fn set_amount(&mut self, new: PlainGood) -> Result<(), AllocError> {
         let mut is_new = true;
         for good in self.goods.iter_mut() {
             if good.unit == new.unit && good.is_skill == new.is_skill && good.thing == new.thing {
@@ -305,7 +305,7 @@ impl Plain {
             }
         }
         if is_new {
-            self.books.push(Booked {
+            self.books.push(PlainBooking {
                 entry,
                 thing,
                 amount,
@@ -315,7 +315,7 @@ impl Plain {
     }
 
     /// The booked amounts that aren't 0, sorted by entry and thing.
-    pub fn sorted_books(&self, alloc: Global) -> Result<Vec<Booked>, AllocError> {
+    pub fn sorted_books(&self, alloc: Global) -> Result<Vec<PlainBooking>, AllocError> {
         let mut books = Vec::new(alloc);
         for booked in self.books.iter() {
             if booked.amount != 0 {
@@ -339,7 +339,7 @@ impl Plain {
     }
 
     /// The goods that aren't 0, sorted by unit, then items before skills, then by number.
-    pub fn sorted_goods(&self, alloc: Global) -> Result<Vec<Good>, AllocError> {
+    pub fn sorted_goods(&self, alloc: Global) -> Result<Vec<PlainGood>, AllocError> {
         let mut goods = Vec::new(alloc);
         for good in self.goods.iter() {
             if good.amount != 0 {

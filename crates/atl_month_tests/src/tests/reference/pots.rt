@@ -1,5 +1,5 @@
 //! Shares pots in the reference calculation; for each pot it looks at all units.
-use super::plain::{Plain, PlainUnit};
+use super::plain::{PlainCampaign, PlainUnit};
 use super::shares::share;
 use atl_campaign::{EventFault, Outcome};
 use atl_phase::PhaseOrder;
@@ -31,15 +31,15 @@ pub(crate) struct Claimed<'m> {
 
 /// What a unit gets of a pot: how much of which thing.
 #[derive(Clone, Copy, Drop)]
-pub(crate) struct Given {
+pub(crate) struct UnitShare {
     pub unit: u32,
     pub thing: u32,
     pub amount: u64,
 }
 
 /// The unit of an order, if it is of the order's faction; None if not, or if there is no such unit.
-pub(crate) fn own(plain: &Plain, order: PhaseOrder<'_>) -> Option<PlainUnit> {
-    let person = plain.person(order.unit)?;
+pub(crate) fn own_unit(plain: &PlainCampaign, order: PhaseOrder<'_>) -> Option<PlainUnit> {
+    let person = plain.find_unit(order.unit)?;
     if person.faction == order.faction {
         Some(person)
     } else {
@@ -83,10 +83,10 @@ fn note_taker(
 /// gets.
 fn add_shares(
     alloc: Global,
-    plain: &Plain,
+    plain: &PlainCampaign,
     claims: &[Claimed<'_>],
     pot: Pot,
-    given: &mut Vec<Given>,
+    given: &mut Vec<UnitShare>,
 ) -> Result<(), AllocError> {
     let mut takers = Vec::new(alloc);
     let mut wants = Vec::new(alloc);
@@ -101,10 +101,10 @@ fn add_given(
     pot: Pot,
     takers: &[u32],
     shares: &[u64],
-    given: &mut Vec<Given>,
+    given: &mut Vec<UnitShare>,
 ) -> Result<(), AllocError> {
     for (unit, amount) in takers.iter().zip(shares.iter()) {
-        given.push(Given {
+        given.push(UnitShare {
             unit: *unit,
             thing: pot.thing,
             amount: *amount,
@@ -116,10 +116,10 @@ fn add_given(
 /// What the units get of all pots, pot by pot.
 pub(crate) fn shared(
     alloc: Global,
-    plain: &Plain,
+    plain: &PlainCampaign,
     claims: &[Claimed<'_>],
     pots: &[Pot],
-) -> Result<Vec<Given>, AllocError> {
+) -> Result<Vec<UnitShare>, AllocError> {
     let mut given = Vec::new(alloc);
     for pot in pots {
         add_shares(alloc, plain, claims, *pot, &mut given)?;
@@ -128,7 +128,7 @@ pub(crate) fn shared(
 }
 
 /// How much a unit gets by its first share in a list; 0 if it has none.
-pub(crate) fn given_to(given: &[Given], unit: u32) -> u64 {
+pub(crate) fn given_to(given: &[UnitShare], unit: u32) -> u64 {
     for one in given {
         if one.unit == unit {
             return one.amount;
@@ -137,10 +137,10 @@ pub(crate) fn given_to(given: &[Given], unit: u32) -> u64 {
     0
 }
 
-/// The outcome of an order in its event: its fault, or that it was done, with the number `told`.
-pub(crate) fn outcome(claim: Claim, told: u64) -> Outcome {
+/// The outcome of an order in its event: its fault, or Done with a given number.
+pub(crate) fn outcome(claim: Claim, done: u64) -> Outcome {
     match claim {
         Claim::Fault(fault) => Outcome::Fault(fault.number()),
-        Claim::Want(_, _) => Outcome::Done(told),
+        Claim::Want(_, _) => Outcome::Done(done),
     }
 }

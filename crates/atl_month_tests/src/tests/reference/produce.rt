@@ -1,7 +1,7 @@
 //! PRODUCE in the reference calculation: units make items out of raw items or of the terrain's
 //! output.
-use super::plain::{Good, Plain, PlainUnit};
-use super::pots::{Claim, Given, Pot, own};
+use super::plain::{PlainCampaign, PlainGood, PlainUnit};
+use super::pots::{Claim, Pot, UnitShare, own_unit};
 use super::tax::MOST_MONEY;
 use atl_campaign::{BooksEntry, EventFault, Thing};
 use atl_orders::Operands;
@@ -15,7 +15,8 @@ const MOST_PIECES: u64 = MOST_MONEY;
 /// The highest level of a skill.
 const MOST_LEVEL: u64 = 5;
 
-/// The days in the rule of levels: level `n` of a skill takes 15 * n * (n + 1) days for each man.
+/// The factor in the rule of levels: level `n` of a skill takes this times n * (n + 1) days for
+/// each man.
 const LEVEL_DAYS: u64 = 15;
 
 /// The highest level of a skill that `men` men have with `days` days together; 0 without men.
@@ -31,7 +32,7 @@ fn level(days: u64, men: u64) -> u64 {
 }
 
 /// The level of a unit in the skill that an item needs; 0 if no skill makes it.
-fn level_of(plain: &Plain, person: PlainUnit, item: &Item) -> u64 {
+fn level_of(plain: &PlainCampaign, person: PlainUnit, item: &Item) -> u64 {
     match item.skill {
         Some(skill) => level(
             plain.amount(person.number, true, u32::from(skill)),
@@ -42,7 +43,7 @@ fn level_of(plain: &Plain, person: PlainUnit, item: &Item) -> u64 {
 }
 
 /// For how many of an item the unit's raw items suffice; None if the item needs no raw items.
-fn raw_for(plain: &Plain, person: PlainUnit, item: &Item) -> Option<u64> {
+fn raw_for(plain: &PlainCampaign, person: PlainUnit, item: &Item) -> Option<u64> {
     let raw = item.raw?;
     let held = plain.amount(person.number, false, u32::from(raw));
     held.checked_div(u64::from(item.raw_count))
@@ -57,7 +58,7 @@ fn item_of(order: PhaseOrder<'_>) -> u32 {
 }
 
 /// How many of an item a unit wants: its men times its level, as far as raw items and room allow.
-fn want(plain: &Plain, person: PlainUnit, number: u32, item: &Item) -> u64 {
+fn want(plain: &PlainCampaign, person: PlainUnit, number: u32, item: &Item) -> u64 {
     let skilled = person.men.wrapping_mul(level_of(plain, person, item));
     let room = MOST_PIECES.saturating_sub(plain.amount(person.number, false, number));
     let most = skilled.min(room);
@@ -68,7 +69,7 @@ fn want(plain: &Plain, person: PlainUnit, number: u32, item: &Item) -> u64 {
 }
 
 /// Why a unit can't produce an item; None if it can.
-fn fault(plain: &Plain, person: PlainUnit, item: &Item) -> Option<EventFault> {
+fn fault(plain: &PlainCampaign, person: PlainUnit, item: &Item) -> Option<EventFault> {
     if person.men == 0 {
         Some(EventFault::NoMen)
     } else if item.skill.is_none() || level_of(plain, person, item) < u64::from(item.level) {
@@ -81,9 +82,10 @@ fn fault(plain: &Plain, person: PlainUnit, item: &Item) -> Option<EventFault> {
 }
 
 /// How many of which item a PRODUCE order asks for, or its fault.
-pub(crate) fn claim(world: &World, plain: &Plain, order: PhaseOrder<'_>) -> Claim {
+pub(crate) fn claim(world: &World, plain: &PlainCampaign, order: PhaseOrder<'_>) -> Claim {
     let number = item_of(order);
-    let (Some(person), Some(item)) = (own(plain, order), world.items().get(number as usize)) else {
+    let (Some(person), Some(item)) = (own_unit(plain, order), world.items().get(number as usize))
+    else {
         return Claim::Fault(EventFault::NotYours);
     };
     match fault(plain, person, item) {
@@ -125,7 +127,7 @@ pub(crate) fn add_pots(world: &World, region: u32, pots: &mut Vec<Pot>) -> Resul
 
 /// Sets how much a unit has of an item, and books by how much that is more or less than before.
 fn set_item(
-    plain: &mut Plain,
+    plain: &mut PlainCampaign,
     unit: u32,
     item: u16,
     amount: u64,
@@ -134,7 +136,7 @@ fn set_item(
     let thing = u32::from(item);
     let held = plain.amount(unit, false, thing);
     plain.book(entry, Thing::Item(item), held, amount)?;
-    plain.set_amount(Good {
+    plain.set_amount(PlainGood {
         unit,
         is_skill: false,
         thing,
@@ -144,7 +146,11 @@ fn set_item(
 
 /// Gives a unit what it made, which is booked under Made, and takes the raw items that it used,
 /// which are booked under Used.
-pub(crate) fn pay(world: &World, plain: &mut Plain, given: Given) -> Result<(), AllocError> {
+pub(crate) fn pay(
+    world: &World,
+    plain: &mut PlainCampaign,
+    given: UnitShare,
+) -> Result<(), AllocError> {
     let Some(item) = world.items().get(given.thing as usize) else {
         return Ok(());
     };

@@ -1,7 +1,7 @@
 //! RECRUIT in the reference calculation: peasants of a region join units, which pay a price for
 //! each.
-use super::plain::{Land, Plain, PlainUnit};
-use super::pots::{Claim, Given, Pot, own};
+use super::plain::{PlainCampaign, PlainRegion, PlainUnit};
+use super::pots::{Claim, Pot, UnitShare, own_unit};
 use atl_campaign::{BooksEntry, EventFault, Thing};
 use atl_orders::Operands;
 use atl_phase::PhaseOrder;
@@ -36,8 +36,8 @@ fn want(world: &World, person: PlainUnit, order: PhaseOrder<'_>) -> u64 {
 }
 
 /// How many men a RECRUIT order asks for, as far as the unit can pay and has room, or its fault.
-pub(crate) fn claim(world: &World, plain: &Plain, order: PhaseOrder<'_>) -> Claim {
-    let Some(person) = own(plain, order) else {
+pub(crate) fn claim(world: &World, plain: &PlainCampaign, order: PhaseOrder<'_>) -> Claim {
+    let Some(person) = own_unit(plain, order) else {
         return Claim::Fault(EventFault::NotYours);
     };
     if person.money < price(world) {
@@ -47,7 +47,7 @@ pub(crate) fn claim(world: &World, plain: &Plain, order: PhaseOrder<'_>) -> Clai
 }
 
 /// The pot of a region in RECRUIT: how many of its peasants can be recruited.
-pub(crate) fn pot(world: &World, land: Land) -> Pot {
+pub(crate) fn pot(world: &World, land: PlainRegion) -> Pot {
     let fraction = u64::from(world.rules().recruit_fraction);
     Pot {
         region: land.number,
@@ -57,17 +57,21 @@ pub(crate) fn pot(world: &World, land: Land) -> Pot {
 }
 
 /// Moves a unit's recruits out of the region, takes their price from the unit, and books the price.
-pub(crate) fn pay(world: &World, plain: &mut Plain, given: Given) -> Result<(), AllocError> {
-    let Some(person) = plain.person(given.unit) else {
+pub(crate) fn pay(
+    world: &World,
+    plain: &mut PlainCampaign,
+    given: UnitShare,
+) -> Result<(), AllocError> {
+    let Some(person) = plain.find_unit(given.unit) else {
         return Ok(());
     };
     let cost = given.amount.wrapping_mul(price(world));
     let money = person.money.wrapping_sub(cost);
     let men = person.men.wrapping_add(given.amount);
-    plain.set_person(given.unit, men, money);
-    if let Some(land) = plain.land(person.region) {
+    plain.set_men_and_money(given.unit, men, money);
+    if let Some(land) = plain.find_region(person.region) {
         let left = land.peasants.wrapping_sub(given.amount);
-        plain.set_land(land.number, left, land.money);
+        plain.set_peasants_and_money(land.number, left, land.money);
     }
     plain.book(BooksEntry::Recruiting, Thing::Money, person.money, money)
 }

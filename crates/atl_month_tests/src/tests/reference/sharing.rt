@@ -1,7 +1,7 @@
 //! Plays any phase that shares pots on the reference's campaign: orders, pots, shares, events and
 //! payments.
-use super::plain::{Land, Plain};
-use super::pots::{Claim, Claimed, Given, Pot, given_to, outcome, shared};
+use super::plain::{PlainCampaign, PlainRegion};
+use super::pots::{Claim, Claimed, Pot, UnitShare, given_to, outcome, shared};
 use super::trade::PlainTrade;
 use super::{produce, recruit, tax, trade, work};
 use atl_market::{BuyPhase, ProducePhase, RecruitPhase, SellPhase, TaxPhase};
@@ -12,7 +12,7 @@ use std::alloc::{AllocError, Global};
 
 /// A phase that shares pots.
 #[derive(Clone, Copy, Drop)]
-pub(crate) enum Sharing {
+pub(crate) enum SharingPhase {
     Trade(PlainTrade),
     Tax,
     Recruit,
@@ -23,19 +23,19 @@ pub(crate) enum Sharing {
 /// The orders of a phase, sorted by unit; `work` is the order that idle units get in WORK.
 fn orders<'m>(
     alloc: Global,
-    sharing: Sharing,
-    plain: &Plain,
+    sharing: SharingPhase,
+    plain: &PlainCampaign,
     month: &'m Month,
     work: PhaseOrder<'m>,
 ) -> Result<Vec<PhaseOrder<'m>>, AllocError> {
     let arrangement = Arrangement::ByUnit;
     match sharing {
-        Sharing::Trade(PlainTrade::Sell) => month.orders(alloc, &SellPhase {}, arrangement),
-        Sharing::Trade(PlainTrade::Buy) => month.orders(alloc, &BuyPhase {}, arrangement),
-        Sharing::Tax => month.orders(alloc, &TaxPhase, arrangement),
-        Sharing::Recruit => month.orders(alloc, &RecruitPhase, arrangement),
-        Sharing::Produce => month.orders(alloc, &ProducePhase, arrangement),
-        Sharing::Work => {
+        SharingPhase::Trade(PlainTrade::Sell) => month.orders(alloc, &SellPhase {}, arrangement),
+        SharingPhase::Trade(PlainTrade::Buy) => month.orders(alloc, &BuyPhase {}, arrangement),
+        SharingPhase::Tax => month.orders(alloc, &TaxPhase, arrangement),
+        SharingPhase::Recruit => month.orders(alloc, &RecruitPhase, arrangement),
+        SharingPhase::Produce => month.orders(alloc, &ProducePhase, arrangement),
+        SharingPhase::Work => {
             let orders = month.orders(alloc, &MonthLongVerbs, arrangement)?;
             work::tasks(alloc, plain, &orders, work)
         }
@@ -43,22 +43,27 @@ fn orders<'m>(
 }
 
 /// What an order of a phase asks for, or its fault.
-fn claim(sharing: Sharing, world: &World, plain: &Plain, order: PhaseOrder<'_>) -> Claim {
+fn claim(
+    sharing: SharingPhase,
+    world: &World,
+    plain: &PlainCampaign,
+    order: PhaseOrder<'_>,
+) -> Claim {
     match sharing {
-        Sharing::Trade(trade) => trade::claim(trade, world, plain, order),
-        Sharing::Tax => tax::claim(world, plain, order),
-        Sharing::Recruit => recruit::claim(world, plain, order),
-        Sharing::Produce => produce::claim(world, plain, order),
-        Sharing::Work => work::claim(world, plain, order),
+        SharingPhase::Trade(trade) => trade::claim(trade, world, plain, order),
+        SharingPhase::Tax => tax::claim(world, plain, order),
+        SharingPhase::Recruit => recruit::claim(world, plain, order),
+        SharingPhase::Produce => produce::claim(world, plain, order),
+        SharingPhase::Work => work::claim(world, plain, order),
     }
 }
 
 /// Each order of a phase with what it asks for, or its fault.
 fn claims<'m>(
     alloc: Global,
-    sharing: Sharing,
+    sharing: SharingPhase,
     world: &World,
-    plain: &Plain,
+    plain: &PlainCampaign,
     month: &'m Month,
     work: PhaseOrder<'m>,
 ) -> Result<Vec<Claimed<'m>>, AllocError> {
@@ -74,18 +79,24 @@ fn claims<'m>(
 
 /// Appends the pots that a region has in a phase.
 fn add_pots(
-    sharing: Sharing,
+    sharing: SharingPhase,
     world: &World,
-    plain: &Plain,
-    land: Land,
+    plain: &PlainCampaign,
+    land: PlainRegion,
     pots: &mut Vec<Pot>,
 ) -> Result<(), AllocError> {
     let pot = match sharing {
-        Sharing::Trade(trade) => return trade::add_pots(trade, world, plain, land.number, pots),
-        Sharing::Produce => return produce::add_pots(world, land.number, pots),
-        Sharing::Tax => tax::pot(land),
-        Sharing::Recruit => recruit::pot(world, land),
-        Sharing::Work => work::pot(world, land.number),
+        SharingPhase::Trade(trade) => return trade::add_pots(
+            trade,
+            world,
+            plain,
+            land.number,
+            pots,
+        ),
+        SharingPhase::Produce => return produce::add_pots(world, land.number, pots),
+        SharingPhase::Tax => tax::pot(land),
+        SharingPhase::Recruit => recruit::pot(world, land),
+        SharingPhase::Work => work::pot(world, land.number),
     };
     pots.push(pot)?;
     Ok(())
@@ -94,9 +105,9 @@ fn add_pots(
 /// The pots of all regions in a phase.
 fn pots(
     alloc: Global,
-    sharing: Sharing,
+    sharing: SharingPhase,
     world: &World,
-    plain: &Plain,
+    plain: &PlainCampaign,
 ) -> Result<Vec<Pot>, AllocError> {
     let mut pots = Vec::new(alloc);
     for land in plain.lands.iter() {
@@ -105,50 +116,61 @@ fn pots(
     Ok(pots)
 }
 
-/// The number in the event of a unit's order that was carried out: money earned by WORK, else its
-/// share.
-fn told_of(sharing: Sharing, world: &World, plain: &Plain, given: &[Given], unit: u32) -> u64 {
+/// The number in the event of an order that was carried out: in WORK the money that its unit
+/// earned, in any other phase the unit's share.
+fn number_done(
+    sharing: SharingPhase,
+    world: &World,
+    plain: &PlainCampaign,
+    given: &[UnitShare],
+    unit: u32,
+) -> u64 {
     match sharing {
-        Sharing::Work => work::earned(world, plain, given, unit),
+        SharingPhase::Work => work::earned(world, plain, given, unit),
         _ => given_to(given, unit),
     }
 }
 
 /// Adds the event of each order of a phase to the reference's campaign.
-fn tell(
-    sharing: Sharing,
+fn add_events(
+    sharing: SharingPhase,
     world: &World,
-    plain: &mut Plain,
+    plain: &mut PlainCampaign,
     claims: &[Claimed<'_>],
-    given: &[Given],
+    given: &[UnitShare],
 ) -> Result<(), AllocError> {
     for claimed in claims {
         let order = claimed.order;
-        let told = told_of(sharing, world, plain, given, order.unit);
-        let event = order.event(outcome(claimed.claim, told));
+        let done = number_done(sharing, world, plain, given, order.unit);
+        let event = order.event(outcome(claimed.claim, done));
         plain.events.push(event)?;
     }
     Ok(())
 }
 
 /// Gives a unit its share in a phase, and takes what the share costs.
-fn pay(sharing: Sharing, world: &World, plain: &mut Plain, given: Given) -> Result<(), AllocError> {
+fn pay(
+    sharing: SharingPhase,
+    world: &World,
+    plain: &mut PlainCampaign,
+    given: UnitShare,
+) -> Result<(), AllocError> {
     match sharing {
-        Sharing::Trade(trade) => trade::pay(trade, world, plain, given)?,
-        Sharing::Tax => tax::pay(plain, given),
-        Sharing::Recruit => recruit::pay(world, plain, given)?,
-        Sharing::Produce => produce::pay(world, plain, given)?,
-        Sharing::Work => work::pay(world, plain, given)?,
+        SharingPhase::Trade(trade) => trade::pay(trade, world, plain, given)?,
+        SharingPhase::Tax => tax::pay(plain, given),
+        SharingPhase::Recruit => recruit::pay(world, plain, given)?,
+        SharingPhase::Produce => produce::pay(world, plain, given)?,
+        SharingPhase::Work => work::pay(world, plain, given)?,
     }
     Ok(())
 }
 
 /// Gives each unit its share in a phase, and takes what the shares cost.
 fn pay_all(
-    sharing: Sharing,
+    sharing: SharingPhase,
     world: &World,
-    plain: &mut Plain,
-    given: &[Given],
+    plain: &mut PlainCampaign,
+    given: &[UnitShare],
 ) -> Result<(), AllocError> {
     for one in given {
         pay(sharing, world, plain, *one)?;
@@ -159,9 +181,9 @@ fn pay_all(
 /// Plays a phase that shares pots on the reference's campaign, and adds its events.
 pub(crate) fn play(
     alloc: Global,
-    sharing: Sharing,
+    sharing: SharingPhase,
     world: &World,
-    plain: &mut Plain,
+    plain: &mut PlainCampaign,
     month: &Month,
 ) -> Result<(), AllocError> {
     let mailing = Mailing {
@@ -178,13 +200,13 @@ pub(crate) fn play(
         unit: 0,
         line: 0,
         faction: 0,
-        place: 0,
+        index: 0,
         mailing: &mailing,
         order: &order,
     };
     let claims = claims(alloc, sharing, world, plain, month, work)?;
     let pots = pots(alloc, sharing, world, plain)?;
     let given = shared(alloc, plain, &claims, &pots)?;
-    tell(sharing, world, plain, &claims, &given)?;
+    add_events(sharing, world, plain, &claims, &given)?;
     pay_all(sharing, world, plain, &given)
 }

@@ -1,6 +1,6 @@
 //! TAX in the reference calculation: units that guard share the money of their region.
-use super::plain::{Land, Plain};
-use super::pots::{Claim, Given, Pot, own};
+use super::plain::{PlainCampaign, PlainRegion};
+use super::pots::{Claim, Pot, UnitShare, own_unit};
 use atl_campaign::EventFault;
 use atl_phase::PhaseOrder;
 use atl_world::World;
@@ -12,8 +12,8 @@ pub(crate) const MOST_MONEY: u64 = 999_999_999;
 const MONEY: u32 = 0;
 
 /// How much money a TAX order asks for, or its fault.
-pub(crate) fn claim(world: &World, plain: &Plain, order: PhaseOrder<'_>) -> Claim {
-    let Some(person) = own(plain, order) else {
+pub(crate) fn claim(world: &World, plain: &PlainCampaign, order: PhaseOrder<'_>) -> Claim {
+    let Some(person) = own_unit(plain, order) else {
         return Claim::Fault(EventFault::NotYours);
     };
     if person.men == 0 {
@@ -29,7 +29,7 @@ pub(crate) fn claim(world: &World, plain: &Plain, order: PhaseOrder<'_>) -> Clai
 }
 
 /// The pot of a region in TAX: its money.
-pub(crate) fn pot(land: Land) -> Pot {
+pub(crate) fn pot(land: PlainRegion) -> Pot {
     Pot {
         region: land.number,
         thing: MONEY,
@@ -38,14 +38,14 @@ pub(crate) fn pot(land: Land) -> Pot {
 }
 
 /// Moves a unit's share of the tax from the region to the unit.
-pub(crate) fn pay(plain: &mut Plain, given: Given) {
-    let Some(person) = plain.person(given.unit) else {
+pub(crate) fn pay(plain: &mut PlainCampaign, given: UnitShare) {
+    let Some(person) = plain.find_unit(given.unit) else {
         return;
     };
     let money = person.money.wrapping_add(given.amount);
-    plain.set_person(given.unit, person.men, money);
-    if let Some(land) = plain.land(person.region) {
+    plain.set_men_and_money(given.unit, person.men, money);
+    if let Some(land) = plain.find_region(person.region) {
         let left = land.money.wrapping_sub(given.amount);
-        plain.set_land(land.number, land.peasants, left);
+        plain.set_peasants_and_money(land.number, land.peasants, left);
     }
 }

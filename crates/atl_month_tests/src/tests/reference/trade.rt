@@ -1,7 +1,7 @@
 //! SELL and BUY in the reference calculation: units sell items to the markets of their regions, and
 //! buy from them.
-use super::plain::{Good, Plain, PlainUnit, Stock};
-use super::pots::{Claim, Given, Pot, own};
+use super::plain::{PlainCampaign, PlainGood, PlainUnit, Stock};
+use super::pots::{Claim, Pot, UnitShare, own_unit};
 use super::tax::MOST_MONEY;
 use atl_campaign::{BooksEntry, EventFault, Thing};
 use atl_orders::Operands;
@@ -29,14 +29,14 @@ fn asked(order: PhaseOrder<'_>) -> (u64, u16) {
 
 /// How many of a market's item a unit can sell: all that it has, or fewer if it has no room for the
 /// money of all.
-fn most_sold(plain: &Plain, person: PlainUnit, market: &Market) -> u64 {
+fn most_sold(plain: &PlainCampaign, person: PlainUnit, market: &Market) -> u64 {
     let held = plain.amount(person.number, false, u32::from(market.item));
     let room = MOST_MONEY.saturating_sub(person.money);
     held.min(room.checked_div(u64::from(market.pays)).unwrap_or(0))
 }
 
 /// How many of a market's item a unit can buy, as far as its money and its room for items allow.
-fn most_bought(plain: &Plain, person: PlainUnit, market: &Market) -> u64 {
+fn most_bought(plain: &PlainCampaign, person: PlainUnit, market: &Market) -> u64 {
     let held = plain.amount(person.number, false, u32::from(market.item));
     let payable = person
         .money
@@ -46,7 +46,7 @@ fn most_bought(plain: &Plain, person: PlainUnit, market: &Market) -> u64 {
 }
 
 /// Whether a unit has none of a market's item to sell (SELL), or not the money to buy one (BUY).
-fn is_short(trade: PlainTrade, plain: &Plain, person: PlainUnit, market: &Market) -> bool {
+fn is_short(trade: PlainTrade, plain: &PlainCampaign, person: PlainUnit, market: &Market) -> bool {
     match trade {
         PlainTrade::Sell => plain.amount(person.number, false, u32::from(market.item)) == 0,
         PlainTrade::Buy => person.money < u64::from(market.price),
@@ -58,10 +58,10 @@ fn is_short(trade: PlainTrade, plain: &Plain, person: PlainUnit, market: &Market
 pub(crate) fn claim(
     trade: PlainTrade,
     world: &World,
-    plain: &Plain,
+    plain: &PlainCampaign,
     order: PhaseOrder<'_>,
 ) -> Claim {
-    let Some(person) = own(plain, order) else {
+    let Some(person) = own_unit(plain, order) else {
         return Claim::Fault(EventFault::NotYours);
     };
     let (amount, item) = asked(order);
@@ -79,7 +79,7 @@ pub(crate) fn claim(
 }
 
 /// The pot of a market: how much more it has room for (SELL), or its stock (BUY).
-fn pot(trade: PlainTrade, plain: &Plain, region: u32, market: &Market) -> Pot {
+fn pot(trade: PlainTrade, plain: &PlainCampaign, region: u32, market: &Market) -> Pot {
     let thing = u32::from(market.item);
     let stock = plain.stock(region, thing);
     Pot {
@@ -96,7 +96,7 @@ fn pot(trade: PlainTrade, plain: &Plain, region: u32, market: &Market) -> Pot {
 pub(crate) fn add_pots(
     trade: PlainTrade,
     world: &World,
-    plain: &Plain,
+    plain: &PlainCampaign,
     region: u32,
     pots: &mut Vec<Pot>,
 ) -> Result<(), AllocError> {
@@ -141,10 +141,10 @@ fn entry_of(trade: PlainTrade) -> BooksEntry {
 pub(crate) fn pay(
     trade: PlainTrade,
     world: &World,
-    plain: &mut Plain,
-    given: Given,
+    plain: &mut PlainCampaign,
+    given: UnitShare,
 ) -> Result<(), AllocError> {
-    let Some(person) = plain.person(given.unit) else {
+    let Some(person) = plain.find_unit(given.unit) else {
         return Ok(());
     };
     let item = u16::try_from(given.thing).unwrap_or(0);
@@ -155,9 +155,9 @@ pub(crate) fn pay(
     let stock = plain.stock(person.region, given.thing);
     let (held, stock) = moved(trade, held, stock, given.amount);
     let money = money_after(trade, person, market, given.amount);
-    plain.set_person(given.unit, person.men, money);
+    plain.set_men_and_money(given.unit, person.men, money);
     plain.book(entry_of(trade), Thing::Money, person.money, money)?;
-    plain.set_amount(Good {
+    plain.set_amount(PlainGood {
         unit: given.unit,
         is_skill: false,
         thing: given.thing,

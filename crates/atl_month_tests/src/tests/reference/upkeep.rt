@@ -1,6 +1,6 @@
 //! Upkeep in the reference calculation (docs/RULES.md, "Upkeep"); for each unit it looks at all
 //! units.
-use super::plain::{Plain, PlainUnit};
+use super::plain::{PlainCampaign, PlainUnit};
 use atl_campaign::{BooksEntry, Event, EventVerb, Outcome, Thing};
 use atl_world::World;
 use std::alloc::{AllocError, Global};
@@ -9,7 +9,7 @@ use std::alloc::{AllocError, Global};
 /// are short of.
 /// There are sums over all of the units, and sums over those with a lower number than one unit.
 #[derive(Clone, Copy, Drop)]
-struct Purse {
+struct UpkeepSums {
     left: u64,
     short: u64,
     left_before: u64,
@@ -18,7 +18,7 @@ struct Purse {
 
 /// What upkeep takes from a unit: money, and men who starve.
 #[derive(Clone, Copy, Drop)]
-struct Taken {
+struct UpkeepTaken {
     person: PlainUnit,
     paid: u64,
     starved: u64,
@@ -36,24 +36,29 @@ fn short_of(maintenance: u64, person: PlainUnit) -> u64 {
     due.saturating_sub(person.money)
 }
 
-/// Adds what a unit has left, and what it is short of, to the sums of `purse`. If the unit's number
+/// Adds what a unit has left, and what it is short of, to the sums of `sums`. If the unit's number
 /// is lower than that of the unit for which the sums are (`is_before`), the sums over lower numbers
 /// get these amounts as well.
-fn add(maintenance: u64, purse: Purse, person: PlainUnit, is_before: bool) -> Purse {
+fn add_to_sums(
+    maintenance: u64,
+    sums: UpkeepSums,
+    person: PlainUnit,
+    is_before: bool,
+) -> UpkeepSums {
     let (left, short) = (left_of(maintenance, person), short_of(maintenance, person));
     let (left_before, short_before) = if is_before { (left, short) } else { (0, 0) };
-    Purse {
-        left: purse.left.wrapping_add(left),
-        short: purse.short.wrapping_add(short),
-        left_before: purse.left_before.wrapping_add(left_before),
-        short_before: purse.short_before.wrapping_add(short_before),
+    UpkeepSums {
+        left: sums.left.wrapping_add(left),
+        short: sums.short.wrapping_add(short),
+        left_before: sums.left_before.wrapping_add(left_before),
+        short_before: sums.short_before.wrapping_add(short_before),
     }
 }
 
-/// The sums over all units of the faction of the unit `one` in its region, and over those of them
-/// with lower numbers.
-fn purse_of(maintenance: u64, plain: &Plain, one: PlainUnit) -> Purse {
-    let mut purse = Purse {
+/// The sums for the unit `one`: over its faction's units in its region, and over those of them with
+/// lower numbers.
+fn sums_of(maintenance: u64, plain: &PlainCampaign, one: PlainUnit) -> UpkeepSums {
+    let mut sums = UpkeepSums {
         left: 0,
         short: 0,
         left_before: 0,
@@ -61,30 +66,30 @@ fn purse_of(maintenance: u64, plain: &Plain, one: PlainUnit) -> Purse {
     };
     for person in plain.people.iter() {
         if person.region == one.region && person.faction == one.faction {
-            purse = add(maintenance, purse, *person, person.number < one.number);
+            sums = add_to_sums(maintenance, sums, *person, person.number < one.number);
         }
     }
-    purse
+    sums
 }
 
-/// How much of `amount` a taker who wants `own` gets if it is handed out in turn, after takers who
+/// How much a taker who wants `own_unit` gets if `amount` is handed out in turn, after takers who
 /// want `before` together.
-fn part(amount: u64, before: u64, own: u64) -> u64 {
+fn share_in_turn(amount: u64, before: u64, own: u64) -> u64 {
     let with = before.wrapping_add(own);
     amount.min(with).wrapping_sub(amount.min(before))
 }
 
 /// How much money upkeep takes from a unit, and how many of its men starve.
-fn taken_from(maintenance: u64, plain: &Plain, person: PlainUnit) -> Taken {
-    let purse = purse_of(maintenance, plain, person);
-    let amount = purse.left.min(purse.short);
+fn taken_from(maintenance: u64, plain: &PlainCampaign, person: PlainUnit) -> UpkeepTaken {
+    let sums = sums_of(maintenance, plain, person);
+    let amount = sums.left.min(sums.short);
     let left = left_of(maintenance, person);
     let short = short_of(maintenance, person);
-    let given = part(amount, purse.left_before, left);
-    let covered = part(amount, purse.short_before, short);
+    let given = share_in_turn(amount, sums.left_before, left);
+    let covered = share_in_turn(amount, sums.short_before, short);
     let missing = short.wrapping_sub(covered);
     let rounded = missing.wrapping_add(maintenance.wrapping_sub(1));
-    Taken {
+    UpkeepTaken {
         person,
         paid: person.money.wrapping_sub(left).wrapping_add(given),
         starved: rounded.checked_div(maintenance).unwrap_or(0),
@@ -92,7 +97,11 @@ fn taken_from(maintenance: u64, plain: &Plain, person: PlainUnit) -> Taken {
 }
 
 /// How much money upkeep takes from each unit, and how many of its men starve.
-fn all_taken(alloc: Global, maintenance: u64, plain: &Plain) -> Result<Vec<Taken>, AllocError> {
+fn all_taken(
+    alloc: Global,
+    maintenance: u64,
+    plain: &PlainCampaign,
+) -> Result<Vec<UpkeepTaken>, AllocError> {
     let mut all = Vec::new(alloc);
     for person in plain.people.iter() {
         all.push(taken_from(maintenance, plain, *person))?;
@@ -100,8 +109,8 @@ fn all_taken(alloc: Global, maintenance: u64, plain: &Plain) -> Result<Vec<Taken
     Ok(all)
 }
 
-/// Reduces a unit's days of each skill to the share of its men who don't starve.
-fn keep_days(plain: &mut Plain, one: Taken) {
+/// Reduces a unit's days of each skill in proportion to its men who don't starve, rounded down.
+fn keep_days(plain: &mut PlainCampaign, one: UpkeepTaken) {
     let men = one.person.men;
     let left = men.wrapping_sub(one.starved);
     for good in plain.goods.iter_mut() {
@@ -114,18 +123,18 @@ fn keep_days(plain: &mut Plain, one: Taken) {
 
 /// Takes the upkeep of a unit, removes its men who starve and the days that they had, and books the
 /// money and the men.
-fn take(plain: &mut Plain, one: Taken) -> Result<(), AllocError> {
+fn take(plain: &mut PlainCampaign, one: UpkeepTaken) -> Result<(), AllocError> {
     let person = one.person;
     let men = person.men.wrapping_sub(one.starved);
     let money = person.money.wrapping_sub(one.paid);
     keep_days(plain, one);
-    plain.set_person(person.number, men, money);
+    plain.set_men_and_money(person.number, men, money);
     plain.book(BooksEntry::Upkeep, Thing::Money, person.money, money)?;
     plain.book(BooksEntry::Starved, Thing::People, person.men, men)
 }
 
 /// Takes the upkeep of each unit, removes the men who starve, and books the money and the men.
-fn take_all(plain: &mut Plain, all: &[Taken]) -> Result<(), AllocError> {
+fn take_all(plain: &mut PlainCampaign, all: &[UpkeepTaken]) -> Result<(), AllocError> {
     for one in all {
         take(plain, *one)?;
     }
@@ -133,7 +142,7 @@ fn take_all(plain: &mut Plain, all: &[Taken]) -> Result<(), AllocError> {
 }
 
 /// Adds an event for each unit some of whose men starve.
-fn tell(plain: &mut Plain, all: &[Taken]) -> Result<(), AllocError> {
+fn add_events(plain: &mut PlainCampaign, all: &[UpkeepTaken]) -> Result<(), AllocError> {
     for one in all {
         if one.starved != 0 {
             plain.events.push(Event {
@@ -149,9 +158,13 @@ fn tell(plain: &mut Plain, all: &[Taken]) -> Result<(), AllocError> {
 }
 
 /// Plays upkeep on the reference's campaign, and adds its events.
-pub(crate) fn play(alloc: Global, world: &World, plain: &mut Plain) -> Result<(), AllocError> {
+pub(crate) fn play(
+    alloc: Global,
+    world: &World,
+    plain: &mut PlainCampaign,
+) -> Result<(), AllocError> {
     let maintenance = u64::from(world.rules().maintenance);
     let all = all_taken(alloc, maintenance, plain)?;
     take_all(plain, &all)?;
-    tell(plain, &all)
+    add_events(plain, &all)
 }

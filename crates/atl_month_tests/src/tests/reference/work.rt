@@ -1,6 +1,6 @@
 //! WORK in the reference calculation: units share the jobs (`places`) of their region.
-use super::plain::{Plain, PlainUnit};
-use super::pots::{Claim, Given, Pot, given_to, own};
+use super::plain::{PlainCampaign, PlainUnit};
+use super::pots::{Claim, Pot, UnitShare, given_to, own_unit};
 use super::tax::MOST_MONEY;
 use atl_campaign::{BooksEntry, EventFault, Thing};
 use atl_orders::Verb;
@@ -29,8 +29,8 @@ fn places(world: &World, region: u32) -> u64 {
 
 /// How many jobs a WORK order asks for, one for each man as far as there is room for the wages, or
 /// the order's fault.
-pub(crate) fn claim(world: &World, plain: &Plain, order: PhaseOrder<'_>) -> Claim {
-    let Some(person) = own(plain, order) else {
+pub(crate) fn claim(world: &World, plain: &PlainCampaign, order: PhaseOrder<'_>) -> Claim {
+    let Some(person) = own_unit(plain, order) else {
         return Claim::Fault(EventFault::NotYours);
     };
     if person.men == 0 {
@@ -54,7 +54,7 @@ fn is_idle(person: PlainUnit, orders: &[PhaseOrder<'_>]) -> bool {
 /// Appends the order `work` for each unit that has men and no month-long order from its own
 /// faction.
 fn add_idle<'m>(
-    plain: &Plain,
+    plain: &PlainCampaign,
     orders: &[PhaseOrder<'m>],
     work: PhaseOrder<'m>,
     tasks: &mut Vec<PhaseOrder<'m>>,
@@ -65,7 +65,7 @@ fn add_idle<'m>(
                 unit: person.number,
                 line: 0,
                 faction: person.faction,
-                place: 0,
+                index: 0,
                 mailing: work.mailing,
                 order: work.order,
             })?;
@@ -78,7 +78,7 @@ fn add_idle<'m>(
 /// and faction.
 pub(crate) fn tasks<'m>(
     alloc: Global,
-    plain: &Plain,
+    plain: &PlainCampaign,
     orders: &[PhaseOrder<'m>],
     work: PhaseOrder<'m>,
 ) -> Result<Vec<PhaseOrder<'m>>, AllocError> {
@@ -109,20 +109,24 @@ pub(crate) fn pot(world: &World, region: u32) -> Pot {
 }
 
 /// What a unit earns by its jobs: its share times the region's wage; 0 if there is no such unit.
-pub(crate) fn earned(world: &World, plain: &Plain, given: &[Given], unit: u32) -> u64 {
-    match plain.person(unit) {
+pub(crate) fn earned(world: &World, plain: &PlainCampaign, given: &[UnitShare], unit: u32) -> u64 {
+    match plain.find_unit(unit) {
         Some(person) => given_to(given, unit).wrapping_mul(wage(world, person.region)),
         None => 0,
     }
 }
 
 /// Pays a unit the wages of its jobs, and books them.
-pub(crate) fn pay(world: &World, plain: &mut Plain, given: Given) -> Result<(), AllocError> {
-    let Some(person) = plain.person(given.unit) else {
+pub(crate) fn pay(
+    world: &World,
+    plain: &mut PlainCampaign,
+    given: UnitShare,
+) -> Result<(), AllocError> {
+    let Some(person) = plain.find_unit(given.unit) else {
         return Ok(());
     };
     let more = given.amount.wrapping_mul(wage(world, person.region));
     let money = person.money.wrapping_add(more);
-    plain.set_person(given.unit, person.men, money);
+    plain.set_men_and_money(given.unit, person.men, money);
     plain.book(BooksEntry::Wages, Thing::Money, person.money, money)
 }

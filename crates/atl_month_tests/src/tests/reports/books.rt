@@ -7,7 +7,7 @@ use super::scenes::{CART, MAN, NOBODY, Scene, SceneUnit, WOOD, campaign_of};
 use atl_campaign::Campaign;
 use atl_report::books_text;
 use atl_tables::read_world;
-use atl_test_worlds::{ISLE, SMALL};
+use atl_test_worlds::{ISLE, SMALL_WORLD};
 use atl_world::World;
 use std::alloc::Global;
 use std::process::Abort;
@@ -229,7 +229,7 @@ fn assert_cases(
 /// their totals.
 #[test]
 fn books_of_money_and_people(rt: HostRuntime) -> Result<(), Fail> {
-    let world = read_world(rt.alloc(), SMALL)?;
+    let world = read_world(rt.alloc(), SMALL_WORLD)?;
     assert_cases(&rt, rt.alloc(), &world, &OF_SMALL)
 }
 

@@ -3,6 +3,6 @@
 use std::process::Abort;
 
 /// Asserts that a text is the wanted one.
-pub(crate) fn assert_text(rt: &impl Abort, told: &str, wanted: &str) {
-    assert_eq!(rt; told, wanted);
+pub(crate) fn assert_text(rt: &impl Abort, actual: &str, wanted: &str) {
+    assert_eq!(rt; actual, wanted);
 }

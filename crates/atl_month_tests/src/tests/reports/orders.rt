@@ -4,7 +4,7 @@ use atl_campaign::{Event, EventFault, EventVerb, JoinFault, Outcome};
 use atl_orders::{FaultyLine, LineFault, Verb};
 use atl_report::{View, report_text};
 use atl_tables::read_world;
-use atl_test_worlds::SMALL;
+use atl_test_worlds::SMALL_WORLD;
 use atl_world::{Sequence, Text, World};
 use std::alloc::Global;
 use std::process::Abort;
@@ -175,7 +175,7 @@ Unit 2: 3 starved.
 ];
 
 /// What Avalon, faction 1, sees in month 3: no region.
-fn nowhere(alloc: Global) -> Result<View, Fail> {
+fn empty_view(alloc: Global) -> Result<View, Fail> {
     Ok(View {
         month: 3,
         faction: 1,
@@ -199,7 +199,7 @@ fn assert_case(
 
 /// Asserts, for each case, the report that its faulty lines and events give.
 fn assert_cases(rt: &impl Abort, alloc: Global, world: &World) -> Result<(), Fail> {
-    let view = nowhere(alloc)?;
+    let view = empty_view(alloc)?;
     for case in CASES.iter() {
         assert_case(rt, alloc, world, &view, case)?;
     }
@@ -210,7 +210,7 @@ fn assert_cases(rt: &impl Abort, alloc: Global, world: &World) -> Result<(), Fai
 /// is neither.
 #[test]
 fn faults_and_events(rt: HostRuntime) -> Result<(), Fail> {
-    let world = read_world(rt.alloc(), SMALL)?;
+    let world = read_world(rt.alloc(), SMALL_WORLD)?;
     assert_cases(&rt, rt.alloc(), &world)
 }
 

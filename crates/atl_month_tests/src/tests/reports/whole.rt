@@ -7,7 +7,7 @@ use atl_campaign::{Campaign, Event, EventVerb, Outcome, founded};
 use atl_orders::{FaultyLine, LineFault, Verb};
 use atl_report::{report_text, view};
 use atl_tables::read_world;
-use atl_test_worlds::SMALL;
+use atl_test_worlds::SMALL_WORLD;
 use atl_world::World;
 use std::alloc::Global;
 use std::process::Abort;
@@ -85,6 +85,6 @@ fn joins_and_reads(rt: &impl Abort, alloc: Global, world: &World) -> Result<(), 
 /// A report has the faction's faulty lines and events, and then its region with its unit.
 #[test]
 fn orders_and_regions(rt: HostRuntime) -> Result<(), Fail> {
-    let world = read_world(rt.alloc(), SMALL)?;
+    let world = read_world(rt.alloc(), SMALL_WORLD)?;
     joins_and_reads(&rt, rt.alloc(), &world)
 }

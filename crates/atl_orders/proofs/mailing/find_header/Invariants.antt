@@ -6,8 +6,8 @@ use Rattle.atl_orders.specs.Views.{lines_of_rest, rest_size}
 use Rattle.atl_orders.specs.Mailing.{header_from}
 use Rattle.atl_orders.proofs.mailing.find_header.Given as goal
 
--- the text ends with the lines left, whose first header is that of the text; the number of the next line and the bound
--- on the lines left (`rest_size`) are together at most the text's length plus 2
+-- The text ends with the lines left, whose first header is that of the text. The number of the next line and the bound
+-- on the lines left (`rest_size`) are together at most the text's length plus 2.
 abbrev pub invariant-loop-rest : goal.invariant-loop-rest
 invariant-loop-rest l = record {
   ends : IfSome (option_copied l.rest) (EndsWith l.text);

@@ -8,8 +8,8 @@ use Rattle.atl_orders.specs.Positions.{EndsWith}
 use Rattle.atl_orders.specs.Mailing.{effects, entry_of, fault_of, reading_of}
 use Rattle.atl_orders.proofs.mailing.read_body.Given as goal
 
--- the orders and faulty lines so far, followed by those that the lines left give, are those that all lines give; the
--- text ends with the lines left, the mailing has the text and the header's faction, and line numbers fit 32 bits
+-- The orders and faulty lines so far, followed by those that the lines left give, are those that all lines give. The
+-- text ends with the lines left, the mailing has the text and the header's faction, and line numbers fit 32 bits.
 abbrev pub invariant-loop-rest : goal.invariant-loop-rest
 invariant-loop-rest l =
     let left = effects l.world l.number l.state (alias_set l.aliases) (lines_of_rest (option_copied l.rest)) in

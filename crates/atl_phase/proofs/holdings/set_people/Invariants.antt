@@ -4,9 +4,8 @@ use Rattle.atl_campaign.specs.Covers.{MarksChanges}
 use Rattle.atl_phase.specs.Holdings.{with_days}
 use Rattle.atl_phase.proofs.holdings.set_people.Given as goal
 
--- before each skill: setting the days of the skills still to come makes of the campaign so far what setting those of
--- all skills makes of it at first; what changed so far is marked, and no mark of items, or of all items and days at
--- once, is new
+-- Before each skill: setting the days of the skills still to come makes what setting those of all skills makes. What
+-- changed so far is marked. No mark of items is new, nor one of all items and days of a unit at once.
 abbrev pub invariant-loop-skill : goal.invariant-loop-skill
 invariant-loop-skill l = record {
   value :

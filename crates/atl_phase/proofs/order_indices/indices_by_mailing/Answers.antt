@@ -1,12 +1,12 @@
 use Rattle.std.proofs.Common.{subst, take_all}
-use Rattle.atl_phase.specs.OrderIndices.{AreAt, all_tasks}
+use Rattle.atl_phase.specs.OrderIndices.{AreIndicesOf, all_tasks}
 use Rattle.atl_phase.proofs.OrderIndexLaws.{next_mailing}
 use Rattle.atl_phase.proofs.order_indices.indices_by_mailing.Goals as goal
 
 -- after one more mailing the list names the orders that count of the mailings so far
 pub loop-at-preserved : goal.loop-at-preserved
 loop-at-preserved c =
-    let added = c.in_ok-add_standing.ensures in record {
+    let added = c.in_ok-add_counting.ensures in record {
       there = added.there c.loop-at.invariant.there;
       tasks = next_mailing c.args.aliases.now c.args.mailings.now c.loop-at.at c.loop-at.list.items _ c.loop-at-test.true added c.loop-at.invariant.tasks;
     }
@@ -15,4 +15,4 @@ loop-at-preserved c =
 pub returns : goal.returns
 returns c =
     let ms = c.args.mailings.now in
-    subst (λ ns. AreAt ms (all_tasks c.args.aliases.now ns) c.loop-at.list.items) (take_all c.loop-at.at ms c.loop-at-test.false) c.loop-at.invariant
+    subst (λ ns. AreIndicesOf ms (all_tasks c.args.aliases.now ns) c.loop-at.list.items) (take_all c.loop-at.at ms c.loop-at-test.false) c.loop-at.invariant

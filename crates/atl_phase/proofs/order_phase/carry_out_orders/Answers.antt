@@ -9,9 +9,9 @@ use Rattle.atl_phase.specs.PhaseOrders.{orders_by_unit, task_of}
 use Rattle.atl_phase.specs.declared.phase_order.PhaseOrder.{PhaseOrder}
 use Rattle.atl_phase.specs.OrderEffects.{AreUnaffected, meaning_by_orders, one_order}
 use Rattle.atl_phase.specs.Bounds.{StepsWell}
-use Rattle.atl_phase.proofs.FoldLaws.{each_mapped, fold_behind, fold_ended, fold_mapped}
+use Rattle.atl_phase.proofs.FoldLaws.{each_mapped, fold_after_step, fold_ended, fold_mapped}
 use Rattle.atl_phase.proofs.MeaningLaws.{room_less}
-use Rattle.atl_phase.proofs.OrderEffectLaws.{leaves_well, order_well, orders_fit, orders_spare, room_left, well_same, well_twice}
+use Rattle.atl_phase.proofs.OrderEffectLaws.{leaves_well, order_well, orders_fit, orders_leave_others, room_left, well_same, well_twice}
 use Rattle.atl_phase.proofs.order_phase.carry_out_orders.Goals as goal
 
 -- before the first order the loop's invariant holds: all orders are still to come, and nothing has changed
@@ -30,7 +30,7 @@ pub carry_one-requires-clause-room : goal.carry_one-requires-clause-room
 carry_one-requires-clause-room g c =
     let P = g.P.OrderPhase in
     room_left c.args.world.now c.args.campaign.now.value c.loop-order.campaign.value c.loop-order.invariant.well
-    (room_less (P.reserve c.args.campaign.now.value) P.moving c.args.campaign.now.value (c.is_orderly.ensures.bounded c.args.world.now c.args.campaign.now.value c.requires.holds) c.requires.room)
+    (room_less (P.remaining c.args.campaign.now.value) P.book_bound c.args.campaign.now.value (c.is_orderly.ensures.bounded c.args.world.now c.args.campaign.now.value c.requires.holds) c.requires.room)
 
 -- the next order can be read with the world
 pub carry_one-requires-clause-fit : goal.carry_one-requires-clause-fit
@@ -62,10 +62,10 @@ loop-order-preserved g c =
     c.loop-order.order-index o c.loop-order-test.true) in
     let well = order_well (P.step c.args.phase.now) c.is_orderly.ensures w m.aliases c.loop-order.campaign.value (task_of o) c.loop-order.invariant.well.holds_still fit in
     record {
-      orders = fold_behind one xs c.loop-order.order-index o before c.loop-order-test.true (step ∙ ap (one before) c.order-item.is) c.loop-order.invariant.orders;
+      orders = fold_after_step one xs c.loop-order.order-index o before c.loop-order-test.true (step ∙ ap (one before) c.order-item.is) c.loop-order.invariant.orders;
       well =
           well_twice w c.args.campaign.now.value c.loop-order.campaign.value _ c.loop-order.invariant.well
-          (subst (StepsWell P.holds P.reserve w c.loop-order.campaign.value) (sym (ap (λ (p : CampaignValue × MonthValue). p.0) step)) well);
+          (subst (StepsWell P.holds P.remaining w c.loop-order.campaign.value) (sym (ap (λ (p : CampaignValue × MonthValue). p.0) step)) well);
       marks = marks-trans c.args.campaign.now c.loop-order.campaign _ c.loop-order.invariant.marks c.in_ok-carry_one.ensures.marks;
     }
 
@@ -78,13 +78,13 @@ returns-clause-meaning g c =
     let m = c.args.month.now in
     let old = c.args.campaign.now.value in
     let step = one_order (P.step c.args.phase.now) w in
-    let behind : CampaignValue × MonthValue = (c.loop-order.campaign.value, with_events m c.loop-order.events.items) in
+    let after : CampaignValue × MonthValue = (c.loop-order.campaign.value, with_events m c.loop-order.events.items) in
     let xs = c.deref-order-items.result.now in
     let start : CampaignValue × MonthValue = (old, with_events m []) in
     let none : start ≡ (old, m) = ap (λ es. (old, record m { events = es })) (append-nil m.events) in
     ap (λ n. (c.loop-order.campaign.value, n)) c.in_ok-add_events.ensures
     ∙ ap (λ es. (c.loop-order.campaign.value, with_events m es)) c.deref.ensures.value
-    ∙ fold_ended (λ p o. step p (task_of o)) xs c.loop-order.order-index behind (omega (arith, c.loop-order-test.false)) c.loop-order.invariant.orders
+    ∙ fold_ended (λ p o. step p (task_of o)) xs c.loop-order.order-index after (omega (arith, c.loop-order-test.false)) c.loop-order.invariant.orders
     ∙ fold_mapped step task_of start xs
     ∙ ap (fold step start) (ap (map task_of) c.deref-order-items.ensures.value ∙ c.in_ok-orders.ensures)
     ∙ ap (λ p. fold step p (orders_by_unit g.P.PhaseVerbs.is_of m)) none
@@ -95,8 +95,8 @@ returns-clause-leaves g c =
     leaves_well c.args.world.now c.args.campaign.now.value c.loop-order.campaign.value
     (c.is_orderly.ensures.bounded c.args.world.now c.args.campaign.now.value c.requires.holds) c.loop-order.invariant.well
 
--- each unit that no order of the phase concerns is there after all of them, and `spares` relates what it was to what it
--- is then (`spares_others`)
+-- each unit that no order of the phase affects is there after all of them, and `unaffected` relates what it was to what
+-- it is then (`others_unaffected`)
 pub returns-clause-keeps : goal.returns-clause-keeps
 unfolding meaning_by_orders
 returns-clause-keeps g c =
@@ -104,5 +104,5 @@ returns-clause-keeps g c =
     let w = c.args.world.now in
     let m = c.args.month.now in
     let ts = orders_by_unit g.P.PhaseVerbs.is_of m in
-    subst (λ d. AreUnaffected P.concerns P.spares ts c.args.campaign.now.value d) (sym (ap (λ p. p.0) (returns-clause-meaning g c)))
-    (orders_spare (P.step c.args.phase.now) c.is_orderly.ensures w c.args.campaign.now.value m ts c.requires.holds (orders_fit w m.aliases m.readings c.requires.read g.P.PhaseVerbs.is_of))
+    subst (λ d. AreUnaffected P.affects P.unaffected ts c.args.campaign.now.value d) (sym (ap (λ p. p.0) (returns-clause-meaning g c)))
+    (orders_leave_others (P.step c.args.phase.now) c.is_orderly.ensures w c.args.campaign.now.value m ts c.requires.holds (orders_fit w m.aliases m.readings c.requires.read g.P.PhaseVerbs.is_of))

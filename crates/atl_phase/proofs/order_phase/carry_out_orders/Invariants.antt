@@ -14,6 +14,6 @@ abbrev pub invariant-loop-order : goal.invariant-loop-order
 invariant-loop-order g l = record {
   orders : fold (λ p o. one_order (g.P.OrderPhase.step l.phase) l.world p (task_of o)) (l.campaign.value, with_events l.fn.month l.events.items) (drop l.order-index l.order-items)
       ≡ fold (λ p o. one_order (g.P.OrderPhase.step l.phase) l.world p (task_of o)) (l.fn.campaign.value, with_events l.fn.month []) l.order-items;
-  well : StepsWell g.P.OrderPhase.holds g.P.OrderPhase.reserve l.world l.fn.campaign.value l.campaign.value;
+  well : StepsWell g.P.OrderPhase.holds g.P.OrderPhase.remaining l.world l.fn.campaign.value l.campaign.value;
   marks : MarksChanges l.fn.campaign l.campaign;
 }

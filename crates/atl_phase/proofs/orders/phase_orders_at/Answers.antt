@@ -12,7 +12,7 @@ loop-placed-preserved g c =
     let is_of = g.P.PhaseVerbs.is_of in
     let ps = c.args.places.now in
     let i = c.loop-placed.placed-index in
-    let none : OrderIndex = record { unit = 0; line = 0; faction = 0; mailing = 0; place = 0 } in
+    let none : OrderIndex = record { unit = 0; line = 0; faction = 0; mailing = 0; index = 0 } in
     let p = get_or ps i none in
     let h = c.loop-placed-test.true in
     let more = picked_more is_of c.args.mailings.now ps i p c.order_at-order.result c.loop-placed.list.items c.if-has.list.items in

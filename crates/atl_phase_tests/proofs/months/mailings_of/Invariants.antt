@@ -2,6 +2,6 @@ use Rattle.std.specs.List.{All}
 use Rattle.atl_orders.specs.Mailing.{IsReadWith}
 use Rattle.atl_phase_tests.proofs.months.mailings_of.Given as goal
 
--- each mailing so far was read with the world
+-- before each text is read: each mailing in the list so far was read with the world (`IsReadWith`)
 abbrev pub invariant-loop-text : goal.invariant-loop-text
 invariant-loop-text l = All (IsReadWith l.world) l.mailings.items

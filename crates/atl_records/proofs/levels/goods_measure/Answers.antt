@@ -4,7 +4,7 @@ use Rattle.std.specs.FinMap.{entries, entries_sorted}
 use Rattle.atl_world.proofs.TrackLaws.{is_true}
 use Rattle.atl_world.proofs.EntryOrderLaws.{begins_zero, sorted_rest}
 use Rattle.atl_records.specs.Levels.{measure_of}
-use Rattle.atl_records.proofs.LevelLaws.{added, fits_next, no_more}
+use Rattle.atl_records.proofs.LevelLaws.{total_stays, fits_next, weightless_pieces}
 use Rattle.atl_records.proofs.levels.goods_measure.Goals as goal
 
 -- before the first item is counted, the sum is 0, and all items are still to be counted
@@ -28,7 +28,7 @@ loop-item-preserved c =
     let from = rw c.in-Some.ensures.steps at low.3 in
     let is = c.times-sum.ensures.value ∙ ap (λ n. c.in-Some.amount.now * n) c.item_measure.ensures.value in
     record {
-      rest = rw is (added c.loop-item.sum _ _ _ _ (sum_by-cons (λ (x : ℕ × ℕ). x.1 * measure_of c.args.of c.args.world.now x.0) e c.next.new.self) before);
+      rest = rw is (total_stays c.loop-item.sum _ _ _ _ (sum_by-cons (λ (x : ℕ × ℕ). x.1 * measure_of c.args.of c.args.world.now x.0) e c.next.new.self) before);
       sorted = sorted_rest e c.next.new.self sorted;
-      fits = fits_next low.0 c.loop-item.sum c.times-sum.result e c.next.new.self sorted low.1 low.2 from c.times-sum.ensures.small (λ h. c.times-sum.ensures.value ∙ no_more c.in-Some.amount.now c.item_measure.result (c.item_measure.ensures.far h));
+      fits = fits_next low.0 c.loop-item.sum c.times-sum.result e c.next.new.self sorted low.1 low.2 from c.times-sum.ensures.small (λ h. c.times-sum.ensures.value ∙ weightless_pieces c.in-Some.amount.now c.item_measure.result (c.item_measure.ensures.far h));
     }

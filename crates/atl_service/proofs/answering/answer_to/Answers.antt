@@ -1,6 +1,6 @@
 use Rattle.std.proofs.Common.{OnErr, IfErr, IfOk, sym, subst}
 use Rattle.atl_service.specs.declared.command.Command.{Command}
-use Rattle.atl_service.specs.Answering.{Answers, CommandLeavesAfterFault, of_write}
+use Rattle.atl_service.specs.Answering.{Answers, CommandLeavesAfterFault, fault_of_write}
 use Rattle.atl_service.specs.Causes.{OfCommand, HasCause}
 use Rattle.atl_service.proofs.answering.answer_to.Goals as goal
 
@@ -38,16 +38,16 @@ returns-in-Close-clause-err g c =
 -- connection is unchanged (`HasCause`)
 pub returns-in-Join-clause-cause : goal.returns-in-Join-clause-cause
 returns-in-Join-clause-cause g c =
-    subst (λ (command : Command). IfErr c.join.result (λ fault. HasCause g.S.Store (OfCommand c.args.world.now c.args.campaign.now.value command) c.args.conn.now c.join.new.conn (of_write fault))) (sym c.in-Join.is) c.join.ensures.cause
+    subst (λ (command : Command). IfErr c.join.result (λ fault. HasCause g.S.Store (OfCommand c.args.world.now c.args.campaign.now.value command) c.args.conn.now c.join.new.conn (fault_of_write fault))) (sym c.in-Join.is) c.join.ensures.cause
 
 -- the fault of a command Mail has its cause: on a clean disk, an error of a call of the write, unless with Memory the
 -- connection is unchanged (`HasCause`)
 pub returns-in-Mail-clause-cause : goal.returns-in-Mail-clause-cause
 returns-in-Mail-clause-cause g c =
-    subst (λ (command : Command). IfErr c.mail.result (λ fault. HasCause g.S.Store (OfCommand c.args.world.now c.args.campaign.now.value command) c.args.conn.now c.mail.new.conn (of_write fault))) (sym c.in-Mail.is) c.mail.ensures.cause
+    subst (λ (command : Command). IfErr c.mail.result (λ fault. HasCause g.S.Store (OfCommand c.args.world.now c.args.campaign.now.value command) c.args.conn.now c.mail.new.conn (fault_of_write fault))) (sym c.in-Mail.is) c.mail.ensures.cause
 
 -- the fault of a command Close has its cause: on a clean disk, an error of a call of the write, unless with Memory the
 -- connection is unchanged (`HasCause`)
 pub returns-in-Close-clause-cause : goal.returns-in-Close-clause-cause
 returns-in-Close-clause-cause g c =
-    subst (λ (command : Command). IfErr c.close.result (λ fault. HasCause g.S.Store (OfCommand c.args.world.now c.args.campaign.now.value command) c.args.conn.now c.close.new.conn (of_write fault))) (sym c.in-Close.is) c.close.ensures.cause
+    subst (λ (command : Command). IfErr c.close.result (λ fault. HasCause g.S.Store (OfCommand c.args.world.now c.args.campaign.now.value command) c.args.conn.now c.close.new.conn (fault_of_write fault))) (sym c.in-Close.is) c.close.ensures.cause

@@ -102,4 +102,4 @@ returns-in_err-write_join-clause-cause g c =
     let joining = joining_is w c.args.name.now c.args.pass.now c.args.word old c.join.new.self.value c.in-Ok.numbers.0 c.in-Ok.numbers.1 c.requires.good is in
     call_has_cause g.S.Store (OfCommand w old command) c.args.conn.now c.write_join.new.conn _ c.from_residual-in_err-write_join.result c.from_residual-in_err-write_join.ensures.1 (λ clean.
     subst (λ n. IsFaultOfError g.S.Store (OfJoining n (step w old command).0) write_fault c.args.conn.now c.write_join.new.conn c.in_err-write_join.field-0.0) joining.6
-    (subst (λ (after : CampaignValue). IsFaultOfError g.S.Store (OfJoining c.in-Ok.numbers.0 after) write_fault c.args.conn.now c.write_join.new.conn c.in_err-write_join.field-0.0) (done ∙ sym (ap (λ p. p.0) steps)) (c.in_err-write_join.ensures.told clean)))
+    (subst (λ (after : CampaignValue). IsFaultOfError g.S.Store (OfJoining c.in-Ok.numbers.0 after) write_fault c.args.conn.now c.write_join.new.conn c.in_err-write_join.field-0.0) (done ∙ sym (ap (λ p. p.0) steps)) (c.in_err-write_join.ensures.reports_error clean)))

@@ -38,4 +38,4 @@ returns-in_err-write_mail-clause-err g c = on_err _ (CommandLeavesAfterFault g.S
 pub returns-in_err-write_mail-clause-cause : goal.returns-in_err-write_mail-clause-cause
 returns-in_err-write_mail-clause-cause g c =
     call_has_cause g.S.Store (OfMail c.args.faction c.args.text.now) c.args.conn.now c.write_mail.new.conn _ c.from_residual-in_err-write_mail.result c.from_residual-in_err-write_mail.ensures.1
-    (λ clean. subst (λ text. IsFaultOfError g.S.Store (OfMail c.args.faction text) write_fault c.args.conn.now c.write_mail.new.conn c.in_err-write_mail.field-0.0) c.as_slice.ensures (c.in_err-write_mail.ensures.told clean))
+    (λ clean. subst (λ text. IsFaultOfError g.S.Store (OfMail c.args.faction text) write_fault c.args.conn.now c.write_mail.new.conn c.in_err-write_mail.field-0.0) c.as_slice.ensures (c.in_err-write_mail.ensures.reports_error clean))

@@ -59,4 +59,4 @@ returns-in_err-write_changes-clause-cause g c =
     let after = c.report_to_all.new.campaign.value in
     let done = rw c.as_slice.ensures at (closed_after_reports w old c.turn_month.new.campaign.value after c.as_slice.result.now c.in_ok-outcome.outcome c.in_ok-outcome.ensures.outcome c.in_ok-report_to_all.ensures.what c.in_ok-outcome.ensures.there c.in_ok-outcome.ensures.good) in
     call_has_cause g.S.Store (OfCommand w old (Close c.args.month c.args.pass.now c.args.words.now)) c.args.conn.now c.write_changes.new.conn _ c.from_residual-in_err-write_changes.result c.from_residual-in_err-write_changes.ensures.1
-    (λ clean. subst (λ (a : CampaignValue). IsFaultOfError g.S.Store (OfChange a) write_fault c.args.conn.now c.write_changes.new.conn c.in_err-write_changes.field-0.0) (done.0 ∙ sym (ap (λ p. p.0) c.in_default.ensures.ok.step_is)) (c.in_err-write_changes.ensures.told clean))
+    (λ clean. subst (λ (a : CampaignValue). IsFaultOfError g.S.Store (OfChange a) write_fault c.args.conn.now c.write_changes.new.conn c.in_err-write_changes.field-0.0) (done.0 ∙ sym (ap (λ p. p.0) c.in_default.ensures.ok.step_is)) (c.in_err-write_changes.ensures.reports_error clean))

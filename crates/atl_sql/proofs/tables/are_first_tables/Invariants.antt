@@ -2,6 +2,6 @@ use Rattle.std.proofs.Common.{◌≡◌, take}
 use Rattle.atl_sql.specs.Tables.{all_tables}
 use Rattle.atl_sql.proofs.tables.are_first_tables.Given as goal
 
--- the first `place` tables of the schema are the first `place` of the ten
-abbrev pub invariant-loop-place : goal.invariant-loop-place
-invariant-loop-place l = take l.place l.tables ≡ take l.place all_tables
+-- the first `position` tables of the schema are the first `position` of the ten
+abbrev pub invariant-loop-position : goal.invariant-loop-position
+invariant-loop-position l = take l.position l.tables ≡ take l.position all_tables

@@ -5,7 +5,7 @@ use Rattle.atl_sql.proofs.MakingLaws.{makes_all, makes_more, makes_none}
 use Rattle.atl_sql.proofs.WriteLaws.{begins, goes_on, stops_second, weaker}
 use Rattle.atl_sql.proofs.tables.create_each.Goals as goal
 
--- before the first text no table is made
+-- before the first CREATE text is run, no table is made (`MakesFirst`)
 pub loop-table-init : goal.loop-table-init
 loop-table-init g c = begins g.S.Store makes_none
 
@@ -15,7 +15,7 @@ loop-table-preserved g c =
     let i = c.loop-table.table-index in
     goes_on g.S.Store (makes_more i) c.loop-table.invariant (made_by g.S.Store _ (makes_next (λ (t : TableDefinition). t.text.now) c.args.tables.now c.requires i _ (omega (arith, c.loop-table-test.true))) c.in_ok-run.ensures)
 
--- if a text can't be run, the making of the tables ends with this error
+-- if running a CREATE text fails, making the tables ends with this error
 pub returns-in_err-run : goal.returns-in_err-run
 returns-in_err-run g c =
     let i = c.loop-table.table-index in

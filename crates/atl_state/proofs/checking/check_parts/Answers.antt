@@ -25,7 +25,7 @@ returns c =
     let w = c.args.world.now in
     let p = c.args.parts in
     let f = c.args.format in
-    let all : KeepsRulesBelow f w p 13 = c.in_ok-check_holders.ensures in
+    let all : KeepsRulesBelow f w p 13 = c.in_ok-check_rules_8_to_12.ensures in
     let what = c.in-Ok.ensures.what in
     record {
       rows = subst (λ (s : CampaignValue). AreRowsOf f s p) (sym what) (checked-rows f w p c.assemble.ensures.world all);

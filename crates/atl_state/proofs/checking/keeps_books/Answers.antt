@@ -1,6 +1,6 @@
 use Rattle.std.proofs.Common.{◌<◌, length, sym, subst}
 use Rattle.atl_records.specs.Books.{AreBooks}
-use Rattle.atl_campaign.specs.Founding.{things_of}
+use Rattle.atl_campaign.specs.Founding.{thing_count}
 use Rattle.atl_records.specs.Every.{Every}
 use Rattle.atl_campaign.specs.Good.{AreOfMarkets}
 use Rattle.atl_campaign.specs.Campaign.{CampaignValue}
@@ -15,7 +15,7 @@ are_balanced-requires-clause-few c = subst IsCountable (sym c.requires.what) (fe
 -- what `are_balanced` requires: the books have as many things as the world, and each listed amount is of one of these
 -- things and not 0
 pub are_balanced-requires-clause-books : goal.are_balanced-requires-clause-books
-are_balanced-requires-clause-books c = subst (λ (s : CampaignValue). AreBooks (things_of c.args.world.now) s.books) (sym c.requires.what) (books-said c.args.format c.args.world.now c.args.parts.now c.requires.before)
+are_balanced-requires-clause-books c = subst (λ (s : CampaignValue). AreBooks (thing_count c.args.world.now) s.books) (sym c.requires.what) (books-said c.args.format c.args.world.now c.args.parts.now c.requires.before)
 
 -- what `are_balanced` requires: the units hold only items of the world
 pub are_balanced-requires-clause-items : goal.are_balanced-requires-clause-items

@@ -11,13 +11,13 @@ loop-thing-init g c = putting_begins g.S.Store g.O.AmountWriter.table g.O.Amount
 pub loop-thing-preserved : goal.loop-thing-preserved
 loop-thing-preserved g c =
     let row = g.O.AmountWriter.line c.args.owner in
-    putting_more g.S.Store g.O.AmountWriter.table g.O.AmountWriter.key (thing_rows row c.in-Some.thing c.in-Some.amount.now) (amount_rows row c.next.new.self) _ _ (ap (amount_rows row) c.in-Some.ensures.steps) c.loop-thing.invariant c.in_ok-put_some.ensures
+    putting_more g.S.Store g.O.AmountWriter.table g.O.AmountWriter.key (thing_rows row c.in-Some.thing c.in-Some.amount.now) (amount_rows row c.next.new.self) _ _ (ap (amount_rows row) c.in-Some.ensures.steps) c.loop-thing.invariant c.in_ok-put_nonzero.ensures
 
 -- if the row of an amount can't be put, the write of the owner's rows ends with this error
-pub returns-in_err-put_some : goal.returns-in_err-put_some
-returns-in_err-put_some g c =
+pub returns-in_err-put_nonzero : goal.returns-in_err-put_nonzero
+returns-in_err-put_nonzero g c =
     let row = g.O.AmountWriter.line c.args.owner in
-    putting_failed g.S.Store g.O.AmountWriter.table g.O.AmountWriter.key (thing_rows row c.in-Some.thing c.in-Some.amount.now) (amount_rows row c.next.new.self) _ _ (ap (amount_rows row) c.in-Some.ensures.steps) c.loop-thing.invariant c.in_err-put_some.ensures c.from_residual.ensures
+    putting_failed g.S.Store g.O.AmountWriter.table g.O.AmountWriter.key (thing_rows row c.in-Some.thing c.in-Some.amount.now) (amount_rows row c.next.new.self) _ _ (ap (amount_rows row) c.in-Some.ensures.steps) c.loop-thing.invariant c.in_err-put_nonzero.ensures c.from_residual.ensures
 
 -- when no thing is left, the rows of all amounts of the owner are written
 pub returns : goal.returns

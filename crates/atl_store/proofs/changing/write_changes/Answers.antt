@@ -4,7 +4,7 @@ use Rattle.atl_store.specs.Faults.{write_fault}
 use Rattle.atl_store.specs.OwnStatements.{OfChange}
 use Rattle.atl_sql.specs.Inside.{HasTables}
 use Rattle.atl_store.proofs.ChangeLaws.{changes_held, unmarked_held}
-use Rattle.atl_store.proofs.StayLaws.{commits_keeps, leaves_stops, may_found, commits_spares, leaves_others, later, on_err, told_by}
+use Rattle.atl_store.proofs.StayLaws.{commits_keeps, leaves_stops, may_found, commit_leaves_others, leaves_others, survives_is_later, on_err, error_of}
 use Rattle.atl_store.proofs.changing.write_changes.Goals as goal
 
 -- Ok: the connection keeps the changed campaign, if it kept the campaign before and the marks cover all changes
@@ -31,7 +31,7 @@ returns-clause-marked g c clean tables = ((c.in_ok-write_marked.ensures.ok clean
 
 -- Ok leaves the tables that aren't the campaign's as they were
 pub returns-clause-others : goal.returns-clause-others
-returns-clause-others g c clean = commits_spares (state g.S.Store c.args.conn.now) (state g.S.Store c.write_marked.new.conn) HasTables (WritesChanges c.args.campaign.now) (c.in_ok-write_marked.ensures.ok clean) (λ has. has)
+returns-clause-others g c clean = commit_leaves_others (state g.S.Store c.args.conn.now) (state g.S.Store c.write_marked.new.conn) HasTables (WritesChanges c.args.campaign.now) (c.in_ok-write_marked.ensures.ok clean) (λ has. has)
 
 -- a fault leaves the tables that aren't the campaign's as they were
 pub returns-in_err-write_marked-clause-others : goal.returns-in_err-write_marked-clause-others
@@ -40,12 +40,12 @@ returns-in_err-write_marked-clause-others g c clean = leaves_others (state g.S.S
 -- after Ok a disk that is clean was clean before, no failure is forgotten, and reads tested by digests stay so
 -- (`IsLater`)
 pub returns-clause-later : goal.returns-clause-later
-returns-clause-later g c = later (state g.S.Store c.args.conn.now) (state g.S.Store c.write_marked.new.conn) _ c.write_marked.ensures.crash
+returns-clause-later g c = survives_is_later (state g.S.Store c.args.conn.now) (state g.S.Store c.write_marked.new.conn) _ c.write_marked.ensures.crash
 
 -- after a fault a disk that is clean was clean before, no failure is forgotten, and reads tested by digests stay so
 -- (`IsLater`)
 pub returns-in_err-write_marked-clause-later : goal.returns-in_err-write_marked-clause-later
-returns-in_err-write_marked-clause-later g c = later (state g.S.Store c.args.conn.now) (state g.S.Store c.write_marked.new.conn) _ c.write_marked.ensures.crash
+returns-in_err-write_marked-clause-later g c = survives_is_later (state g.S.Store c.args.conn.now) (state g.S.Store c.write_marked.new.conn) _ c.write_marked.ensures.crash
 
 -- Ok: the connection keeps the campaign, if its tables held all that isn't marked of it
 pub returns-clause-unmarked : goal.returns-clause-unmarked
@@ -57,8 +57,8 @@ returns-clause-unmarked g c clean text tables rest =
     (λ did. unmarked_held campaign old.now new.now did text rest)
 
 -- the fault is that of an error that a statement of the change, or the commit, gave
-pub returns-in_err-write_marked-clause-told : goal.returns-in_err-write_marked-clause-told
-returns-in_err-write_marked-clause-told g c clean = told_by g.S.Store (OfChange c.args.campaign.now.value) write_fault c.args.conn.now c.write_marked.new.conn _ c.from_residual.result c.from_residual.ensures.1 (c.in_err-write_marked.ensures.error_given clean)
+pub returns-in_err-write_marked-clause-reports_error : goal.returns-in_err-write_marked-clause-reports_error
+returns-in_err-write_marked-clause-reports_error g c clean = error_of g.S.Store (OfChange c.args.campaign.now.value) write_fault c.args.conn.now c.write_marked.new.conn _ c.from_residual.result c.from_residual.ensures.1 (c.in_err-write_marked.ensures.error_given clean)
 
 -- after a fault the tables are again those of the last commit, whatever they held (`LeavesOff`)
 pub returns-in_err-write_marked-clause-left : goal.returns-in_err-write_marked-clause-left

@@ -1,7 +1,7 @@
 use Rattle.atl_sql.specs.declared.rows.has.ThingKind.TheVariants.{Item, Skill}
 use Rattle.atl_sql.specs.Tables.{has_table}
 use Rattle.atl_sql.specs.Rows.{HasRowsOf}
-use Rattle.atl_sql.specs.Marked.{begins_marked, has_thing, of_kind}
+use Rattle.atl_sql.specs.Marked.{begins_marked, has_thing, unit_and_thing_pass}
 use Rattle.atl_store.proofs.HasTableLaws.{goods_grouped}
 use Rattle.atl_store.proofs.RewriteLaws.{both_rewritten}
 use Rattle.atl_store.proofs.ThingLaws.{finds_things}
@@ -26,7 +26,7 @@ pub returns : goal.returns
 returns g c =
     let marks = c.args.campaign.now.marks in
     let both = both_rewritten has_table (HasRowsOf c.args.campaign.now.value.units) in
-    then_done g.S.Store (both _ (of_kind Skill (has_thing marks.skills))) (then_done g.S.Store (both (begins_marked marks.goods) (of_kind Item (has_thing marks.items))) c.in_ok-rewrite_marked_groups.ensures c.in_ok-rewrite_singles.ensures)
+    then_done g.S.Store (both _ (unit_and_thing_pass Skill (has_thing marks.skills))) (then_done g.S.Store (both (begins_marked marks.goods) (unit_and_thing_pass Item (has_thing marks.items))) c.in_ok-rewrite_marked_groups.ensures c.in_ok-rewrite_singles.ensures)
     c.rewrite_singles-2.ensures
 
 -- if the rows of marked units can't be rewritten, the write of `has` ends with this error

@@ -5,7 +5,7 @@ use Rattle.atl_store.proofs.joining.put_joining.Goals as goal
 
 -- putting the rows of the newcomer, and then writing report and amounts, writes the join (`WritesJoin`)
 pub returns : goal.returns
-returns g c = two_steps g.S.Store (λ old mid new. joining_done c.args.arrival.now.number c.args.arrival.now.faction.now c.args.arrival.now.place c.args.arrival.now.unit.now c.args.arrival.now.report.now c.args.campaign.now.value [] old mid new c.requires)
+returns g c = two_steps g.S.Store (λ old mid new. joining_done c.args.arrival.now.number c.args.arrival.now.faction.now c.args.arrival.now.unit_number c.args.arrival.now.unit.now c.args.arrival.now.report.now c.args.campaign.now.value [] old mid new c.requires)
     c.in_ok-put_newcomer.ensures c.put_report_and_amounts.ensures
 
 -- if the rows of the newcomer can't be put, the write of the join ends with this error

@@ -7,7 +7,7 @@ use Rattle.atl_sql.specs.Causes.{IsFaultOfError}
 use Rattle.atl_store.specs.OwnStatements.{OfJoining}
 use Rattle.atl_store.specs.Keeps.{IsJoining}
 use Rattle.atl_store.proofs.JoinLaws.{join_held}
-use Rattle.atl_store.proofs.StayLaws.{commits_keeps, leaves_stops, commits_spares, leaves_others, later, on_err, told_by}
+use Rattle.atl_store.proofs.StayLaws.{commits_keeps, leaves_stops, commit_leaves_others, leaves_others, survives_is_later, on_err, error_of}
 use Rattle.atl_store.proofs.joining.write_join.Goals as goal
 
 -- Ok: the connection keeps the campaign after the join, if it kept the one before
@@ -32,7 +32,7 @@ returns-in_err-write_joining-clause-err g c clean = on_err c.from_residual.resul
 
 -- Ok leaves the tables that aren't the campaign's as they were
 pub returns-clause-others : goal.returns-clause-others
-returns-clause-others g c clean = commits_spares (state g.S.Store c.args.conn.now) (state g.S.Store c.write_joining.new.conn) HasTables (WritesJoin c.arrival_of-arrival.result.number c.args.campaign.now.value) (c.in_ok-write_joining.ensures.ok clean) (λ has. has)
+returns-clause-others g c clean = commit_leaves_others (state g.S.Store c.args.conn.now) (state g.S.Store c.write_joining.new.conn) HasTables (WritesJoin c.arrival_of-arrival.result.number c.args.campaign.now.value) (c.in_ok-write_joining.ensures.ok clean) (λ has. has)
 
 -- a fault leaves the tables that aren't the campaign's as they were
 pub returns-in_err-write_joining-clause-others : goal.returns-in_err-write_joining-clause-others
@@ -41,12 +41,12 @@ returns-in_err-write_joining-clause-others g c clean = leaves_others (state g.S.
 -- after Ok a disk that is clean was clean before, no failure is forgotten, and reads tested by digests stay so
 -- (`IsLater`)
 pub returns-clause-later : goal.returns-clause-later
-returns-clause-later g c = later (state g.S.Store c.args.conn.now) (state g.S.Store c.write_joining.new.conn) _ c.write_joining.ensures.crash
+returns-clause-later g c = survives_is_later (state g.S.Store c.args.conn.now) (state g.S.Store c.write_joining.new.conn) _ c.write_joining.ensures.crash
 
 -- after a fault a disk that is clean was clean before, no failure is forgotten, and reads tested by digests stay so
 -- (`IsLater`)
 pub returns-in_err-write_joining-clause-later : goal.returns-in_err-write_joining-clause-later
-returns-in_err-write_joining-clause-later g c = later (state g.S.Store c.args.conn.now) (state g.S.Store c.write_joining.new.conn) _ c.write_joining.ensures.crash
+returns-in_err-write_joining-clause-later g c = survives_is_later (state g.S.Store c.args.conn.now) (state g.S.Store c.write_joining.new.conn) _ c.write_joining.ensures.crash
 
 -- Ok: whatever the tables held, the write touched the rows of the join alone (`WritesJoin`)
 pub returns-clause-own : goal.returns-clause-own
@@ -56,13 +56,13 @@ returns-clause-own g c clean tables =
     subst (λ n. WritesJoin n c.args.campaign.now.value old.now new.now) c.arrival_of-arrival.ensures.number ((c.in_ok-write_joining.ensures.ok clean).does tables).does
 
 -- the fault is that of an error that a statement of the join, or the commit, gave
-pub returns-in_err-write_joining-clause-told : goal.returns-in_err-write_joining-clause-told
-returns-in_err-write_joining-clause-told g c clean =
+pub returns-in_err-write_joining-clause-reports_error : goal.returns-in_err-write_joining-clause-reports_error
+returns-in_err-write_joining-clause-reports_error g c clean =
     let old = c.args.conn.now in
     let new = c.write_joining.new.conn in
     let after = c.args.campaign.now.value in
     subst (λ n. IfErr c.from_residual.result (IsFaultOfError g.S.Store (OfJoining n after) write_fault old new)) c.arrival_of-arrival.ensures.number
-    (told_by g.S.Store (OfJoining c.arrival_of-arrival.result.number after) write_fault old new _ c.from_residual.result c.from_residual.ensures.1 (c.in_err-write_joining.ensures.error_given clean))
+    (error_of g.S.Store (OfJoining c.arrival_of-arrival.result.number after) write_fault old new _ c.from_residual.result c.from_residual.ensures.1 (c.in_err-write_joining.ensures.error_given clean))
 
 -- after a fault the tables are again those of the last commit, whatever they held (`LeavesOff`)
 pub returns-in_err-write_joining-clause-left : goal.returns-in_err-write_joining-clause-left

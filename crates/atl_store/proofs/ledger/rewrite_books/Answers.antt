@@ -4,10 +4,10 @@ use Rattle.atl_records.specs.Books.{all_entries, entry_index, thing_index}
 use Rattle.atl_campaign.specs.Marks.{AreOfThings}
 use Rattle.atl_records.proofs.AccountLaws.{index_of_thing_at}
 use Rattle.atl_sql.specs.Tables.{books_table}
-use Rattle.atl_sql.specs.Inside.{Inside, HasTables}
-use Rattle.atl_store.specs.Rewriting.{RewritesAmounts, is_number, is_among, of_amounts}
-use Rattle.atl_store.proofs.BooksRewriteLaws.{thing_nearer, things_rewritten}
-use Rattle.atl_store.proofs.RewriteLaws.{none_nearer}
+use Rattle.atl_sql.specs.Inside.{DoesInside, HasTables}
+use Rattle.atl_store.specs.Rewriting.{RewritesAmounts, equals_number, is_among, is_of_marked_amount}
+use Rattle.atl_store.proofs.BooksRewriteLaws.{one_less_thing, things_rewritten}
+use Rattle.atl_store.proofs.RewriteLaws.{all_remaining}
 use Rattle.atl_sql.proofs.WriteLaws.{begins, goes_on, stops_second, weaker}
 use Rattle.atl_store.proofs.ledger.rewrite_books.Goals as goal
 
@@ -16,7 +16,7 @@ pub loop-number-init : goal.loop-number-init
 loop-number-init g c =
     let count = c.args.campaign.now.value.books.things in
     let whole : count - 0 ≡ count = omega arith in
-    begins g.S.Store (none_nearer books_table _ _ _ (λ r. ap (λ n. of_amounts c.args.campaign.now.marks.books (is_among (map entry_index all_entries)) (is_among (range_with_len 0 n)) r) whole))
+    begins g.S.Store (all_remaining books_table _ _ _ (λ r. ap (λ n. is_of_marked_amount c.args.campaign.now.marks.books (is_among (map entry_index all_entries)) (is_among (range_with_len 0 n)) r) whole))
 
 -- once a thing's marked amounts are rewritten, only those of the later things are still to rewrite
 pub loop-number-preserved : goal.loop-number-preserved
@@ -25,9 +25,9 @@ loop-number-preserved g c =
     let i = c.loop-number.number in
     let count = campaign.value.books.things in
     let left : count - i ≡ suc (count - (i + 1)) = omega (arith, c.loop-number-test.true, c.things-number-end.ensures.count) in
-    let place : thing_index c.of_number.result ≡ i = ap thing_index c.of_number.ensures ∙ index_of_thing_at i in
-    goes_on g.S.Store (λ old mid new so_far more. thing_nearer campaign i (range_with_len i (count - i)) (range_with_len (i + 1) (count - (i + 1))) (range_with_len 0 count) (ap (range_with_len i) left) old mid new so_far
-    (subst (λ t. Inside HasTables (RewritesAmounts campaign (is_among (map entry_index all_entries)) (is_number t)) mid new) place more))
+    let index : thing_index c.of_number.result ≡ i = ap thing_index c.of_number.ensures ∙ index_of_thing_at i in
+    goes_on g.S.Store (λ old mid new so_far more. one_less_thing campaign i (range_with_len i (count - i)) (range_with_len (i + 1) (count - (i + 1))) (range_with_len 0 count) (ap (range_with_len i) left) old mid new so_far
+    (subst (λ t. DoesInside HasTables (RewritesAmounts campaign (is_among (map entry_index all_entries)) (equals_number t)) mid new) index more))
     c.loop-number.invariant c.in_ok-rewrite_entries.ensures
 
 -- if a thing's marked amounts can't be rewritten, the write of the books ends with this error

@@ -2,22 +2,22 @@ use Rattle.std.proofs.Common.{◌+◌, drop, refl, arith}
 use Rattle.std.proofs.lemmas.List.{drop_more, at_drop_all}
 use Rattle.atl_records.specs.Books.{thing_index}
 use Rattle.atl_sql.specs.Tables.{books_table}
-use Rattle.atl_store.specs.Rewriting.{is_number}
-use Rattle.atl_store.proofs.BooksRewriteLaws.{entry_nearer, entries_rewritten}
-use Rattle.atl_store.proofs.RewriteLaws.{none_nearer}
+use Rattle.atl_store.specs.Rewriting.{equals_number}
+use Rattle.atl_store.proofs.BooksRewriteLaws.{one_less_entry, entries_rewritten}
+use Rattle.atl_store.proofs.RewriteLaws.{all_remaining}
 use Rattle.atl_sql.proofs.WriteLaws.{begins, goes_on, stops_second, weaker}
 use Rattle.atl_store.proofs.ledger.rewrite_entries.Goals as goal
 
 -- before the first entry the thing's marked amounts under all listed entries are still to rewrite
 pub loop-entry-init : goal.loop-entry-init
-loop-entry-init g c = begins g.S.Store (none_nearer books_table _ _ _ (λ r. refl))
+loop-entry-init g c = begins g.S.Store (all_remaining books_table _ _ _ (λ r. refl))
 
 -- once the amount of an entry is rewritten, only those of the later entries are still to rewrite
 pub loop-entry-preserved : goal.loop-entry-preserved
 loop-entry-preserved g c =
     let i = c.loop-entry.entry-index in
     let entries = c.args.entries.now in
-    goes_on g.S.Store (entry_nearer c.args.campaign.now (is_number (thing_index c.args.thing)) _ (drop i entries) (drop (i + 1) entries) entries (drop_more entries i _ (omega (arith, c.loop-entry-test.true)))) c.loop-entry.invariant c.in_ok-rewrite_amount.ensures
+    goes_on g.S.Store (one_less_entry c.args.campaign.now (equals_number (thing_index c.args.thing)) _ (drop i entries) (drop (i + 1) entries) entries (drop_more entries i _ (omega (arith, c.loop-entry-test.true)))) c.loop-entry.invariant c.in_ok-rewrite_amount.ensures
 
 -- if an amount can't be rewritten, the write of the thing's marked amounts ends with this error
 pub returns-in_err-rewrite_amount : goal.returns-in_err-rewrite_amount
@@ -27,4 +27,4 @@ returns-in_err-rewrite_amount g c = stops_second g.S.Store c.loop-entry.invarian
 pub returns : goal.returns
 returns g c =
     let entries = c.args.entries.now in
-    weaker g.S.Store (entries_rewritten c.args.campaign.now (is_number (thing_index c.args.thing)) (drop c.loop-entry.entry-index entries) entries (at_drop_all (λ es. es) entries c.loop-entry.entry-index c.loop-entry-test.false)) c.loop-entry.invariant
+    weaker g.S.Store (entries_rewritten c.args.campaign.now (equals_number (thing_index c.args.thing)) (drop c.loop-entry.entry-index entries) entries (at_drop_all (λ es. es) entries c.loop-entry.entry-index c.loop-entry-test.false)) c.loop-entry.invariant

@@ -1,12 +1,12 @@
 use Rattle.std.proofs.Common.{drop}
 use Rattle.atl_records.specs.Books.{thing_index}
 use Rattle.atl_store.specs.OwnStatements.{OfChange}
-use Rattle.atl_sql.specs.Inside.{Inside, HasTables}
-use Rattle.atl_store.specs.Rewriting.{is_number}
-use Rattle.atl_store.proofs.BooksRewriteLaws.{NearingEntries}
-use Rattle.atl_sql.proofs.WriteLaws.{SoFar}
+use Rattle.atl_sql.specs.Inside.{DoesInside, HasTables}
+use Rattle.atl_store.specs.Rewriting.{equals_number}
+use Rattle.atl_store.proofs.BooksRewriteLaws.{RemainingEntries}
+use Rattle.atl_sql.proofs.WriteLaws.{HasDone}
 use Rattle.atl_store.proofs.ledger.rewrite_entries.Given as goal
 
 -- at each turn the thing's marked amounts are rewritten, but those under the entries that are left
 abbrev pub invariant-loop-entry : goal.invariant-loop-entry
-invariant-loop-entry g l = SoFar g.S.Store (OfChange l.fn.campaign.value) (Inside HasTables (NearingEntries l.fn.campaign (is_number (thing_index l.fn.thing)) (drop l.entry-index l.entries) l.entries)) l.fn.tx.conn l.tx.conn
+invariant-loop-entry g l = HasDone g.S.Store (OfChange l.fn.campaign.value) (DoesInside HasTables (RemainingEntries l.fn.campaign (equals_number (thing_index l.fn.thing)) (drop l.entry-index l.entries) l.entries)) l.fn.tx.conn l.tx.conn

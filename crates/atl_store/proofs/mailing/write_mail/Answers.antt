@@ -5,7 +5,7 @@ use Rattle.atl_store.specs.Arriving.{WritesMail}
 use Rattle.atl_store.specs.Faults.{write_fault}
 use Rattle.atl_store.specs.OwnStatements.{OfMail}
 use Rattle.atl_store.proofs.JoinLaws.{mail_held}
-use Rattle.atl_store.proofs.StayLaws.{commits_keeps, leaves_stops, commits_spares, leaves_others, later, on_err, told_by}
+use Rattle.atl_store.proofs.StayLaws.{commits_keeps, leaves_stops, commit_leaves_others, leaves_others, survives_is_later, on_err, error_of}
 use Rattle.atl_store.proofs.mailing.write_mail.Goals as goal
 
 -- Ok: the connection keeps the campaign with the mail, if it kept the campaign before
@@ -26,7 +26,7 @@ returns-in_err-write_mailing-clause-err g c clean = on_err c.from_residual.resul
 
 -- Ok leaves the tables that aren't the campaign's as they were
 pub returns-clause-others : goal.returns-clause-others
-returns-clause-others g c clean = commits_spares (state g.S.Store c.args.conn.now) (state g.S.Store c.write_mailing.new.conn) HasTables (WritesMail c.args.faction c.args.text.now) (c.in_ok-write_mailing.ensures.ok clean) (λ has. has)
+returns-clause-others g c clean = commit_leaves_others (state g.S.Store c.args.conn.now) (state g.S.Store c.write_mailing.new.conn) HasTables (WritesMail c.args.faction c.args.text.now) (c.in_ok-write_mailing.ensures.ok clean) (λ has. has)
 
 -- a fault leaves the tables that aren't the campaign's as they were
 pub returns-in_err-write_mailing-clause-others : goal.returns-in_err-write_mailing-clause-others
@@ -35,20 +35,20 @@ returns-in_err-write_mailing-clause-others g c clean = leaves_others (state g.S.
 -- after Ok a disk that is clean was clean before, no failure is forgotten, and reads tested by digests stay so
 -- (`IsLater`)
 pub returns-clause-later : goal.returns-clause-later
-returns-clause-later g c = later (state g.S.Store c.args.conn.now) (state g.S.Store c.write_mailing.new.conn) _ c.write_mailing.ensures.crash
+returns-clause-later g c = survives_is_later (state g.S.Store c.args.conn.now) (state g.S.Store c.write_mailing.new.conn) _ c.write_mailing.ensures.crash
 
 -- after a fault a disk that is clean was clean before, no failure is forgotten, and reads tested by digests stay so
 -- (`IsLater`)
 pub returns-in_err-write_mailing-clause-later : goal.returns-in_err-write_mailing-clause-later
-returns-in_err-write_mailing-clause-later g c = later (state g.S.Store c.args.conn.now) (state g.S.Store c.write_mailing.new.conn) _ c.write_mailing.ensures.crash
+returns-in_err-write_mailing-clause-later g c = survives_is_later (state g.S.Store c.args.conn.now) (state g.S.Store c.write_mailing.new.conn) _ c.write_mailing.ensures.crash
 
 -- Ok: whatever the tables held, the write touched the row of the mailing alone (`WritesMail`)
 pub returns-clause-own : goal.returns-clause-own
 returns-clause-own g c clean tables = ((c.in_ok-write_mailing.ensures.ok clean).does tables).does
 
 -- the fault is that of an error that the statement of the mailing, or the commit, gave
-pub returns-in_err-write_mailing-clause-told : goal.returns-in_err-write_mailing-clause-told
-returns-in_err-write_mailing-clause-told g c clean = told_by g.S.Store (OfMail c.args.faction c.args.text.now) write_fault c.args.conn.now c.write_mailing.new.conn _ c.from_residual.result c.from_residual.ensures.1 (c.in_err-write_mailing.ensures.error_given clean)
+pub returns-in_err-write_mailing-clause-reports_error : goal.returns-in_err-write_mailing-clause-reports_error
+returns-in_err-write_mailing-clause-reports_error g c clean = error_of g.S.Store (OfMail c.args.faction c.args.text.now) write_fault c.args.conn.now c.write_mailing.new.conn _ c.from_residual.result c.from_residual.ensures.1 (c.in_err-write_mailing.ensures.error_given clean)
 
 -- after a fault the tables are again those of the last commit, whatever they held (`LeavesOff`)
 pub returns-in_err-write_mailing-clause-left : goal.returns-in_err-write_mailing-clause-left

@@ -1,6 +1,6 @@
 use Rattle.atl_sql.specs.Tables.{market_table}
 use Rattle.atl_sql.specs.Rows.{MarketRowsOf}
-use Rattle.atl_sql.specs.Marked.{begins_marked, has_thing, of_stock}
+use Rattle.atl_sql.specs.Marked.{begins_marked, has_thing, region_and_item_pass}
 use Rattle.atl_store.proofs.MarketLaws.{finds_stocks, stocks_grouped}
 use Rattle.atl_store.proofs.RewriteLaws.{both_rewritten}
 use Rattle.atl_store.proofs.WholeLaws.{then_done}
@@ -19,7 +19,7 @@ rewrite_singles-requires g c = finds_stocks
 pub returns : goal.returns
 returns g c =
     let marks = c.args.campaign.now.marks in
-    then_done g.S.Store (both_rewritten market_table (MarketRowsOf c.args.campaign.now.value.regions) (begins_marked marks.stocks) (of_stock (has_thing marks.stock_items))) c.in_ok-rewrite_marked_groups.ensures c.rewrite_singles.ensures
+    then_done g.S.Store (both_rewritten market_table (MarketRowsOf c.args.campaign.now.value.regions) (begins_marked marks.stocks) (region_and_item_pass (has_thing marks.stock_items))) c.in_ok-rewrite_marked_groups.ensures c.rewrite_singles.ensures
 
 -- if the rows of marked regions can't be rewritten, the write of `market` ends with this error
 pub returns-in_err-rewrite_marked_groups : goal.returns-in_err-rewrite_marked_groups

@@ -2,7 +2,7 @@ use Rattle.std.proofs.Common.{refl}
 use Rattle.atl_sql.specs.Tables.{Goods}
 use Rattle.atl_store.specs.OwnStatements.{changes_row, puts_row, drops_row}
 use Rattle.atl_store.proofs.HasTableLaws.{amount_has_row}
-use Rattle.atl_store.proofs.ThingLaws.{no_thing, thing_put, thing_dropped}
+use Rattle.atl_store.proofs.ThingLaws.{zero_amount_has_no_row, thing_put, thing_dropped}
 use Rattle.atl_sql.proofs.WriteLaws.{weaker, among_only}
 use Rattle.atl_store.proofs.things.rewrite_thing.Goals as goal
 
@@ -20,4 +20,4 @@ pub returns-then-amount-eq0 : goal.returns-then-amount-eq0
 returns-then-amount-eq0 g c =
     let amount = c.amount_of-amount in
     weaker g.S.Store (thing_dropped c.args.unit c.args.sort c.args.thing c.args.campaign.now.value amount.result amount.ensures c.if-amount-eq0.true)
-    (among_only g.S.Store _ _ (drops_row Goods (refl, λ own. no_thing c.args.unit c.args.sort c.args.thing c.args.campaign.now.value amount.result amount.ensures c.if-amount-eq0.true)) c.drop_has.ensures)
+    (among_only g.S.Store _ _ (drops_row Goods (refl, λ own. zero_amount_has_no_row c.args.unit c.args.sort c.args.thing c.args.campaign.now.value amount.result amount.ensures c.if-amount-eq0.true)) c.drop_has.ensures)

@@ -1,5 +1,5 @@
 use Rattle.std.proofs.Common.{sym, ◌∙◌, true≢false}
-use Rattle.atl_store.specs.Faults.{first_fault, new_world_fault}
+use Rattle.atl_store.specs.Faults.{first_format_fault, new_world_fault}
 use Rattle.atl_store.specs.Upgrading.{FailsCheck}
 use Rattle.atl_store.proofs.UpgradedLaws.{fails_to_read, loaded_old, other_world, holds_of_error, fails_to_load}
 use Rattle.atl_store.proofs.upgrading.world_and_campaign.Goals as goal
@@ -12,7 +12,7 @@ returns-in_err-old_world-clause-err g c clean =
     let mid = c.load_as.new.conn in
     let text = c.args.new_world.now in
     let fault = c.in_err-old_world.field-0.0 in
-    holds_of_error (FailsCheck g.S.Store text old mid) c.from_residual.result (first_fault fault) c.from_residual.ensures.1 (fails_to_load g.S.Store text old mid fault (c.in_err-old_world.ensures.err clean))
+    holds_of_error (FailsCheck g.S.Store text old mid) c.from_residual.result (first_format_fault fault) c.from_residual.ensures.1 (fails_to_load g.S.Store text old mid fault (c.in_err-old_world.ensures.err clean))
 
 -- a fault of the new world text makes a check of the upgrade fail, with World and this fault, or with Memory if memory
 -- ran out (`FailsCheck`)

@@ -5,8 +5,8 @@ use Rattle.atl_tables.specs.Faults.{first_fault}
 use Rattle.atl_tables.specs.Arrays.{elements_conditions, elements_of}
 use Rattle.atl_tables.proofs.elements.elements.Given as goal
 
--- the first fault of the elements not read yet is that of the array; the values read so far, one value in its ranges
--- for each element, followed by the values of the elements not read yet, are all values of the array
+-- The first fault of the elements not read yet is that of the array. The values read so far, followed by those of the
+-- elements not read yet, are all values. There is one value, in its ranges, for each element read.
 abbrev pub invariant-loop-i : goal.invariant-loop-i
 invariant-loop-i g l = record {
   faults : first_fault (elements_conditions g.E.FromTable.conditions l.key l.i (items_view (drop l.i l.values.items))) ≡ first_fault (elements_conditions g.E.FromTable.conditions l.key 0 (items_view l.values.items));

@@ -1,7 +1,7 @@
 use Rattle.std.proofs.Common.{◌≡◌, ◌++◌, ◌∷◌, [], length, sym, ap, ◌∙◌, arith, append_assoc, length-append}
 use Rattle.std.specs.FinMap.{len, insert}
 use Rattle.std.proofs.lemmas.List.{append-nil}
-use Rattle.atl_world.proofs.GeneralLaws.{one_more}
+use Rattle.atl_world.proofs.GeneralLaws.{insert_adds_at_most_one}
 use Rattle.atl_tables.proofs.HasNumberLaws.{len_none}
 use Rattle.atl_tables.proofs.has_number.by_number.Goals as goal
 
@@ -24,5 +24,5 @@ loop-value-preserved g c =
     let put = c.in_ok-insert.ensures.ok ∙ ap (λ n. insert c.loop-value.numbered n value) c.own_number.ensures in
     record {
       whole = (value ∷ whole.0, sym (append_assoc before (value ∷ []) whole.0) ∙ ap (λ xs. xs ++ whole.0) (sym taken) ∙ whole.1, put ∙ ap (λ m. insert m number value) whole.2);
-      few = omega (arith, ap len put, one_more c.loop-value.numbered number value, ap length taken, length-append before (value ∷ []), c.loop-value.invariant.few);
+      few = omega (arith, ap len put, insert_adds_at_most_one c.loop-value.numbered number value, ap length taken, length-append before (value ∷ []), c.loop-value.invariant.few);
     }

@@ -9,20 +9,20 @@ use Rattle.atl_tables.specs.KindTable.{kind_keys}
 use Rattle.atl_world.specs.Limits.{most_items, most_skills, most_kinds}
 use Rattle.atl_tables.specs.SkillTable.{skill_keys}
 use Rattle.atl_tables.specs.World.{optional_conditions, optional_tables_of}
-use Rattle.atl_tables.proofs.FaultLaws.{gives_error, stops_on, stops_after, passes_both}
+use Rattle.atl_tables.proofs.FaultLaws.{gives_error, error_of_first_list_is_of_joined, error_of_second_list_is_of_joined, joined_list_has_no_fault}
 use Rattle.atl_tables.proofs.reading.read_optional_tables.Goals as goal
 
 -- the conditions on the array of items, which may be missing, and on the keys of its tables
-abbrev items : Members → Conditions
-items doc = list_conditions item_keys (codes "item") (optional_array_at most_items (codes "item") (codes "item") doc)
+abbrev item_key_conditions : Members → Conditions
+item_key_conditions doc = list_conditions item_keys (codes "item") (optional_array_at most_items (codes "item") (codes "item") doc)
 
 -- the conditions on the array of skills, which may be missing, and on the keys of its tables
-abbrev skills : Members → Conditions
-skills doc = list_conditions skill_keys (codes "skill") (optional_array_at most_skills (codes "skill") (codes "skill") doc)
+abbrev skill_key_conditions : Members → Conditions
+skill_key_conditions doc = list_conditions skill_keys (codes "skill") (optional_array_at most_skills (codes "skill") (codes "skill") doc)
 
 -- the conditions on the array of kinds of structures, which may be missing, and on the keys of its tables
-abbrev kinds : Members → Conditions
-kinds doc = list_conditions kind_keys (codes "kind") (optional_array_at most_kinds (codes "kind") (codes "kind") doc)
+abbrev kind_key_conditions : Members → Conditions
+kind_key_conditions doc = list_conditions kind_keys (codes "kind") (optional_array_at most_kinds (codes "kind") (codes "kind") doc)
 
 -- an error in reading the tables of items is the first fault of the conditions on items, skills and kinds
 -- (`optional_conditions`), or Memory
@@ -31,7 +31,7 @@ unfolding optional_conditions
 returns-in_err-items-clause-value c =
     let t = table_view c.args.document.now in
     let e = c.in_err-items.field-0.0 in
-    gives_error _ _ _ _ _ c.from_residual.ensures.1 (stops_on e (items t) (skills t ++ kinds t) c.in_err-items.ensures.value)
+    gives_error _ _ _ _ _ c.from_residual.ensures.1 (error_of_first_list_is_of_joined e (item_key_conditions t) (skill_key_conditions t ++ kind_key_conditions t) c.in_err-items.ensures.value)
 
 -- an error in reading the tables of skills is the first fault of the conditions on items, skills and kinds
 -- (`optional_conditions`), or Memory
@@ -40,7 +40,7 @@ unfolding optional_conditions
 returns-in_err-skills-clause-value c =
     let t = table_view c.args.document.now in
     let e = c.in_err-skills.field-0.0 in
-    gives_error _ _ _ _ _ c.from_residual-in_err-skills.ensures.1 (stops_after e (items t) (skills t ++ kinds t) c.in_ok-items.ensures.value.0 (stops_on e (skills t) (kinds t) c.in_err-skills.ensures.value))
+    gives_error _ _ _ _ _ c.from_residual-in_err-skills.ensures.1 (error_of_second_list_is_of_joined e (item_key_conditions t) (skill_key_conditions t ++ kind_key_conditions t) c.in_ok-items.ensures.value.0 (error_of_first_list_is_of_joined e (skill_key_conditions t) (kind_key_conditions t) c.in_err-skills.ensures.value))
 
 -- an error in reading the tables of kinds is the first fault of the conditions on items, skills and kinds
 -- (`optional_conditions`), or Memory
@@ -49,11 +49,11 @@ unfolding optional_conditions
 returns-in_err-kinds-clause-value c =
     let t = table_view c.args.document.now in
     let e = c.in_err-kinds.field-0.0 in
-    gives_error _ _ _ _ _ c.from_residual-in_err-kinds.ensures.1 (stops_after e (items t) (skills t ++ kinds t) c.in_ok-items.ensures.value.0 (stops_after e (skills t) (kinds t) c.in_ok-skills.ensures.value.0 c.in_err-kinds.ensures.value))
+    gives_error _ _ _ _ _ c.from_residual-in_err-kinds.ensures.1 (error_of_second_list_is_of_joined e (item_key_conditions t) (skill_key_conditions t ++ kind_key_conditions t) c.in_ok-items.ensures.value.0 (error_of_second_list_is_of_joined e (skill_key_conditions t) (kind_key_conditions t) c.in_ok-skills.ensures.value.0 c.in_err-kinds.ensures.value))
 
 -- if all tables are read, no condition on them is broken, and they are those of the document (`optional_tables_of`)
 pub returns-clause-value : goal.returns-clause-value
 unfolding optional_conditions optional_tables_of
 returns-clause-value c =
     let t = table_view c.args.document.now in
-    rw (c.in_ok-items.ensures.value.1, c.in_ok-skills.ensures.value.1, c.in_ok-kinds.ensures.value.1) (passes_both (items t) (skills t ++ kinds t) c.in_ok-items.ensures.value.0 (passes_both (skills t) (kinds t) c.in_ok-skills.ensures.value.0 c.in_ok-kinds.ensures.value.0), refl)
+    rw (c.in_ok-items.ensures.value.1, c.in_ok-skills.ensures.value.1, c.in_ok-kinds.ensures.value.1) (joined_list_has_no_fault (item_key_conditions t) (skill_key_conditions t ++ kind_key_conditions t) c.in_ok-items.ensures.value.0 (joined_list_has_no_fault (skill_key_conditions t) (kind_key_conditions t) c.in_ok-skills.ensures.value.0 c.in_ok-kinds.ensures.value.0), refl)

@@ -5,9 +5,9 @@ use Rattle.std.specs.Ordering.{nat_cmp}
 use Rattle.atl_tables.specs.declared.region_table.RegionDraft.{RegionDraft}
 use Rattle.atl_tables.specs.declared.fault.WorldFault.TheVariants.{TwoNames}
 use Rattle.atl_tables.specs.Keys.{path, element_path}
-use Rattle.atl_tables.specs.Regions.{has_number, duplicate_number_at}
-use Rattle.atl_tables.proofs.EachLaws.{goes_on_at, ends_at}
-use Rattle.atl_tables.proofs.RegionLaws.{seen_more, by_map}
+use Rattle.atl_tables.specs.Regions.{some_region_has_number, duplicate_number_at}
+use Rattle.atl_tables.proofs.EachLaws.{rest_has_same_fault_at_index, error_at_index_is_error_of_all}
+use Rattle.atl_tables.proofs.RegionLaws.{seen_more, duplicate_number_fault}
 use Rattle.atl_tables.proofs.regions.no_duplicate_numbers.Goals as goal
 
 -- before the loop `seen` is empty, as no region is checked yet, and all regions are still to be checked
@@ -19,8 +19,8 @@ pub returns-in-Some : goal.returns-in-Some
 returns-in-Some c =
     let d = c.index-drafts-i.result in
     let ds = c.args.drafts.now in
-    let test : has_number d.basics.number (take c.loop-i.i ds) ≡ true = sym (c.loop-i.invariant.seen d.basics.number) ∙ ap (λ (e : RegionDraft). is_some (get c.loop-i.seen e.basics.number)) c.index-drafts-i.is ∙ ap is_some (sym c.in-Some.ensures) in
-    rw (c.in_ok-path.ensures, c.as_str.ensures, c.in_ok-place.ensures) (ends_at (duplicate_number_at ds) ds c.loop-i.i d _ c.loop-i-test.true c.index-drafts-i.is c.loop-i.invariant.faults (TwoNames (path (element_path (codes "region") c.loop-i.i) (codes "number"))) (by_map ds c.loop-i.i d true test))
+    let test : some_region_has_number d.basics.number (take c.loop-i.i ds) ≡ true = sym (c.loop-i.invariant.seen d.basics.number) ∙ ap (λ (e : RegionDraft). is_some (get c.loop-i.seen e.basics.number)) c.index-drafts-i.is ∙ ap is_some (sym c.in-Some.ensures) in
+    rw (c.in_ok-path.ensures, c.as_str.ensures, c.in_ok-element.ensures) (error_at_index_is_error_of_all (duplicate_number_at ds) ds c.loop-i.i d _ c.loop-i-test.true c.index-drafts-i.is c.loop-i.invariant.faults (TwoNames (path (element_path (codes "region") c.loop-i.i) (codes "number"))) (duplicate_number_fault ds c.loop-i.i d true test))
 
 -- after a new number, `seen` has the numbers checked so far, and the first fault of the regions after it is still that
 -- of all regions
@@ -28,8 +28,8 @@ pub loop-i-preserved : goal.loop-i-preserved
 loop-i-preserved c =
     let d = c.index-drafts-i.result in
     let ds = c.args.drafts.now in
-    let test : has_number d.basics.number (take c.loop-i.i ds) ≡ false = sym (c.loop-i.invariant.seen d.basics.number) ∙ ap (λ (e : RegionDraft). is_some (get c.loop-i.seen e.basics.number)) c.index-drafts-i.is ∙ ap is_some (sym c.in_default.ensures) in
+    let test : some_region_has_number d.basics.number (take c.loop-i.i ds) ≡ false = sym (c.loop-i.invariant.seen d.basics.number) ∙ ap (λ (e : RegionDraft). is_some (get c.loop-i.seen e.basics.number)) c.index-drafts-i.is ∙ ap is_some (sym c.in_default.ensures) in
     record {
-      faults = goes_on_at (duplicate_number_at ds) ds c.loop-i.i d _ c.loop-i-test.true c.index-drafts-i.is c.loop-i.invariant.faults (by_map ds c.loop-i.i d false test);
+      faults = rest_has_same_fault_at_index (duplicate_number_at ds) ds c.loop-i.i d _ c.loop-i-test.true c.index-drafts-i.is c.loop-i.invariant.faults (duplicate_number_fault ds c.loop-i.i d false test);
       seen = rw (c.in_ok-insert.ensures.ok, ← c.index-drafts-i.is) (seen_more c.loop-i.seen _ ds c.loop-i.i d c.loop-i-test.true c.index-drafts-i.is c.loop-i.invariant.seen);
     }

@@ -1,5 +1,5 @@
 use Rattle.std.proofs.Common.{sym, ap, ◌∙◌}
-use Rattle.atl_world.proofs.SameLaws.{bare, same_maps, same_entries, same_rest, one_more}
+use Rattle.atl_world.proofs.SameLaws.{entries_without_markets, same_maps, same_entries, same_rest, same_with_first_entry}
 use Rattle.atl_world.proofs.same_worlds.are_same_regions.Goals as goal
 
 -- before the loop the lists of all regions of both maps are equal but for markets exactly if the maps are
@@ -7,8 +7,8 @@ pub loop-number-init : goal.loop-number-init
 loop-number-init c =
     let plans = c.args.plans.now in
     let others = c.args.others.now in
-    let mine = ap bare (c.into_iter-number-iterator.ensures.into_iter_gives ∙ c.iter-number-items.ensures) in
-    let theirs = ap bare c.iter-rest.ensures in
+    let mine = ap entries_without_markets (c.into_iter-number-iterator.ensures.into_iter_gives ∙ c.iter-number-items.ensures) in
+    let theirs = ap entries_without_markets c.iter-rest.ensures in
     record {
       whole = λ same. same_maps plans others (sym mine ∙ same ∙ theirs);
       part = λ same. mine ∙ same_entries plans others same ∙ sym theirs;
@@ -24,10 +24,10 @@ loop-number-preserved c =
     let q = c.in-Some-next.other.now in
     let es = c.next.new.self in
     let fs = c.next-in-loop-number.new.self in
-    let mine = ap bare c.in-Some.ensures.steps in
-    let theirs = ap bare c.in-Some-next.ensures.steps in
+    let mine = ap entries_without_markets c.in-Some.ensures.steps in
+    let theirs = ap entries_without_markets c.in-Some-next.ensures.steps in
     let plan = c.is_same_region.ensures.0 c.if-not-is_same_region.false in
     record {
-      whole = λ same. c.loop-number.invariant.whole (mine ∙ one_more k n p q es fs c.if-number-other_number.false plan same ∙ sym theirs);
+      whole = λ same. c.loop-number.invariant.whole (mine ∙ same_with_first_entry k n p q es fs c.if-number-other_number.false plan same ∙ sym theirs);
       part = λ same. same_rest k n p q es fs (sym mine ∙ c.loop-number.invariant.part same ∙ theirs);
     }

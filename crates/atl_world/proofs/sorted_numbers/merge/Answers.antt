@@ -48,7 +48,7 @@ loop-left-preserved c =
     ∙ ap (λ xs. get_or xs (own - 1) 0) (sym c.loop-left.invariant.kept) ∙ get_or-take own now (own - 1) 0 (omega (arith, some)) in
     let most : get_or now (own - 1) 0 ≤ n = not_above (0 < own) (get_or now (own - 1) 0) n c.if-is_last_above.ensures.1 some in
     less_apart first others (own - 1) (left - 1) c.requires.apart (omega (arith, some, size)) (omega arith) (omega (arith, is, most)) in
-    let under : Under (take own was) n = subst (λ xs. Under xs n) (take-take own c.args.own was c.loop-left.invariant.own) (under_last first own n c.requires.rising (omega (arith, size)) below) in
+    let under : Under (take own was) n = subst (λ xs. Under xs n) (take-take own c.args.own was c.loop-left.invariant.own) (under_last first own n c.requires.ascending (omega (arith, size)) below) in
     record {
       own = c.loop-left.invariant.own;
       left = omega arith;

@@ -4,7 +4,7 @@ use Rattle.std.specs.Set.{sorted_merge}
 use Rattle.atl_world.proofs.sorted_numbers.merge.Given as goal
 
 -- what is left of both lists, merged, followed by the numbers that are in place already, is both whole lists merged;
--- what is left of the first list stands where it stood
+-- what is left of the first list is where it was
 abbrev pub invariant-loop-left : goal.invariant-loop-left
 invariant-loop-left l = record {
   own : l.own ≤ l.fn.own;

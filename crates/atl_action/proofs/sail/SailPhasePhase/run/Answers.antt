@@ -1,8 +1,8 @@
 use Rattle.std.proofs.Common.{ap, subst, sym}
-use Rattle.atl_phase.specs.OrderEffects.{spares_others}
+use Rattle.atl_phase.specs.OrderEffects.{others_unaffected}
 use Rattle.atl_phase.specs.NoWorse.{IsUnchanged}
 use Rattle.atl_action.specs.Sail.{SailsWith, is_sailing}
-use Rattle.atl_action.proofs.SailLaws.{all_carried, sail_spares_others}
+use Rattle.atl_action.proofs.SailLaws.{all_carried, others_do_not_sail}
 use Rattle.atl_action.proofs.sail.SailPhasePhase.run.Goals as goal
 
 -- each unit at most went along, and a unit whose structure doesn't sail is unchanged (`sail_keeps`)
@@ -12,6 +12,6 @@ returns-clause-keeps c =
     let before = c.args.campaign.value in
     let m = c.args.month in (
       all_carried w m before _ c.in_ok-carry_out_orders.ensures.keeps,
-      subst (λ d. spares_others (SailsWith w before) IsUnchanged is_sailing w m before d) (sym (ap (λ p. p.0) c.in_ok-carry_out_orders.ensures.meaning))
-          (sail_spares_others w before m c.requires.needs),
+      subst (λ d. others_unaffected (SailsWith w before) IsUnchanged is_sailing w m before d) (sym (ap (λ p. p.0) c.in_ok-carry_out_orders.ensures.meaning))
+          (others_do_not_sail w before m c.requires.needs),
     )

@@ -4,6 +4,6 @@ use Rattle.atl_campaign.specs.FromRows.{as_u32}
 use Rattle.atl_campaign.proofs.GivingLaws.{units_given}
 use Rattle.atl_campaign.proofs.assembly.units.units_of.Goals as goal
 
--- the units of the rows, given the amounts of all rows of `has`, are those that units_of shall return
+-- units_of returns the units that the rows say, with the items and days that the rows of `has` give to them
 pub returns : goal.returns
 returns c = c.in_ok-put_things.ensures ∙ ap (with_rows_added (λ r. as_u32 r.unit) with_has_row c.args.has.now) c.in_ok-units.ensures ∙ units_given c.args.has.now c.args.rows.now

@@ -5,9 +5,9 @@ use Rattle.atl_records.specs.declared.books.BooksEntry.TheVariants.{Joining}
 use Rattle.atl_records.specs.declared.books.Thing.TheVariants.{Money, People}
 use Rattle.atl_campaign.specs.Marks.{amount_marked}
 use Rattle.atl_campaign.proofs.AmountMarkLaws.{fits_amount, more_marked}
-use Rattle.atl_campaign.proofs.UndoneLaws.{undone}
+use Rattle.atl_campaign.proofs.UndoneLaws.{insert_is_undone}
 use Rattle.atl_campaign.specs.Campaign.{CampaignValue, MarkedCampaign}
-use Rattle.atl_campaign.specs.Joining.{joined}
+use Rattle.atl_campaign.specs.Joining.{after_join}
 use Rattle.atl_campaign.proofs.JoinLaws.{joining_small}
 use Rattle.atl_campaign.proofs.campaign.Campaign.enroll.Goals as goal
 
@@ -30,7 +30,7 @@ returns-in-Err-clause-err c =
     let same = c.self-2.view_is ∙ c.in-Err.ensures.err in
     let inserted : c.self-2.inside.factions ≡ c.insert.new.self = ap (λ (m : MarkedCampaign). record { values = m.value.factions; marks = m.marks.factions }) same in
     let back =
-    undone c.self.inside.factions c.self-2.inside.factions c.take_out.new.self c.self.inside.next_faction c.in_ok-member.member c.is_marked-was_marked.result fresh c.is_marked-was_marked.ensures (inserted ∙ c.in_ok-insert.ensures.ok)
+    insert_is_undone c.self.inside.factions c.self-2.inside.factions c.take_out.new.self c.self.inside.next_faction c.in_ok-member.member c.is_marked-was_marked.result fresh c.is_marked-was_marked.ensures (inserted ∙ c.in_ok-insert.ensures.ok)
     c.take_out.ensures in
     rw back
     (ap (λ (m : MarkedCampaign). record { value = record m.value { factions = c.self.inside.factions.values }; marks = record m.marks { factions = c.self.inside.factions.marks } }) same ∙ c.self.view_is)
@@ -66,9 +66,9 @@ invariant_of-self-3 c =
           (more_marked things (record marks { numbers = amount_marked marks.numbers Joining Money }) Joining People (omega (arith, rows)) (more_marked things marks Joining Money (omega (arith, rows)) c.self-2.invariant.amounts));
     }
 
--- enroll makes the campaign that the definition `joined` gives
+-- enroll makes the campaign that the definition `after_join` gives
 pub returns-clause-ok : goal.returns-clause-ok
-unfolding joined
+unfolding after_join
 returns-clause-ok c =
     let back = ap (λ (m : MarkedCampaign). m.value) c.self-2.view_is ∙ c.in-Ok.ensures.ok in
     ap (λ (s : CampaignValue). record s { next_faction = c.self.inside.next_faction + 1; books = c.book_joining.new.books }) back

@@ -2,7 +2,7 @@ use Rattle.std.proofs.Common.{◌≡◌, ◌∷◌, [], map, sym, ap, ◌∙◌,
 use Rattle.std.proofs.lemmas.List.{append-nil, append_assoc}
 use Rattle.std.proofs.lemmas.Result.{IfOk-weaker}
 use Rattle.std.specs.FinMap.{entries, same_entries_map}
-use Rattle.atl_world.specs.Sums.{mapped}
+use Rattle.atl_world.specs.Sums.{map_values}
 use Rattle.atl_world.proofs.Maps.{entries-empty}
 use Rattle.atl_world.proofs.MappedLaws.{entries-mapped, insert_last}
 use Rattle.atl_campaign.specs.Regions.{unmarked_regions}
@@ -21,12 +21,12 @@ pub loop-number-preserved : goal.loop-number-preserved
 loop-number-preserved c =
     let so_far = rw c.in-Some.ensures.steps at c.loop-number.invariant in
     let region = founded_region c.in-Some.plan.now in
-    rw (c.in_ok-insert.ensures.ok, c.new.ensures, insert_last c.loop-number.regions (mapped founded_region c.args.plans.now) c.in-Some.number region (map (λ e. (e.0, founded_region e.1)) c.next.new.self) so_far)
+    rw (c.in_ok-insert.ensures.ok, c.new.ensures, insert_last c.loop-number.regions (map_values founded_region c.args.plans.now) c.in-Some.number region (map (λ e. (e.0, founded_region e.1)) c.next.new.self) so_far)
     (append_assoc (entries c.loop-number.regions) ((c.in-Some.number, region) ∷ []) (map (λ e. (e.0, founded_region e.1)) c.next.new.self) ∙ so_far)
 
 -- make_regions returns the regions of all plans, with nothing marked
 pub returns : goal.returns
 returns c =
     let none : c.loop-number.number-iterator ≡ [] = search rules in
-    let made = same_entries_map c.loop-number.regions (mapped founded_region c.args.plans.now) (sym (append-nil (entries c.loop-number.regions)) ∙ (rw none at c.loop-number.invariant)) in
-    IfOk-weaker c.unmarked_from.result (λ r. r ≡ unmarked_regions c.loop-number.regions) (λ r. r ≡ unmarked_regions (mapped founded_region c.args.plans.now)) (λ r is. is ∙ ap unmarked_regions made) c.unmarked_from.ensures
+    let made = same_entries_map c.loop-number.regions (map_values founded_region c.args.plans.now) (sym (append-nil (entries c.loop-number.regions)) ∙ (rw none at c.loop-number.invariant)) in
+    IfOk-weaker c.unmarked_from.result (λ r. r ≡ unmarked_regions c.loop-number.regions) (λ r. r ≡ unmarked_regions (map_values founded_region c.args.plans.now)) (λ r is. is ∙ ap unmarked_regions made) c.unmarked_from.ensures

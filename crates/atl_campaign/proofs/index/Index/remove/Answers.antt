@@ -3,38 +3,38 @@ use Rattle.std.specs.FinMap.{get, remove}
 use Rattle.atl_world.specs.SortedNumbers.{IsAt, BelongsAt}
 use Rattle.atl_campaign.specs.Index.{index_numbers}
 use Rattle.atl_campaign.specs.declared.index.IndexEntry.{IndexEntry}
-use Rattle.atl_campaign.proofs.IndexLaws.{as_map, get-stands, get-belongs, map-without, map-missing, rising-without}
+use Rattle.atl_campaign.proofs.IndexLaws.{as_map, get-at_index, get-belongs, map-without, map-missing, sorted-without}
 use Rattle.atl_campaign.proofs.index.Index.remove.Goals as goal
 
 -- once the entry is removed, the numbers of the entries still rise strictly
 pub invariant_of-self : goal.invariant_of-self
 invariant_of-self c =
-    let places = c.self.inside.places in
-    let stands : IsAt (index_numbers places) c.args.number c.in-Ok.place = rw c.as_slice-places.ensures at c.in-Ok.ensures.found in
-    rw c.remove.ensures (rising-without places c.args.number c.in-Ok.place c.self.invariant stands)
+    let entries = c.self.inside.entries in
+    let is_at : IsAt (index_numbers entries) c.args.number c.in-Ok.position = rw c.as_slice-entries.ensures at c.in-Ok.ensures.found in
+    rw c.remove.ensures (sorted-without entries c.args.number c.in-Ok.position c.self.invariant is_at)
 
 -- an index entry with number 0 and slot 0, the default of a look-up by an index that is never past the end
-abbrev none : IndexEntry
-none = record { number = 0; slot = 0 }
+abbrev default_entry : IndexEntry
+default_entry = record { number = 0; slot = 0 }
 
 -- where the number has an entry, remove returns the entry's slot, and the index no longer has the number
 pub returns-in-Ok : goal.returns-in-Ok
 returns-in-Ok c =
-    let places = c.self.inside.places in
+    let entries = c.self.inside.entries in
     let n = c.args.number in
-    let stands : IsAt (index_numbers places) n c.in-Ok.place = rw c.as_slice-places.ensures at c.in-Ok.ensures.found in
+    let is_at : IsAt (index_numbers entries) n c.in-Ok.position = rw c.as_slice-entries.ensures at c.in-Ok.ensures.found in
     record {
-      slot = ap (λ (ps : List IndexEntry). Some (get_or ps c.in-Ok.place none).slot) c.as_slice-places.ensures ∙ sym (get-stands places n c.in-Ok.place none c.self.invariant stands) ∙ ap (λ m. get m n) c.self.view_is;
-      taken = ap as_map c.remove.ensures ∙ map-without places n c.in-Ok.place c.self.invariant stands ∙ ap (λ m. remove m n) c.self.view_is;
+      slot = ap (λ (ps : List IndexEntry). Some (get_or ps c.in-Ok.position default_entry).slot) c.as_slice-entries.ensures ∙ sym (get-at_index entries n c.in-Ok.position default_entry c.self.invariant is_at) ∙ ap (λ m. get m n) c.self.view_is;
+      taken = ap as_map c.remove.ensures ∙ map-without entries n c.in-Ok.position c.self.invariant is_at ∙ ap (λ m. remove m n) c.self.view_is;
     }
 
 -- where the number has no entry, remove returns None, and the index stays as it is, which is without the number
 pub returns-in-Err : goal.returns-in-Err
 returns-in-Err c =
-    let places = c.self.inside.places in
+    let entries = c.self.inside.entries in
     let n = c.args.number in
-    let belongs : BelongsAt (index_numbers places) n c.in-Err.field-0 = rw c.as_slice-places.ensures at c.in-Err.ensures.missing in
+    let belongs : BelongsAt (index_numbers entries) n c.in-Err.field-0 = rw c.as_slice-entries.ensures at c.in-Err.ensures.missing in
     record {
-      slot = sym (get-belongs places n c.in-Err.field-0 c.self.invariant belongs) ∙ ap (λ m. get m n) c.self.view_is;
-      taken = sym c.self.view_is ∙ map-missing places n c.in-Err.field-0 c.self.invariant belongs ∙ ap (λ m. remove m n) c.self.view_is;
+      slot = sym (get-belongs entries n c.in-Err.field-0 c.self.invariant belongs) ∙ ap (λ m. get m n) c.self.view_is;
+      taken = sym c.self.view_is ∙ map-missing entries n c.in-Err.field-0 c.self.invariant belongs ∙ ap (λ m. remove m n) c.self.view_is;
     }

@@ -12,17 +12,17 @@ returns-in-Err-clause-err c units fresh is = record {
 }
 
 -- once the unit is in the lists of its region, faction and structure, the lists are those of the units with it
-pub returns-in-Ok-list_apart-clause-ok : goal.returns-in-Ok-list_apart-clause-ok
-returns-in-Ok-list_apart-clause-ok c units u own fresh is = record {
+pub returns-in-Ok-list_unless-clause-ok : goal.returns-in-Ok-list_unless-clause-ok
+returns-in-Ok-list_unless-clause-ok c units u own fresh is = record {
   regions = AreLists-came (λ v. v.region) units _ _ c.args.number c.args.listing.region u (ap (λ (l : ListKeys). l.region) own) fresh c.in_ok-list_number.ensures.ok is.regions;
   factions = AreLists-came (λ v. v.faction) units _ _ c.args.number c.args.listing.faction u (ap (λ (l : ListKeys). l.faction) own) fresh c.in-Ok.ensures.ok is.factions;
-  structures = AreInsideLists-came units _ _ c.args.number c.args.listing.structure u (ap (λ (l : ListKeys). l.structure) own) fresh c.in-Ok-list_apart.ensures.ok is.structures;
+  structures = AreInsideLists-came units _ _ c.args.number c.args.listing.structure u (ap (λ (l : ListKeys). l.structure) own) fresh c.in-Ok-list_unless.ensures.ok is.structures;
 }
 
 -- without memory for the structure's list the unit leaves the other two again: all lists are those without it
-pub returns-in-Err-list_apart-clause-err : goal.returns-in-Err-list_apart-clause-err
-returns-in-Err-list_apart-clause-err c units fresh is = record {
-  regions = AreLists-undone_at (λ v. v.region) units _ _ _ c.args.number c.args.listing.region c.in_ok-list_number.ensures.ok c.unlist_number-in-Err-list_apart.ensures is.regions;
-  factions = AreLists-undone_at (λ v. v.faction) units _ _ _ c.args.number c.args.listing.faction c.in-Ok.ensures.ok c.unlist_number-in-Err-list_apart-2.ensures is.factions;
-  structures = rw c.in-Err-list_apart.ensures.err is.structures;
+pub returns-in-Err-list_unless-clause-err : goal.returns-in-Err-list_unless-clause-err
+returns-in-Err-list_unless-clause-err c units fresh is = record {
+  regions = AreLists-undone_at (λ v. v.region) units _ _ _ c.args.number c.args.listing.region c.in_ok-list_number.ensures.ok c.unlist_number-in-Err-list_unless.ensures is.regions;
+  factions = AreLists-undone_at (λ v. v.faction) units _ _ _ c.args.number c.args.listing.faction c.in-Ok.ensures.ok c.unlist_number-in-Err-list_unless-2.ensures is.factions;
+  structures = rw c.in-Err-list_unless.ensures.err is.structures;
 }

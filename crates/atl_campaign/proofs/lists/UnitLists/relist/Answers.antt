@@ -6,7 +6,7 @@ use Rattle.atl_campaign.proofs.lists.UnitLists.relist.Goals as goal
 -- without memory for the structure's list the unit leaves its new region's list again, so each list is as it was
 pub returns-in-Err-clause-err : goal.returns-in-Err-clause-err
 returns-in-Err-clause-err c units is = record {
-  regions = AreLists-apart (λ v. v.region) units _ _ _ c.args.number c.args.to.region c.args.from.region c.in_ok-list_apart.ensures.ok c.unlist_apart.ensures is.regions;
+  regions = AreLists-apart (λ v. v.region) units _ _ _ c.args.number c.args.to.region c.args.from.region c.in_ok-list_unless.ensures.ok c.unlist_unless.ensures is.regions;
   factions = is.factions;
   structures = rw c.in-Err.ensures.err is.structures;
 }
@@ -14,7 +14,7 @@ returns-in-Err-clause-err c units is = record {
 -- once the unit is moved, the lists by region, faction and structure are those of the units with its new keys
 pub returns-clause-ok : goal.returns-clause-ok
 returns-clause-ok c units u v own goes there is = record {
-  regions = AreLists-relisted (λ w. w.region) units _ _ _ c.args.number c.args.from.region c.args.to.region u v there (ap (λ (l : ListKeys). l.region) own) (ap (λ (l : ListKeys). l.region) goes) c.in_ok-list_apart.ensures.ok c.unlist_apart-2.ensures is.regions;
+  regions = AreLists-relisted (λ w. w.region) units _ _ _ c.args.number c.args.from.region c.args.to.region u v there (ap (λ (l : ListKeys). l.region) own) (ap (λ (l : ListKeys). l.region) goes) c.in_ok-list_unless.ensures.ok c.unlist_unless-2.ensures is.regions;
   factions = AreLists-kept (λ w. w.faction) units _ c.args.number u v there (ap (λ (l : ListKeys). l.faction) own ∙ sym c.requires ∙ sym (ap (λ (l : ListKeys). l.faction) goes)) is.factions;
   structures = AreInsideLists-relisted units _ _ c.args.number c.args.from.structure c.args.to.structure u v there (ap (λ (l : ListKeys). l.structure) own) (ap (λ (l : ListKeys). l.structure) goes) c.in-Ok.ensures.ok is.structures;
 }

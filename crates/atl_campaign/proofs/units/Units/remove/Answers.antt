@@ -4,7 +4,7 @@ use Rattle.std.specs.Ordering.{nat_cmp}
 use Rattle.atl_world.proofs.TrackLaws.{fits-marked, remove_none}
 use Rattle.atl_records.specs.declared.records.Unit.{Unit}
 use Rattle.atl_campaign.specs.Roster.{Roster, without_unit_found}
-use Rattle.atl_campaign.proofs.IndexLaws.{nothing}
+use Rattle.atl_campaign.proofs.IndexLaws.{not_some_is_none}
 use Rattle.atl_campaign.proofs.UnitLaws.{AreUnits-gone}
 use Rattle.atl_campaign.proofs.units.Units.remove.Goals as goal
 
@@ -31,7 +31,7 @@ invariant_of-self c =
 -- (AreUnits)
 pub invariant_of-self-else-remove : goal.invariant_of-self-else-remove
 invariant_of-self-else-remove c =
-    let none = nothing (get c.self.inside.units c.args.number) (sym c.if-remove.ensures.there) in
+    let none = not_some_is_none (get c.self.inside.units c.args.number) (sym c.if-remove.ensures.there) in
     rw (c.if-remove.ensures.taken, remove_none c.self.inside.units c.args.number none) c.self.invariant
 
 -- where no unit has the given number, remove changes nothing, as without_unit_at defines
@@ -39,7 +39,7 @@ pub returns-else-remove : goal.returns-else-remove
 returns-else-remove c =
     let units = c.self.inside.units in
     let n = c.args.number in
-    let none = nothing (get units n) (sym c.if-remove.ensures.there) in
+    let none = not_some_is_none (get units n) (sym c.if-remove.ensures.there) in
     let absent : get c.args.self.now.values n ≡ None = ap (λ (r : Roster). get r.values n) (sym c.self.view_is) ∙ none in
     ap (λ (left : FinMap nat_cmp Unit). record { values = left; marks = c.self.inside.marks.numbers; rows = c.self.inside.rows.numbers; goods = c.self.inside.goods.numbers; items = c.self.inside.items; skills = c.self.inside.skills }) (c.if-remove.ensures.taken ∙ remove_none units n none)
     ∙ c.self.view_is ∙ sym (ap (without_unit_found c.args.self.now n) absent)

@@ -6,7 +6,7 @@ use Rattle.atl_campaign.specs.Campaign.{CampaignValue}
 use Rattle.atl_campaign.proofs.CoverLaws.{marks-refl, marks-trans}
 use Rattle.atl_phase.specs.Month.{MonthValue}
 use Rattle.atl_phase.specs.Bounds.{StepsWell, nothing_remaining}
-use Rattle.atl_phase.proofs.FoldLaws.{fold_behind, fold_ended}
+use Rattle.atl_phase.proofs.FoldLaws.{fold_after_step, fold_ended}
 use Rattle.atl_phase.proofs.OrderEffectLaws.{leaves_well, well_same, well_twice}
 use Rattle.atl_instant.proofs.FormLaws.{all_formed, free_number, order_stays, order_well}
 use Rattle.atl_instant.proofs.form.FormPhasePhase.run.Goals as goal
@@ -44,7 +44,7 @@ loop-order-preserved c =
     let what = ap (λ (p : CampaignValue × MonthValue). p.0) c.in_ok-form_one.ensures.step in
     let early = c.loop-order.invariant.well.holds_still in
     record {
-      orders = fold_behind form_by_copy xs i none before c.loop-order-test.true step c.loop-order.invariant.orders;
+      orders = fold_after_step form_by_copy xs i none before c.loop-order-test.true step c.loop-order.invariant.orders;
       readings = ap (λ (p : CampaignValue × MonthValue). p.1.readings) step ∙ c.loop-order.invariant.readings;
       well = well_twice w old now _ c.loop-order.invariant.well (subst (λ d. StepsWell IsEarly nothing_remaining w now d) (sym what) (order_well w now early c.loop-order.month o));
       stays = λ n u there. subst (λ (d : CampaignValue). get d.units n ≡ Some u) (sym what) (order_stays w now early c.loop-order.month o n u (c.loop-order.invariant.stays n u there));

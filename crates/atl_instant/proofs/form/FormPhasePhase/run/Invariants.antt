@@ -8,8 +8,8 @@ use Rattle.atl_phase.specs.Bounds.{StepsWell, nothing_remaining}
 use Rattle.atl_instant.proofs.form.FormPhasePhase.run.Given as goal
 use Rattle.atl_instant.specs.Forming.{form_by_copy}
 
--- carrying out the copied orders still to come gives what carrying out all of them gives; the campaign so far is early
--- and in balance, each unit that was there and the readings are unchanged, and all changes are marked
+-- Carrying out the copied orders still to come gives what carrying out all of them gives. The campaign so far is early
+-- and in balance, each unit that was there and the readings are unchanged, and all changes are marked.
 abbrev pub invariant-loop-order : goal.invariant-loop-order
 invariant-loop-order l = record {
   orders : fold form_by_copy (l.campaign.value, l.month) (drop l.order-index l.order-items) ≡ fold form_by_copy (l.fn.campaign.value, l.fn.month) l.order-items;

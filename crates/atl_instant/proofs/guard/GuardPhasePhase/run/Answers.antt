@@ -11,9 +11,9 @@ use Rattle.atl_phase.specs.NoWorse.{IsNoWorse}
 use Rattle.atl_phase.specs.declared.phase_order.PhaseOrder.{PhaseOrder}
 use Rattle.atl_phase.specs.OrderEffects.{AreUnaffected, meaning_by_orders, one_order}
 use Rattle.atl_phase.specs.Bounds.{StepsWell, nothing_remaining}
-use Rattle.atl_phase.proofs.FoldLaws.{each_mapped, fold_behind, fold_ended, fold_mapped}
-use Rattle.atl_phase.proofs.OrderEffectLaws.{leaves_well, order_well, orders_fit, orders_spare, well_same, well_twice}
-use Rattle.atl_instant.specs.Guard.{guard_concerns, guard_step, is_guarding}
+use Rattle.atl_phase.proofs.FoldLaws.{each_mapped, fold_after_step, fold_ended, fold_mapped}
+use Rattle.atl_phase.proofs.OrderEffectLaws.{leaves_well, order_well, orders_fit, orders_leave_others, well_same, well_twice}
+use Rattle.atl_instant.specs.Guard.{guard_affects, guard_step, is_guarding}
 use Rattle.atl_instant.specs.RegionGuards.{AreRegionGuards}
 use Rattle.atl_instant.proofs.GuardingLaws.{guard_orderly}
 use Rattle.atl_instant.proofs.RegionGuardLaws.{holders_are}
@@ -47,7 +47,7 @@ loop-order-preserved c =
     c.loop-order.order-index o c.loop-order-test.true) in
     let well = order_well guard_step guard_orderly w m.aliases now (task_of o) c.loop-order.invariant.well.holds_still fit in
     record {
-      orders = fold_behind one xs c.loop-order.order-index o before c.loop-order-test.true (step ∙ ap (one before) c.order-item.is) c.loop-order.invariant.orders;
+      orders = fold_after_step one xs c.loop-order.order-index o before c.loop-order-test.true (step ∙ ap (one before) c.order-item.is) c.loop-order.invariant.orders;
       well = well_twice w c.args.campaign.value now _ c.loop-order.invariant.well (subst (StepsWell IsSteady nothing_remaining w now) (sym (ap (λ (p : CampaignValue × MonthValue). p.0) step)) well);
       held = c.in_ok-guard_one.ensures.held;
       marks = marks-trans c.args.campaign c.loop-order.campaign _ c.loop-order.invariant.marks c.in_ok-guard_one.ensures.marks;
@@ -84,8 +84,8 @@ returns-clause-keeps c =
     let w = c.args._world.now in
     let m = c.args.month in
     let ts = orders_by_unit is_guarding m in
-    subst (λ d. AreUnaffected guard_concerns IsNoWorse ts c.args.campaign.value d) (sym (ap (λ p. p.0) (returns-clause-meaning c)))
-    (orders_spare guard_step guard_orderly w c.args.campaign.value m ts c.requires.needs (orders_fit w m.aliases m.readings c.requires.read is_guarding))
+    subst (λ d. AreUnaffected guard_affects IsNoWorse ts c.args.campaign.value d) (sym (ap (λ p. p.0) (returns-clause-meaning c)))
+    (orders_leave_others guard_step guard_orderly w c.args.campaign.value m ts c.requires.needs (orders_fit w m.aliases m.readings c.requires.read is_guarding))
 
 -- all that the phase of GUARD 1 changes is marked
 pub returns-clause-marks : goal.returns-clause-marks

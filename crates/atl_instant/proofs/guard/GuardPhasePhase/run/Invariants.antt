@@ -10,8 +10,8 @@ use Rattle.atl_instant.specs.Guard.{guard_step}
 use Rattle.atl_instant.specs.RegionGuards.{AreRegionGuards}
 use Rattle.atl_instant.proofs.guard.GuardPhasePhase.run.Given as goal
 
--- carrying out the orders still to come gives what carrying out all of them gives; the campaign so far is steady and in
--- balance, the map has the factions that guard in it, and all changes are marked
+-- Carrying out the orders still to come gives what carrying out all of them gives. The campaign so far is steady and in
+-- balance, the map has the factions that guard in it, and all changes are marked.
 abbrev pub invariant-loop-order : goal.invariant-loop-order
 invariant-loop-order l = record {
   orders : fold (λ p o. one_order guard_step l._world p (task_of o)) (l.campaign.value, with_events l.fn.month l.events.items) (drop l.order-index l.order-items)

@@ -1,6 +1,6 @@
 use Rattle.std.proofs.Common.{ap, subst, sym}
 use Rattle.atl_instant.specs.Quit.{quit_keeps}
-use Rattle.atl_instant.proofs.QuitLaws.{quit_spares_others}
+use Rattle.atl_instant.proofs.QuitLaws.{quit_leaves_others}
 use Rattle.atl_instant.proofs.quit.QuitPhasePhase.run.Goals as goal
 
 -- a unit is no worse off after the phase of QUIT, unless its faction quits (`quit_keeps`)
@@ -9,4 +9,4 @@ returns-clause-keeps c =
     let w = c.args.world.now in
     let before = c.args.campaign.value in
     let m = c.args.month in
-    subst (λ d. quit_keeps w m before d) (sym (ap (λ p. p.0) c.in_ok-carry_out_orders.ensures.meaning)) (quit_spares_others w before m c.requires.needs c.requires.read)
+    subst (λ d. quit_keeps w m before d) (sym (ap (λ p. p.0) c.in_ok-carry_out_orders.ensures.meaning)) (quit_leaves_others w before m c.requires.needs c.requires.read)

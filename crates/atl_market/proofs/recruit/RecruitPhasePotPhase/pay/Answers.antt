@@ -10,9 +10,9 @@ use Rattle.atl_campaign.specs.Lending.{with_holding_at}
 use Rattle.atl_campaign.proofs.CoverLaws.{marks-region, marks-trans}
 use Rattle.atl_phase.proofs.ChangeLaws.{changed_held, men_changes, money_changes, then_changes}
 use Rattle.atl_phase.proofs.MarkLaws.{booked_marks, marks_by}
-use Rattle.atl_phase.proofs.MeaningLaws.{less_room}
+use Rattle.atl_phase.proofs.MeaningLaws.{amount_room_for_less}
 use Rattle.atl_market.specs.Recruit.{with_paid_recruits}
-use Rattle.atl_market.proofs.RecruitLaws.{recruited_is, recruited_to}
+use Rattle.atl_market.proofs.RecruitLaws.{recruited_is, with_recruits_booked}
 use Rattle.atl_market.proofs.recruit.RecruitPhasePotPhase.pay.Goals as goal
 
 -- pay may call book_taken: money is one of the things that the books have
@@ -29,7 +29,7 @@ book_taken-requires-clause-room c =
     let cost = c.args.share * c.rules.result.now.recruit_price in
     let price : c.rules.result.now.recruit_price ≡ c.args.world.now.rules.recruit_price = search rules in
     let little : cost ≤ holding_limit = rw price (omega (arith, can.payable, (can.early.steady.numbers.units c.args.number can.at.unit can.at.there).1.money)) in
-    rw books (less_room cost holding_limit (amount_in c.args.campaign.now.value.books Recruiting Money) little (can.room Recruiting Money))
+    rw books (amount_room_for_less cost holding_limit (amount_in c.args.campaign.now.value.books Recruiting Money) little (can.room Recruiting Money))
 
 -- the recruits join the unit, leave its region, and their price is paid and booked (`after_recruiting`)
 pub returns-clause-what : goal.returns-clause-what
@@ -47,7 +47,7 @@ returns-clause-what c =
     rw (← c.men.ensures.value, ← c.money.ensures.value) (changed_held _ old.value c.set_money.new.self.value n set.value u there) in
     c.book_taken.ensures.what
     ∙ ap (λ (d : CampaignValue). with_booking d Recruiting Money (neg_ℤ (pos cost))) (c.set_peasants.ensures.what ∙ ap (λ (d : CampaignValue). with_peasants d u.region (q.peasants - c.args.share)) held)
-    ∙ ap (λ (p : ℕ). recruited_to old.value n u q c.args.share (c.args.share * p)) price ∙ sym (recruited_is c.args.world.now old.value (n, c.args.share) u q there around)
+    ∙ ap (λ (p : ℕ). with_recruits_booked old.value n u q c.args.share (c.args.share * p)) price ∙ sym (recruited_is c.args.world.now old.value (n, c.args.share) u q there around)
 
 -- all that pay changes is marked: the unit's men and money, the region's peasants, and what is booked
 pub returns-clause-marks : goal.returns-clause-marks

@@ -1,17 +1,17 @@
 use Rattle.std.proofs.Common.{subst, sym}
 use Rattle.atl_phase.specs.Fit.{AreFit}
 use Rattle.atl_campaign.proofs.CoverLaws.{marks-trans}
-use Rattle.atl_phase.proofs.MeaningLaws.{both_keep_well, both_leave_well, room_behind}
+use Rattle.atl_phase.proofs.MeaningLaws.{both_keep_well, both_leave_well, room_for_second}
 use Rattle.atl_phase.proofs.phase.Tuple2Phase.run.Goals as goal
 
 -- the books have room for the second phase after the first
 pub run-requires-2-clause-room : goal.run-requires-2-clause-room
-run-requires-2-clause-room g c = room_behind g.P.Phase.moving g.Q.Phase.moving c.args.world.now c.args.campaign.value c.in_ok-campaign.campaign.value c.in_ok-campaign.ensures.leaves c.requires.room
+run-requires-2-clause-room g c = room_for_second g.P.Phase.book_bound g.Q.Phase.book_bound c.args.world.now c.args.campaign.value c.in_ok-campaign.campaign.value c.in_ok-campaign.ensures.leaves c.requires.room
 
 -- after two phases in turn the second one's condition holds, month and balance are kept, and each amount has moved by
 -- at most the sum of its two bounds (`LeavesWell`)
 pub returns-clause-leaves : goal.returns-clause-leaves
-returns-clause-leaves g c = both_leave_well g.P.Phase.moving g.Q.Phase.moving c.args.world.now c.args.campaign.value c.in_ok-campaign.campaign.value c.in_ok-campaign-2.campaign.value c.in_ok-campaign.ensures.leaves c.in_ok-campaign-2.ensures.leaves
+returns-clause-leaves g c = both_leave_well g.P.Phase.book_bound g.Q.Phase.book_bound c.args.world.now c.args.campaign.value c.in_ok-campaign.campaign.value c.in_ok-campaign-2.campaign.value c.in_ok-campaign.ensures.leaves c.in_ok-campaign-2.ensures.leaves
 
 -- what both phases change is marked
 pub returns-clause-marks : goal.returns-clause-marks

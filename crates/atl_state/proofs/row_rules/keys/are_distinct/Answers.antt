@@ -3,7 +3,7 @@ use Rattle.std.specs.List.{list_any, IsDistinct}
 use Rattle.std.specs.Ordering.{eq_by_cmp}
 use Rattle.std.proofs.lemmas.Bool.{false≢true}
 use Rattle.std.proofs.lemmas.Map.Keys.{IsDistinct-from_sorted}
-use Rattle.atl_campaign.proofs.KeyLaws.{stands_twice, still_apart, seen_more}
+use Rattle.atl_campaign.proofs.KeyLaws.{is_twice, still_apart, seen_more}
 use Rattle.atl_state.proofs.row_rules.keys.are_distinct.Goals as goal
 
 -- if r is `not b` and false, b is true: a value that `insert` doesn't call new was in the set before
@@ -32,7 +32,7 @@ returns-then-not-branch g c = (
   λ apart.
       let x = c.key-item.result in
       let twice = sym (c.loop-key.invariant.seen x) ∙ not_new _ _ c.in_ok-insert.ensures.added c.if-not-branch.true in
-      absurd (stands_twice g.met.K.Ord.total c.args.keys.now c.loop-key.key-index x c.loop-key-test.true c.key-item.is twice apart),
+      absurd (is_twice g.met.K.Ord.total c.args.keys.now c.loop-key.key-index x c.loop-key-test.true c.key-item.is twice apart),
 )
 
 -- after a value that wasn't in the set, the set has this value and those before it, and they are distinct

@@ -2,11 +2,11 @@ use Rattle.std.proofs.Common.{rules}
 use Rattle.atl_state.proofs.rules.known.are_known.Goals as goal
 
 -- if regions, stocks, units and structures keep rule 4, are_known returns whether all mail and reports keep it
-pub returns-then-are_things_known : goal.returns-then-are_things_known
-returns-then-are_things_known c = (
+pub returns-then-are_stocks_units_and_structures_known : goal.returns-then-are_stocks_units_and_structures_known
+returns-then-are_stocks_units_and_structures_known c = (
   λ r.
-      let things = c.are_things_known.ensures.0 (search rules) in
-      let posts = c.are_posts_known.ensures.0 r in
+      let things = c.are_stocks_units_and_structures_known.ensures.0 (search rules) in
+      let posts = c.are_mail_and_reports_known.ensures.0 r in
       record { regions = things.0.0; markets = things.0.1; units = things.1.0; structures = things.1.1; posts = posts },
-  λ known. c.are_posts_known.ensures.1 known.posts,
+  λ known. c.are_mail_and_reports_known.ensures.1 known.posts,
 )

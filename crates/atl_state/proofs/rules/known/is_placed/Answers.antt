@@ -3,11 +3,11 @@ use Rattle.atl_state.proofs.rules.known.is_placed.Goals as goal
 
 -- If a unit's faction and region exist, is_placed returns whether its items and skills exist, and its structure is 0 or
 -- exists in its region.
-pub returns-then-is_somewhere : goal.returns-then-is_somewhere
-returns-then-is_somewhere c = (
+pub returns-then-has_known_faction_and_region : goal.returns-then-has_known_faction_and_region
+returns-then-has_known_faction_and_region c = (
   λ r.
-      let somewhere = c.is_somewhere.ensures.0 (search rules) in
-      let home = c.has_known_goods.ensures.0 r in
+      let somewhere = c.has_known_faction_and_region.ensures.0 (search rules) in
+      let home = c.has_known_goods_and_structure.ensures.0 r in
       record { faction = somewhere.0; region = somewhere.1; structure = home.0; items = home.1.0; skills = home.1.1 },
-  λ placed. c.has_known_goods.ensures.1 (placed.structure, (placed.items, placed.skills)),
+  λ placed. c.has_known_goods_and_structure.ensures.1 (placed.structure, (placed.items, placed.skills)),
 )

@@ -9,8 +9,8 @@ pub returns-then-are_between : goal.returns-then-are_between
 returns-then-are_between c =
     let what = c.args.campaign.now.value in
     let within = rw (c.structures.ensures, c.next_structure-next.ensures) at c.are_between.ensures in
-    let behind = rw (c.structure_count.ensures, c.next_structure-next.ensures) at c.is_next_above.ensures in
-    (λ r. numbered what.structures what.next_structure (within.0 (search rules)) (behind.0 r), λ is. behind.1 is.count)
+    let after = rw (c.structure_count.ensures, c.next_structure-next.ensures) at c.is_next_above.ensures in
+    (λ r. numbered what.structures what.next_structure (within.0 (search rules)) (after.0 r), λ is. after.1 is.count)
 
 -- if a number of the structures is 0, or not below the next number, are_structures_numbered returns false
 pub returns-else-are_between : goal.returns-else-are_between

@@ -17,8 +17,8 @@ abbrev AreWithOwners : CampaignValue → Type 0
 AreWithOwners c = Every (λ m u. (s : Structure) → get c.structures u.structure ≡ Some s → s.owner ≢ 0) c.units
 
 -- if each owner is a unit inside or 0, and no unit is inside an ownerless structure, owners keep their rule (AreOwned)
-together : (c : CampaignValue) → AreOwnersInside c → AreWithOwners c → AreOwned c
-together c owned with n s is = record {
+owners_keep_their_rule : (c : CampaignValue) → AreOwnersInside c → AreWithOwners c → AreOwned c
+owners_keep_their_rule c owned with n s is = record {
   owned = (owned n s is).owned;
   ownerless = λ none m u there same. with m u there s (ap (get c.structures) same ∙ is) none;
 }
@@ -35,7 +35,7 @@ are_with_owners c all m u there s is none = (all u.structure s is).ownerless non
 pub returns-then-are_owners_inside : goal.returns-then-are_owners_inside
 returns-then-are_owners_inside c =
     let what = c.args.campaign.now.value in
-    (λ r. together what (c.are_owners_inside.ensures.0 (search rules)) (c.are_with_owners.ensures.0 r), λ all. c.are_with_owners.ensures.1 (are_with_owners what all))
+    (λ r. owners_keep_their_rule what (c.are_owners_inside.ensures.0 (search rules)) (c.are_with_owners.ensures.0 r), λ all. c.are_with_owners.ensures.1 (are_with_owners what all))
 
 -- if an owner is neither nobody nor a unit inside, are_owned returns false
 pub returns-else-are_owners_inside : goal.returns-else-are_owners_inside

@@ -17,8 +17,8 @@ returns-in_ok-some-in-First g c =
     let old = c.args.conn.now in
     let new = c.read_all.new.conn in
     reads_by g.S.Store g.X.AllRows.selects g.Y.AllRows.selects (λ x. g.X.AllRows.rows x.0 ++ g.Y.AllRows.rows x.1) old new (Ok c.zip.result) c.args.format First c.in-First.is
-    (reads_first g.S.Store g.X.AllRows.selects g.X.AllRows.rows g.Y.AllRows.rows old new c.read_all.result c.read_all.ensures c.in_ok-some-in-First.some c.in_ok-some-in-First.was c.none.result c.none.ensures
-    (λ a. g.met.X.AllRows.of_parts a ∙ c.requires.some) (g.met.Y.AllRows.of_parts c.none.result ∙ c.requires.others) c.zip.result c.zip.ensures)
+    (reads_first g.S.Store g.X.AllRows.selects g.X.AllRows.rows g.Y.AllRows.rows old new c.read_all.result c.read_all.ensures c.in_ok-some-in-First.some c.in_ok-some-in-First.was c.without_rows.result c.without_rows.ensures
+    (λ a. g.met.X.AllRows.of_parts a ∙ c.requires.some) (g.met.Y.AllRows.of_parts c.without_rows.result ∙ c.requires.others) c.zip.result c.zip.ensures)
 
 -- in the second format, all rows of the tables of `X` and of `Y` are the rows of the format (`AreOfFormat`)
 pub returns-in-Second : goal.returns-in-Second

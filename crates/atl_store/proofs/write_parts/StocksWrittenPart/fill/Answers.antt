@@ -1,6 +1,6 @@
 use Rattle.atl_sql.specs.Tables.{Markets}
 use Rattle.atl_sql.specs.Rows.{MarketRowsOf}
-use Rattle.atl_store.specs.GroupedRows.{region_lines}
+use Rattle.atl_store.specs.GroupedRows.{region_stock_lines}
 use Rattle.atl_store.specs.Filling.{FillsPart}
 use Rattle.atl_store.specs.OwnStatements.{puts_row}
 use Rattle.atl_store.proofs.FillLaws.{groups_fill}
@@ -17,5 +17,5 @@ pub returns : goal.returns
 returns g c =
     let campaign = c.args.campaign.now.value in
     let regions = campaign.regions in
-    done_as g.S.Store (λ old new did. in_turn_one (FillsPart campaign) Markets old new (groups_fill campaign Markets region_lines 1 regions (λ own. stocks_grouped regions) _ c.regions.ensures old new did))
-    (among_each g.S.Store _ _ (λ row there. puts_row Markets (λ own. groups_rows region_lines 1 regions (MarketRowsOf regions) (stocks_grouped regions) _ c.regions.ensures row there)) c.put_all_stocks.ensures)
+    done_as g.S.Store (λ old new did. in_turn_one (FillsPart campaign) Markets old new (groups_fill campaign Markets region_stock_lines 1 regions (λ own. stocks_grouped regions) _ c.regions.ensures old new did))
+    (among_each g.S.Store _ _ (λ row there. puts_row Markets (λ own. groups_rows region_stock_lines 1 regions (MarketRowsOf regions) (stocks_grouped regions) _ c.regions.ensures row there)) c.put_all_stocks.ensures)

@@ -1,6 +1,6 @@
 use Rattle.atl_sql.specs.Tables.{Goods}
 use Rattle.atl_sql.specs.Rows.{HasRowsOf}
-use Rattle.atl_store.specs.GroupedRows.{unit_lines}
+use Rattle.atl_store.specs.GroupedRows.{unit_goods_lines}
 use Rattle.atl_store.specs.Filling.{FillsPart}
 use Rattle.atl_store.specs.OwnStatements.{puts_row}
 use Rattle.atl_store.proofs.FillLaws.{groups_fill}
@@ -17,5 +17,5 @@ pub returns : goal.returns
 returns g c =
     let campaign = c.args.campaign.now.value in
     let units = campaign.units in
-    done_as g.S.Store (λ old new did. in_turn_one (FillsPart campaign) Goods old new (groups_fill campaign Goods unit_lines 2 units (λ own. goods_grouped units) _ c.units.ensures old new did))
-    (among_each g.S.Store _ _ (λ row there. puts_row Goods (λ own. groups_rows unit_lines 2 units (HasRowsOf units) (goods_grouped units) _ c.units.ensures row there)) c.put_all_goods.ensures)
+    done_as g.S.Store (λ old new did. in_turn_one (FillsPart campaign) Goods old new (groups_fill campaign Goods unit_goods_lines 2 units (λ own. goods_grouped units) _ c.units.ensures old new did))
+    (among_each g.S.Store _ _ (λ row there. puts_row Goods (λ own. groups_rows unit_goods_lines 2 units (HasRowsOf units) (goods_grouped units) _ c.units.ensures row there)) c.put_all_goods.ensures)

@@ -1,6 +1,6 @@
 use Rattle.std.proofs.Common.{refl}
 use Rattle.atl_sql.specs.Tables.{Units}
-use Rattle.atl_sql.specs.Rows.{unit_line}
+use Rattle.atl_sql.specs.Rows.{row_of_unit}
 use Rattle.atl_store.specs.Filling.{FillsPart}
 use Rattle.atl_store.proofs.EntryLaws.{lines_rows}
 use Rattle.atl_store.proofs.KeptLaws.{puts_line, kept_filled}
@@ -14,5 +14,5 @@ use Rattle.atl_store.proofs.write_parts.UnitRowsWrittenPart.fill.Goals as goal
 pub returns : goal.returns
 returns g c =
     let campaign = c.args.campaign.now.value in
-    done_as g.S.Store (λ old new did. in_turn_one (FillsPart campaign) Units old new (kept_filled Units unit_line (λ c. c.units) (λ own c r. (λ is. is, λ is. is)) (λ n v. refl) campaign _ c.units.ensures old new did))
-    (among_each g.S.Store _ _ (λ row there. puts_line Units unit_line (λ c. c.units) (λ own c r. (λ is. is, λ is. is)) refl campaign row (lines_rows unit_line _ _ c.units.ensures row there)) c.put_units.ensures)
+    done_as g.S.Store (λ old new did. in_turn_one (FillsPart campaign) Units old new (kept_filled Units row_of_unit (λ c. c.units) (λ own c r. (λ is. is, λ is. is)) (λ n v. refl) campaign _ c.units.ensures old new did))
+    (among_each g.S.Store _ _ (λ row there. puts_line Units row_of_unit (λ c. c.units) (λ own c r. (λ is. is, λ is. is)) refl campaign row (lines_rows row_of_unit _ _ c.units.ensures row there)) c.put_units.ensures)

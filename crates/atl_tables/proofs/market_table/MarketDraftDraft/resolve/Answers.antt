@@ -1,13 +1,13 @@
 use Rattle.std.proofs.Common.{refl}
 use Rattle.atl_tables.specs.MarketTable.{market_known, market_of}
-use Rattle.atl_tables.proofs.FaultLaws.{gives_error, stops_here}
+use Rattle.atl_tables.proofs.FaultLaws.{gives_error, error_of_condition_is_of_list}
 use Rattle.atl_tables.proofs.market_table.MarketDraftDraft.resolve.Goals as goal
 
 -- an error in looking up the market's item is the fault UnknownName of the definition (`market_known`), or Memory
 pub returns-in_err-item-clause-value : goal.returns-in_err-item-clause-value
 unfolding market_known market_of
 returns-in_err-item-clause-value c =
-    gives_error _ _ _ _ _ c.from_residual.ensures.1 (stops_here c.in_err-item.field-0.0 _ _ (rw (c.as_str-at.ensures, c.as_slice.ensures) at c.in_err-item.ensures.value))
+    gives_error _ _ _ _ _ c.from_residual.ensures.1 (error_of_condition_is_of_list c.in_err-item.field-0.0 _ _ (rw (c.as_str-at.ensures, c.as_slice.ensures) at c.in_err-item.ensures.value))
 
 -- if the item is found, no condition is broken, and the market is the one that the table describes (`market_of`)
 pub returns-clause-value : goal.returns-clause-value

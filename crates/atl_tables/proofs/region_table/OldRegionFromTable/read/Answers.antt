@@ -1,12 +1,12 @@
 use Rattle.std.proofs.Common.{refl}
 use Rattle.atl_tables.specs.RegionTable.{old_region_keys, old_region_from}
-use Rattle.atl_tables.proofs.FaultLaws.{gives_error, stops_here}
+use Rattle.atl_tables.proofs.FaultLaws.{gives_error, error_of_condition_is_of_list}
 use Rattle.atl_tables.proofs.region_table.OldRegionFromTable.read.Goals as goal
 
 -- an error in reading the basics is the first fault of the region's keys (`old_region_keys`), or Memory
 pub returns-in_err-basics-clause-value : goal.returns-in_err-basics-clause-value
 unfolding old_region_keys old_region_from
-returns-in_err-basics-clause-value c = gives_error _ _ _ _ _ c.from_residual.ensures.1 (stops_here c.in_err-basics.field-0.0 _ _ c.in_err-basics.ensures.value)
+returns-in_err-basics-clause-value c = gives_error _ _ _ _ _ c.from_residual.ensures.1 (error_of_condition_is_of_list c.in_err-basics.field-0.0 _ _ c.in_err-basics.ensures.value)
 
 -- an error in reading the sides is the first fault of the region's keys (`old_region_keys`), or Memory
 pub returns-in_err-sides-clause-value : goal.returns-in_err-sides-clause-value

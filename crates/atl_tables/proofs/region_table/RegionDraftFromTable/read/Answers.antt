@@ -1,13 +1,13 @@
 use Rattle.std.proofs.Common.{refl, ap}
 use Rattle.atl_tables.specs.RegionTable.{old_region_from, region_keys, region_from}
 use Rattle.atl_tables.specs.declared.region_table.OldRegion.{OldRegion}
-use Rattle.atl_tables.proofs.FaultLaws.{gives_error, stops_here}
+use Rattle.atl_tables.proofs.FaultLaws.{gives_error, error_of_condition_is_of_list}
 use Rattle.atl_tables.proofs.region_table.RegionDraftFromTable.read.Goals as goal
 
 -- an error in reading the basics or the sides is the first fault of the region's keys (`region_keys`), or Memory
 pub returns-in_err-basics-clause-value : goal.returns-in_err-basics-clause-value
 unfolding region_keys region_from
-returns-in_err-basics-clause-value c = gives_error _ _ _ _ _ c.from_residual.ensures.1 (stops_here c.in_err-basics.field-0.0 _ _ c.in_err-basics.ensures.value)
+returns-in_err-basics-clause-value c = gives_error _ _ _ _ _ c.from_residual.ensures.1 (error_of_condition_is_of_list c.in_err-basics.field-0.0 _ _ c.in_err-basics.ensures.value)
 
 -- an error in reading the markets is the first fault of the region's keys (`region_keys`), or Memory
 pub returns-in_err-markets-clause-value : goal.returns-in_err-markets-clause-value

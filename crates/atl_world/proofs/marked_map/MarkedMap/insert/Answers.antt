@@ -1,8 +1,8 @@
 use Rattle.std.proofs.Common.{◌≡◌, ◌+◌, ◌≤◌, None, refl, ap, ◌∙◌, arith}
 use Rattle.std.specs.FinMap.{get, insert, len}
 use Rattle.std.specs.FinSet as set
-use Rattle.atl_world.specs.RoomySets.{held}
-use Rattle.atl_world.proofs.SumLaws.{taken_back}
+use Rattle.atl_world.specs.RoomySets.{valued_or_marked}
+use Rattle.atl_world.proofs.SumLaws.{remove_undoes_insert}
 use Rattle.atl_world.proofs.TrackLaws.{fits-inserted, Room-inserted}
 use Rattle.atl_world.proofs.marked_map.MarkedMap.insert.Goals as goal
 
@@ -31,8 +31,8 @@ pub invariant_of-self-in-Err : goal.invariant_of-self-in-Err
 invariant_of-self-in-Err g c =
     let values = c.self.inside.values in
     let fresh : get values c.args.number ≡ None = rw (← c.self.view_is) at c.requires in
-    let same = ap (λ m. set.len (held values m)) c.make_room.ensures.numbers in
-    rw (c.remove.ensures, c.in_ok-insert.ensures.ok, taken_back values c.args.number c.args.value fresh) (omega (arith, same, c.make_room.ensures.kept, c.self.invariant))
+    let same = ap (λ m. set.len (valued_or_marked values m)) c.make_room.ensures.numbers in
+    rw (c.remove.ensures, c.in_ok-insert.ensures.ok, remove_undoes_insert values c.args.number c.args.value fresh) (omega (arith, same, c.make_room.ensures.kept, c.self.invariant))
 
 -- where there is memory, after the call the map has the value under the number, which is marked (`with_value`)
 pub returns-in-Ok-clause-ok : goal.returns-in-Ok-clause-ok
@@ -42,4 +42,4 @@ returns-in-Ok-clause-ok g c = rw (← c.self.view_is, c.add.ensures, c.in_ok-ins
 pub returns-in-Err-clause-err : goal.returns-in-Err-clause-err
 returns-in-Err-clause-err g c =
     let fresh : get c.self.inside.values c.args.number ≡ None = rw (← c.self.view_is) at c.requires in
-    rw (← c.self.view_is, c.remove.ensures, c.in_ok-insert.ensures.ok, taken_back c.self.inside.values c.args.number c.args.value fresh, c.make_room.ensures.numbers) refl
+    rw (← c.self.view_is, c.remove.ensures, c.in_ok-insert.ensures.ok, remove_undoes_insert c.self.inside.values c.args.number c.args.value fresh, c.make_room.ensures.numbers) refl

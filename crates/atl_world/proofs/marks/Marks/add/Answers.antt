@@ -2,7 +2,7 @@ use Rattle.std.proofs.Common.{◌≡◌, true, sym, ap, ◌∙◌}
 use Rattle.std.specs.FinSet as set
 use Rattle.atl_world.specs.RoomySets.{RoomySet}
 use Rattle.atl_world.proofs.SetLaws.{insert_twice, union-insert, union-empty}
-use Rattle.atl_world.proofs.ApartLaws.{fits_recent, one_recent, one_more}
+use Rattle.atl_world.proofs.ApartLaws.{fits_recent, one_recent, mark_is_added_to_all}
 use Rattle.atl_world.proofs.marks.Marks.add.Goals as goal
 
 -- where the number is marked already, the marks stay as they are
@@ -27,7 +27,7 @@ invariant_of-self c =
 pub invariant_of-self-else-has_recent_room : goal.invariant_of-self-else-has_recent_room
 invariant_of-self-else-has_recent_room c =
     rw (c.add-else-has_recent_room.ensures, c.merge_from.ensures.numbers, c.merge_from.ensures.others)
-    (one_more c.self.inside.numbers c.self.inside.recent c.args.self.now c.args.number c.self.view_is c.self.invariant c.requires)
+    (mark_is_added_to_all c.self.inside.numbers c.self.inside.recent c.args.self.now c.args.number c.self.view_is c.self.invariant c.requires)
 
 -- where there is room among the recent marks, the marks after the call are the old ones with the number
 pub returns-then-has_recent_room : goal.returns-then-has_recent_room

@@ -1,12 +1,12 @@
 use Rattle.std.proofs.Common.{◌≡◌, ap, ◌∙◌}
 use Rattle.std.specs.FinSet as set
 use Rattle.atl_world.specs.RoomySets.{RoomySet}
-use Rattle.atl_world.proofs.SortedListLaws.{rising-empty}
+use Rattle.atl_world.proofs.SortedListLaws.{sorted-empty}
 use Rattle.atl_world.proofs.sorted_numbers.SortedNumbers.clear.Goals as goal
 
 -- the list is sorted after the call, since it is empty
 pub invariant_of-self : goal.invariant_of-self
-invariant_of-self c = rw c.clear.ensures.items rising-empty
+invariant_of-self c = rw c.clear.ensures.items sorted-empty
 
 -- after the call the set is empty, and the room is the same
 pub returns : goal.returns

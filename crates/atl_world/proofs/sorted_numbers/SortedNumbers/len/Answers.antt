@@ -5,20 +5,20 @@ use Rattle.std.specs.Cmp.{nat_cmp_total}
 use Rattle.std.proofs.lemmas.Map.Keys.{non_decreasing_from_sorted}
 use Rattle.atl_world.specs.Limits.{number_count}
 use Rattle.atl_world.specs.RoomySets.{RoomySet}
-use Rattle.atl_world.proofs.SortedListLaws.{len-rising}
+use Rattle.atl_world.proofs.SortedListLaws.{len-sorted}
 use Rattle.atl_world.proofs.MergeLaws.{listed_below}
 use Rattle.atl_world.proofs.sorted_numbers.SortedNumbers.len.Goals as goal
 
 -- where the list has a last number, the set has as many numbers as the list
 pub returns-in-Some-clause-value : goal.returns-in-Some-clause-value
 returns-in-Some-clause-value c =
-    c.length_of_bounded.ensures.value ∙ ap length c.deref-in-Some.ensures.value ∙ sym (len-rising c.self.inside.numbers.items c.self.invariant) ∙ ap (λ (m : RoomySet). set.len m.numbers) c.self.view_is
+    c.length_of_bounded.ensures.value ∙ ap length c.deref-in-Some.ensures.value ∙ sym (len-sorted c.self.inside.numbers.items c.self.invariant) ∙ ap (λ (m : RoomySet). set.len m.numbers) c.self.view_is
 
 -- where the list has no last number, the set has 0 numbers
 pub returns-in-None-clause-value : goal.returns-in-None-clause-value
 returns-in-None-clause-value c =
     let items = c.self.inside.numbers.items in
-    let all : set.len {R = nat_cmp} (set.from_list items) ≡ length items = len-rising items c.self.invariant in
+    let all : set.len {R = nat_cmp} (set.from_list items) ≡ length items = len-sorted items c.self.invariant in
     let seen = ap (λ (m : RoomySet). set.len m.numbers) c.self.view_is in
     let size = ap length c.deref.ensures.value in
     omega (arith, all, seen, size, c.in-None.ensures.item.3)

@@ -1,15 +1,15 @@
 use Rattle.std.proofs.Common.{◌≡◌, length, ap, ◌∙◌, arith}
 use Rattle.std.specs.FinSet as set
 use Rattle.atl_world.specs.RoomySets.{RoomySet}
-use Rattle.atl_world.proofs.SortedListLaws.{rising-empty, len-rising}
-use Rattle.atl_world.proofs.MergeLaws.{rising-merged, from_list-merged}
+use Rattle.atl_world.proofs.SortedListLaws.{sorted-empty, len-sorted}
+use Rattle.atl_world.proofs.MergeLaws.{sorted-merged, from_list-merged}
 use Rattle.atl_world.proofs.sorted_numbers.SortedNumbers.merge_from.Goals as goal
 
 -- the list has room for the numbers of both lists
-pub unite-requires-clause-room : goal.unite-requires-clause-room
-unite-requires-clause-room c =
-    let own = len-rising c.self.inside.numbers.items c.self.invariant in
-    let others = len-rising c.others.inside.numbers.items c.others.invariant in
+pub merge_into-requires-clause-room : goal.merge_into-requires-clause-room
+merge_into-requires-clause-room c =
+    let own = len-sorted c.self.inside.numbers.items c.self.invariant in
+    let others = len-sorted c.others.inside.numbers.items c.others.invariant in
     let own_seen = ap (λ (m : RoomySet). set.len m.numbers) c.self.view_is in
     let others_seen = ap (λ (m : RoomySet). set.len m.numbers) c.others.view_is in
     let room = ap (λ (m : RoomySet). m.room) c.self.view_is in
@@ -18,19 +18,19 @@ unite-requires-clause-room c =
 
 -- the merged list is sorted
 pub invariant_of-self : goal.invariant_of-self
-invariant_of-self c = rw (c.unite.ensures.items, c.deref.ensures.value) (rising-merged c.self.inside.numbers.items c.others.inside.numbers.items c.self.invariant c.others.invariant)
+invariant_of-self c = rw (c.merge_into.ensures.items, c.deref.ensures.value) (sorted-merged c.self.inside.numbers.items c.others.inside.numbers.items c.self.invariant c.others.invariant)
 
 -- the other list is sorted, since it is empty now
 pub invariant_of-others : goal.invariant_of-others
-invariant_of-others c = rw c.clear.ensures.items rising-empty
+invariant_of-others c = rw c.clear.ensures.items sorted-empty
 
 -- the numbers of the list after the call are those that this list and the other one had before, and the room is the
 -- same
 pub returns-clause-numbers : goal.returns-clause-numbers
 returns-clause-numbers c =
     let others = c.others.inside.numbers.items in
-    let numbers : set.from_list c.unite.new.numbers.items ≡ set.union c.args.self.now.numbers c.args.others.now.numbers =
-    ap set.from_list (rw c.deref.ensures.value at c.unite.ensures.items) ∙ from_list-merged c.self.inside.numbers.items others
+    let numbers : set.from_list c.merge_into.new.numbers.items ≡ set.union c.args.self.now.numbers c.args.others.now.numbers =
+    ap set.from_list (rw c.deref.ensures.value at c.merge_into.ensures.items) ∙ from_list-merged c.self.inside.numbers.items others
     ∙ (λ i. set.union (c.self.view_is i).numbers (c.others.view_is i).numbers) in
-    let room = c.unite.ensures.room ∙ ap (λ (m : RoomySet). m.room) c.self.view_is in
+    let room = c.merge_into.ensures.room ∙ ap (λ (m : RoomySet). m.room) c.self.view_is in
     λ i. record { numbers = numbers i; room = room i }

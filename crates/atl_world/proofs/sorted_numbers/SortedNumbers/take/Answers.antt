@@ -3,24 +3,24 @@ use Rattle.std.specs.FinSet as set
 use Rattle.atl_world.specs.RoomySets.{RoomySet}
 use Rattle.atl_world.specs.SortedNumbers.{IsAt, BelongsAt}
 use Rattle.atl_world.proofs.SetLaws.{remove_absent}
-use Rattle.atl_world.proofs.SortedListLaws.{rising-remove, from_list-remove, contains-belongs}
+use Rattle.atl_world.proofs.SortedListLaws.{sorted-remove, from_list-remove, contains-belongs}
 use Rattle.atl_world.proofs.sorted_numbers.SortedNumbers.take.Goals as goal
 
 -- the list is still sorted after the number is taken out
 pub invariant_of-self : goal.invariant_of-self
 invariant_of-self c =
     let items = c.self.inside.numbers.items in
-    let stands : IsAt items c.args.number c.in-Ok.place = rw c.deref.ensures.value at c.in-Ok.ensures.found in
-    rw c.remove.ensures.items (rising-remove items c.in-Ok.place c.self.invariant stands.within)
+    let is_at : IsAt items c.args.number c.in-Ok.index = rw c.deref.ensures.value at c.in-Ok.ensures.found in
+    rw c.remove.ensures.items (sorted-remove items c.in-Ok.index c.self.invariant is_at.within)
 
 -- where the number is in the list, the set after the call is the old one without it, and the room is the same
 pub returns-in-Ok : goal.returns-in-Ok
 returns-in-Ok c =
     let items = c.self.inside.numbers.items in
     let n = c.args.number in
-    let stands : IsAt items n c.in-Ok.place = rw c.deref.ensures.value at c.in-Ok.ensures.found in
+    let is_at : IsAt items n c.in-Ok.index = rw c.deref.ensures.value at c.in-Ok.ensures.found in
     let numbers : set.from_list c.remove.new.self.items ≡ set.remove c.args.self.now.numbers n =
-    ap set.from_list c.remove.ensures.items ∙ from_list-remove items n c.in-Ok.place c.self.invariant stands ∙ ap (λ (m : RoomySet). set.remove m.numbers n) c.self.view_is in
+    ap set.from_list c.remove.ensures.items ∙ from_list-remove items n c.in-Ok.index c.self.invariant is_at ∙ ap (λ (m : RoomySet). set.remove m.numbers n) c.self.view_is in
     let room = c.remove.ensures.capacity ∙ ap (λ (m : RoomySet). m.room) c.self.view_is in
     λ i. record { numbers = numbers i; room = room i }
 

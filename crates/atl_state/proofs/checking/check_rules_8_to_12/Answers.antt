@@ -1,0 +1,23 @@
+use Rattle.std.proofs.Common.{sym, subst}
+use Rattle.atl_records.specs.Every.{Every, HasValue}
+use Rattle.atl_campaign.specs.Good.{AreOwned, AreAfloat, AreOfOneFaction, guards}
+use Rattle.atl_campaign.specs.Campaign.{CampaignValue}
+use Rattle.atl_state.specs.declared.checking.Rule.TheVariants.{Owners, Water, Guards, Books, Mail}
+use Rattle.atl_state.proofs.CheckLaws.{below_next, places-said}
+use Rattle.atl_state.proofs.checking.check_rules_8_to_12.Goals as goal
+
+-- what `are_guarded` requires: the region of each unit read from the rows exists
+pub are_guarded-requires : goal.are_guarded-requires
+are_guarded-requires c = subst (λ (s : CampaignValue). Every (λ n u. HasValue s.regions u.region) s.units) (sym c.requires.what) (places-said c.args.format c.args.world.now c.args.parts.now c.requires.before)
+
+-- rows that keep rules 1 to 7, and pass the tests of rules 8 to 12, keep all twelve rules
+pub returns : goal.returns
+returns c =
+    let w = c.args.world.now in
+    let p = c.args.parts.now in
+    let f = c.args.format in
+    let owners = below_next f w p Owners c.requires.before (subst AreOwned c.requires.what (c.are_owned.ensures.0 c.if-not-are_owned.false)) in
+    let water = below_next f w p Water owners (subst (AreAfloat w) c.requires.what (c.are_afloat.ensures.0 c.if-not-are_afloat.false)) in
+    let guarded = below_next f w p Guards water (subst (AreOfOneFaction guards) c.requires.what (c.are_guarded.ensures.0 c.if-not-are_guarded.false)) in
+    let booked = below_next f w p Books guarded (c.keeps_books.ensures.0 c.if-not-keeps_books.false) in
+    below_next f w p Mail booked (c.keeps_mail.ensures.0 c.if-not-keeps_mail.false)
