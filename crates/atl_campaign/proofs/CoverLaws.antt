@@ -320,8 +320,8 @@ pub holds_of_changed : {V : Type 0} (P : FinMap nat_cmp V → Option V → Type 
     → P values None → ((v : V) → get values n ≡ Some v → P (map.insert values n (f v)) (Some v)) → P (with_changed_value f values n) (get values n)
 holds_of_changed {V} P f values n none some = by_value (get values n) refl
   where
-    -- for changed_there: P holds of the map with f applied to n's value, and of that value as it was, o, whether o is
-    -- None or Some
+    -- for holds_of_changed: P holds of the map with f applied to n's value, and of that value as it was, o, whether o
+    -- is None or Some
     by_value : (o : Option V) → get values n ≡ o → P (with_changed_option f values n o) o
     by_value None is = none
     by_value (Some v) is = some v is

@@ -18,7 +18,7 @@ use Rattle.atl_records.specs.declared.records.Unit.{Unit}
 use Rattle.atl_campaign.proofs.OrderedLaws.{numbers_where-insert_new, numbers_where-lost, numbers_where-gained, taken_put}
 use Rattle.atl_records.proofs.EveryLaws.{same_number, other_number}
 
--- for gone and others: a number compares equal to itself
+-- for removed_unit_is_absent and others: a number compares equal to itself
 number_compares_equal : (k : ℕ) → is_eq (nat_cmp k k) ≡ true
 number_compares_equal k = elim (nat_cmp k k) as (λ o. nat_cmp k k ≡ o → is_eq o ≡ true) [
   | Less ↦ λ e. let l = ranked k k Less (sym e) in absurd (omega arith)

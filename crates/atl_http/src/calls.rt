@@ -102,7 +102,7 @@ impl Reads {
         self.count
     }
 
-    /// Reads once into the front of the buffer `read_buffer`, counts the read, and returns its
+    /// Reads once into the front of the buffer `room`, counts the read, and returns its
     /// outcome.
     pub fn read<R: Read>(&mut self, reader: &mut R, room: &mut [u8]) -> ReadOutcome
         requires room { 0 < length room.old }

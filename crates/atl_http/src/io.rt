@@ -143,7 +143,7 @@ fn progress_if_due(alloc: Global, seen: &[u8], missing: usize) -> Result<Progres
     progress_of(alloc, seen)
 }
 
-/// Reads until the request is whole or refused, as `receive` does, with `read_buffer` as the buffer
+/// Reads until the request is whole or refused, as `receive` does, with `room` as the buffer
 /// of 8,192 bytes for each read.
 fn receive_in<R: Read>(
     alloc: Global,

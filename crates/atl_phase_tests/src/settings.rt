@@ -171,7 +171,7 @@ fn reports(alloc: Global) -> Result<Sequence<StoredReport>, AllocError> {
     Ok(all)
 }
 
-/// The row of the unit `append_number`, with the values that its setting gives.
+/// The row of the unit `number`, with the values that its setting gives.
 fn unit(alloc: Global, number: i64, stood: &UnitSetting) -> Result<StoredUnit, AllocError> {
     Ok(StoredUnit {
         number,
@@ -226,7 +226,7 @@ fn markets_of(
     Ok(all)
 }
 
-/// The row of the structure `append_number`, with the values that its setting gives.
+/// The row of the structure `number`, with the values that its setting gives.
 fn structure(
     alloc: Global,
     number: i64,

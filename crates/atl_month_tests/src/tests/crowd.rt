@@ -174,11 +174,11 @@ static MEN: [i64; 11] = [1, 1, 2, 3, 5, 8, 13, 40, 90, 2, 1];
 /// How much money a unit has, picked by its number, if the number is no multiple of `RICH_DIVISOR`.
 static MONEY: [i64; 7] = [0, 3, 20, 150, 900, 0, 4_000];
 
-/// Each unit whose number is a multiple of this has `FULL_PURSE` of money.
+/// Each unit whose number is a multiple of this has `MOST_MONEY_GIVEN` of money.
 const RICH_DIVISOR: u32 = 37;
 
 /// Money that leaves a unit hardly any room for more, since it may have 999,999,999.
-const FULL_PURSE: i64 = 999_999_990;
+const MOST_MONEY_GIVEN: i64 = 999_999_990;
 
 /// How much of an item a unit has, picked by unit number plus item; with the last amount the unit
 /// has hardly any room for more.
@@ -327,7 +327,7 @@ fn guards(number: u32) -> bool {
 /// The money of the unit with this number.
 fn money_of(number: u32) -> i64 {
     if number % RICH_DIVISOR == 0 {
-        FULL_PURSE
+        MOST_MONEY_GIVEN
     } else {
         picked(&MONEY, number)
     }

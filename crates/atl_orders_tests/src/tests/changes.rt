@@ -484,7 +484,7 @@ pub(crate) static MARKET_CHANGES: [Change; 12] = [
 /// Edits of the world with two equal markets, whose item comes twice. The first writes it in
 /// another case, the second replaces it by an unknown one, and the third adds an earlier fault in
 /// `output`.
-pub(crate) static TWIN_CHANGES: [Change; 3] = [
+pub(crate) static DUPLICATE_CHANGES: [Change; 3] = [
     (
         "item = \"wood\"",
         "item = \"Wood\"",

@@ -3,9 +3,9 @@
 //! has one region, without items, skills, kinds and markets.
 use super::asserts::{assert_number, assert_text};
 use super::changes::{
-    ARRAY_CHANGES, Change, EQUAL_MARKETS, HEAD_CHANGES, KEY_CHANGES, MARKET_CHANGES, NAME_CHANGES,
-    NEIGHBOUR_CHANGES, OUTPUT_CHANGES, REFERENCE_CHANGES, RULES_CHANGES, SMALL_CHANGES,
-    TITLE_CHANGES, TOO_MANY_MARKETS, TRUTH_CHANGES, TWIN_CHANGES, TWO_FAULTS,
+    ARRAY_CHANGES, Change, DUPLICATE_CHANGES, EQUAL_MARKETS, HEAD_CHANGES, KEY_CHANGES,
+    MARKET_CHANGES, NAME_CHANGES, NEIGHBOUR_CHANGES, OUTPUT_CHANGES, REFERENCE_CHANGES,
+    RULES_CHANGES, SMALL_CHANGES, TITLE_CHANGES, TOO_MANY_MARKETS, TRUTH_CHANGES, TWO_FAULTS,
 };
 use super::worlds::{ITEM_SKILL_KIND, fault, small_with, with_markets, with_replaced};
 use atl_tables::WorldFault;
@@ -140,7 +140,7 @@ fn later_faults_are(rt: &impl Abort, alloc: Global) -> Result<(), Fail> {
 fn faulty_markets(rt: HostRuntime) -> Result<(), Fail> {
     assert_market_changes(&rt, rt.alloc(), 0, &ARRAY_CHANGES)?;
     assert_market_changes(&rt, rt.alloc(), 1, &MARKET_CHANGES)?;
-    assert_market_changes(&rt, rt.alloc(), 2, &TWIN_CHANGES)?;
+    assert_market_changes(&rt, rt.alloc(), 2, &DUPLICATE_CHANGES)?;
     assert_market_changes(&rt, rt.alloc(), 200, &EQUAL_MARKETS)?;
     assert_market_changes(&rt, rt.alloc(), 201, &TOO_MANY_MARKETS)?;
     later_faults_are(&rt, rt.alloc())

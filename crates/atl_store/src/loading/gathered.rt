@@ -170,7 +170,7 @@ fn without_ids<T: Drop>(alloc: Global, placed: Vec<RowWithId<T>>) -> Result<Sequ
     Ok(Sequence::from_vec(rows))
 }
 
-/// Ok if no two rows of a table have the same rowid (`have_distinct_rowids`), else the fault Store.
+/// Ok if no two rows of a table have the same rowid (`are_apart`), else the fault Store.
 fn check_apart(are_apart: bool) -> Result<(), LoadFault>
     ensures { result ≡ (if are_apart then Ok tt else Err Store) }
 {

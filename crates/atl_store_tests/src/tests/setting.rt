@@ -88,7 +88,7 @@ pub(crate) fn rename(alloc: Global, campaign: &mut Campaign, name: &str) -> Resu
     Ok(())
 }
 
-/// Gives faction 1 another report, which is the one line `columns_text`.
+/// Gives faction 1 another report, which is the one line `line`.
 pub(crate) fn report(alloc: Global, campaign: &mut Campaign, line: &str) -> Result<(), Fail> {
     let text = Text::from_string(format!(in alloc; "{line}\n")?);
     campaign.set_report(1, text)?;

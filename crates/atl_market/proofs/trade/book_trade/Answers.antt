@@ -40,7 +40,7 @@ book-requires-clause-fits c =
     let same : to_z w64 (of_z w64 c.args.deal.booked) ≡ c.args.deal.booked = search (rules, to_z-of_z) in
     rw (same, books) (booking_fits (amount_in c.args.campaign.now.value.books c.args.entry Money) c.args.deal.booked holding_limit can.small can.room)
 
--- unit, stock and books are as the result of the trade leaves them (`with_result`)
+-- unit, stock and books are as the result of the trade leaves them (`with_trade_booked`)
 pub returns-clause-what : goal.returns-clause-what
 returns-clause-what c = λ u is at.
     let deal = c.args.deal in

@@ -72,7 +72,7 @@ fn sums_of(maintenance: u64, plain: &PlainCampaign, one: PlainUnit) -> UpkeepSum
     sums
 }
 
-/// How much a taker who wants `own_unit` gets if `amount` is handed out in turn, after takers who
+/// How much a taker who wants `own` gets if `amount` is handed out in turn, after takers who
 /// want `before` together.
 fn share_in_turn(amount: u64, before: u64, own: u64) -> u64 {
     let with = before.wrapping_add(own);

@@ -15,7 +15,7 @@ returns-clause-outcome c =
     rw (done, c.in_ok-factions.ensures)
     (closed_is c.args.world.now c.args.campaign.now.value after c.in_ok-after.events.items c.args.words.now c.in_ok-mailings.field-0.faults (rw (← c.in_ok-mailings.ensures.readings_are, ← c.replace-before.ensures.value) c.in_ok-after.ensures.definition) c.in_ok-mailings.ensures.faults)
 
--- the factions that the result lists are in the campaign after the month (`AreThere`)
+-- the factions that the result lists are in the campaign after the month (`AreFactions`)
 pub returns-clause-there : goal.returns-clause-there
 returns-clause-there c =
     let after = c.in_ok-after.after.value in

@@ -4,11 +4,11 @@ use Rattle.atl_sql.specs.Rows.{rows_in_order}
 use Rattle.atl_sql.proofs.PuttingLaws.{one_written, putting_begins, putting_more, putting_failed, putting_ends}
 use Rattle.atl_sql.proofs.numbered_rows.put_each.Goals as goal
 
--- before the first value of the map is put, the rows of all its values are still to put (`Putting`)
+-- before the first value of the map is put, the rows of all its values are still to put (`HasPutSome`)
 pub loop-number-init : goal.loop-number-init
 loop-number-init g c = putting_begins g.S.Store (table_of g.V.NumberedRow.part) 1 _ _ (ap (rows_in_order g.V.NumberedRow.line) c.into_iter-number-iterator.ensures.into_iter_gives)
 
--- once a value's row is put, only the rows of the later values are still to put (`Putting`)
+-- once a value's row is put, only the rows of the later values are still to put (`HasPutSome`)
 pub loop-number-preserved : goal.loop-number-preserved
 loop-number-preserved g c =
     let row = g.V.NumberedRow.line c.in-Some.number c.in-Some.value.now in

@@ -3,11 +3,11 @@ use Rattle.atl_store.specs.GroupedRows.{thing_rows, amount_rows}
 use Rattle.atl_sql.proofs.PuttingLaws.{putting_begins, putting_more, putting_failed, putting_ends}
 use Rattle.atl_store.proofs.amounts.put_amounts.Goals as goal
 
--- before the first thing the rows of all amounts of the owner are still to put (`Putting`)
+-- before the first thing the rows of all amounts of the owner are still to put (`HasPutSome`)
 pub loop-thing-init : goal.loop-thing-init
 loop-thing-init g c = putting_begins g.S.Store g.O.AmountWriter.table g.O.AmountWriter.key _ _ (ap (amount_rows (g.O.AmountWriter.line c.args.owner)) c.into_iter-thing-iterator.ensures.into_iter_gives)
 
--- once the row of a thing's amount is put, only the rows of the later amounts are still to put (`Putting`)
+-- once the row of a thing's amount is put, only the rows of the later amounts are still to put (`HasPutSome`)
 pub loop-thing-preserved : goal.loop-thing-preserved
 loop-thing-preserved g c =
     let row = g.O.AmountWriter.line c.args.owner in

@@ -6,13 +6,13 @@ use Rattle.atl_store.specs.GroupedRows.{entries_lines, things_lines}
 use Rattle.atl_sql.proofs.PuttingLaws.{same_written, putting_begins, putting_more, putting_failed, putting_ends}
 use Rattle.atl_store.proofs.ledger.put_all_books.Goals as goal
 
--- before the first thing the rows of all things are still to put (`Putting`)
+-- before the first thing the rows of all things are still to put (`HasPutSome`)
 pub loop-number-init : goal.loop-number-init
 loop-number-init g c =
     let whole : c.args.campaign.now.value.books.things - 0 ≡ c.args.campaign.now.value.books.things = omega arith in
     putting_begins g.S.Store books_table 2 _ _ (ap (λ n. things_lines c.args.campaign.now.value (range_with_len 0 n)) whole)
 
--- once a thing's rows are put, only the rows of the later things are still to put (`Putting`)
+-- once a thing's rows are put, only the rows of the later things are still to put (`HasPutSome`)
 pub loop-number-preserved : goal.loop-number-preserved
 loop-number-preserved g c =
     let campaign = c.args.campaign.now.value in

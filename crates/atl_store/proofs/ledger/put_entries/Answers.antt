@@ -5,11 +5,11 @@ use Rattle.atl_store.specs.GroupedRows.{entries_lines}
 use Rattle.atl_sql.proofs.PuttingLaws.{putting_begins, putting_more, putting_failed, putting_ends}
 use Rattle.atl_store.proofs.ledger.put_entries.Goals as goal
 
--- before the first entry the thing's rows under all listed entries are still to put (`Putting`)
+-- before the first entry the thing's rows under all listed entries are still to put (`HasPutSome`)
 pub loop-entry-init : goal.loop-entry-init
 loop-entry-init g c = putting_begins g.S.Store books_table 2 _ _ refl
 
--- once the row of an entry's amount is put, only the rows of the later entries are still to put (`Putting`)
+-- once the row of an entry's amount is put, only the rows of the later entries are still to put (`HasPutSome`)
 pub loop-entry-preserved : goal.loop-entry-preserved
 loop-entry-preserved g c =
     let i = c.loop-entry.entry-index in

@@ -11,7 +11,7 @@ use Rattle.atl_store.proofs.RewriteLaws.{all_remaining}
 use Rattle.atl_sql.proofs.WriteLaws.{begins, goes_on, stops_second, weaker}
 use Rattle.atl_store.proofs.ledger.rewrite_books.Goals as goal
 
--- before the first thing all marked amounts of the books are still to rewrite (`NearingThings`)
+-- before the first thing all marked amounts of the books are still to rewrite (`RemainingThings`)
 pub loop-number-init : goal.loop-number-init
 loop-number-init g c =
     let count = c.args.campaign.now.value.books.things in

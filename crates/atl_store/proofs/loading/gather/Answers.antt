@@ -35,7 +35,7 @@ returns-in_default-clause-err g c clean =
     let after_own : HasCleanDisk (state g.S.Store mid) = omega (arith, c.read_others.ensures.leaves.survives.clean, clean) in
     mistyped_refuses c.args.format g.S.Store _ c.args.conn.now mid c.read_others.new.conn c.in_ok-own.own c.in_ok-own.world (c.in_ok-own.ensures.ok after_own) c.read_own.ensures.leaves c.read_others.result c.read_others.ensures c.in_ok-others.field-0 c.in_ok-others.was clean c.in_default.is
 
--- once the rows that were read are put together, all tables were read into them (`Gathered`)
+-- once the rows that were read are put together, all tables were read into them (`GathersAll`)
 pub returns-clause-ok : goal.returns-clause-ok
 returns-clause-ok g c clean =
     let mid = c.read_own.new.conn in

@@ -4,11 +4,11 @@ use Rattle.atl_store.specs.GroupedRows.{region_stock_lines, all_stocks_lines}
 use Rattle.atl_sql.proofs.PuttingLaws.{putting_begins, putting_more, putting_failed, putting_ends}
 use Rattle.atl_store.proofs.markets.put_all_stocks.Goals as goal
 
--- before the first region the rows of all regions' stocks are still to put (`Putting`)
+-- before the first region the rows of all regions' stocks are still to put (`HasPutSome`)
 pub loop-number-init : goal.loop-number-init
 loop-number-init g c = putting_begins g.S.Store market_table 2 _ _ (ap all_stocks_lines c.into_iter-number-iterator.ensures.into_iter_gives)
 
--- once a region's rows are put, only the rows of the later regions are still to put (`Putting`)
+-- once a region's rows are put, only the rows of the later regions are still to put (`HasPutSome`)
 pub loop-number-preserved : goal.loop-number-preserved
 loop-number-preserved g c =
     let stocks = region_stock_lines c.in-Some.number c.in-Some.region.now in

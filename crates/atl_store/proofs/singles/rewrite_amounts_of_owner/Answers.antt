@@ -4,7 +4,7 @@ use Rattle.atl_store.proofs.SingleLaws.{one_less_single, singles_rewritten}
 use Rattle.atl_sql.proofs.WriteLaws.{begins, goes_on, stops_second, weaker}
 use Rattle.atl_store.proofs.singles.rewrite_amounts_of_owner.Goals as goal
 
--- before the first listed thing the owner's amounts of all listed things are still to rewrite (`NearingSingles`)
+-- before the first listed thing the owner's amounts of all listed things are still to rewrite (`RemainingSingles`)
 pub loop-number-init : goal.loop-number-init
 loop-number-init g c = begins g.S.Store (all_remaining g.A.SingleAmounts.table _ _ _ (λ r. refl))
 

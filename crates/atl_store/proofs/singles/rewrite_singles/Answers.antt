@@ -4,7 +4,7 @@ use Rattle.atl_store.proofs.SingleLaws.{one_less_owner, owners_rewritten}
 use Rattle.atl_sql.proofs.WriteLaws.{begins, goes_on, stops_second, weaker}
 use Rattle.atl_store.proofs.singles.rewrite_singles.Goals as goal
 
--- before the first owner the single marked amounts of all owners are still to rewrite (`NearingSingles`)
+-- before the first owner the single marked amounts of all owners are still to rewrite (`RemainingSingles`)
 pub loop-owner-init : goal.loop-owner-init
 loop-owner-init g c = begins g.S.Store (all_remaining g.A.SingleAmounts.table _ _ _ (λ r. refl))
 

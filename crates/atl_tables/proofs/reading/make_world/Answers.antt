@@ -23,7 +23,7 @@ region_maps_are_same : (all : WorldDraft) (p : WorldParts) (plans : List RegionP
 unfolding regions_of
 region_maps_are_same all p plans e q = ap (by_number (λ r. r.number)) (q ∙ ap (λ (x : WorldParts). x.regions) e)
 
--- the world made of `parts`, the skills of the tables `all`, and a map of regions: as `join` makes it
+-- the world made of `parts`, the skills of the tables `all`, and a map of regions: as `make_world` makes it
 abbrev made_of : WorldDraft → WorldParts → FinMap nat_cmp RegionPlan → WorldValue
 made_of all p regions = world_of_parts p.rules p.terrains p.items all.skills p.kinds regions
 
@@ -41,7 +41,7 @@ returns-in_err-mutual_neighbours c =
     let made = c.in_ok-regions.ensures.value ∙ region_maps_are_same all c.args.parts c.into_vec.result.items c.requires.parts c.into_vec.ensures in
     gives_error _ _ _ _ _ c.from_residual-in_err-mutual_neighbours.ensures.1 (error_of_first_list_is_of_joined c.in_err-mutual_neighbours.field-0.0 (neighbours_are_mutual all) (land_condition all) (rw (c.as_slice.ensures, made) at c.in_err-mutual_neighbours.ensures.value))
 
--- the parts make a world (`IsWorld`) if the terrain of some region is land, as `with_land` requires
+-- the parts make a world (`IsWorld`) if the terrain of some region is land, as `world_with_land` requires
 pub world_with_land-requires : goal.world_with_land-requires
 world_with_land-requires c =
     let all = c.args.all in
@@ -50,7 +50,7 @@ world_with_land-requires c =
     let back = rw (c.as_slice.ensures, made) at c.in_ok-mutual_neighbours.ensures.back in
     record { world = rw c.into_skills-skills.ensures (subst (λ (w : WorldValue). 0 < length (land_of w) → IsWorld w) (sym e) (is_world all c.requires.all (subst (AreWorldPartsOf all) c.requires.parts c.requires.sound) c.requires.names back)) }
 
--- if neighbours are mutual, `with_land` returns the world that the tables describe, the fault NoLand, or Memory
+-- if neighbours are mutual, `world_with_land` returns the world that the tables describe, the fault NoLand, or Memory
 pub returns : goal.returns
 unfolding neighbours_are_mutual
 returns c =

@@ -4,11 +4,11 @@ use Rattle.atl_sql.specs.Rows.{rows_in_order, row_of_unit}
 use Rattle.atl_sql.proofs.PuttingLaws.{one_written, putting_begins, putting_more, putting_failed, putting_ends}
 use Rattle.atl_sql.proofs.rows.unit.put_units.Goals as goal
 
--- before the first unit, the rows of all units are still to put (`Putting`)
+-- before the first unit, the rows of all units are still to put (`HasPutSome`)
 pub loop-number-init : goal.loop-number-init
 loop-number-init g c = putting_begins g.S.Store unit_table 1 _ _ (ap (rows_in_order row_of_unit) c.into_iter-number-iterator.ensures.into_iter_gives)
 
--- once a unit's row is put, only the rows of the later units are still to put (`Putting`)
+-- once a unit's row is put, only the rows of the later units are still to put (`HasPutSome`)
 pub loop-number-preserved : goal.loop-number-preserved
 loop-number-preserved g c =
     let row = row_of_unit c.in-Some.number c.in-Some.unit.now in

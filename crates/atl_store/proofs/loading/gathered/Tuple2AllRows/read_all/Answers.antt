@@ -1,7 +1,7 @@
 use Rattle.atl_store.proofs.GatherLaws.{settled_then, first_fails, second_fails, both_read}
 use Rattle.atl_store.proofs.loading.gathered.Tuple2AllRows.read_all.Goals as goal
 
--- what reading the tables of `Y` requires: all is still committed after the tables of `X` are read (`IsSettled`)
+-- what reading the tables of `Y` requires: all is still committed after the tables of `X` are read (`IsCommitted`)
 pub read_all-requires-2-clause-settled : goal.read_all-requires-2-clause-settled
 read_all-requires-2-clause-settled g c = settled_then g.S.Store c.args.conn.now c.read_all.new.conn c.requires.settled c.read_all.ensures.leaves
 
