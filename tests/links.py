@@ -6,6 +6,7 @@
   Each file is there, some of the code cites one of the definitions, and a definition whose first line names sections of docs/RULES.md is under these.
 - Each link of a page leads to a file, and to a heading where it names one, and each file and folder that a page names is there.
 - Each section of a page that code, definitions, tests or pages name, as in `docs/RULES.md, "Shares"`, is there.
+- Each name between backquotes in a comment of the crates is a name of their code, definitions or proofs, or of a file.
 
 It ends with 'links: all there'."""
 import glob, os, re, sys
@@ -16,9 +17,12 @@ LINK = re.compile(r"\[([^\]]*)\]\(([^)\s]*)\)")
 PATH = re.compile(r"(?:\./)?[\w.-]+(?:/[\w.-]+)*/?")
 IN_TEXT = re.compile(r"(?<![\w./-])(?:bench|crates|docs|examples|tests|web|worlds)/[\w./-]*\w")
 FILE = re.compile(r"[\w-]+\.(?:antt|c|conf|edit|md|py|rt|sh|toml|txt)$")
+NAME = re.compile(r"[A-Za-z_][\w']*")
+CITED_NAME = re.compile(rf"{NAME.pattern}(?:(?:::|\.|-){NAME.pattern})*(?:\(\))?")
 CITED = re.compile(r"\b((?:docs|web)/\w+\.md), \"([^\"]+)\"(?:(?:,| and|, and) \"([^\"]+)\")*")
 
 # What pages name and the repository doesn't have: files of a club, what the build makes, and what HTTP calls by such names.
+NOT_NAMES_OF_OURS = {"sqlite3"}
 OF_A_CLUB = re.compile(r"(?:mail|months)/.*|(?:books|mailing|orders|club|island)\.\w+")
 NOT_HERE = {"bench/NAME.txt", "crates/atl_gm/out/atl_gm", "text/plain", "HTTP/1.1"}
 
@@ -202,11 +206,35 @@ def faults_of_citations():
                         yield f"{path}:{number}: {page} has no section \"{title}\""
 
 
+# ---- names in comments
+
+
+def with_comment(path, line):
+    """A line of code without its comment, and the comment. In `.rt` files, two slashes within a text begin none."""
+    if path.endswith(".antt"):
+        begins = re.search(r"(?:^|\s)--(?:\s|$)", line)
+    else:
+        begins = next((found for found in re.finditer("//", line) if line[: found.start()].count('"') % 2 == 0), None)
+    return (line[: begins.start()], line[begins.start() :]) if begins else (line, "")
+
+
+def faults_of_comments():
+    names, cited = set(NOT_NAMES_OF_OURS), []
+    for path in sorted(path for ending in ("rt", "antt") for path in glob.glob(f"crates/**/*.{ending}", recursive=True) if os.path.isfile(path)):
+        names.add(os.path.basename(path).split(".")[0])
+        for number, line in enumerate(read(path).split("\n"), 1):
+            code, comment = with_comment(path, line)
+            names.update(NAME.findall(code))
+            cited += [(path, number, text) for text in re.findall(r"`([^`]+)`", comment) if CITED_NAME.fullmatch(text)]
+    for path, number, text in cited:
+        yield from (f"{path}:{number}: {name} is no name of the crates" for name in NAME.findall(text) if name not in names)
+
+
 def main():
     os.chdir(os.path.dirname(os.path.dirname(os.path.abspath(__file__))))
     if sys.argv[1:]:
         sys.exit(__doc__)
-    faults = [*faults_of_rules(), *faults_of_pages(), *faults_of_citations()]
+    faults = [*faults_of_rules(), *faults_of_pages(), *faults_of_citations(), *faults_of_comments()]
     for fault in faults:
         print(fault)
     print(f"links: {len(faults)} faults" if faults else "links: all there")

@@ -42,7 +42,7 @@ use Rattle.atl_phase.specs.Month.{MonthValue}
 use Rattle.atl_phase.specs.Inside.{structure_of_unit}
 use Rattle.atl_phase.specs.Outcomes.{unless}
 use Rattle.atl_phase.specs.PhaseOrders.{Task, orders_of}
-use Rattle.atl_phase.specs.OrderEffects.{IsUnaffected, effect_on, faction_effect, meaning_by_orders, of_faction, one_order, order_result, others_unaffected}
+use Rattle.atl_phase.specs.OrderEffects.{IsStillThere, effect_on, faction_effect, meaning_by_orders, of_faction, one_order, order_result, others_unaffected}
 use Rattle.atl_phase.specs.Bounds.{IsOrderly, IsUnaffectedRelation, StepsWell, nothing_remaining}
 use Rattle.atl_phase.specs.Unbooked.{moves_nothing}
 use Rattle.atl_phase.proofs.MeaningLaws.{same_month_by}
@@ -305,9 +305,9 @@ module _ (w : WorldValue) (c : CampaignValue) (ship to : ℕ) (steady : IsSteady
   -- ---- what stays of each unit
 
   -- after sailing each unit is still there, and at most went along with its structure (`IsAtMostMoved`)
-  pub sailed_at_most_moved : (k : ℕ) (v : Unit) → get c.units k ≡ Some v → IsUnaffected IsAtMostMoved (after_sailing c ship to) k v
+  pub sailed_at_most_moved : (k : ℕ) (v : Unit) → get c.units k ≡ Some v → IsStillThere IsAtMostMoved (after_sailing c ship to) k v
   sailed_at_most_moved k v there =
-      subst (λ d. IsUnaffected IsAtMostMoved d k v) (sym sailed_is)
+      subst (λ d. IsStillThere IsAtMostMoved d k v) (sym sailed_is)
       (record { unit = f k v; there = units_at k ∙ ap (option_map (f k)) there; is_unaffected = carried k v })
 
   -- after sailing each unit is inside the structure that it was inside before
@@ -411,9 +411,9 @@ sail_well w c n u direction steady =
     (λ to x at floats whole there. sailed_well w c u.structure to steady x at floats whole ((steady.known.regions to).1 there))
 
 -- an order of SAIL at most takes each unit along with the structure that it is inside (`IsAtMostMoved`)
-sail_moves_at_most : (w : WorldValue) (c : CampaignValue) (n : ℕ) (u : Unit) (direction : Direction) → IsSteady w c → (k : ℕ) (v : Unit) → get c.units k ≡ Some v → IsUnaffected IsAtMostMoved (sail w n direction c u).0 k v
+sail_moves_at_most : (w : WorldValue) (c : CampaignValue) (n : ℕ) (u : Unit) (direction : Direction) → IsSteady w c → (k : ℕ) (v : Unit) → get c.units k ≡ Some v → IsStillThere IsAtMostMoved (sail w n direction c u).0 k v
 sail_moves_at_most w c n u direction steady k v there =
-    sail_cases (λ p. IsUnaffected IsAtMostMoved p.0 k v) w c n u direction (λ outcome. record { unit = v; there = there; is_unaffected = carried_same v })
+    sail_cases (λ p. IsStillThere IsAtMostMoved p.0 k v) w c n u direction (λ outcome. record { unit = v; there = there; is_unaffected = carried_same v })
     (λ to x at floats whole near. sailed_at_most_moved w c u.structure to steady x at k v there)
 
 -- SAIL keeps a steady campaign steady, books nothing, and at most moves each unit with its structure (`IsOrderly`)
@@ -421,7 +421,7 @@ pub sail_orderly : IsOrderly sail_step IsSteady nothing_remaining moves_nothing 
 sail_orderly = record {
   well = λ w a c t x steady fit own. in_each_direction (λ effect. StepsWell IsSteady nothing_remaining w c (effect c x).0) (sail w t.unit) t.order_value.operands (λ direction. sail_well w c t.unit x direction steady);
   unaffected_is_relation = at_most_moved_is_relation;
-  is_unaffected = λ w a c t x steady own k v there apart. in_each_direction (λ effect. IsUnaffected IsAtMostMoved (effect c x).0 k v) (sail w t.unit) t.order_value.operands (λ direction. sail_moves_at_most w c t.unit x direction steady k v there);
+  is_unaffected = λ w a c t x steady own k v there apart. in_each_direction (λ effect. IsStillThere IsAtMostMoved (effect c x).0 k v) (sail w t.unit) t.order_value.operands (λ direction. sail_moves_at_most w c t.unit x direction steady k v there);
   bounded = λ w c steady e t. omega arith;
 }
 

@@ -31,12 +31,12 @@ use Rattle.atl_campaign.specs.Totals.{Balances, total}
 use Rattle.atl_records.proofs.BookLaws.{booked-after_booking}
 use Rattle.atl_records.proofs.EveryLaws.{get-insert_other}
 use Rattle.atl_campaign.proofs.HavingLaws.{may_have}
-use Rattle.atl_campaign.proofs.HoldingLaws.{MayHaveWithoutNewGuard, steady-unit_amount, total-unit_amount}
+use Rattle.atl_campaign.proofs.HoldingLaws.{MayHaveWithoutNewGuard, steady-new_holding, total-new_holding}
 use Rattle.atl_campaign.proofs.RegionLaws.{steady-amount, total-booking}
 use Rattle.atl_phase.specs.Meaning.{moves_only}
 use Rattle.atl_phase.specs.Bounds.{HasRoom, HaveRoom, IsOrderly, IsUnaffectedRelation, StepsWell, UsesBound}
 use Rattle.atl_phase.specs.Outcomes.{unless}
-use Rattle.atl_phase.specs.OrderEffects.{IsOwnOrder, IsUnaffected, OrderEffect}
+use Rattle.atl_phase.specs.OrderEffects.{IsOwnOrder, IsStillThere, OrderEffect}
 use Rattle.atl_records.proofs.HoldingLaws.{every_amount}
 use Rattle.atl_phase.proofs.MeaningLaws.{same_month_by}
 use Rattle.atl_phase.proofs.BookingLaws.{booked-near, within-neg}
@@ -80,7 +80,7 @@ module _ (w : WorldValue) (c : CampaignValue) (n : ℕ) (u : Unit) (s cost days 
 
   -- a steady campaign is steady after a unit paid and reached at most 450 days for each man in a skill of the world
   steady_after : s < length w.skills → days ≤ most_days * u.holding.men → IsSteady w after
-  steady_after known most = steady-amount w paid Study Money (neg_ℤ (pos cost)) (omega arith) (steady-unit_amount w c n u learned is (may_hold known most) steady)
+  steady_after known most = steady-amount w paid Study Money (neg_ℤ (pos cost)) (omega arith) (steady-new_holding w c n u learned is (may_hold known most) steady)
 
   -- the total of each thing changes from b to a by what is booked, as the unit pays: money falls by the cost, and every
   -- other thing stays
@@ -93,7 +93,7 @@ module _ (w : WorldValue) (c : CampaignValue) (n : ℕ) (u : Unit) (s cost days 
   balanced : Balances c → Balances after
   balanced old t =
       let sum : total after t + unit_amount t u.holding ≡ total c t + unit_amount t learned =
-      ap (λ k. k + unit_amount t u.holding) (total-booking paid Study Money t (neg_ℤ (pos cost))) ∙ total-unit_amount w c n u learned is t in
+      ap (λ k. k + unit_amount t u.holding) (total-booking paid Study Money t (neg_ℤ (pos cost))) ∙ total-new_holding w c n u learned is t in
       owed t (total after t) (total c t) sum ∙ ap (λ z. z +ℤ cond (thing_index t == 0) (neg_ℤ (pos cost)) (pos 0)) (old t)
       ∙ sym (booked-after_booking c.books Study Money (neg_ℤ (pos cost)) t)
 
@@ -199,7 +199,7 @@ study_orderly taught = record {
       (λ s is. study_well w (taught t.unit) c t.unit s x own.there steady (subst (AreOperandsOf w) is fit));
   unaffected_is_relation = unchanged_is_unaffected_relation;
   is_unaffected = λ w a c t x steady own k v there apart.
-      of_each_skill (λ effect. IsUnaffected IsUnchanged (effect c x).0 k v) w taught t.unit t.order_value.operands
+      of_each_skill (λ effect. IsStillThere IsUnchanged (effect c x).0 k v) w taught t.unit t.order_value.operands
       (λ s is. record { unit = v; there = study_stays w (taught t.unit) c t.unit s x k (other_unit c t x k v own there apart) ∙ there; is_unaffected = refl });
   bounded = money_most;
 }

@@ -24,7 +24,7 @@ use Rattle.atl_phase.specs.Inside.{structure_of_unit}
 use Rattle.atl_phase.specs.Meaning.{Frame}
 use Rattle.atl_phase.specs.Outcomes.{first_fault, unless}
 use Rattle.atl_phase.specs.PhaseOrders.{Task}
-use Rattle.atl_phase.specs.OrderEffects.{Affects, IsUnaffected, OrderEffect, OrderMeaning, meaning_by_orders, order_result, others_unaffected}
+use Rattle.atl_phase.specs.OrderEffects.{Affects, IsStillThere, OrderEffect, OrderMeaning, meaning_by_orders, order_result, others_unaffected}
 use Rattle.atl_phase.specs.NoWorse.{IsUnchanged}
 use Rattle.atl_action.specs.Walk.{by_direction, with_unit_moved}
 use Rattle.atl_phase.specs.PhaseSpecs.{PhaseSpec, spec_without_books}
@@ -126,7 +126,7 @@ pub record IsAtMostMoved (before after : Unit) : Type 0 where
 
 -- each unit is still there, and at most went along with the structure that it is inside
 abbrev pub AreAtMostMoved : CampaignValue → CampaignValue → Type 0
-AreAtMostMoved before after = Every (λ n u. IsUnaffected IsAtMostMoved after n u) before.units
+AreAtMostMoved before after = Every (λ n u. IsStillThere IsAtMostMoved after n u) before.units
 
 -- an order of SAIL affects no unit, so that what SAIL keeps of units (`IsAtMostMoved`) is kept of every unit
 abbrev pub affects_nobody : Affects

@@ -26,7 +26,7 @@ use Rattle.atl_campaign.specs.declared.parts.StoredMarket.{StoredMarket}
 use Rattle.atl_records.specs.declared.books.BooksEntry.{BooksEntry}
 use Rattle.atl_records.specs.Books.{AreBooks, BooksValue, entry_numbered, no_amounts, thing_at, with_amount}
 use Rattle.atl_campaign.specs.Founding.{thing_count}
-use Rattle.atl_campaign.specs.FromRows.{clamp, as_u32, as_u16, put_rows, by_number, faction_of, stocks_of, region_of, structure_of, unit_of, with_books_row, put_amounts, campaign_row_of, campaign_of}
+use Rattle.atl_campaign.specs.FromRows.{clamp, as_u32, as_u16, put_rows, by_number, faction_of, stocks_of, region_of, structure_of, unit_of, with_books_row, with_books_rows, campaign_row_of, campaign_of}
 use Rattle.atl_records.specs.Every.{Every}
 use Rattle.atl_campaign.specs.Good.{IsRegion, AreInRange, HaveMen}
 use Rattle.atl_records.specs.Holdings.{IsHolding}
@@ -121,7 +121,7 @@ row_unread books r past =
     elim (entry_numbered (as_u32 r.entry)) as (λ o. option_map_or (λ e. cond (nat_lt (as_u32 r.thing) books.things) (put e) books) o books ≡ books) [ None ↦ refl | Some e ↦ ap (λ b. cond b (put e) books) none ]
 
 -- books of `things` things (AreBooks) are still books of `things` things once rows are read into them
-pub put-books : (things : ℕ) (rows : List StoredBooks) (books : BooksValue) → AreBooks things books → AreBooks things (put_amounts rows books)
+pub put-books : (things : ℕ) (rows : List StoredBooks) (books : BooksValue) → AreBooks things books → AreBooks things (with_books_rows rows books)
 put-books things [] books are = are
 put-books things (r ∷ rows) books are = put-books things rows (with_books_row books r) (row_read things books r are)
 
@@ -256,7 +256,7 @@ head_ranges h e =
     record { month = inner.0; next_faction = inner.1; next_unit = middle.1; next_structure = outer.1 }
 
 -- the tables of factions, regions, units and structures have no more rows than their limits
-pub record Counts (p : Parts) : Type 0 where
+pub record HaveFewRows (p : Parts) : Type 0 where
   -- there are at most last_faction rows of `faction`
   pub factions : length p.factions ≤ last_faction
   -- there are at most most_regions rows of `region`
@@ -267,7 +267,7 @@ pub record Counts (p : Parts) : Type 0 where
   pub structures : length p.structures ≤ most_structures
 
 -- if rows pass are_few, the tables of factions, regions, units and structures have no more rows than their limits
-pub counts : (p : Parts) → are_few p ≡ true → Counts p
+pub counts : (p : Parts) → are_few p ≡ true → HaveFewRows p
 counts p h =
     let factions = nat_le (length p.factions) last_faction in
     let regions = nat_le (length p.regions) most_regions in

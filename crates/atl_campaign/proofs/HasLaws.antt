@@ -1,5 +1,5 @@
 -- Laws of the rows of `has` (units' goods): the units assembled from rows are written as the same rows, in some order.
--- A row is exact (IsExact) if its key and its amount are read as they are, and the amount is not 0.
+-- A row is exact (IsExactGoods) if its key and its amount are read as they are, and the amount is not 0.
 use Rattle.std.proofs.Common.{◌≡◌, ◌==◌, ℕ, ◌++◌, List, [], ◌∷◌, Bool, true, false, not, map, filter, sym, ap, subst, ◌∙◌, arith, inl, inr, ◌⊎◌}
 use Rattle.std.specs.Prelude.{pos, ℤ}
 use Rattle.std.specs.List.{flat_map, AllByRecursion, IsDistinct}
@@ -63,7 +63,7 @@ pub record KeyFitsU32 (h : StoredHas) : Type 0 where
   pub thing : FitsU32 h.thing
 
 -- a row of `has` whose key and amount are read as they are, with an amount other than 0
-pub record IsExact (h : StoredHas) : Type 0 where
+pub record IsExactGoods (h : StoredHas) : Type 0 where
   -- the row's unit, sort and thing are read as they are: they fit 32 bits
   pub keys : KeyFitsU32 h
   -- the row's amount is read as it is: it fits 32 bits
@@ -117,15 +117,15 @@ pub things_apart : (n sort : ℕ) (has : List StoredHas) → AllByRecursion KeyF
 things_apart n sort = group.things_apart has_key is_same_key ties_itself thing_of (is_of_unit_and_sort n sort) KeyFitsU32 (same_key n sort)
 
 -- the goods of one sort (0 items, 1 days) that rows of `has` give unit n are written as the rows of unit n and that
--- sort, in some order. Each row has to be exact (IsExact), and no two may have equal keys.
-goods_of_sort_are_rewritten : (n sort : ℕ) (has : List StoredHas) → AllByRecursion IsExact has → IsDistinct is_same_key (map has_key has) → IsPermutation (rows_of_sort n sort (entries (things_had n sort has))) (filter (is_of_unit_and_sort n sort) has)
+-- sort, in some order. Each row has to be exact (IsExactGoods), and no two may have equal keys.
+goods_of_sort_are_rewritten : (n sort : ℕ) (has : List StoredHas) → AllByRecursion IsExactGoods has → IsDistinct is_same_key (map has_key has) → IsPermutation (rows_of_sort n sort (entries (things_had n sort has))) (filter (is_of_unit_and_sort n sort) has)
 goods_of_sort_are_rewritten n sort has all d =
-    lines_order thing_of amount_of (has_row n sort) (λ h. not (is_zero h.amount)) (filter (is_of_unit_and_sort n sort) has) (things_apart n sort has (each_follows IsExact KeyFitsU32 (λ h one. one.keys) has all) d)
-    (each_follows (λ h. IsExact h × (is_of_unit_and_sort n sort h ≡ true)) (λ h. (has_row n sort (thing_of h) (amount_of h) ≡ h) × (not (is_zero h.amount) ≡ true)) (λ h had. (same_row n sort h (had.0.keys, had.1) had.0.amount, ap not had.0.some)) (filter (is_of_unit_and_sort n sort) has) (group.all_mine has_key is_same_key ties_itself thing_of (is_of_unit_and_sort n sort) IsExact has all))
+    lines_order thing_of amount_of (has_row n sort) (λ h. not (is_zero h.amount)) (filter (is_of_unit_and_sort n sort) has) (things_apart n sort has (each_follows IsExactGoods KeyFitsU32 (λ h one. one.keys) has all) d)
+    (each_follows (λ h. IsExactGoods h × (is_of_unit_and_sort n sort h ≡ true)) (λ h. (has_row n sort (thing_of h) (amount_of h) ≡ h) × (not (is_zero h.amount) ≡ true)) (λ h had. (same_row n sort h (had.0.keys, had.1) had.0.amount, ap not had.0.some)) (filter (is_of_unit_and_sort n sort) has) (group.all_mine has_key is_same_key ties_itself thing_of (is_of_unit_and_sort n sort) IsExactGoods has all))
 
 -- the items and days that rows of `has` give unit n are written as the rows of unit n, in some order. Each row has to
--- be exact (IsExact) and of one of the two sorts, and no two may have equal keys.
-goods_of_unit_are_rewritten : (n : ℕ) (has : List StoredHas) → AllByRecursion (λ h. (as_u32 h.sort ≡ 0) ⊎ (as_u32 h.sort ≡ 1)) has → AllByRecursion IsExact has → IsDistinct is_same_key (map has_key has)
+-- be exact (IsExactGoods) and of one of the two sorts, and no two may have equal keys.
+goods_of_unit_are_rewritten : (n : ℕ) (has : List StoredHas) → AllByRecursion (λ h. (as_u32 h.sort ≡ 0) ⊎ (as_u32 h.sort ≡ 1)) has → AllByRecursion IsExactGoods has → IsDistinct is_same_key (map has_key has)
     → IsPermutation (rows_of_sort n 0 (entries (things_had n 0 has)) ++ rows_of_sort n 1 (entries (things_had n 1 has))) (rows_of_unit n has)
 goods_of_unit_are_rewritten n has sorts all d =
     let items = rows_of_sort n 0 (entries (things_had n 0 has)) in
@@ -138,8 +138,8 @@ abbrev unit_lines : ℕ × Unit → List StoredHas
 unit_lines e = held_rows e.0 e.1.holding
 
 -- units assembled from rows are written as the same rows of `has`, in some order. The units have to have different
--- numbers, and each row of `has` has to be exact (IsExact), of one of the units, and of a key of its own.
-pub has_rows_are_rewritten : (has : List StoredHas) (units : List StoredUnit) → HaveDistinctNumbers (λ r. as_u32 r.number) units → AllByRecursion (IsOfUnits units) has → AllByRecursion IsExact has → IsDistinct is_same_key (map has_key has)
+-- numbers, and each row of `has` has to be exact (IsExactGoods), of one of the units, and of a key of its own.
+pub has_rows_are_rewritten : (has : List StoredHas) (units : List StoredUnit) → HaveDistinctNumbers (λ r. as_u32 r.number) units → AllByRecursion (IsOfUnits units) has → AllByRecursion IsExactGoods has → IsDistinct is_same_key (map has_key has)
     → IsPermutation (has_rows (entries (by_number (λ r. as_u32 r.number) (unit_of has) units))) has
 has_rows_are_rewritten has units apart of all d =
     let lines = λ (r : StoredUnit). unit_lines (as_u32 r.number, unit_of has r) in

@@ -167,8 +167,8 @@ module _ (w : WorldValue) (c : CampaignValue) (n : ℕ) (u : Unit) (h : HoldingV
 
   -- the campaign stays steady when unit n gets the holding h, if the unit may have h, and with h guards only if it did
   -- before (MayHaveWithoutNewGuard)
-  pub steady-unit_amount : MayHaveWithoutNewGuard w u h → IsSteady w c → IsSteady w with_new_holding
-  steady-unit_amount may old = record {
+  pub steady-new_holding : MayHaveWithoutNewGuard w u h → IsSteady w c → IsSteady w with_new_holding
+  steady-new_holding may old = record {
     numbers = numbers_kept may.limits old.numbers;
     names = record {
       pass = old.names.pass;
@@ -186,14 +186,14 @@ module _ (w : WorldValue) (c : CampaignValue) (n : ℕ) (u : Unit) (h : HoldingV
     guarded = of_one_faction_kept guards may.guard old.guarded;
   }
 
-  -- for total-unit_amount: an equation of two sums still holds with the same number r added on each side
+  -- for `total-new_holding`: an equation of two sums still holds with the same number r added on each side
   regrouped : (r a b p q : ℕ) → a + p ≡ b + q → (a + r) + p ≡ (b + r) + q
   regrouped r a b p q e = omega arith
 
   -- giving unit n the holding h changes a thing's total by what h has more or less of it than the old holding
-  pub total-unit_amount : (t : Thing) → total with_new_holding t + unit_amount t u.holding ≡ total c t + unit_amount t h
+  pub total-new_holding : (t : Thing) → total with_new_holding t + unit_amount t u.holding ≡ total c t + unit_amount t h
   unfolding total
-  total-unit_amount t =
+  total-new_holding t =
       let there = λ (x : Unit). unit_amount t x.holding in
       regrouped (sum_over (λ (r : Region). region_amount t r) c.regions) (sum_over there with_new_holding.units) (sum_over there c.units) (unit_amount t u.holding) (unit_amount t h)
       (sum_over-insert_known there c.units n u new_unit is)

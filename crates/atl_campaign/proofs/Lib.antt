@@ -5,7 +5,7 @@ pub mod SortedLaws
 pub mod AssemblyLaws
 pub mod ReadBackLaws
 pub mod GroupLaws
-pub mod GivingLaws
+pub mod AddedRowLaws
 pub mod TotalLaws
 pub mod UndoneLaws
 pub mod AmountMarkLaws

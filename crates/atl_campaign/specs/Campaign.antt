@@ -95,7 +95,7 @@ campaign_code =
     })
     (λ _. refl)
 
--- for proofs alone: a campaign with marks encoded as the pair of both
+-- for proofs alone: a campaign with marks encoded as the pair of both, as the kit asks of a type that contracts see
 abbrev pub marked_code : Coded MarkedCampaign
 marked_code =
     code_by (CampaignValue × Marks) (coded× campaign_code marks_code)

@@ -112,9 +112,9 @@ with_books_row books r =
     (entry_numbered (as_u32 r.entry)) books
 
 -- the books with the amount of each row put in, in the order of the rows
-abbrev pub put_amounts : List StoredBooks → BooksValue → BooksValue
-put_amounts [] books = books
-put_amounts (r ∷ rs) books = put_amounts rs (with_books_row books r)
+abbrev pub with_books_rows : List StoredBooks → BooksValue → BooksValue
+with_books_rows [] books = books
+with_books_rows (r ∷ rs) books = with_books_rows rs (with_books_row books r)
 
 -- ---- the whole campaign
 
@@ -148,5 +148,5 @@ campaign_of w p = record {
   structures = by_number (λ r. as_u32 r.number) structure_of p.structures;
   mail = by_number (λ r. as_u32 r.faction) (λ r. r.text) p.mail;
   reports = by_number (λ r. as_u32 r.faction) (λ r. r.text) p.reports;
-  books = put_amounts p.books (no_amounts (thing_count w));
+  books = with_books_rows p.books (no_amounts (thing_count w));
 }

@@ -62,11 +62,11 @@ pub record Marks : Type 0 where
   -- whether the campaign row is marked
   pub row : Bool
 
--- for proofs alone: marked single items, skills or stocks encoded as a map of maps
+-- for proofs alone: marked single items, skills or stocks encoded as a map of maps, a part of `marks_code`
 abbrev pub things_code : Coded MarkedThings
 things_code = map.code coded_ℕ (map.code coded_ℕ coded_unit)
 
--- for proofs alone: marks encoded as nested pairs of their fields
+-- for proofs alone: marks encoded as nested pairs of their fields, as the kit asks of a type that contracts see
 abbrev pub marks_code : Coded Marks
 marks_code =
     let numbers = code coded_ℕ in

@@ -27,7 +27,7 @@ pub record MarkedRegions : Type 0 where
   -- the stocks that are marked one by one: the items' numbers, by the region's number
   pub items : MarkedThings
 
--- for proofs alone: regions with marks encoded as nested pairs of their fields
+-- for proofs alone: regions with marks encoded as nested pairs, as the kit asks of a type that contracts see
 abbrev pub regions_code : Coded MarkedRegions
 regions_code =
     let numbers = set.code coded_ℕ in

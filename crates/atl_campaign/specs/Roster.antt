@@ -27,7 +27,7 @@ pub record Roster : Type 0 where
   -- the skills whose days are marked one by one: their numbers, by the unit's number
   pub skills : MarkedThings
 
--- for proofs alone: units with marks (Roster) encoded as nested pairs of their fields
+-- for proofs alone: units with marks (Roster) encoded as nested pairs, as the kit asks of a type that contracts see
 abbrev pub roster_code : Coded Roster
 roster_code =
     let numbers = set.code coded_ℕ in

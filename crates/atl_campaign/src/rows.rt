@@ -375,7 +375,7 @@ fn books_rows(alloc: Global, books: &Books) -> Result<Sequence<StoredBooks>, All
     Ok(rows)
 }
 
-/// Writes the whole campaign as rows of its tables.
+/// Gives the rows of the whole campaign, table by table.
 impl Campaign {
     /// The rows of the campaign in the second format, in the order of their keys. AllocError
     /// without memory. See docs/FORMATS.md, "Tables".

@@ -9,8 +9,8 @@ use Rattle.atl_http.specs.declared.calls.ReadOutcome.{ReadOutcome}
 use Rattle.atl_http.specs.declared.calls.ReadOutcome.TheVariants as came
 use Rattle.atl_http.specs.declared.calls.WriteOutcome.{WriteOutcome}
 use Rattle.atl_http.specs.declared.calls.WriteOutcome.TheVariants as written
-use Rattle.atl_http.specs.declared.calls.Reads.{Reads}
-use Rattle.atl_http.specs.declared.calls.Writes.{Writes}
+use Rattle.atl_http.specs.declared.calls.ReadCalls.{ReadCalls}
+use Rattle.atl_http.specs.declared.calls.WriteCalls.{WriteCalls}
 use Rattle.atl_http.specs.declared.io.HttpFault.{HttpFault}
 use Rattle.atl_http.specs.declared.io.HttpFault.TheVariants.{Cut, ReadFault, WriteFault, Memory}
 
@@ -45,11 +45,11 @@ GivesBytes before after room came.Interrupted = Keeps before after
 GivesBytes before after room came.Failed = Keeps before after
 
 -- the counters before the first read: none is counted, and the last outcome is set to a piece of 0 bytes
-abbrev pub no_reads : Reads
+abbrev pub no_reads : ReadCalls
 no_reads = record { count = 0; last = came.Piece 0 }
 
 -- One read is done with this outcome, which is kept as the last one, and the count of reads is one more.
-abbrev pub ReadsOnce : (before after : Option (List ℕ)) → (room : List ℕ) → (old new : Reads) → ReadOutcome → Type 0
+abbrev pub ReadsOnce : (before after : Option (List ℕ)) → (room : List ℕ) → (old new : ReadCalls) → ReadOutcome → Type 0
 ReadsOnce before after room old new outcome =
     GivesBytes before after room outcome × (new ≡ record { count = old.count + 1; last = outcome })
 
@@ -62,7 +62,7 @@ GoesOn came.Failed = ⊥
 
 -- The reads explain the fault: the input ended (Cut), or a read failed or was the last one allowed (ReadFault).
 -- Memory needs a last read that gave a piece or was interrupted; WriteFault is never explained.
-abbrev pub ReadFaultOf : Reads → HttpFault → Type 0
+abbrev pub ReadFaultOf : ReadCalls → HttpFault → Type 0
 ReadFaultOf reads Cut = reads.last ≡ came.End
 ReadFaultOf reads ReadFault = (reads.last ≡ came.Failed) ⊎ (GoesOn reads.last × (reads.count ≡ most_reads))
 ReadFaultOf reads WriteFault = ⊥
@@ -70,7 +70,7 @@ ReadFaultOf reads Memory = GoesOn reads.last
 
 -- How the reads of a request ended, by the result of reading it: at most `most_reads` were done. With Ok another might
 -- follow (`GoesOn`); a fault is one that the reads explain (`ReadFaultOf`).
-abbrev pub EndsReading : {X : Type 0} → Reads → Result X HttpFault → Type 0
+abbrev pub EndsReading : {X : Type 0} → ReadCalls → Result X HttpFault → Type 0
 EndsReading reads (Ok x) = (reads.count ≤ most_reads) × GoesOn reads.last
 EndsReading reads (Err fault) = (reads.count ≤ most_reads) × ReadFaultOf reads fault
 
@@ -94,22 +94,22 @@ Takes before after rest written.Interrupted = Appends before after []
 Takes before after rest written.Failed = Appends before after []
 
 -- the counters before the first write: none was interrupted, and the last outcome is set to 0 bytes taken
-abbrev pub no_writes : Writes
+abbrev pub no_writes : WriteCalls
 no_writes = record { interrupted = 0; last = written.Taken 0 }
 
 -- the counters after one more write with this outcome, which is kept as the last one, and counted if it was interrupted
-abbrev pub with_write : Writes → WriteOutcome → Writes
+abbrev pub with_write : WriteCalls → WriteOutcome → WriteCalls
 with_write old (written.Taken count) = record { interrupted = old.interrupted; last = written.Taken count }
 with_write old written.Interrupted = record { interrupted = old.interrupted + 1; last = written.Interrupted }
 with_write old written.Failed = record { interrupted = old.interrupted; last = written.Failed }
 
 -- One write is done with this outcome, which is kept as the last one, and counted if it was interrupted.
-abbrev pub WritesOnce : (before after : Option (List ℕ)) → (rest : List ℕ) → (old new : Writes) → WriteOutcome → Type 0
+abbrev pub WritesOnce : (before after : Option (List ℕ)) → (rest : List ℕ) → (old new : WriteCalls) → WriteOutcome → Type 0
 WritesOnce before after rest old new outcome = Takes before after rest outcome × (new ≡ with_write old outcome)
 
 -- The writes explain the fault WriteFault: the last one failed, or `most_interrupted` were interrupted. They explain no
 -- other fault.
-abbrev pub WriteFaultOf : Writes → HttpFault → Type 0
+abbrev pub WriteFaultOf : WriteCalls → HttpFault → Type 0
 WriteFaultOf writes Cut = ⊥
 WriteFaultOf writes ReadFault = ⊥
 WriteFaultOf writes WriteFault = (writes.last ≡ written.Failed) ⊎ (writes.interrupted ≡ most_interrupted)
@@ -117,7 +117,7 @@ WriteFaultOf writes Memory = ⊥
 
 -- How the writes of a reply ended, by the result of writing it: with Ok fewer than `most_interrupted` were interrupted,
 -- and a fault is WriteFault, which the writes explain (`WriteFaultOf`).
-abbrev pub EndsWriting : Writes → Result (Unit {0}) HttpFault → Type 0
+abbrev pub EndsWriting : WriteCalls → Result (Unit {0}) HttpFault → Type 0
 EndsWriting writes (Ok done) = writes.interrupted < most_interrupted
 EndsWriting writes (Err fault) = (writes.interrupted ≤ most_interrupted) × WriteFaultOf writes fault
 
@@ -125,7 +125,7 @@ EndsWriting writes (Err fault) = (writes.interrupted ≤ most_interrupted) × Wr
 
 -- How reads and writes ended, by the result of serving a request: the reads explain a missing request, the writes an
 -- unfinished reply. Memory runs out only before the first write, and not after a read that failed or found the end.
-abbrev pub EndsBy : Reads → Writes → Result ℕ HttpFault → Type 0
+abbrev pub EndsBy : ReadCalls → WriteCalls → Result ℕ HttpFault → Type 0
 EndsBy reads writes (Ok status) = EndsReading reads (Ok status) × EndsWriting writes (Ok tt)
 EndsBy reads writes (Err Cut) = EndsReading {X = ℕ} reads (Err Cut) × (writes ≡ no_writes)
 EndsBy reads writes (Err ReadFault) = EndsReading {X = ℕ} reads (Err ReadFault) × (writes ≡ no_writes)

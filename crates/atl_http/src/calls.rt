@@ -38,14 +38,14 @@ pub enum WriteOutcome {
 
 /// The reads of one request: how many there were, and the outcome of the last one.
 #[derive(Drop, Clone, Copy)]
-pub struct Reads {
+pub struct ReadCalls {
     count: u32,
     last: ReadOutcome,
 }
 
 /// The writes of one reply: how many of them were interrupted, and the outcome of the last one.
 #[derive(Drop, Clone, Copy)]
-pub struct Writes {
+pub struct WriteCalls {
     interrupted: u32,
     last: WriteOutcome,
 }
@@ -82,14 +82,14 @@ fn write_outcome(returned: io::Result<usize>) -> WriteOutcome
 }
 
 /// Starts the counters of a request's reads, reads once, and gives the count.
-impl Reads {
+impl ReadCalls {
     ghost use Rattle.atl_http.specs.Calls.{most_reads, no_reads, ReadsOnce};
 
     /// The counters before the first read.
-    pub fn none() -> Reads
+    pub fn none() -> ReadCalls
         ensures { result ≡ no_reads }
     {
-        Reads {
+        ReadCalls {
             count: 0,
             last: ReadOutcome::Piece(0),
         }
@@ -118,14 +118,14 @@ impl Reads {
 }
 
 /// Starts the counters of a reply's writes, writes once, and gives the count of interruptions.
-impl Writes {
+impl WriteCalls {
     ghost use Rattle.atl_http.specs.Calls.{most_interrupted, no_writes, WritesOnce};
 
     /// The counters before the first write.
-    pub fn none() -> Writes
+    pub fn none() -> WriteCalls
         ensures { result ≡ no_writes }
     {
-        Writes {
+        WriteCalls {
             interrupted: 0,
             last: WriteOutcome::Taken(0),
         }

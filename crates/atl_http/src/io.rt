@@ -5,7 +5,9 @@ ghost use Rattle.atl_http.specs.Heads.{most_at_once, IsShortBy, ComesTo};
 ghost use Rattle.atl_http.specs.Calls.{most_reads, no_reads, GoesOn, EndsReading, no_writes, EndsWriting};
 ghost use Rattle.atl_http.specs.Io.{ReadsMore, Receives, Sends};
 
-use crate::calls::{MOST_INTERRUPTED, MOST_READS, ReadOutcome, Reads, WriteOutcome, Writes};
+use crate::calls::{
+    MOST_INTERRUPTED, MOST_READS, ReadCalls, ReadOutcome, WriteCalls, WriteOutcome,
+};
 use crate::parsing::{progress_of, rest_after};
 use crate::request::{FinalVerdict, Progress};
 use std::alloc::{AllocError, Global};
@@ -78,7 +80,7 @@ impl From<AllocError> for HttpFault {
 /// before, Memory without memory for the bytes.
 fn read_more<R: Read>(
     reader: &mut R,
-    reads: &mut Reads,
+    reads: &mut ReadCalls,
     room: &mut [u8],
     seen: &mut Vec<u8>,
 ) -> Result<usize, HttpFault>
@@ -106,7 +108,11 @@ fn read_more<R: Read>(
 
 /// Writes all bytes. WriteFault if a write fails or takes no byte, or 1,000,000 writes are
 /// interrupted: then only the first bytes were written, perhaps none.
-pub fn send<W: Write>(writer: &mut W, writes: &mut Writes, bytes: &[u8]) -> Result<(), HttpFault>
+pub fn send<W: Write>(
+    writer: &mut W,
+    writes: &mut WriteCalls,
+    bytes: &[u8],
+) -> Result<(), HttpFault>
     requires { writes.old ≡ no_writes }
     ensures sends { Sends (W.contents writer.old) (W.contents writer.new) bytes.now result }
     ensures ends { EndsWriting writes.new result }
@@ -148,7 +154,7 @@ fn progress_if_due(alloc: Global, seen: &[u8], missing: usize) -> Result<Progres
 fn receive_in<R: Read>(
     alloc: Global,
     reader: &mut R,
-    reads: &mut Reads,
+    reads: &mut ReadCalls,
     room: &mut [u8],
     seen: &mut Vec<u8>,
 ) -> Result<FinalVerdict, HttpFault>
@@ -178,7 +184,7 @@ fn receive_in<R: Read>(
 pub fn receive<R: Read>(
     alloc: Global,
     reader: &mut R,
-    reads: &mut Reads,
+    reads: &mut ReadCalls,
     seen: &mut Vec<u8>,
 ) -> Result<FinalVerdict, HttpFault>
     requires empty { seen.old.items ≡ [] }

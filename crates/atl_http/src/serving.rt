@@ -7,7 +7,7 @@ ghost use Rattle.atl_http.specs.Io.{RepliesWith};
 ghost use Rattle.atl_http.specs.Calls.{no_reads, no_writes, EndsBy};
 
 use crate::answering::answer_message;
-use crate::calls::{Reads, Writes};
+use crate::calls::{ReadCalls, WriteCalls};
 use crate::dice::Dice;
 use crate::io::{HttpFault, receive, send};
 use crate::message::{Message, problem_message};
@@ -64,9 +64,9 @@ fn reply_to<S: Alter>(
 pub fn serve_counted<R: Read, W: Write, S: Alter>(
     alloc: Global,
     reader: &mut R,
-    reads: &mut Reads,
+    reads: &mut ReadCalls,
     writer: &mut W,
-    writes: &mut Writes,
+    writes: &mut WriteCalls,
     service: &mut Service<S>,
     dice: Dice,
 ) -> Result<u16, HttpFault>
@@ -108,8 +108,8 @@ pub fn serve_one<R: Read, W: Write, S: Alter>(
         (record { left = R.remaining reader.new; held = W.contents writer.new }) service.old
         result service.new }
 {
-    let mut reads = Reads::none();
-    let mut writes = Writes::none();
+    let mut reads = ReadCalls::none();
+    let mut writes = WriteCalls::none();
     serve_counted(
         alloc,
         reader,

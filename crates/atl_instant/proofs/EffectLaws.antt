@@ -21,12 +21,12 @@ use Rattle.atl_campaign.specs.Campaign.{CampaignValue}
 use Rattle.atl_records.specs.Amounts.{unit_amount}
 use Rattle.atl_campaign.specs.Totals.{total}
 use Rattle.atl_records.proofs.EveryLaws.{get-insert_other}
-use Rattle.atl_campaign.proofs.HoldingLaws.{total-unit_amount}
+use Rattle.atl_campaign.proofs.HoldingLaws.{total-new_holding}
 use Rattle.atl_campaign.proofs.RegionLaws.{get-insert_same}
 use Rattle.atl_phase.specs.Meaning.{Condition}
 use Rattle.atl_phase.specs.Month.{Aliases}
 use Rattle.atl_phase.specs.NoWorse.{IsNoWorse}
-use Rattle.atl_phase.specs.OrderEffects.{Affects, IsOwnOrder, IsUnaffected, OrderEffect, OrderMeaning}
+use Rattle.atl_phase.specs.OrderEffects.{Affects, IsOwnOrder, IsStillThere, OrderEffect, OrderMeaning}
 use Rattle.atl_phase.specs.Outcomes.{unless}
 use Rattle.atl_phase.specs.PhaseOrders.{Task}
 use Rattle.atl_phase.specs.Bounds.{IsOrderly, IsUnitOf, StepsWell, nothing_remaining}
@@ -50,36 +50,36 @@ pub record IsLeftAlone (f : ℕ) (before after : Unit) : Type 0 where
 -- What an order of faction f for unit n keeps, as it makes campaign d of c: each unit but n is left alone
 -- (`IsLeftAlone`). Where `holds` is true of c and the order fits the world (`fit`), `holds` is true of d, and month,
 -- books and balance are kept.
-pub record Keeps (holds : Condition) (fit : Type 0) (w : WorldValue) (c : CampaignValue) (n f : ℕ) (d : CampaignValue) : Type 0 where
+pub record OrderKeeps (holds : Condition) (fit : Type 0) (w : WorldValue) (c : CampaignValue) (n f : ℕ) (d : CampaignValue) : Type 0 where
   -- where `holds` is true of c and the order fits (`fit`), `holds` is true of d, and month, books and balance are kept
   pub well : holds w c → fit → StepsWell holds nothing_remaining w c d
   -- each unit but n is in d, no worse off than in c, and has exactly as many men as in c if it is of another faction
   -- than f
-  pub others : (k : ℕ) (v : Unit) → get c.units k ≡ Some v → k ≢ n → IsUnaffected (IsLeftAlone f) d k v
+  pub others : (k : ℕ) (v : Unit) → get c.units k ≡ Some v → k ≢ n → IsStillThere (IsLeftAlone f) d k v
 
 module _ {holds : Condition} {fit : Type 0} (w : WorldValue) (c : CampaignValue) (n f : ℕ) where
-  -- an order that changes no unit but n, and keeps `holds` and the books (`StepsWell`), keeps what `Keeps` says
-  pub keeps_others : (d : CampaignValue) → (holds w c → fit → StepsWell holds nothing_remaining w c d) → ((k : ℕ) → k ≢ n → get d.units k ≡ get c.units k) → Keeps holds fit w c n f d
+  -- an order that changes no unit but n, and keeps `holds` and the books (`StepsWell`), keeps what `OrderKeeps` says
+  pub keeps_others : (d : CampaignValue) → (holds w c → fit → StepsWell holds nothing_remaining w c d) → ((k : ℕ) → k ≢ n → get d.units k ≡ get c.units k) → OrderKeeps holds fit w c n f d
   keeps_others d well stay = record {
     well = well;
     others = λ k v there apart. record { unit = v; there = stay k apart ∙ there; is_unaffected = record { better = no_worse v; men = λ other. refl } };
   }
 
-  -- an order that changes nothing keeps `holds`, the books and the other units (`Keeps`)
-  pub keeps_all : Keeps holds fit w c n f c
+  -- an order that changes nothing keeps `holds`, the books and the other units (`OrderKeeps`)
+  pub keeps_all : OrderKeeps holds fit w c n f c
   keeps_all = keeps_others c (λ h fits. well_same w c h) (λ k apart. refl)
 
-  -- an order, with a fault or without, keeps `holds`, the books and the other units (`Keeps`), if its effect without a
+  -- an order, with a fault or without, keeps `holds`, the books and the other units (`OrderKeeps`), if its effect without a
   -- fault does
-  pub keeps_unless : (fault : Option EventFault) (d : CampaignValue) (o : Outcome) → (fault ≡ None → Keeps holds fit w c n f d) → Keeps holds fit w c n f (unless c fault (d, o)).0
+  pub keeps_unless : (fault : Option EventFault) (d : CampaignValue) (o : Outcome) → (fault ≡ None → OrderKeeps holds fit w c n f d) → OrderKeeps holds fit w c n f (unless c fault (d, o)).0
   keeps_unless (Some fault) d o keeps = keeps_all
   keeps_unless None d o keeps = keeps refl
 
--- the effect of each order for a unit of its writer's faction keeps `holds`, the books and the other units (`Keeps`)
+-- the effect of each order for a unit of its writer's faction keeps `holds`, the books and the other units (`OrderKeeps`)
 abbrev pub StepKeeps : Condition → OrderMeaning → Type 0
-StepKeeps holds step = (w : WorldValue) (a : Aliases) (c : CampaignValue) (t : Task) (x : Unit) → IsUnitOf c t x → IfSome (step w a t) (λ effect. Keeps holds (IsOrderOf w t.order_value) w c t.unit x.faction (effect c x).0)
+StepKeeps holds step = (w : WorldValue) (a : Aliases) (c : CampaignValue) (t : Task) (x : Unit) → IsUnitOf c t x → IfSome (step w a t) (λ effect. OrderKeeps holds (IsOrderOf w t.order_value) w c t.unit x.faction (effect c x).0)
 
--- a phase is orderly (`IsOrderly`), if the effect of each order keeps `holds`, the books and the other units (`Keeps`),
+-- a phase is orderly (`IsOrderly`), if the effect of each order keeps `holds`, the books and the other units (`OrderKeeps`),
 -- and the phase passes over a unit's own order that doesn't affect the unit
 pub orderly_by : {holds : Condition} {step : OrderMeaning} {affects : Affects} → StepKeeps holds step
     → ((w : WorldValue) (a : Aliases) (t : Task) (n f : ℕ) → IsOwnOrder t n f → (affects t n f → ⊥) → step w a t ≡ None) → IsOrderly step holds nothing_remaining moves_nothing affects IsNoWorse
@@ -92,14 +92,14 @@ orderly_by {holds} {step} keeps passed = record {
   where
     -- a unit that an order doesn't affect is no worse off after it, whether the order is passed over or not
     by_step : (w : WorldValue) (c : CampaignValue) (t : Task) (x : Unit) → IsUnitOf c t x → (n : ℕ) (u : Unit) → get c.units n ≡ Some u
-        → (o : Option OrderEffect) → IfSome o (λ effect. Keeps holds (IsOrderOf w t.order_value) w c t.unit x.faction (effect c x).0) → (IsOwnOrder t n u.faction → o ≡ None) → IfSome o (λ effect. IsUnaffected IsNoWorse (effect c x).0 n u)
+        → (o : Option OrderEffect) → IfSome o (λ effect. OrderKeeps holds (IsOrderOf w t.order_value) w c t.unit x.faction (effect c x).0) → (IsOwnOrder t n u.faction → o ≡ None) → IfSome o (λ effect. IsStillThere IsNoWorse (effect c x).0 n u)
     by_step w c t x own n u there None kept passes = tt
     by_step w c t x own n u there (Some effect) kept passes =
         let one = kept.others n u there (other_unit c t x n u own there (λ mine. let none : Some effect ≡ None = passes mine in cc)) in
         record { unit = one.unit; there = one.there; is_unaffected = one.is_unaffected.better }
 
 -- the orders of a phase leave units of other factions their men (`LeavesOthersMen`), if each keeps the other units
--- (`Keeps`)
+-- (`OrderKeeps`)
 pub leaves_men : (holds : Condition) (step : OrderMeaning) → StepKeeps holds step → LeavesOthersMen step
 leaves_men holds step keeps w a c t x own =
     IfSome_then (step w a t) (keeps w a c t x own) (λ effect kept k v there other.
@@ -136,7 +136,7 @@ module _ (c : CampaignValue) (from to : ℕ) (u v : Unit) (h k : HoldingValue) (
   -- the campaign's total of each thing stays the same, if giver and receiver together hold as much as before
   total-moved : WorldValue → BothHold → (t : Thing) → total moved t ≡ total c t
   total-moved w both t =
-      sum (total moved t) (total between t) (total c t) (unit_amount t u.holding) (unit_amount t v.holding) (unit_amount t h) (unit_amount t k) (total-unit_amount w between to v k receiver_still t) (total-unit_amount w c from u h giver t) (both t)
+      sum (total moved t) (total between t) (total c t) (unit_amount t u.holding) (unit_amount t v.holding) (unit_amount t h) (unit_amount t k) (total-new_holding w between to v k receiver_still t) (total-new_holding w c from u h giver t) (both t)
     where
       -- For `total-moved`: the total a after both changes is x, that before them; b is the total between the changes.
       -- Giver and receiver held p and q of the thing, and hold r and s after, with the same sum.
@@ -151,7 +151,7 @@ module _ (c : CampaignValue) (from to : ℕ) (u v : Unit) (h k : HoldingValue) (
       (same_month_by refl) refl (total-moved w both)
 
   -- a move leaves each unit but the giver alone (`IsLeftAlone`), if it leaves the receiver alone
-  pub others-moved : (f : ℕ) → IsLeftAlone f v (record v { holding = k }) → (n : ℕ) (x : Unit) → get c.units n ≡ Some x → n ≢ from → IsUnaffected (IsLeftAlone f) moved n x
+  pub others-moved : (f : ℕ) → IsLeftAlone f v (record v { holding = k }) → (n : ℕ) (x : Unit) → get c.units n ≡ Some x → n ≢ from → IsStillThere (IsLeftAlone f) moved n x
   others-moved f is_unaffected n x there other = elim (cases_eq n to) [
     | inl same ↦
         let one : Some v ≡ Some x = sym receiver ∙ ap (get c.units) (sym same) ∙ there in

@@ -31,7 +31,7 @@ use Rattle.atl_campaign.proofs.HavingLaws.{MayHave, may_have}
 use Rattle.atl_instant.specs.Give.{give, give_effect, give_fault, give_step, give_to, held_of, with_held_of}
 use Rattle.atl_instant.specs.declared.give.Gift.{Gift}
 use Rattle.atl_instant.specs.declared.give.Gift.TheVariants.{Item, Money}
-use Rattle.atl_instant.proofs.EffectLaws.{Keeps, StepKeeps, keeps_all, moved_cases, orderly_by, others-moved, steps-moved}
+use Rattle.atl_instant.proofs.EffectLaws.{OrderKeeps, StepKeeps, keeps_all, moved_cases, orderly_by, others-moved, steps-moved}
 
 -- the giver holds n of the gift, and the receiver has room for n more: what holds where a gift to another unit has no
 -- fault
@@ -130,9 +130,9 @@ gift_receiver_no_worse (Item i) n v = record { faction = refl; region = refl; st
 -- ---- one order
 
 module _ {fit : Type 0} (w : WorldValue) (c : CampaignValue) (from to : ℕ) (gift : Gift) (n : ℕ) (u : Unit) (giver : get c.units from ≡ Some u) (known : fit → IsKnown w gift) where
-  -- a gift to another unit, if it can be given, keeps the campaign early, and other units no worse off (`Keeps`)
+  -- a gift to another unit, if it can be given, keeps the campaign early, and other units no worse off (`OrderKeeps`)
   moved_kept : (v : Unit) → get c.units to ≡ Some v → to ≢ from → CanGive gift n u v
-      → Keeps IsEarly fit w c from u.faction (with_holding_at (with_holding_at c from (with_held_of gift u.holding (held_of gift u.holding - n)) (Some u)) to (with_held_of gift v.holding (held_of gift v.holding + n)) (Some v))
+      → OrderKeeps IsEarly fit w c from u.faction (with_holding_at (with_holding_at c from (with_held_of gift u.holding (held_of gift u.holding - n)) (Some u)) to (with_held_of gift v.holding (held_of gift v.holding + n)) (Some v))
   moved_kept v receiver apart can =
       let left = held_of gift u.holding - n in
       let more = held_of gift v.holding + n in
@@ -148,27 +148,27 @@ module _ {fit : Type 0} (w : WorldValue) (c : CampaignValue) (from to : ℕ) (gi
             (record { better = gift_receiver_no_worse gift n v; men = λ other. (gift_leaves_flag_and_men gift v.holding more).1 });
       }
 
-  -- an order of GIVE or PAY of a gift of the world keeps the campaign early, and other units no worse off (`Keeps`)
-  gift_kept : Keeps IsEarly fit w c from u.faction (give from to gift n c u).0
+  -- an order of GIVE or PAY of a gift of the world keeps the campaign early, and other units no worse off (`OrderKeeps`)
+  gift_kept : OrderKeeps IsEarly fit w c from u.faction (give from to gift n c u).0
   unfolding give
   gift_kept = by_receiver (get c.units to) refl
     where
-      -- for `gift_kept`: the order keeps the campaign early, and other units no worse off (`Keeps`), with a receiver
+      -- for `gift_kept`: the order keeps the campaign early, and other units no worse off (`OrderKeeps`), with a receiver
       -- there (`o`) or without
-      by_receiver : (o : Option Unit) → get c.units to ≡ o → Keeps IsEarly fit w c from u.faction (give_to c from to gift n u o).0
+      by_receiver : (o : Option Unit) → get c.units to ≡ o → OrderKeeps IsEarly fit w c from u.faction (give_to c from to gift n u o).0
       by_receiver None is = keeps_all w c from u.faction
       by_receiver (Some v) receiver =
-          moved_cases (Keeps IsEarly fit w c from u.faction) c from to u v (with_held_of gift u.holding (held_of gift u.holding - n)) (with_held_of gift v.holding (held_of gift v.holding + n))
+          moved_cases (OrderKeeps IsEarly fit w c from u.faction) c from to u v (with_held_of gift u.holding (held_of gift u.holding - n)) (with_held_of gift v.holding (held_of gift v.holding + n))
           (λ itself. give_fault gift n itself u (Some v)) (Done n) (keeps_all w c from u.faction) (λ apart none. moved_kept v receiver apart (can_give gift n u v none))
 
 -- ---- the phase
 
--- each order of GIVE or PAY keeps the campaign early, and all units but the giver no worse off (`Keeps`)
+-- each order of GIVE or PAY keeps the campaign early, and all units but the giver no worse off (`OrderKeeps`)
 pub give_keeps : StepKeeps IsEarly give_step
 give_keeps w a c t x own = by_operands t.order_value.operands
   where
-    -- an order with the operands o keeps the campaign early, and all units but the giver no worse off (`Keeps`)
-    by_operands : (o : OperandsValue) → IfSome (give_effect a t.faction t.unit o) (λ effect. Keeps IsEarly (AreOperandsOf w o) w c t.unit x.faction (effect c x).0)
+    -- an order with the operands o keeps the campaign early, and all units but the giver no worse off (`OrderKeeps`)
+    by_operands : (o : OperandsValue) → IfSome (give_effect a t.faction t.unit o) (λ effect. OrderKeeps IsEarly (AreOperandsOf w o) w c t.unit x.faction (effect c x).0)
     by_operands (operands.UnitAndGoods to n item) = gift_kept w c t.unit (unit_of a t.faction to) (Item item) n x own.there (λ fit. fit.2)
     by_operands (operands.UnitAndNumber to n) = gift_kept w c t.unit (unit_of a t.faction to) Money n x own.there (λ fit. tt)
     by_operands other = tt

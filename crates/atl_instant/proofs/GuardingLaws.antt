@@ -27,7 +27,7 @@ use Rattle.atl_campaign.specs.Campaign.{MarkedCampaign, CampaignValue, numbers_i
 use Rattle.atl_records.specs.Amounts.{unit_amount}
 use Rattle.atl_campaign.specs.Totals.{total}
 use Rattle.atl_records.proofs.EveryLaws.{every-insert}
-use Rattle.atl_campaign.proofs.HoldingLaws.{marks-unit_row, total-unit_amount}
+use Rattle.atl_campaign.proofs.HoldingLaws.{marks-unit_row, total-new_holding}
 use Rattle.atl_campaign.proofs.NumberListLaws.{IsListed, passing_listed}
 use Rattle.atl_phase.specs.NoWorse.{IsNoWorse}
 use Rattle.atl_phase.specs.Bounds.{IsOrderly, StepsWell, nothing_remaining}
@@ -39,7 +39,7 @@ use Rattle.atl_phase.proofs.ChangeLaws.{changed_held, change_keeps_others}
 use Rattle.atl_phase.proofs.MarkLaws.{marks_by}
 use Rattle.atl_phase.proofs.UnbookedLaws.{stays_well}
 use Rattle.atl_instant.specs.Guard.{guard, guard_affects, guard_effect, guard_fault, guard_step, guards_against, is_guarded_against}
-use Rattle.atl_instant.proofs.EffectLaws.{Keeps, StepKeeps, keeps_others, keeps_unless, orderly_by}
+use Rattle.atl_instant.proofs.EffectLaws.{OrderKeeps, StepKeeps, keeps_others, keeps_unless, orderly_by}
 
 -- ---- other guards of the region
 
@@ -83,7 +83,7 @@ module _ (w : WorldValue) (c : CampaignValue) (n : ℕ) (u : Unit) (is : get c.u
 
   -- the campaign's total of each thing stays the same with the unit's other name and guard flag
   pub total-labelled : (t : Thing) → total (with_holding_at c n labelled (Some u)) t ≡ total c t
-  total-labelled t = equal_by_sums (total (with_holding_at c n labelled (Some u)) t) (total c t) (unit_amount t u.holding) (unit_amount t labelled) (total-unit_amount w c n u labelled is t) (held_same t)
+  total-labelled t = equal_by_sums (total (with_holding_at c n labelled (Some u)) t) (total c t) (unit_amount t u.holding) (unit_amount t labelled) (total-new_holding w c n u labelled is t) (held_same t)
     where
       -- the unit holds as much of each thing under its other name, and with its other flag
       held_same : (s : Thing) → unit_amount s labelled ≡ unit_amount s u.holding
@@ -149,8 +149,8 @@ flag_marks c d n flag what marks =
 
 -- ---- one order
 
--- GUARD 1 for unit n keeps the campaign steady, and all other units no worse off (`Keeps`)
-guard_kept : {fit : Type 0} (w : WorldValue) (c : CampaignValue) (n : ℕ) (u : Unit) → get c.units n ≡ Some u → Keeps IsSteady fit w c n u.faction (guard n c u).0
+-- GUARD 1 for unit n keeps the campaign steady, and all other units no worse off (`OrderKeeps`)
+guard_kept : {fit : Type 0} (w : WorldValue) (c : CampaignValue) (n : ℕ) (u : Unit) → get c.units n ≡ Some u → OrderKeeps IsSteady fit w c n u.faction (guard n c u).0
 unfolding guard
 guard_kept w c n u is =
     keeps_unless w c n u.faction (guard_fault c u) (with_guard c n true) (Done 0) (λ none.
@@ -158,12 +158,12 @@ guard_kept w c n u is =
 
 -- ---- the phase
 
--- each order of GUARD 1 keeps the campaign steady, and all units but its own no worse off (`Keeps`)
+-- each order of GUARD 1 keeps the campaign steady, and all units but its own no worse off (`OrderKeeps`)
 pub guard_keeps : StepKeeps IsSteady guard_step
 guard_keeps w a c t x own = by_operands t.order_value.operands
   where
-    -- an order with the operands o keeps the campaign steady, and all units but its own no worse off (`Keeps`)
-    by_operands : (o : OperandsValue) → IfSome (guard_effect t.unit o) (λ effect. Keeps IsSteady (AreOperandsOf w o) w c t.unit x.faction (effect c x).0)
+    -- an order with the operands o keeps the campaign steady, and all units but its own no worse off (`OrderKeeps`)
+    by_operands : (o : OperandsValue) → IfSome (guard_effect t.unit o) (λ effect. OrderKeeps IsSteady (AreOperandsOf w o) w c t.unit x.faction (effect c x).0)
     by_operands (operands.Flag true) = guard_kept w c t.unit x own.there
     by_operands other = tt
 

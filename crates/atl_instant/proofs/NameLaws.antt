@@ -30,7 +30,7 @@ use Rattle.atl_phase.proofs.RefitLaws.{IsRelabelled, early-relabelled}
 use Rattle.atl_phase.proofs.StructureLaws.{at_number, get-changed, len-changed}
 use Rattle.atl_phase.proofs.UnbookedLaws.{same_total_of, unbooked_well}
 use Rattle.atl_instant.specs.Name.{name_affects, name_effect, name_result, name_step, structure_fault, structure_name_result}
-use Rattle.atl_instant.proofs.EffectLaws.{Keeps, StepKeeps, keeps_others, keeps_unless, orderly_by}
+use Rattle.atl_instant.proofs.EffectLaws.{OrderKeeps, StepKeeps, keeps_others, keeps_unless, orderly_by}
 use Rattle.atl_instant.proofs.GuardingLaws.{labelled, may_label, total-labelled}
 use Rattle.atl_instant.proofs.FactionLaws.{count-faction_name, known-faction_name, steady-faction_name}
 
@@ -40,12 +40,12 @@ name_other w n text (operands.Name what span) a b = absurd (a what span refl)
 name_other w n text (operands.Flag false) a b = absurd (b refl)
 name_other w n text other a b = refl
 
--- what an order of NAME or GUARD 0 for unit n keeps (`Keeps`), if the order fits the world (`fit`)
+-- what an order of NAME or GUARD 0 for unit n keeps (`OrderKeeps`), if the order fits the world (`fit`)
 module _ (fit : Type 0) (w : WorldValue) (c : CampaignValue) (n : ℕ) (u : Unit) (is : get c.units n ≡ Some u) where
   -- Campaign d, which an order for unit n makes of c, is early and in balance, if c is and the order fits the world
-  -- (`fit`). No unit but n is worse off in d (`Keeps`).
+  -- (`fit`). No unit but n is worse off in d (`OrderKeeps`).
   abbrev KeepsOthersByName : CampaignValue → Type 0
-  KeepsOthersByName d = Keeps IsEarly fit w c n u.faction d
+  KeepsOthersByName d = OrderKeeps IsEarly fit w c n u.faction d
 
   -- ---- the unit's name and its flag
 
@@ -57,14 +57,14 @@ module _ (fit : Type 0) (w : WorldValue) (c : CampaignValue) (n : ℕ) (u : Unit
       subst (StepsWell IsEarly nothing_remaining w c) (sym made)
       (unbooked_well w c (with_holding_at c n h (Some u)) (early-having w c n u h is (may_label w c n u is name flag ok early.steady) old early) (same_month_by refl) refl (total-labelled w c n u is name flag))
 
-  -- naming the unit keeps the campaign early, and other units no worse off (`Keeps`), if the name follows the name rule
+  -- naming the unit keeps the campaign early, and other units no worse off (`OrderKeeps`), if the name follows the name rule
   unit_named : (name : List ℕ) → (fit → IsTrue (name_ok name)) → KeepsOthersByName (with_unit_name c n name)
   unit_named name ok =
       keeps_others w c n u.faction (with_unit_name c n name)
       (λ early fits. label_well name u.holding.guard (ok fits) (λ g. g) early (with_unit_name c n name) (changed_held (λ h. record h { name = name }) c (with_unit_name c n name) n refl u is))
       (change_keeps_others (λ (x : Unit). record x { holding = record x.holding { name = name } }) c n)
 
-  -- clearing the unit's guard flag keeps the campaign early, and other units no worse off (`Keeps`)
+  -- clearing the unit's guard flag keeps the campaign early, and other units no worse off (`OrderKeeps`)
   flag_cleared : KeepsOthersByName (with_guard c n false)
   flag_cleared =
       keeps_others w c n u.faction (with_guard c n false)
@@ -73,7 +73,7 @@ module _ (fit : Type 0) (w : WorldValue) (c : CampaignValue) (n : ℕ) (u : Unit
 
   -- ---- the names of its faction and of a structure
 
-  -- naming the unit's faction keeps the campaign early, and units no worse off (`Keeps`), if the name follows the rule
+  -- naming the unit's faction keeps the campaign early, and units no worse off (`OrderKeeps`), if the name follows the rule
   faction_named : (name : List ℕ) → (fit → IsTrue (name_ok name)) → KeepsOthersByName (with_faction_name c u.faction name)
   faction_named name ok =
       keeps_others w c n u.faction (with_faction_name c u.faction name) (λ early fits.
@@ -107,7 +107,7 @@ module _ (fit : Type 0) (w : WorldValue) (c : CampaignValue) (n : ℕ) (u : Unit
       owned q y true o = record { owned = o.owned; ownerless = o.ownerless }
       owned q y false o = o
 
-  -- an order to name structure k keeps the campaign early, and units no worse off (`Keeps`), with a fault or without,
+  -- an order to name structure k keeps the campaign early, and units no worse off (`OrderKeeps`), with a fault or without,
   -- if the name follows the name rule
   structure_named : (k : ℕ) (ship : Bool) (name : List ℕ) → (fit → IsTrue (name_ok name)) → KeepsOthersByName (structure_name_result w c n k ship name).0
   structure_named k ship name ok =
@@ -116,19 +116,19 @@ module _ (fit : Type 0) (w : WorldValue) (c : CampaignValue) (n : ℕ) (u : Unit
 
   -- ---- an order
 
-  -- NAME, whatever it names, keeps the campaign early, and units no worse off (`Keeps`), if the name follows the rule
+  -- NAME, whatever it names, keeps the campaign early, and units no worse off (`OrderKeeps`), if the name follows the rule
   named : (what : NameKind) (name : List ℕ) → (fit → IsTrue (name_ok name)) → KeepsOthersByName (name_result w c n u.faction u.structure what name).0
   named kinds.Unit name ok = unit_named name ok
   named kinds.Faction name ok = faction_named name ok
   named kinds.Building name ok = structure_named u.structure false name ok
   named kinds.Ship name ok = structure_named u.structure true name ok
 
--- each order of NAME or GUARD 0 keeps the campaign early, and all units but its own no worse off (`Keeps`)
+-- each order of NAME or GUARD 0 keeps the campaign early, and all units but its own no worse off (`OrderKeeps`)
 pub name_keeps : StepKeeps IsEarly name_step
 name_keeps w a c t x own = by_operands t.order_value.operands
   where
-    -- an order with the operands o keeps the campaign early, and all units but its own no worse off (`Keeps`)
-    by_operands : (o : OperandsValue) → IfSome (name_effect w t.unit o) (λ effect. Keeps IsEarly (AreOperandsOf w o) w c t.unit x.faction (effect c x).0)
+    -- an order with the operands o keeps the campaign early, and all units but its own no worse off (`OrderKeeps`)
+    by_operands : (o : OperandsValue) → IfSome (name_effect w t.unit o) (λ effect. OrderKeeps IsEarly (AreOperandsOf w o) w c t.unit x.faction (effect c x).0)
     by_operands (operands.Name what name) = named (AreOperandsOf w (operands.Name what name)) w c t.unit x own.there what name (λ fit. fit)
     by_operands (operands.Flag false) = flag_cleared (AreOperandsOf w (operands.Flag false)) w c t.unit x own.there
     by_operands other = tt

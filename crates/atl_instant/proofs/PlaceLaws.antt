@@ -37,7 +37,7 @@ use Rattle.atl_phase.proofs.StructureLaws.{at_number, get-changed, len-changed}
 use Rattle.atl_phase.proofs.OutcomeLaws.{none_fits, not_apart}
 use Rattle.atl_phase.proofs.UnbookedLaws.{same_total_of, unbooked_well}
 use Rattle.atl_instant.specs.Place.{enter, with_unit_inside, is_structure_in, leave, leave_fault, enter_fault, place_effect, place_step, promote_fault, promote}
-use Rattle.atl_instant.proofs.EffectLaws.{Keeps, StepKeeps, keeps_all, keeps_others, keeps_unless, orderly_by}
+use Rattle.atl_instant.proofs.EffectLaws.{OrderKeeps, StepKeeps, keeps_all, keeps_others, keeps_unless, orderly_by}
 
 -- an order whose operands are neither none (LEAVE) nor a number (ENTER) nor a unit (PROMOTE) is passed over
 pub place_other : (w : WorldValue) (a : Aliases) (f n : ℕ) (text : List ℕ) (o : Operands Span) → (o ≡ operands.Nothing → ⊥) → ((s : ℕ) → o ≡ operands.Number s → ⊥) → ((to : UnitRef) → o ≡ operands.Unit to → ⊥)
@@ -47,16 +47,16 @@ place_other w a f n text (operands.Number s) l b d = absurd (b s refl)
 place_other w a f n text (operands.Unit to) l b d = absurd (d to refl)
 place_other w a f n text other l b d = refl
 
--- what an order of LEAVE, ENTER or PROMOTE for unit n keeps (`Keeps`)
+-- what an order of LEAVE, ENTER or PROMOTE for unit n keeps (`OrderKeeps`)
 module _ (fit : Type 0) (w : WorldValue) (c : CampaignValue) (n : ℕ) (u : Unit) (is : get c.units n ≡ Some u) where
   -- Campaign d, which an order for unit n makes of c, is early and in balance, if c is and the order fits the world
-  -- (`fit`). No unit but n is worse off in d (`Keeps`).
+  -- (`fit`). No unit but n is worse off in d (`OrderKeeps`).
   abbrev KeepsOthersByPlace : CampaignValue → Type 0
-  KeepsOthersByPlace d = Keeps IsEarly fit w c n u.faction d
+  KeepsOthersByPlace d = OrderKeeps IsEarly fit w c n u.faction d
 
   -- ---- LEAVE
 
-  -- LEAVE for unit n keeps the campaign early, and all other units no worse off (`Keeps`)
+  -- LEAVE for unit n keeps the campaign early, and all other units no worse off (`OrderKeeps`)
   left : KeepsOthersByPlace (leave w n c u).0
   unfolding leave
   left =
@@ -69,7 +69,7 @@ module _ (fit : Type 0) (w : WorldValue) (c : CampaignValue) (n : ℕ) (u : Unit
 
   -- ---- ENTER
 
-  -- ENTER without a fault keeps the campaign early, and other units no worse off (`Keeps`), whether unit n is already
+  -- ENTER without a fault keeps the campaign early, and other units no worse off (`OrderKeeps`), whether unit n is already
   -- inside structure s or not
   entered_by : (s : ℕ) (o : Option Structure) → get c.structures s ≡ o → (b : Bool) → (u.structure == s) ≡ b → not (is_structure_in u.region o) ≡ false → KeepsOthersByPlace (if b then c else with_place c n u.region s)
   entered_by s None there b same near = absurd (true≢false near)
@@ -80,7 +80,7 @@ module _ (fit : Type 0) (w : WorldValue) (c : CampaignValue) (n : ℕ) (u : Unit
       (λ early fits. place_well w c n u s is early (λ inside. is_unequal u.structure s same inside) (λ some. (x, there, here)) (λ wet. (x, there, (early.steady.water.structures s x there (ap (is_land_at w) here ∙ wet)).0)))
       (λ k apart. place_stays c n u.region s k apart)
 
-  -- ENTER for unit n keeps the campaign early, and all other units no worse off (`Keeps`)
+  -- ENTER for unit n keeps the campaign early, and all other units no worse off (`OrderKeeps`)
   entered : (s : ℕ) → KeepsOthersByPlace (enter n s c u).0
   unfolding enter
   entered s =
@@ -121,7 +121,7 @@ module _ (fit : Type 0) (w : WorldValue) (c : CampaignValue) (n : ℕ) (u : Unit
           }
       owned q y false here old = old
 
-  -- PROMOTE by unit n keeps the campaign early, and all other units no worse off (`Keeps`)
+  -- PROMOTE by unit n keeps the campaign early, and all other units no worse off (`OrderKeeps`)
   promoted : (to : ℕ) → KeepsOthersByPlace (promote n to c u).0
   unfolding promote
   promoted to =
@@ -135,12 +135,12 @@ module _ (fit : Type 0) (w : WorldValue) (c : CampaignValue) (n : ℕ) (u : Unit
 
 -- ---- the phase
 
--- each order of LEAVE, ENTER or PROMOTE keeps the campaign early, and all units but its own no worse off (`Keeps`)
+-- each order of LEAVE, ENTER or PROMOTE keeps the campaign early, and all units but its own no worse off (`OrderKeeps`)
 pub place_keeps : StepKeeps IsEarly place_step
 place_keeps w a c t x own = by_operands t.order_value.operands
   where
-    -- an order with the operands o keeps the campaign early, and all units but its own no worse off (`Keeps`)
-    by_operands : (o : OperandsValue) → IfSome (place_effect w a t.faction t.unit o) (λ effect. Keeps IsEarly (AreOperandsOf w o) w c t.unit x.faction (effect c x).0)
+    -- an order with the operands o keeps the campaign early, and all units but its own no worse off (`OrderKeeps`)
+    by_operands : (o : OperandsValue) → IfSome (place_effect w a t.faction t.unit o) (λ effect. OrderKeeps IsEarly (AreOperandsOf w o) w c t.unit x.faction (effect c x).0)
     by_operands operands.Nothing = left (AreOperandsOf w operands.Nothing) w c t.unit x own.there
     by_operands (operands.Number s) = entered (AreOperandsOf w (operands.Number s)) w c t.unit x own.there s
     by_operands (operands.Unit to) = promoted (AreOperandsOf w (operands.Unit to)) w c t.unit x own.there (unit_of a t.faction to)

@@ -49,7 +49,7 @@ use Rattle.atl_phase.specs.Bounds.{HasRoom, HaveRoom, IsOrderly, IsUnitOf, Steps
 use Rattle.atl_phase.specs.Outcomes.{unless}
 use Rattle.atl_phase.specs.PhaseOrders.{Task, orders_of}
 use Rattle.atl_phase.specs.NoWorse.{IsNoWorse}
-use Rattle.atl_phase.specs.OrderEffects.{IsUnaffected, is_of_faction, is_own, meaning_by_orders}
+use Rattle.atl_phase.specs.OrderEffects.{IsStillThere, is_of_faction, is_own, meaning_by_orders}
 use Rattle.atl_phase.proofs.HeldLaws.{all_held_within, sum_within}
 use Rattle.atl_phase.proofs.BookingLaws.{booked-near, booked-room, within-neg}
 use Rattle.atl_phase.proofs.MeaningLaws.{amount_room_for_less, near_more, near_same, near_twice, room_less}
@@ -518,7 +518,7 @@ quit_orderly = record {
 
     -- an order of QUIT with the operands s leaves unit n no worse off, unless the unit's own faction quits by it
     is_unaffected : (w : WorldValue) (c : CampaignValue) (t : Task) (x : Unit) → IsSteady w c → IsUnitOf c t x → (n : ℕ) (u : Unit) → get c.units n ≡ Some u → (s : OperandsValue) → ((t.faction ≡ u.faction) × (s ≡ operands.Number u.faction) → ⊥)
-        → IfSome (quit_effect s) (λ effect. IsUnaffected IsNoWorse (effect c x).0 n u)
+        → IfSome (quit_effect s) (λ effect. IsStillThere IsNoWorse (effect c x).0 n u)
     is_unaffected w c t x steady own n u here (operands.Number number) other =
         record { unit = u; there = quit_stays c number x n u here (λ says same. other (sym own.faction ∙ same, ap operands.Number (says ∙ same))); is_unaffected = no_worse u }
     is_unaffected w c t x steady own n u here said other = tt

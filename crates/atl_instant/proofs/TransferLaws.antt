@@ -35,7 +35,7 @@ use Rattle.atl_campaign.proofs.HavingLaws.{MayHave, may_have}
 use Rattle.atl_instant.specs.Transfer.{days_going, going_of, raised_of, staying_of, transfer, transfer_effect, transfer_fault, transfer_step, transfer_to, after_sending, after_receiving}
 use Rattle.atl_instant.proofs.AmountsForLaws.{each_said}
 use Rattle.atl_instant.proofs.DaysLaws.{days_go_with_men, none_go}
-use Rattle.atl_instant.proofs.EffectLaws.{Keeps, StepKeeps, keeps_all, moved_cases, orderly_by, others-moved, steps-moved}
+use Rattle.atl_instant.proofs.EffectLaws.{OrderKeeps, StepKeeps, keeps_all, moved_cases, orderly_by, others-moved, steps-moved}
 
 -- sender and receiver are of one faction, the sender has n men, and the receiver has room for n more:
 -- what holds where a transfer to another unit has no fault
@@ -218,9 +218,9 @@ men_receiver_no_worse n other v = record {
 -- ---- one order
 
 module _ {fit : Type 0} (w : WorldValue) (c : CampaignValue) (from to n : ℕ) (u : Unit) (sender : get c.units from ≡ Some u) where
-  -- a transfer to another unit, if it can be sent, keeps the campaign early, and other units no worse off (`Keeps`)
+  -- a transfer to another unit, if it can be sent, keeps the campaign early, and other units no worse off (`OrderKeeps`)
   moved_kept : (v : Unit) → get c.units to ≡ Some v → to ≢ from → CanSend n u v
-      → Keeps IsEarly fit w c from u.faction (with_holding_at (with_holding_at c from (after_sending n u.holding) (Some u)) to (after_receiving n u.holding v.holding) (Some v))
+      → OrderKeeps IsEarly fit w c from u.faction (with_holding_at (with_holding_at c from (after_sending n u.holding) (Some u)) to (after_receiving n u.holding v.holding) (Some v))
   moved_kept v receiver apart can = record {
     well = λ early fits.
         let from_may = may_have w c from u sender early.steady in
@@ -231,27 +231,27 @@ module _ {fit : Type 0} (w : WorldValue) (c : CampaignValue) (from to n : ℕ) (
         (record { better = men_receiver_no_worse n u.holding v; men = λ other. absurd (other (sym can.own)) });
   }
 
-  -- an order of TRANSFER keeps the campaign early, and all units but the sender no worse off (`Keeps`)
-  transfer_kept : Keeps IsEarly fit w c from u.faction (transfer from to n c u).0
+  -- an order of TRANSFER keeps the campaign early, and all units but the sender no worse off (`OrderKeeps`)
+  transfer_kept : OrderKeeps IsEarly fit w c from u.faction (transfer from to n c u).0
   unfolding transfer
   transfer_kept = by_receiver (get c.units to) refl
     where
-      -- for `transfer_kept`: the order keeps the campaign early, and other units no worse off (`Keeps`), with a
+      -- for `transfer_kept`: the order keeps the campaign early, and other units no worse off (`OrderKeeps`), with a
       -- receiver there (`o`) or without
-      by_receiver : (o : Option Unit) → get c.units to ≡ o → Keeps IsEarly fit w c from u.faction (transfer_to c from to n u o).0
+      by_receiver : (o : Option Unit) → get c.units to ≡ o → OrderKeeps IsEarly fit w c from u.faction (transfer_to c from to n u o).0
       by_receiver None is = keeps_all w c from u.faction
       by_receiver (Some v) receiver =
-          moved_cases (Keeps IsEarly fit w c from u.faction) c from to u v (after_sending n u.holding) (after_receiving n u.holding v.holding)
+          moved_cases (OrderKeeps IsEarly fit w c from u.faction) c from to u v (after_sending n u.holding) (after_receiving n u.holding v.holding)
           (λ itself. transfer_fault n itself u (Some v)) (Done n) (keeps_all w c from u.faction) (λ apart none. moved_kept v receiver apart (can_send n u v none))
 
 -- ---- the phase
 
--- each order of TRANSFER keeps the campaign early, and all units but the sender no worse off (`Keeps`)
+-- each order of TRANSFER keeps the campaign early, and all units but the sender no worse off (`OrderKeeps`)
 pub transfer_keeps : StepKeeps IsEarly transfer_step
 transfer_keeps w a c t x own = by_operands t.order_value.operands
   where
-    -- an order with the operands o keeps the campaign early, and all units but the sender no worse off (`Keeps`)
-    by_operands : (o : OperandsValue) → IfSome (transfer_effect a t.faction t.unit o) (λ effect. Keeps IsEarly (AreOperandsOf w o) w c t.unit x.faction (effect c x).0)
+    -- an order with the operands o keeps the campaign early, and all units but the sender no worse off (`OrderKeeps`)
+    by_operands : (o : OperandsValue) → IfSome (transfer_effect a t.faction t.unit o) (λ effect. OrderKeeps IsEarly (AreOperandsOf w o) w c t.unit x.faction (effect c x).0)
     by_operands (operands.UnitAndNumber to n) = transfer_kept w c t.unit (unit_of a t.faction to) n x own.there
     by_operands other = tt
 

@@ -18,7 +18,7 @@ use Rattle.atl_records.specs.Amounts.{region_amount, unit_amount}
 use Rattle.atl_campaign.specs.Totals.{total}
 use Rattle.atl_records.proofs.BookLaws.{booked-after_booking, booked_for}
 use Rattle.atl_campaign.proofs.HavingLaws.{MayHave, early-having}
-use Rattle.atl_campaign.proofs.HoldingLaws.{total-unit_amount}
+use Rattle.atl_campaign.proofs.HoldingLaws.{total-new_holding}
 use Rattle.atl_campaign.proofs.RegionLaws.{steady-amount, total-booking, total-region}
 use Rattle.atl_phase.specs.Meaning.{LeavesWell, moves_only}
 use Rattle.atl_phase.proofs.BookingLaws.{booked-near}
@@ -51,7 +51,7 @@ module _ (w : WorldValue) (c : CampaignValue) (n : ℕ) (u : Unit) (q : Region) 
   -- an exchange after which unit and region together have what they had, plus the money booked (`KeepsTogether`),
   -- changes the total of each thing by what it books
   total_of : KeepsTogether u q f more z → (t : Thing) → pos (total exchanged t) ≡ pos (total c t) +ℤ booked_for t Money z
-  total_of keeps t = by_thing t (total-booking left entry Money t z) (total-region f supplied u.region q around t) (total-unit_amount w c n u more is t)
+  total_of keeps t = by_thing t (total-booking left entry Money t z) (total-region f supplied u.region q around t) (total-new_holding w c n u more is t)
     where
       -- for `total_of`: the total of an item is before (`e`) and after (`a`) the exchange the same, if what the unit
       -- gains of the item is what the region loses

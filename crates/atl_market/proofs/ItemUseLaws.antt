@@ -23,7 +23,7 @@ use Rattle.atl_records.specs.Amounts.{unit_amount}
 use Rattle.atl_campaign.specs.Totals.{total}
 use Rattle.atl_records.proofs.BookLaws.{booked-after_booking, booked_for}
 use Rattle.atl_campaign.proofs.HavingLaws.{MayHave, may_have}
-use Rattle.atl_campaign.proofs.HoldingLaws.{steady-unit_amount, total-unit_amount}
+use Rattle.atl_campaign.proofs.HoldingLaws.{steady-new_holding, total-new_holding}
 use Rattle.atl_campaign.proofs.RegionLaws.{get-insert_same, steady-amount, total-booking}
 use Rattle.atl_phase.specs.Meaning.{LeavesWell, moves_only}
 use Rattle.atl_records.proofs.HoldingLaws.{compared_equal_is_equal, amount_within, every_amount, amount_after_setting}
@@ -109,10 +109,10 @@ module _ (w : WorldValue) (c : CampaignValue) (n : ℕ) (u : Unit) (i amount : �
           record {
             leaves_it =
                 steady-amount w with_set e (Item i) z (omega (arith, known))
-                (steady-unit_amount w c n u more is (record { limits = has.limits; name = has.name; items = has.items; skills = has.skills; days = has.days; guard = λ g. g }) steady);
+                (steady-new_holding w c n u more is (record { limits = has.limits; name = has.name; items = has.items; skills = has.skills; days = has.days; guard = λ g. g }) steady);
             same_month = same_month_by refl;
             balances = λ old t.
-                total_of t (total-booking with_set e (Item i) t z) (total-unit_amount w c n u more is t)
+                total_of t (total-booking with_set e (Item i) t z) (total-new_holding w c n u more is t)
                 ∙ ap (λ y. y +ℤ booked_for t (Item i) z) (old t) ∙ sym (booked-after_booking c.books e (Item i) z t);
             near = booked-near c.books e (Item i) z limit small;
           }

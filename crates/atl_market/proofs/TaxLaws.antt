@@ -20,7 +20,7 @@ use Rattle.atl_records.specs.Amounts.{region_amount, unit_amount}
 use Rattle.atl_campaign.specs.Totals.{total}
 use Rattle.atl_campaign.proofs.ReadBackLaws.{entries_rise}
 use Rattle.atl_records.proofs.EveryLaws.{each-from_every}
-use Rattle.atl_campaign.proofs.HoldingLaws.{may_hold_money, of_one_faction_kept, steady-unit_amount, total-unit_amount}
+use Rattle.atl_campaign.proofs.HoldingLaws.{may_hold_money, of_one_faction_kept, steady-new_holding, total-new_holding}
 use Rattle.atl_campaign.proofs.RegionLaws.{IsRegion-money, steady-region, total-region}
 use Rattle.atl_phase.specs.Meaning.{LeavesWell}
 use Rattle.atl_phase.specs.Bounds.{moved_times}
@@ -84,11 +84,11 @@ module _ (w : WorldValue) (c : CampaignValue) (n : ℕ) (u : Unit) (q : Region) 
         record {
           leaves_it = record {
             steady = steady-region (with_share_taken q share) (richer c n u share) u.region q around w (IsRegion-money q (q.money - share) (omega (arith, within.money)) within) (steady.known.markets u.region q around)
-                (steady-unit_amount w c n u (paid c n u share) is (may_hold_money w c n (u.holding.money + share) u is fits steady) steady);
+                (steady-new_holding w c n u (paid c n u share) is (may_hold_money w c n (u.holding.money + share) u is fits steady) steady);
             flags = of_one_faction_kept w c n u (paid c n u share) is (λ v. v.holding.guard) (λ g. g) early.flags;
           };
           same_month = same_month_by refl;
-          balances = λ old t. ap pos (same_total t (total-region (with_share_taken q share) (richer c n u share) u.region q around t) (total-unit_amount w c n u (paid c n u share) is t)) ∙ old t;
+          balances = λ old t. ap pos (same_total t (total-region (with_share_taken q share) (richer c n u share) u.region q around t) (total-new_holding w c n u (paid c n u share) is t)) ∙ old t;
           near = λ e t. near_same 0 (amount_in c.books e t);
         }
 

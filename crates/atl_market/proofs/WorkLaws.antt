@@ -26,7 +26,7 @@ use Rattle.atl_campaign.specs.Totals.{total}
 use Rattle.atl_campaign.proofs.ReadBackLaws.{Rise, entries_rise}
 use Rattle.atl_records.proofs.BookLaws.{booked-after_booking, booked_for}
 use Rattle.atl_records.proofs.EveryLaws.{each-from_every}
-use Rattle.atl_campaign.proofs.HoldingLaws.{may_hold_money, steady-unit_amount, total-unit_amount}
+use Rattle.atl_campaign.proofs.HoldingLaws.{may_hold_money, steady-new_holding, total-new_holding}
 use Rattle.atl_campaign.proofs.RegionLaws.{steady-amount, total-booking}
 use Rattle.atl_phase.specs.Meaning.{LeavesWell, BookBound, most_moved}
 use Rattle.atl_phase.specs.Bounds.{HaveRoom, moved_times}
@@ -67,7 +67,7 @@ module _ (w : WorldValue) (c : CampaignValue) (n : ℕ) (u : Unit) (money : ℕ)
 
   -- once the unit got its wages, the total of each thing has grown by what is booked of it
   total_paid : (t : Thing) → pos (total wages_paid t) ≡ pos (total c t) +ℤ booked_for t Money (pos money)
-  total_paid t = total_of t (total-booking given Wages Money t (pos money)) (total-unit_amount w c n u more is t)
+  total_paid t = total_of t (total-booking given Wages Money t (pos money)) (total-new_holding w c n u more is t)
     where
       -- the total of money, people or an item grows by what is booked, given what paying and booking change of it
       total_of : (t : Thing) → total wages_paid t ≡ total given t → total given t + unit_amount t u.holding ≡ total c t + unit_amount t more → pos (total wages_paid t) ≡ pos (total c t) +ℤ booked_for t Money (pos money)
@@ -89,7 +89,7 @@ module _ (w : WorldValue) (c : CampaignValue) (n : ℕ) (u : Unit) (money : ℕ)
   -- wages that the unit has room for keep the campaign steady and its books balanced, and book only wages
   pub wages_leave_well : u.holding.money + money ≤ holding_limit → IsSteady w c → LeavesWell IsSteady (work_moves holding_limit) w c wages_paid
   wages_leave_well fits steady = record {
-    leaves_it = steady-amount w given Wages Money (pos money) (omega arith) (steady-unit_amount w c n u more is (may_hold_money w c n (u.holding.money + money) u is fits steady) steady);
+    leaves_it = steady-amount w given Wages Money (pos money) (omega arith) (steady-new_holding w c n u more is (may_hold_money w c n (u.holding.money + money) u is fits steady) steady);
     same_month = same_month_by refl;
     balances = λ old t.
         total_paid t ∙ ap (λ z. z +ℤ booked_for t Money (pos money)) (old t)

@@ -30,7 +30,7 @@ use Rattle.std.specs.Cmp.{nat_cmp_total}
 use Rattle.std.specs.declared.cmp.Ordering.TheVariants.{Less, Equal, Greater}
 use Rattle.std.proofs.lemmas.List.Elements.{recursion_from_All}
 use Rattle.atl_orders.specs.declared.mailing.Mailing.{Mailing}
-use Rattle.atl_phase.specs.OrderEffects.{IsUnaffected}
+use Rattle.atl_phase.specs.OrderEffects.{IsStillThere}
 use Rattle.atl_phase.specs.Unmailed.{IsLeft, IsLessBy, starved_in}
 use Rattle.atl_phase.proofs.UnmailedLaws.{ClosesUnmailed, both_leave, then_closes}
 use Rattle.atl_phase.proofs.PhaseSpecLaws.{closed_together, each_also, leave_together}
@@ -154,7 +154,7 @@ phases_leave_unmailed phases keeps closes w c d m events begins is kept n u ther
     let events_are : events ≡ (phases w c m).1.events = ap (λ (p : CampaignValue × List Event). p.1) is in
     let from_none : starved_in m.events n ≡ 0 = ap (λ es. starved_in es n) begins in
     let so_many : starved_in (phases w c m).1.events n - starved_in m.events n ≡ starved_in events n = omega (arith, from_none, ap (λ es. starved_in es n) events_are) in
-    subst (λ k. IsUnaffected (IsLessBy k) d n u) so_many (subst (λ s. IsUnaffected (IsLessBy (starved_in (phases w c m).1.events n - starved_in m.events n)) s n u) (sym state)
+    subst (λ k. IsStillThere (IsLessBy k) d n u) so_many (subst (λ s. IsStillThere (IsLessBy (starved_in (phases w c m).1.events n - starved_in m.events n)) s n u) (sym state)
     (closes.left w c m (subst (keeps w m c) state kept) n u there none (subst (λ k. k < u.holding.men) (sym so_many) some)))
 
 -- after a month each unit of a faction without a mailing, unless all its men starved, has its name, no less of any

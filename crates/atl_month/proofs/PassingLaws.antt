@@ -26,7 +26,7 @@ use Rattle.atl_records.specs.Amounts.{unit_amount}
 use Rattle.atl_campaign.specs.Totals.{total}
 use Rattle.atl_records.proofs.BookLaws.{booked-after_booking}
 use Rattle.atl_records.proofs.EveryLaws.{every-insert, get-insert_other, same_number}
-use Rattle.atl_campaign.proofs.HoldingLaws.{MayHaveWithoutNewGuard, may_hold_money, steady-unit_amount, total-unit_amount}
+use Rattle.atl_campaign.proofs.HoldingLaws.{MayHaveWithoutNewGuard, may_hold_money, steady-new_holding, total-new_holding}
 use Rattle.atl_campaign.proofs.RegionLaws.{changed-known, get-insert_same, steady-amount, total-booking}
 use Rattle.atl_phase.specs.Meaning.{BookBound, IsNear, IsSameMonth, both_move, moves_only}
 use Rattle.atl_phase.proofs.MeaningLaws.{near_same, near_twice, same_month_by, same_month_twice}
@@ -149,12 +149,12 @@ module _ (w : WorldValue) (c : CampaignValue) (n : ℕ) (t : Thing) (inside : th
 
     -- giving the part raises the total of the thing by that part, and no other total
     grown : (s : Thing) → total given s ≡ total c s + amount_as_thing s t taken
-    grown s = omega (arith, total-unit_amount w c k v h is s, more s)
+    grown s = omega (arith, total-new_holding w c k v h is s, more s)
 
     -- giving a part of an amount to a unit and booking the rest as lost is passing it on (`PassesOn`)
     pub part_lost : PassesOn w n (λ s. amount_as_thing s t (taken + lost)) (moves_only (taken + lost) Lost t) c (with_lost given t lost)
     part_lost = record {
-      steady = steady-amount w given Lost t (neg_ℤ (pos lost)) inside (steady-unit_amount w c k v h is may steady);
+      steady = steady-amount w given Lost t (neg_ℤ (pos lost)) inside (steady-new_holding w c k v h is may steady);
       owes = λ s x e.
           ap pos (total-booking given Lost t s (neg_ℤ (pos lost)))
           ∙ total_above_books (thing_index s == thing_index t) taken lost x (total c s) (total given s) (booked c.books s) (grown s) e

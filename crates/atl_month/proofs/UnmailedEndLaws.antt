@@ -12,7 +12,7 @@ use Rattle.atl_records.specs.declared.records.Unit.{Unit}
 use Rattle.atl_campaign.specs.Campaign.{CampaignValue}
 use Rattle.atl_records.proofs.EveryLaws.{other_number}
 use Rattle.atl_phase.specs.Month.{MonthValue}
-use Rattle.atl_phase.specs.OrderEffects.{IsUnaffected}
+use Rattle.atl_phase.specs.OrderEffects.{IsStillThere}
 use Rattle.atl_phase.specs.Unmailed.{IsLessBy, men_starved_by, starved_in}
 use Rattle.atl_phase.proofs.StructureLaws.{equal_passes}
 use Rattle.atl_phase.proofs.UnmailedLaws.{ClosesUnmailed, LeavesUnmailed, men_same, whole_leaves}
@@ -48,7 +48,7 @@ starved_of_n n s = if s.unit == n then s.starved else 0
 
 -- after the upkeep of one unit each unit has its men less exactly those who starved (`IsLessBy`); of the other units
 -- nobody did
-fewer_after_one : (c : CampaignValue) (s : UpkeepResult) (n : ℕ) (u : Unit) → get c.units n ≡ Some u → IsUnaffected (IsLessBy (starved_of_n n s)) (upkeep_at c s) n u
+fewer_after_one : (c : CampaignValue) (s : UpkeepResult) (n : ℕ) (u : Unit) → get c.units n ≡ Some u → IsStillThere (IsLessBy (starved_of_n n s)) (upkeep_at c s) n u
 fewer_after_one c s n u there = elim (cases_eq n s.unit) [
   | inl own ↦
       let here : get c.units s.unit ≡ Some u = ap (get c.units) (sym own) ∙ there in
@@ -66,7 +66,7 @@ fewer_after_one c s n u there = elim (cases_eq n s.unit) [
 ]
 
 -- after the upkeep of several units each unit has its men less exactly all those of them who starved (`IsLessBy`)
-fewer_after_upkeep : (c : CampaignValue) (ss : List UpkeepResult) (n : ℕ) (u : Unit) → get c.units n ≡ Some u → IsUnaffected (IsLessBy (sum_by (starved_of_n n) ss)) (fold upkeep_at c ss) n u
+fewer_after_upkeep : (c : CampaignValue) (ss : List UpkeepResult) (n : ℕ) (u : Unit) → get c.units n ≡ Some u → IsStillThere (IsLessBy (sum_by (starved_of_n n) ss)) (fold upkeep_at c ss) n u
 fewer_after_upkeep c [] n u there = record { unit = u; there = there; is_unaffected = nobody_less u }
 fewer_after_upkeep c (s ∷ ss) n u there =
     let one = fewer_after_one c s n u there in

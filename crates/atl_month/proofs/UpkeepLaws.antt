@@ -33,7 +33,7 @@ use Rattle.atl_campaign.specs.Totals.{Balances, total}
 use Rattle.atl_campaign.proofs.ReadBackLaws.{Rise, entries_rise}
 use Rattle.atl_records.proofs.BookLaws.{booked-after_booking, booked_for}
 use Rattle.atl_records.proofs.EveryLaws.{each-from_every, every-empty, get-insert_other, every-from_each}
-use Rattle.atl_campaign.proofs.HoldingLaws.{MayHaveWithoutNewGuard, steady-unit_amount, total-unit_amount}
+use Rattle.atl_campaign.proofs.HoldingLaws.{MayHaveWithoutNewGuard, steady-new_holding, total-new_holding}
 use Rattle.atl_campaign.proofs.RegionLaws.{steady-amount, total-booking, get-insert_same}
 use Rattle.atl_phase.specs.Meaning.{IsNear, LeavesWell, BookBound, moves_only, most_moved}
 use Rattle.atl_phase.specs.Bounds.{HaveRoom, moved_times}
@@ -184,14 +184,14 @@ module _ (w : WorldValue) (c : CampaignValue) (s : UpkeepResult) (u : Unit) (is 
   after_steady : IsSteady w after
   after_steady =
       steady-amount w paid_off Starved People (neg_ℤ (pos s.starved)) (omega arith)
-      (steady-amount w held_back Upkeep Money (neg_ℤ (pos s.paid)) (omega arith) (steady-unit_amount w c s.unit u now is may_hold steady))
+      (steady-amount w held_back Upkeep Money (neg_ℤ (pos s.paid)) (omega arith) (steady-new_holding w c s.unit u now is may_hold steady))
 
   -- the total of money falls by what the unit paid, that of people by those who starved, and each other total stays
   total_after : (t : Thing)
       → pos (total after t) ≡ (pos (total c t) +ℤ booked_for t Money (neg_ℤ (pos s.paid))) +ℤ booked_for t People (neg_ℤ (pos s.starved))
   total_after t =
       total_of t (total-booking paid_off Starved People t (neg_ℤ (pos s.starved))) (total-booking held_back Upkeep Money t (neg_ℤ (pos s.paid)))
-      (total-unit_amount w c s.unit u now is t)
+      (total-new_holding w c s.unit u now is t)
     where
       -- For `total_after`: the total of thing `t` falls by what the unit paid or by those who starved, or stays, given
       -- how each step (holding, booking of money, of people) changes it.

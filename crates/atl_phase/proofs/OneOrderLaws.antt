@@ -25,7 +25,7 @@ use Rattle.atl_phase.specs.Fit.{AreFit}
 use Rattle.atl_phase.specs.PhaseOrders.{Task, key_of, last_line, orders_of, slot_number, order_counts, counts_in_slot, tasks_of}
 use Rattle.atl_phase.specs.OneOrder.{OneOrderCounts, are_same_slot, share_slot}
 use Rattle.atl_phase.proofs.MapOfListLaws.{by_key, entries_rise}
-use Rattle.atl_phase.proofs.PhaseOrderLaws.{Counts, orders_count}
+use Rattle.atl_phase.proofs.PhaseOrderLaws.{IsPhaseOrder, orders_count}
 
 -- ---- lines
 
@@ -89,9 +89,9 @@ distinct_also P e f also (x ∷ xs) all apart = (
 )
 
 module _ (w : WorldValue) (is_of : Verb → Bool) (a : Arrangement) (aliases : Aliases) (readings : FinMap nat_cmp Reading) (fit : AreFit w readings) where
-  -- two orders that count in their mailings (`Counts`) are the same order, if they are of one faction, for one unit and
+  -- two orders that count in their mailings (`IsPhaseOrder`) are the same order, if they are of one faction, for one unit and
   -- of one slot (`share_slot`)
-  are_one : (t o : Task) → Counts is_of aliases readings t → Counts is_of aliases readings o → share_slot t o ≡ true → t ≡ o
+  are_one : (t o : Task) → IsPhaseOrder is_of aliases readings t → IsPhaseOrder is_of aliases readings o → share_slot t o ≡ true → t ≡ o
   are_one t o one two share =
       let first = and_parts _ _ share in
       let second = and_parts _ _ first.1 in
@@ -109,7 +109,7 @@ module _ (w : WorldValue) (is_of : Verb → Bool) (a : Arrangement) (aliases : A
 
   -- the order is under its key (`key_of`), is in its faction's mailing and counts there
   abbrev UnderKey : List ℕ × Task → Type 0
-  UnderKey e = (e.0 ≡ key_of a e.1) × Counts is_of aliases readings e.1
+  UnderKey e = (e.0 ≡ key_of a e.1) × IsPhaseOrder is_of aliases readings e.1
 
   -- whether two orders are under one key
   abbrev one_key : List ℕ × Task → List ℕ × Task → Bool

@@ -28,7 +28,7 @@ use Rattle.atl_phase.specs.Meaning.{BookBound, Condition, IsNear, LeavesWell}
 use Rattle.atl_phase.specs.Bounds.{HasRoom, HaveRoom, IsOrderly, IsUnaffectedRelation, IsUnitOf, RemainingBound, StepsWell, UsesBound}
 use Rattle.atl_phase.specs.PhaseOrders.{IsInMailing, Task, orders_of}
 use Rattle.atl_phase.specs.NoWorse.{IsNoWorse}
-use Rattle.atl_phase.specs.OrderEffects.{AreUnaffected, Affects, IsUnaffected, OrderEffect, Unaffected, OrderMeaning, faction_effect, effect_on, of_faction, one_order, order_result, with_event_of}
+use Rattle.atl_phase.specs.OrderEffects.{AreUnaffected, Affects, IsStillThere, OrderEffect, Unaffected, OrderMeaning, faction_effect, effect_on, of_faction, one_order, order_result, with_event_of}
 use Rattle.atl_phase.specs.declared.phase_order.Arrangement.TheVariants.{ByUnit}
 use Rattle.atl_phase.proofs.MeaningLaws.{same_month, same_month_twice}
 use Rattle.atl_phase.proofs.NoWorseLaws.{no_worse, no_worse_twice}
@@ -137,14 +137,14 @@ module _ (step : OrderMeaning) {holds : Condition} {remaining : RemainingBound} 
 
   -- each unit that an order doesn't affect is there after it, and `unaffected` relates what it was to what it is then,
   -- if `holds` is true before the order, and its phase is `IsOrderly`
-  order_leaves_others : (a : Aliases) (c : CampaignValue) (t : Task) → holds w c → (n : ℕ) (u : Unit) → get c.units n ≡ Some u → (affects t n u.faction → ⊥) → IsUnaffected unaffected (order_result (step w a t) c t.faction t.unit).0 n u
+  order_leaves_others : (a : Aliases) (c : CampaignValue) (t : Task) → holds w c → (n : ℕ) (u : Unit) → get c.units n ≡ Some u → (affects t n u.faction → ⊥) → IsStillThere unaffected (order_result (step w a t) c t.faction t.unit).0 n u
   order_leaves_others a c t h n u there other =
-      ordered_cases (λ d. IsUnaffected unaffected d n u) (step w a t) c t (record { unit = u; there = there; is_unaffected = orderly.unaffected_is_relation.same u }) (λ x own. orderly.is_unaffected w a c t x h own n u there other)
+      ordered_cases (λ d. IsStillThere unaffected d n u) (step w a t) c t (record { unit = u; there = there; is_unaffected = orderly.unaffected_is_relation.same u }) (λ x own. orderly.is_unaffected w a c t x h own n u there other)
 
   -- A unit that none of some orders affects is there after them, and `unaffected` relates what it was to what it is
   -- then. For this `holds` is true before, the orders can be read with the world, and their phase is `IsOrderly`.
   orders_leave_other : (c : CampaignValue) (m : MonthValue) (ts : List Task) → holds w c → AllByRecursion (λ t. IsOrderOf w t.order_value) ts → (n : ℕ) (u : Unit) → get c.units n ≡ Some u → AllByRecursion (λ t. affects t n u.faction → ⊥) ts
-      → IsUnaffected unaffected (fold (one_order step w) (c, m) ts).0 n u
+      → IsStillThere unaffected (fold (one_order step w) (c, m) ts).0 n u
   orders_leave_other c m [] h fit n u there others = record { unit = u; there = there; is_unaffected = orderly.unaffected_is_relation.same u }
   orders_leave_other c m (t ∷ ts) h fit n u there others =
       let next = one_order step w (c, m) t in

@@ -50,16 +50,16 @@ module _ {K X : Type 0} (R : K → K → Ordering) (P : K → X → Type 0) wher
 
 module _ (is_of : Verb → Bool) (aliases : Aliases) (readings : FinMap nat_cmp Reading) where
   -- the order is in its faction's mailing, counts there, and has a verb of the phase
-  pub record Counts (t : Task) : Type 0 where
+  pub record IsPhaseOrder (t : Task) : Type 0 where
     -- the order is an entry of the mailing of its faction
     pub there : IsInMailing aliases readings t
     -- the order has a verb of the phase, and counts among the orders of the mailing
     pub passes : (is_of t.order_value.verb && order_counts (tasks_of aliases t.faction there.reading) t) ≡ true
 
   -- of a faction's entries from an index on, each order that counts and has a verb of the phase is such an order of the
-  -- faction's mailing (`Counts`)
+  -- faction's mailing (`IsPhaseOrder`)
   counted : (f : ℕ) (r : Reading) → get readings f ≡ Some r → (index : ℕ) (es : List EntryValue) → ((j : ℕ) (e : EntryValue) → slice_get es j ≡ Some e → slice_get r.entries (index + j) ≡ Some e) →
-      AllByRecursion (λ t. (is_of t.order_value.verb && order_counts (tasks_of aliases f r) t) ≡ true → Counts t) (tasks_from aliases f index es)
+      AllByRecursion (λ t. (is_of t.order_value.verb && order_counts (tasks_of aliases f r) t) ≡ true → IsPhaseOrder t) (tasks_from aliases f index es)
   counted f r h index [] whole = tt
   counted f r h index (e ∷ es) whole =
       let first : index + 0 ≡ index = omega arith in (
@@ -71,28 +71,28 @@ module _ (is_of : Verb → Bool) (aliases : Aliases) (readings : FinMap nat_cmp 
       )
 
   -- of some factions' readings in the map `readings`, each order that the phase takes is in its faction's mailing,
-  -- counts there, and has a verb of the phase (`Counts`)
-  all_count : (es : List (ℕ × Reading)) → EachEntry (λ f r. get readings f ≡ Some r) es → AllByRecursion Counts (flat_map (λ e. tasks_for is_of (tasks_of aliases e.0 e.1)) es)
+  -- counts there, and has a verb of the phase (`IsPhaseOrder`)
+  all_count : (es : List (ℕ × Reading)) → EachEntry (λ f r. get readings f ≡ Some r) es → AllByRecursion IsPhaseOrder (flat_map (λ e. tasks_for is_of (tasks_of aliases e.0 e.1)) es)
   all_count [] h = tt
   all_count (e ∷ es) h =
       let ts = tasks_of aliases e.0 e.1 in
-      append_each Counts (tasks_for is_of ts) (flat_map (λ e. tasks_for is_of (tasks_of aliases e.0 e.1)) es)
-      (kept _ Counts ts (counted e.0 e.1 h.0 0 e.1.entries (λ j x is. let at : j ≡ 0 + j = omega arith in subst (λ n. slice_get e.1.entries n ≡ Some x) at is))) (all_count es h.1)
+      append_each IsPhaseOrder (tasks_for is_of ts) (flat_map (λ e. tasks_for is_of (tasks_of aliases e.0 e.1)) es)
+      (kept _ IsPhaseOrder ts (counted e.0 e.1 h.0 0 e.1.entries (λ j x is. let at : j ≡ 0 + j = omega arith in subst (λ n. slice_get e.1.entries n ≡ Some x) at is))) (all_count es h.1)
 
   -- each order of a phase is under its key, is in its faction's mailing, counts there, and has a verb of the phase
-  -- (`Counts`)
-  pub orders_count : (a : Arrangement) → AllByRecursion (λ e. (e.0 ≡ key_of a e.1) × Counts e.1) (entries (orders_of is_of a aliases readings))
+  -- (`IsPhaseOrder`)
+  pub orders_count : (a : Arrangement) → AllByRecursion (λ e. (e.0 ≡ key_of a e.1) × IsPhaseOrder e.1) (entries (orders_of is_of a aliases readings))
   orders_count a =
       let ts = flat_map (λ e. tasks_for is_of (tasks_of aliases e.0 e.1)) (entries readings) in
-      entries-listed (slice_cmp nat_cmp) (λ k t. (k ≡ key_of a t) × Counts t) nat_list_cmp_total (slice_cmp-IsAntisymmetric nat_cmp-IsAntisymmetric) (key_of a) ts
-      (each_follows Counts (λ t. (key_of a t ≡ key_of a t) × Counts t) (λ t h. (refl, h)) ts (all_count (entries readings) (each-from_every (λ f r. get readings f ≡ Some r) readings (λ f r is. is))))
+      entries-listed (slice_cmp nat_cmp) (λ k t. (k ≡ key_of a t) × IsPhaseOrder t) nat_list_cmp_total (slice_cmp-IsAntisymmetric nat_cmp-IsAntisymmetric) (key_of a) ts
+      (each_follows IsPhaseOrder (λ t. (key_of a t ≡ key_of a t) × IsPhaseOrder t) (λ t h. (refl, h)) ts (all_count (entries readings) (each-from_every (λ f r. get readings f ≡ Some r) readings (λ f r is. is))))
 
   -- P holds of each order of a phase, if it holds of each order that is in its faction's mailing, counts there, and has
-  -- a verb of the phase (`Counts`)
-  of_each : (P : Task → Type 0) → ((t : Task) → Counts t → P t) → (a : Arrangement) → All P (values (orders_of is_of a aliases readings))
+  -- a verb of the phase (`IsPhaseOrder`)
+  of_each : (P : Task → Type 0) → ((t : Task) → IsPhaseOrder t → P t) → (a : Arrangement) → All P (values (orders_of is_of a aliases readings))
   of_each P so a =
       let es = entries (orders_of is_of a aliases readings) in
-      All-map P (λ (e : List ℕ × Task). e.1) es (All-from_recursion (λ e. P e.1) es (each_follows (λ e. (e.0 ≡ key_of a e.1) × Counts e.1) (λ e. P e.1) (λ e h. so e.1 h.1) es (orders_count a)))
+      All-map P (λ (e : List ℕ × Task). e.1) es (All-from_recursion (λ e. P e.1) es (each_follows (λ e. (e.0 ≡ key_of a e.1) × IsPhaseOrder e.1) (λ e. P e.1) (λ e h. so e.1 h.1) es (orders_count a)))
 
 -- each order of a phase is an entry of the mailing of its faction
 pub orders_are_in_mailings : OrdersAreInMailings

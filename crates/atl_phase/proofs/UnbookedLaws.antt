@@ -16,7 +16,7 @@ use Rattle.atl_campaign.specs.Totals.{total}
 use Rattle.atl_phase.specs.Meaning.{Condition, IsSameMonth}
 use Rattle.atl_phase.specs.PhaseOrders.{Task}
 use Rattle.atl_phase.specs.NoWorse.{IsNoWorse}
-use Rattle.atl_phase.specs.OrderEffects.{IsOwnOrder, IsUnaffected, OrderEffect}
+use Rattle.atl_phase.specs.OrderEffects.{IsOwnOrder, IsStillThere, OrderEffect}
 use Rattle.atl_phase.specs.Bounds.{IsUnitOf, StepsWell, nothing_remaining}
 use Rattle.atl_phase.proofs.NoWorseLaws.{no_worse}
 use Rattle.atl_phase.proofs.OrderEffectLaws.{bound_unused_by}
@@ -56,13 +56,13 @@ other_unit c t x k v own there apart same =
 -- A unit for which its own faction didn't write an order is there after it, in its place with its name and guard flag,
 -- and has lost nothing (`IsNoWorse`). For this the order is for a unit of its writer's faction, and no other unit
 -- changes.
-pub other_is_no_worse : (c d : CampaignValue) (t : Task) (x : Unit) → ((k : ℕ) → k ≢ t.unit → get d.units k ≡ get c.units k) → IsUnitOf c t x → (k : ℕ) (v : Unit) → get c.units k ≡ Some v → (IsOwnOrder t k v.faction → ⊥) → IsUnaffected IsNoWorse d k v
+pub other_is_no_worse : (c d : CampaignValue) (t : Task) (x : Unit) → ((k : ℕ) → k ≢ t.unit → get d.units k ≡ get c.units k) → IsUnitOf c t x → (k : ℕ) (v : Unit) → get c.units k ≡ Some v → (IsOwnOrder t k v.faction → ⊥) → IsStillThere IsNoWorse d k v
 other_is_no_worse c d t x stay own k v there apart = record { unit = v; there = stay k (other_unit c t x k v own there apart) ∙ there; is_unaffected = no_worse v }
 
 -- A unit for which its own faction didn't write an order is there after it, in its place with its name and guard flag,
 -- and has lost nothing (`IsNoWorse`). For this the order is for a unit of its writer's faction, and the order's effect
 -- changes no other unit.
 pub unchanged_is_no_worse : (step : Option OrderEffect) (c : CampaignValue) (t : Task) (x : Unit) → IsUnitOf c t x → (k : ℕ) (v : Unit) → get c.units k ≡ Some v → (IsOwnOrder t k v.faction → ⊥)
-    → ((j : ℕ) → j ≢ t.unit → IfSome step (λ effect. get (effect c x).0.units j ≡ get c.units j)) → IfSome step (λ effect. IsUnaffected IsNoWorse (effect c x).0 k v)
+    → ((j : ℕ) → j ≢ t.unit → IfSome step (λ effect. get (effect c x).0.units j ≡ get c.units j)) → IfSome step (λ effect. IsStillThere IsNoWorse (effect c x).0 k v)
 unchanged_is_no_worse None c t x own k v there apart stay = tt
 unchanged_is_no_worse (Some effect) c t x own k v there apart stay = other_is_no_worse c (effect c x).0 t x stay own k v there apart

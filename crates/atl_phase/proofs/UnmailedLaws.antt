@@ -28,7 +28,7 @@ use Rattle.atl_phase.specs.Meaning.{Frame, Meaning, both_keep, then_also}
 use Rattle.atl_phase.specs.Outcomes.{unless}
 use Rattle.atl_phase.specs.PhaseOrders.{Task, orders_of}
 use Rattle.atl_phase.specs.NoWorse.{IsNoWorse}
-use Rattle.atl_phase.specs.OrderEffects.{Affects, IsOwnOrder, IsUnaffected, OrderMeaning, Unaffected, event_for, meaning_by_orders, one_order, order_result, others_unaffected, with_event_of}
+use Rattle.atl_phase.specs.OrderEffects.{Affects, IsOwnOrder, IsStillThere, OrderMeaning, Unaffected, event_for, meaning_by_orders, one_order, order_result, others_unaffected, with_event_of}
 use Rattle.atl_phase.specs.Bounds.{IsUnitOf}
 use Rattle.atl_phase.specs.Unmailed.{IsLeft, IsLessBy, men_starved_by, starved_in}
 use Rattle.atl_phase.specs.declared.phase_order.Arrangement.{Arrangement}
@@ -49,7 +49,7 @@ pub record LeavesUnmailed (meaning : Meaning) (keeps : Frame) : Type 0 where
   -- If the phase keeps what `keeps` says, each unit of a faction without a mailing keeps its faction, its name and no
   -- less of any item. The unit loses just the men whom the new events report as starved.
   pub left : (w : WorldValue) (c : CampaignValue) (m : MonthValue) → keeps w m c (meaning w c m).0 →
-      Every (λ n u. get m.readings u.faction ≡ None → IsUnaffected (IsLessBy (starved_in (meaning w c m).1.events n - starved_in m.events n)) (meaning w c m).0 n u) c.units
+      Every (λ n u. get m.readings u.faction ≡ None → IsStillThere (IsLessBy (starved_in (meaning w c m).1.events n - starved_in m.events n)) (meaning w c m).0 n u) c.units
 
 -- After the phase each unit of a faction without a mailing is there, unless all its men starve. It has its faction and
 -- name, no less of any item, and its men less exactly those who starve. The phase takes back no Starved event, and may
@@ -126,7 +126,7 @@ pub record HasItsMen (before after : Unit) : Type 0 where
 
 -- each unit of the campaign before is in the campaign after, with its faction and exactly as many men
 abbrev pub HaveTheirMen : CampaignValue → CampaignValue → Type 0
-HaveTheirMen before after = Every (λ n u. IsUnaffected HasItsMen after n u) before.units
+HaveTheirMen before after = Every (λ n u. IsStillThere HasItsMen after n u) before.units
 
 -- all units have their men (`HaveTheirMen`) in an unchanged campaign
 pub men_stay : (c : CampaignValue) → HaveTheirMen c c
@@ -203,7 +203,7 @@ items_of_no_worse u v h = record { name = h.name; items = h.items }
 -- each unit whose faction sent no mailing is in the campaign after, and `unaffected` relates what it was to what it is
 -- then
 abbrev pub UnmailedAre : Unaffected → MonthValue → CampaignValue → CampaignValue → Type 0
-UnmailedAre unaffected m before after = Every (λ n u. get m.readings u.faction ≡ None → IsUnaffected unaffected after n u) before.units
+UnmailedAre unaffected m before after = Every (λ n u. get m.readings u.faction ≡ None → IsStillThere unaffected after n u) before.units
 
 -- a unit that keeps its faction, men and name, and no less of any item, has y - x men less (`IsLessBy`), which is 0, if
 -- a phase leaves the number x of starved men as it is (y)
@@ -253,7 +253,7 @@ order_event_starves_none events t outcome n =
 -- each unit of another faction than the given one is in the campaign after, with its faction and exactly as many men as
 -- in the campaign before
 abbrev pub OthersHaveMen : (faction : ℕ) → CampaignValue → CampaignValue → Type 0
-OthersHaveMen f c d = Every (λ n u. f ≢ u.faction → IsUnaffected HasItsMen d n u) c.units
+OthersHaveMen f c d = Every (λ n u. f ≢ u.faction → IsStillThere HasItsMen d n u) c.units
 
 -- if all units have their men (`HaveTheirMen`), so have the units of other factions than f (`OthersHaveMen`)
 pub others_men : (f : ℕ) (c d : CampaignValue) → HaveTheirMen c d → OthersHaveMen f c d
@@ -271,7 +271,7 @@ module _ (step : OrderMeaning) where
 
   -- orders of other factions than a unit's, one after another, leave the unit its men, if each order's effect leaves
   -- units of other factions theirs (`LeavesOthersMen`)
-  orders_leave_men : LeavesOthersMen step → (w : WorldValue) (c : CampaignValue) (m : MonthValue) (ts : List Task) → (n : ℕ) (u : Unit) → get c.units n ≡ Some u → AllByRecursion (λ t. t.faction ≢ u.faction) ts → IsUnaffected HasItsMen (fold (one_order step w) (c, m) ts).0 n u
+  orders_leave_men : LeavesOthersMen step → (w : WorldValue) (c : CampaignValue) (m : MonthValue) (ts : List Task) → (n : ℕ) (u : Unit) → get c.units n ≡ Some u → AllByRecursion (λ t. t.faction ≢ u.faction) ts → IsStillThere HasItsMen (fold (one_order step w) (c, m) ts).0 n u
   orders_leave_men unaffected w c m [] n u there others = men_stay c n u there
   orders_leave_men unaffected w c m (t ∷ ts) n u there others =
       let next = one_order step w (c, m) t in

@@ -14,7 +14,7 @@ use Rattle.atl_campaign.specs.Campaign.{CampaignValue}
 use Rattle.atl_campaign.specs.Totals.{Balances}
 use Rattle.atl_phase.specs.Meaning.{BookBound, Condition, IsSameMonth, most_moved, moves_only}
 use Rattle.atl_phase.specs.Month.{Aliases}
-use Rattle.atl_phase.specs.OrderEffects.{Affects, IsUnaffected, OrderMeaning, Unaffected}
+use Rattle.atl_phase.specs.OrderEffects.{Affects, IsStillThere, OrderMeaning, Unaffected}
 use Rattle.atl_phase.specs.PhaseOrders.{Task}
 use Rattle.atl_phase.specs.Unbooked.{moves_nothing}
 
@@ -99,7 +99,7 @@ pub record IsOrderly (step : OrderMeaning) (holds : Condition) (remaining : Rema
   -- after the order, and `unaffected` relates what it was to what it is then
   pub is_unaffected : (w : WorldValue) (a : Aliases) (c : CampaignValue) (t : Task) (x : Unit) → holds w c → IsUnitOf c t x →
       (n : ℕ) (u : Unit) → get c.units n ≡ Some u → (affects t n u.faction → ⊥) →
-      IfSome (step w a t) (λ effect. IsUnaffected unaffected (effect c x).0 n u)
+      IfSome (step w a t) (λ effect. IsStillThere unaffected (effect c x).0 n u)
   -- for no amount of the books is the remaining bound above the bound of the phase
   pub bounded : (w : WorldValue) (c : CampaignValue) → holds w c → (e : BooksEntry) (t : Thing) → remaining c e t ≤ book_bound e t
 

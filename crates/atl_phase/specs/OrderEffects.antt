@@ -90,12 +90,13 @@ pub record IsOwnOrder (t : Task) (n f : ℕ) : Type 0 where
   -- faction f wrote the order
   pub faction : t.faction ≡ f
 
--- a relation of a unit as it was before to the unit as it is after: what stays of the unit
+-- how a unit that no order affects may change all the same: a relation of the unit before to the unit after
 abbrev pub Unaffected : Type 1
 Unaffected = Unit → Unit → Type 0
 
--- the unit of a number, which was u before, is there after, and `unaffected` relates u to what it is then
-pub record IsUnaffected (unaffected : Unaffected) (after : CampaignValue) (number : ℕ) (u : Unit) : Type 0 where
+-- the unit of this number, which was u before a change of the campaign, is still there after it, and has changed at
+-- most as the relation `unaffected` allows
+pub record IsStillThere (unaffected : Unaffected) (after : CampaignValue) (number : ℕ) (u : Unit) : Type 0 where
   -- the unit of this number as it is in the campaign after
   pub unit : Unit
   -- the campaign after has the unit under this number
@@ -103,13 +104,13 @@ pub record IsUnaffected (unaffected : Unaffected) (after : CampaignValue) (numbe
   -- `unaffected` relates u, which the unit was before, to the unit as it is after
   pub is_unaffected : unaffected u unit
 
--- each unit that none of the listed orders affects is there after, and `unaffected` relates what it was to what it is
--- then
+-- each unit that none of the listed orders affects is still there after them, and has changed at most as `unaffected`
+-- allows
 abbrev pub AreUnaffected : Affects → Unaffected → List Task → CampaignValue → CampaignValue → Type 0
 AreUnaffected affects unaffected ts before after =
-    (n : ℕ) (u : Unit) → get before.units n ≡ Some u → All (λ t. affects t n u.faction → ⊥) ts → IsUnaffected unaffected after n u
+    (n : ℕ) (u : Unit) → get before.units n ≡ Some u → All (λ t. affects t n u.faction → ⊥) ts → IsStillThere unaffected after n u
 
--- what a phase keeps: each unit that none of its orders affects is there after,
--- and `unaffected` relates what it was before to what it is then
+-- what a phase keeps: each unit that none of its orders affects is still there after the phase, and has changed at
+-- most as `unaffected` allows
 abbrev pub others_unaffected : Affects → Unaffected → (Verb → Bool) → Frame
 others_unaffected affects unaffected is_of w m before after = AreUnaffected affects unaffected (orders_by_unit is_of m) before after

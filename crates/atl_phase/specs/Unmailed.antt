@@ -8,7 +8,7 @@ use Rattle.atl_records.specs.declared.event.Outcome.TheVariants as outcomes
 use Rattle.atl_records.specs.declared.records.Unit.{Unit}
 use Rattle.atl_records.specs.Holdings.{amount_of}
 use Rattle.atl_campaign.specs.Campaign.{CampaignValue}
-use Rattle.atl_phase.specs.OrderEffects.{IsUnaffected}
+use Rattle.atl_phase.specs.OrderEffects.{IsStillThere}
 
 -- how many men starved by an event: the number of a Starved event of upkeep, and 0 for any other
 abbrev pub men_starved_by : EventVerb → Outcome → ℕ
@@ -33,4 +33,4 @@ pub record IsLessBy (fewer : ℕ) (before after : Unit) : Type 0 where
 -- a unit of which fewer men starved than it had is still there, with its faction and name, no less of any item,
 -- and exactly those men less
 abbrev pub IsLeft : (starved : ℕ) → (after : CampaignValue) → (number : ℕ) → Unit → Type 0
-IsLeft starved after number u = starved < u.holding.men → IsUnaffected (IsLessBy starved) after number u
+IsLeft starved after number u = starved < u.holding.men → IsStillThere (IsLessBy starved) after number u

@@ -70,7 +70,7 @@ pub record BooksValue : Type 0 where
   -- the amount of each account, an entry and a thing, where the amount is not 0
   pub amounts : FinMap account_cmp ℤ
 
--- for proofs alone: books encoded as the pair of their two fields
+-- for proofs alone: books encoded as the pair of their two fields, as the kit asks of a type that contracts see
 abbrev pub books_code : Coded BooksValue
 books_code =
     code_by (ℕ × FinMap account_cmp ℤ) (coded× coded_ℕ (code (coded× entry.the_row.coded thing.the_row.coded) coded_ℤ))

@@ -20,7 +20,7 @@ pub record HoldingValue : Type 0 where
   -- the days of study of each skill, over all men of the unit, by the skill's number
   pub days : FinMap nat_cmp ℕ
 
--- for proofs alone: a holding encoded as nested pairs of its fields
+-- for proofs alone: a holding encoded as nested pairs of its fields, as the kit asks of a type that contracts see
 abbrev pub holding_code : Coded HoldingValue
 holding_code =
     code_by (List ℕ × (ℕ × (ℕ × (Bool × (FinMap nat_cmp ℕ × FinMap nat_cmp ℕ)))))

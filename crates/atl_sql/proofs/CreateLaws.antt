@@ -11,13 +11,13 @@ use Rattle.sqlite.specs.Effect.{Database}
 use Rattle.sqlite.specs.State.{State, Writes, Executes}
 use Rattle.sqlite_rules.proofs.ListLemmas.{all_has}
 use Rattle.sqlite.proofs.Callers.{IsPlain, command_of, statement_of, runs_as}
-use Rattle.atl_sql.proofs.Made.{Creates}
+use Rattle.atl_sql.proofs.Made.{CreatesTable}
 use Rattle.atl_sql.proofs.EditLaws.{ok_step_did, same_value}
 
--- a CREATE TABLE that ran on the schema `before` has added its table, without rows (`Creates`)
+-- a CREATE TABLE that ran on the schema `before` has added its table, without rows (`CreatesTable`)
 pub creates : (before : Schema) (table : Table) (text : List ℕ) (old new : State) (count : ℕ) → command_of (understood before text) ≡ CreateTable → statement_of text (understood before text) ≡ text
     → table_defined_by text ≡ Ok table → IsPlain (understood before text) → lacks_sequence (created before table) ≡ false → old.now.schema ≡ before → Executes text [] old new (Ok count)
-    → Creates before (created before table) (next_tree before) old.now new.now
+    → CreatesTable before (created before table) (next_tree before) old.now new.now
 creates before table text old new count is whole defines bare uncounted has h =
     let w = subst (λ t. Writes old new None CreateTable t [] count) whole (runs_as text [] old new before has CreateTable is bare count h) in
     let all = ok_step_did w.changed in

@@ -20,7 +20,7 @@ use Rattle.sqlite.proofs.Callers.{IsPlain, command_of, statement_of}
 use Rattle.atl_sql.specs.Tables.{Part, Own, all_parts, creation_of, table_count, table_of}
 use Rattle.atl_sql.specs.Writes.{Writes, RunsStatement}
 use Rattle.atl_sql.specs.Statements.{OneStatement, Creations}
-use Rattle.atl_sql.proofs.Made.{Creates, Extends}
+use Rattle.atl_sql.proofs.Made.{CreatesTable, Extends}
 use Rattle.atl_sql.proofs.CreateLaws.{creates}
 use Rattle.atl_sql.proofs.ListLaws.{has_map}
 use Rattle.atl_sql.proofs.MakingLaws.{extends, schema_of_first}
@@ -47,12 +47,12 @@ pub record IsCreate (before after : Schema) (table : Table) (text : List ℕ) : 
   pub uncounted : lacks_sequence after ≡ false
 
 -- running a CREATE TABLE text (`IsCreate`) on a database of the schema `before` adds the table, without rows
--- (`Creates`)
+-- (`CreatesTable`)
 pub makes_table : (before after : Schema) (table : Table) (text : List ℕ) → IsCreate before after table text → (old new : State) (count : ℕ) → old.now.schema ≡ before → Executes text [] old new (Ok count)
-    → Creates before after table.tree old.now new.now
+    → CreatesTable before after table.tree old.now new.now
 makes_table before after table text is old new count has ran =
     let uncounted = subst (λ s. lacks_sequence s ≡ false) (sym is.after_is) is.uncounted in
-    subst (λ s. Creates before s table.tree old.now new.now) is.after_is (subst (λ tree. Creates before (created before (record table { tree = 0 })) tree old.now new.now) is.tree_is
+    subst (λ s. CreatesTable before s table.tree old.now new.now) is.after_is (subst (λ tree. CreatesTable before (created before (record table { tree = 0 })) tree old.now new.now) is.tree_is
     (creates before (record table { tree = 0 }) text old new count is.command is.whole is.defines is.plain uncounted has ran))
 
 -- ---- of each part

@@ -95,8 +95,8 @@ pub record HasKey (t : Table) (at : ℕ) (positions : List ℕ) : Type 0 where
 
 -- the text `sql` means the DELETE of the rows that pass `filter`, in the table with index `at` in the schema and tree
 -- `tree`, whatever other tables follow
-abbrev pub IsTakeOut : ℕ → ℕ → List ℕ → List Term → Type 0
-IsTakeOut tree at sql filter = (more : List Table) (indexes : List Index) → command_of (understood (all_tables_and_others more indexes) sql) ≡ Delete at (record { lets = []; body = delete_query tree filter })
+abbrev pub MeansDelete : ℕ → ℕ → List ℕ → List Term → Type 0
+MeansDelete tree at sql filter = (more : List Table) (indexes : List Index) → command_of (understood (all_tables_and_others more indexes) sql) ≡ Delete at (record { lets = []; body = delete_query tree filter })
 
 -- The text `sql` means an INSERT of one row by `terms`, with an UPDATE by `project` of the row that has its key, the
 -- columns at the indexes `positions`. Of what the UPDATE reads, the column at the index `hole`, after the parameters,
@@ -199,7 +199,7 @@ module _ (tree : ℕ) (name : List ℕ) (columns : List Column) (positions : Lis
     -- ---- the DELETE of rows by the first columns of the key
 
     -- inside a transaction, the DELETE that ran removed the rows whose first columns of the key are the parameters
-    drops : (sql : List ℕ) (filter : List Term) → IsTakeOut tree at sql filter → AlwaysPlain sql → (front : List ℕ)
+    drops : (sql : List ℕ) (filter : List Term) → MeansDelete tree at sql filter → AlwaysPlain sql → (front : List ℕ)
         → ((x : Row) → AreInts positions x → AreInts front x) → ((x : Row) → take (length front) (visible_row t x) ≡ at_places front x)
         → (k : Row) → AreInts front (Null ∷ k) → at_places front (Null ∷ k) ≡ k
         → ((x : Row) → list_all (holds (k ∷ x ∷ [])) filter ≡ agree_at front x (Null ∷ k))
@@ -229,7 +229,7 @@ module _ (tree : ℕ) (name : List ℕ) (columns : List Column) (positions : Lis
     )
 
     -- the text of the DELETE removes the rows whose first columns of the key are the parameters (`DoneBy`)
-    pub drops_keyed : (sql : List ℕ) (filter : List Term) → IsTakeOut tree at sql filter → AlwaysPlain sql → (front : List ℕ)
+    pub drops_keyed : (sql : List ℕ) (filter : List Term) → MeansDelete tree at sql filter → AlwaysPlain sql → (front : List ℕ)
         → ((x : Row) → AreInts positions x → AreInts front x) → ((x : Row) → take (length front) (visible_row t x) ≡ at_places front x)
         → (k : Row) → AreInts front (Null ∷ k) → at_places front (Null ∷ k) ≡ k
         → ((x : Row) → list_all (holds (k ∷ x ∷ [])) filter ≡ agree_at front x (Null ∷ k)) → DoneBy sql k (Drops t (length front) k)

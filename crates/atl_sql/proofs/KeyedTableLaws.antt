@@ -18,7 +18,7 @@ use Rattle.atl_sql.specs.Tables.{Part, Goods, Books, Markets, has_table, has_uni
 use Rattle.atl_sql.specs.Shown.{int, has_key, has_row, books_key, books_row, market_key, market_row}
 use Rattle.atl_sql.specs.Statements.{deletion, upsert}
 use Rattle.atl_sql.proofs.KeyLaws.{strict_integer_is_int, cons_is}
-use Rattle.atl_sql.proofs.KeyedRowLaws.{AreInts, HasKey, MeansUpsert, IsTakeOut, MakesValues, puts_keyed, drops_keyed}
+use Rattle.atl_sql.proofs.KeyedRowLaws.{AreInts, HasKey, MeansUpsert, MeansDelete, MakesValues, puts_keyed, drops_keyed}
 use Rattle.atl_sql.proofs.PairRowLaws.{pair_ints, makes_pair}
 use Rattle.atl_sql.proofs.NumberedRowLaws.{place_in}
 use Rattle.atl_sql.proofs.PartLaws.{listed}
@@ -97,11 +97,11 @@ record StatementMeanings (part : Part) : Type 0 where
   -- the upsert has no RETURNING and doesn't read the time
   puts_plain : AlwaysPlain (upsert (table_of part) (key_width_of part))
   -- the text of the DELETE by the whole key means the DELETE of the rows with this key
-  drops : IsTakeOut (table_of part).tree (place_in part) (deletion (table_of part) (key_width_of part)) (key_filter (key_width_of part))
+  drops : MeansDelete (table_of part).tree (place_in part) (deletion (table_of part) (key_width_of part)) (key_filter (key_width_of part))
   -- the DELETE by the whole key has no RETURNING and doesn't read the time
   drops_plain : AlwaysPlain (deletion (table_of part) (key_width_of part))
   -- the text of the DELETE by the key's first number means the DELETE of all rows with this number
-  clears : IsTakeOut (table_of part).tree (place_in part) (deletion (table_of part) 1) (key_filter 1)
+  clears : MeansDelete (table_of part).tree (place_in part) (deletion (table_of part) 1) (key_filter 1)
   -- the DELETE by the key's first number has no RETURNING and doesn't read the time
   clears_plain : AlwaysPlain (deletion (table_of part) 1)
 

@@ -21,7 +21,7 @@ pub record Makes (schema : Schema) (table : Table) (old new : Database) (S : Set
   pub sound : IsSoundDatabase schema new.trees
 
 -- a CREATE TABLE turned the schema `before` into `after`, with one table more, without rows; the others are unchanged
-pub record Creates (before after : Schema) (tree : ℕ) (old new : Database) : Type 0 where
+pub record CreatesTable (before after : Schema) (tree : ℕ) (old new : Database) : Type 0 where
   -- after the CREATE TABLE the schema is `after`
   pub schema_is : new.schema ≡ after
   -- the new table has no row

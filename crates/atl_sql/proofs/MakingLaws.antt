@@ -9,14 +9,14 @@ use Rattle.sqlite.specs.State.{State}
 use Rattle.sqlite_rules.specs.Lists.{Has}
 use Rattle.sqlite_rules.proofs.ListLemmas.{has_either}
 use Rattle.atl_sql.specs.Sets.{AreKeyedByRowid, visible_row}
-use Rattle.atl_sql.proofs.Made.{Creates, AreBare, Extends}
+use Rattle.atl_sql.proofs.Made.{CreatesTable, AreBare, Extends}
 use Rattle.atl_sql.specs.Tables.{all_indexes, all_tables, no_tables, table_count}
 use Rattle.atl_sql.specs.Inside.{DoesInside, IsBlank}
 use Rattle.atl_sql.specs.Making.{AreEmpty}
 
 -- a CREATE TABLE, run where all tables are empty, makes one table more, and all are still empty (`Extends`)
 pub extends : (before after : Schema) (table : Table) (old new : State) → IsTrue old.in_transaction → new.in_transaction ≡ true → after.tables ≡ before.tables ++ table ∷ []
-    → (old.now.schema ≡ before → Creates before after table.tree old.now new.now) → Extends before after old new
+    → (old.now.schema ≡ before → CreatesTable before after table.tree old.now new.now) → Extends before after old new
 extends before after table old new inside mode more makes = (
   mode ∙ sym inside,
   λ bare.

@@ -46,7 +46,7 @@ has_number = op2 (Compare Eq Binary) (col 1 0) (col 0 0) ∷ []
 -- The rows of table `t` are a number and `width` values, and are put and deleted by the number. The index of the table
 -- among all tables is `at`. Its two texts mean the upsert of a row and the DELETE of a row by its number, whatever
 -- other tables follow.
-pub record IsNumbered (t : Table) (at width : ℕ) : Type 0 where
+pub record IsNumberedTable (t : Table) (at width : ℕ) : Type 0 where
   -- the table is one of the ten
   pub ours : Has all_tables t
   -- the table has the index `at` among all tables of the schema
@@ -84,7 +84,7 @@ module _ (tree : ℕ) (name key_name : List ℕ) (columns : List Column) (unique
   abbrev drop : List ℕ
   drop = deletion t 1
 
-  module _ (is : IsNumbered t at width) where
+  module _ (is : IsNumberedTable t at width) where
     -- ---- the DELETE of a row
 
     -- inside a transaction, the DELETE that ran removed the row that has the number

@@ -6,7 +6,7 @@ use Rattle.sqlite.specs.Order.{Row}
 use Rattle.atl_sql.specs.Tables.{Part, Own, Goods, Books, Markets, IsNumberedPart, table_of, all_parts}
 use Rattle.atl_sql.specs.Shown.{int}
 use Rattle.atl_sql.proofs.FitLaws.{Fits}
-use Rattle.atl_sql.proofs.NumberedLaws.{IsNumbered, puts_numbered, drops_numbered}
+use Rattle.atl_sql.proofs.NumberedLaws.{IsNumberedTable, puts_numbered, drops_numbered}
 use Rattle.atl_sql.proofs.PartLaws.{listed, tree_of}
 use Rattle.atl_sql.proofs.StatementLaws.{PutsRow, DropsKey}
 
@@ -18,8 +18,8 @@ place_in part = unwrap_or (position (λ p. nat_eq (tree_of p) (tree_of part)) al
 abbrev width_of : Part → ℕ
 width_of part = length (drop 1 (table_of part).columns)
 
--- a part whose key is the row's number has a table whose rows are put and deleted by this number (`IsNumbered`)
-part_is_numbered : (part : Part) → IsNumberedPart part → IsNumbered (table_of part) (place_in part) (width_of part)
+-- a part whose key is the row's number has a table whose rows are put and deleted by this number (`IsNumberedTable`)
+part_is_numbered : (part : Part) → IsNumberedPart part → IsNumberedTable (table_of part) (place_in part) (width_of part)
 unfolding understood everything
 part_is_numbered Own is = absurd is
 part_is_numbered Goods is = absurd is

@@ -190,7 +190,7 @@ module _ (schema : Schema) (t : Table) (unlinked : (olds news : List Row) → wo
       (((r : Row) → Has (db t.tree) r → hits new r ≡ false) × Swaps schema t (hits new) (cast_row t new) db next)
       ⊎ ((r : Row) × Has (db t.tree) r × (hits new r ≡ true) × Swaps schema t (λ x. is_eq (value_cmp (rowid x) (rowid r))) (cast_row t (eval_all project (given new r ∷ r ∷ []))) db next)
 
-  -- an edit that takes out a row that is there, and puts another in, exchanges the row with that rowid for the other
+  -- an edit that takes out one row of the table, and puts in another, exchanges just these two (`Swaps`)
   replaced_at : (r n : Row) (db next : Trees) → AreKeyedByRowid (db t.tree) → Has (db t.tree) r → Edited schema Enforced db (record { table = t; gone = id_in (rowid r) ∷ []; news = n ∷ [] }) (Ok next)
       → Swaps schema t (λ x. is_eq (value_cmp (rowid x) (rowid r))) n db next
   replaced_at r n db next keyed there h =

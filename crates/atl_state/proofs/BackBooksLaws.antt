@@ -13,7 +13,7 @@ use Rattle.atl_campaign.specs.declared.parts.StoredBooks.{StoredBooks}
 use Rattle.atl_records.specs.declared.books.BooksEntry.{BooksEntry}
 use Rattle.atl_records.specs.declared.books.Thing.{Thing}
 use Rattle.atl_records.specs.Books.{Account, BooksValue, account_cmp, amount_in, AreBooks, entry_index, entry_numbered, no_amounts, thing_at, thing_index}
-use Rattle.atl_campaign.specs.FromRows.{put_amounts}
+use Rattle.atl_campaign.specs.FromRows.{with_books_rows}
 use Rattle.atl_campaign.specs.RowRules.{books_key, HaveDistinctKeys}
 use Rattle.atl_campaign.specs.Rows.{amounts_rows, books_row, books_rows}
 use Rattle.atl_campaign.proofs.ReadBackLaws.{each_permuted, each_back, written_is_read, apart_keys, keys_permuted, pos_is_injective}
@@ -134,8 +134,8 @@ module _ (things : ℕ) (few : things ≤ 4294967294) (books : BooksValue) (are 
     all_booked = each_permuted (IsBooked things) (books_rows books) rows h lines_booked
 
     -- the books assembled from the rows that books are written as, in any order, are the same books
-    pub books_back : put_amounts rows (no_amounts things) ≡ books
+    pub books_back : with_books_rows rows (no_amounts things) ≡ books
     books_back =
-        let said = put_amounts rows (no_amounts things) in
+        let said = with_books_rows rows (no_amounts things) in
         same_books things said books (put-books things rows (no_amounts things) (AreBooks-no_amounts things)) are
         (same_amounts said books (IsPermutation-trans (books_rows said) rows (books_rows books) (assembled_books_have_rows things rows all_booked books_keys) (IsPermutation-sym (books_rows books) rows h)))

@@ -15,7 +15,7 @@ use Rattle.std.proofs.lemmas.List.{append-nil}
 use Rattle.std.proofs.lemmas.List.Sorted.{IsPermutation-map, IsPermutation-refl, IsPermutation-sym, IsPermutation-trans, IsPermutation-append_left, IsPermutation-append_right, IsPermutation-middle}
 use Rattle.atl_campaign.specs.declared.parts.StoredBooks.{StoredBooks}
 use Rattle.atl_records.specs.Books.{Account, BooksValue, account_cmp, AreBooks, entry_index, entry_numbered, no_amounts, thing_at, thing_index, with_amount}
-use Rattle.atl_campaign.specs.FromRows.{as_u32, with_books_row, put_amounts}
+use Rattle.atl_campaign.specs.FromRows.{as_u32, with_books_row, with_books_rows}
 use Rattle.atl_records.specs.Limits.{entry_count}
 use Rattle.atl_campaign.specs.RowRules.{Key, books_key}
 use Rattle.atl_campaign.specs.Rows.{amounts_rows, books_row, books_rows}
@@ -130,17 +130,17 @@ stay_free things books r h (s ∷ rows) d free = (
 )
 
 -- putting rows with distinct keys, whose accounts have no amount yet (IsFree), into books adds just these rows
-putting_adds_rows : (things : ℕ) (rows : List StoredBooks) (books : BooksValue) → AreBooks things books → AllByRecursion (IsBooked things) rows → IsDistinct is_same_key (map books_key rows) → AllByRecursion (IsFree things books) rows → IsPermutation (books_rows books ++ rows) (books_rows (put_amounts rows books))
+putting_adds_rows : (things : ℕ) (rows : List StoredBooks) (books : BooksValue) → AreBooks things books → AllByRecursion (IsBooked things) rows → IsDistinct is_same_key (map books_key rows) → AllByRecursion (IsFree things books) rows → IsPermutation (books_rows books ++ rows) (books_rows (with_books_rows rows books))
 unfolding IsDistinct
 putting_adds_rows things [] books are all d free = subst (λ xs. IsPermutation xs (books_rows books)) (sym (append-nil (books_rows books))) (IsPermutation-refl (books_rows books))
 putting_adds_rows things (r ∷ rows) books are all d free =
     let h = all.0 in
     let new = with_amount books h.account.0 h.account.1 r.amount in
     let also = AreBooks-with_amount books h.account.0 h.account.1 r.amount things are (account_there things r h) in
-    let last = books_rows (put_amounts rows new) in
+    let last = books_rows (with_books_rows rows new) in
     let row = subst (λ x. IsPermutation (books_rows new) (x ∷ books_rows books)) h.row (one_amount books h.account r.amount (free.0 h) h.some) in
     let step = IsPermutation-append_left rows (r ∷ books_rows books) (books_rows new) (IsPermutation-sym (books_rows new) (r ∷ books_rows books) row) in
-    subst (λ b. IsPermutation (books_rows books ++ r ∷ rows) (books_rows (put_amounts rows b))) (sym (with_booked_row things books r are h))
+    subst (λ b. IsPermutation (books_rows books ++ r ∷ rows) (books_rows (with_books_rows rows b))) (sym (with_booked_row things books r are h))
     (IsPermutation-trans (books_rows books ++ r ∷ rows) (r ∷ (books_rows books ++ rows)) last (IsPermutation-middle (books_rows books) r rows)
     (IsPermutation-trans (r ∷ (books_rows books ++ rows)) (books_rows new ++ rows) last step (putting_adds_rows things rows new also all.1 d.1 (stay_free things books r h rows d.0 free.1))))
 
@@ -150,8 +150,8 @@ all_free things [] = tt
 all_free things (r ∷ rows) = (λ h. get-empty {X = ℤ} account_cmp h.account, all_free things rows)
 
 -- books assembled from rows with distinct keys, each read as an account (IsBooked), have just these rows, in some order
-pub assembled_books_have_rows : (things : ℕ) (rows : List StoredBooks) → AllByRecursion (IsBooked things) rows → IsDistinct is_same_key (map books_key rows) → IsPermutation (books_rows (put_amounts rows (no_amounts things))) rows
+pub assembled_books_have_rows : (things : ℕ) (rows : List StoredBooks) → AllByRecursion (IsBooked things) rows → IsDistinct is_same_key (map books_key rows) → IsPermutation (books_rows (with_books_rows rows (no_amounts things))) rows
 assembled_books_have_rows things rows all d =
-    let last = books_rows (put_amounts rows (no_amounts things)) in
+    let last = books_rows (with_books_rows rows (no_amounts things)) in
     let order = putting_adds_rows things rows (no_amounts things) (AreBooks-no_amounts things) all d (all_free things rows) in
     IsPermutation-sym rows last (subst (λ xs. IsPermutation (xs ++ rows) last) (ap amounts_rows entries-none) order)

@@ -18,7 +18,7 @@ use Rattle.atl_state.specs.Checking.{rule_number, KeepsRule, KeepsRulesBelow, Is
 use Rattle.std.specs.List.{list_all, AllByRecursion}
 use Rattle.atl_records.specs.Books.{BooksValue, amount_in, AreBooks, entry_index, no_amounts}
 use Rattle.atl_campaign.specs.Founding.{thing_count}
-use Rattle.atl_campaign.specs.FromRows.{as_u32, stocks_of, region_of, put_amounts, campaign_row_of, campaign_of}
+use Rattle.atl_campaign.specs.FromRows.{as_u32, stocks_of, region_of, with_books_rows, campaign_row_of, campaign_of}
 use Rattle.atl_records.specs.Every.{Every, HasValue}
 use Rattle.atl_campaign.specs.Good.{AreOfMarkets, HasNoStocks, IsGood}
 use Rattle.atl_campaign.specs.RowRules.{is_one_campaign_row, is_entry_in, is_booked, campaign_row_in_range, first_tables_in_range, region_in_range, structure_in_range, books_in_range, books_bound, market_in_range}
@@ -123,7 +123,7 @@ module _ (f : Format) (w : WorldValue) (p : Parts) where
   first_entries : f ≡ First → RowsKeep f w p → (e : BooksEntry) (t : Thing) → first_entry_count ≤ entry_index e → amount_in (campaign_of w p).books e t ≡ pos 0
   unfolding campaign_of
   first_entries is rows =
-      no_amount (put_amounts p.books (no_amounts (thing_count w))) (each_back (λ r. is_entry_in First (as_u32 r.entry) ≡ true) (books_rows (put_amounts p.books (no_amounts (thing_count w)))) p.books (books_said f w p rows)
+      no_amount (with_books_rows p.books (no_amounts (thing_count w))) (each_back (λ r. is_entry_in First (as_u32 r.entry) ≡ true) (books_rows (with_books_rows p.books (no_amounts (thing_count w)))) p.books (books_said f w p rows)
       (each_passes (is_booked f w) (λ r. is_entry_in First (as_u32 r.entry) ≡ true) (λ r h. subst (λ g. is_entry_in g (as_u32 r.entry) ≡ true) is (and_parts (is_entry_in f (as_u32 r.entry)) (nat_lt (as_u32 r.thing) (thing_count w)) h).0) p.books rows.booked))
 
   -- the format can hold the campaign assembled from rows that keep all rules

@@ -23,7 +23,7 @@ use Rattle.atl_records.specs.declared.records.Unit.{Unit}
 use Rattle.atl_records.specs.Books.{no_amounts}
 use Rattle.atl_state.specs.Checking.{Fits}
 use Rattle.atl_campaign.specs.Founding.{thing_count}
-use Rattle.atl_campaign.specs.FromRows.{as_u32, as_u16, is_set, faction_of, stocks_of, region_of, structure_of, unit_of, by_number, put_amounts, things_had, no_campaign_row, campaign_row_of, campaign_of}
+use Rattle.atl_campaign.specs.FromRows.{as_u32, as_u16, is_set, faction_of, stocks_of, region_of, structure_of, unit_of, by_number, with_books_rows, things_had, no_campaign_row, campaign_row_of, campaign_of}
 use Rattle.atl_records.specs.Every.{Every, HasValue}
 use Rattle.atl_campaign.specs.Good.{IsNumbered, IsGood}
 use Rattle.atl_records.specs.Holdings.{AreAmounts}
@@ -416,7 +416,7 @@ module _ (w : WorldValue) (world : IsWorld w) (c : CampaignValue) (good : IsGood
     few_things = let few = world.few_items in omega (arith, few)
 
     -- the books read from a good campaign's rows are that campaign's
-    books_said : put_amounts p.books (no_amounts (thing_count w)) ≡ c.books
+    books_said : with_books_rows p.books (no_amounts (thing_count w)) ≡ c.books
     books_said = books_back (thing_count w) few_things c.books good.sound.steady.numbers.books p.books books_listed
 
     -- the month read from a good campaign's rows is that campaign's

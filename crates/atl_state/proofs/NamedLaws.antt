@@ -22,7 +22,7 @@ use Rattle.atl_records.specs.declared.books.BooksEntry.{BooksEntry}
 use Rattle.atl_records.specs.declared.books.Thing.{Thing}
 use Rattle.atl_records.specs.Books.{account_cmp, amount_in, AreBooks, BooksValue, IsWithin, no_amounts, with_amount}
 use Rattle.atl_campaign.specs.Founding.{thing_count}
-use Rattle.atl_campaign.specs.FromRows.{as_u32, faction_of, structure_of, unit_of, by_number, put_amounts, campaign_row_of, campaign_of}
+use Rattle.atl_campaign.specs.FromRows.{as_u32, faction_of, structure_of, unit_of, by_number, with_books_rows, campaign_row_of, campaign_of}
 use Rattle.atl_campaign.specs.Good.{AreNamed, AreAmountsWithin, amount_bound}
 use Rattle.atl_campaign.specs.RowRules.{faction_named, books_in_range, books_bound, is_within, AreJoinedNamesDistinct, AreRowsNamed}
 use Rattle.atl_campaign.specs.Rows.{is_zero}
@@ -98,11 +98,11 @@ within-with_amount bound books e t z here old f u =
     subst (IsWithin bound) (sym (amount-with_amount books e t z f u)) (elim (eq_by_cmp account_cmp (f, u) (e, t)) as (λ b. IsWithin bound (cond b z (amount_in books f u))) [ true ↦ here | false ↦ old f u ])
 
 -- if the amounts of books and of rows are from -bound to bound, so are those of the books once the rows are put in
-within-put : (things bound : ℕ) (rows : List StoredBooks) (books : BooksValue) → AreBooks things books → AllByRecursion (IsBooked things) rows → AllByRecursion (λ r. IsWithin bound r.amount) rows → AreAllWithin bound books → AreAllWithin bound (put_amounts rows books)
+within-put : (things bound : ℕ) (rows : List StoredBooks) (books : BooksValue) → AreBooks things books → AllByRecursion (IsBooked things) rows → AllByRecursion (λ r. IsWithin bound r.amount) rows → AreAllWithin bound books → AreAllWithin bound (with_books_rows rows books)
 within-put things bound [] books are booked here old = old
 within-put things bound (r ∷ rows) books are booked here old =
     let a = booked.0.account in
-    subst (λ b. AreAllWithin bound (put_amounts rows b)) (sym (with_booked_row things books r are booked.0))
+    subst (λ b. AreAllWithin bound (with_books_rows rows b)) (sym (with_booked_row things books r are booked.0))
     (within-put things bound rows (with_amount books a.0 a.1 r.amount) (AreBooks-with_amount books a.0 a.1 r.amount things are (account_there things r booked.0)) booked.1 here.1 (within-with_amount bound books a.0 a.1 r.amount here.0 old))
 
 -- the amounts of books that were just made (`no_amounts`), which are 0, are from -bound to bound for each bound
@@ -143,7 +143,7 @@ module _ (f : Format) (w : WorldValue) (p : Parts) (k : RowsKeep f w p) where
   same_bound = ap (λ n. most_in_month * (as_u32 (campaign_row_of p).month + 1) + most_in_joining * n) (same_count (λ r. as_u32 r.number) faction_of p.factions (factions_apart f w p k))
 
   -- the amounts of the books assembled from rows are within the bound that the rows give (`books_bound`)
-  below : AreAllWithin (books_bound p) (put_amounts p.books (no_amounts (thing_count w)))
+  below : AreAllWithin (books_bound p) (with_books_rows p.books (no_amounts (thing_count w)))
   below =
       within-put (thing_count w) (books_bound p) p.books (no_amounts (thing_count w)) (AreBooks-no_amounts (thing_count w)) (all_booked f w p k)
       (each_passes (books_in_range (books_bound p)) (λ r. IsWithin (books_bound p) r.amount) (λ r h. passing_is_within (books_bound p) r.amount (and_parts (not (is_zero r.amount)) (is_within (books_bound p) r.amount) h).1) p.books (ranges f w p k).books)
@@ -152,4 +152,4 @@ module _ (f : Format) (w : WorldValue) (p : Parts) (k : RowsKeep f w p) where
   -- the amounts of the books of the campaign assembled from rows are within their bound (`amount_bound`)
   pub AreAmountsWithin-said : AreAmountsWithin (campaign_of w p)
   unfolding campaign_of
-  AreAmountsWithin-said e t = subst (λ bound. IsWithin bound (amount_in (put_amounts p.books (no_amounts (thing_count w))) e t)) (sym same_bound) (below e t)
+  AreAmountsWithin-said e t = subst (λ bound. IsWithin bound (amount_in (with_books_rows p.books (no_amounts (thing_count w))) e t)) (sym same_bound) (below e t)

@@ -32,7 +32,7 @@ use Rattle.atl_records.specs.declared.records.Region.{Region}
 use Rattle.atl_records.specs.declared.records.Unit.{Unit}
 use Rattle.atl_records.specs.Books.{no_amounts}
 use Rattle.atl_campaign.specs.Founding.{thing_count}
-use Rattle.atl_campaign.specs.FromRows.{as_u32, as_u16, is_set, is_of_unit_and_sort, faction_of, region_of, structure_of, unit_of, things_had, by_number, put_amounts, no_campaign_row, campaign_row_of, campaign_of}
+use Rattle.atl_campaign.specs.FromRows.{as_u32, as_u16, is_set, is_of_unit_and_sort, faction_of, region_of, structure_of, unit_of, things_had, by_number, with_books_rows, no_campaign_row, campaign_row_of, campaign_of}
 use Rattle.atl_records.specs.Every.{Every, HasValue}
 use Rattle.atl_campaign.specs.Good.{IsPlaced, IsBuilt, AreKnown, AreDays}
 use Rattle.atl_records.specs.Limits.{last_month, last_unit, men_limit, holding_limit, most_structures, entry_count, entries_in, most_u16, most_u32}
@@ -44,7 +44,7 @@ use Rattle.atl_records.proofs.BookLaws.{failing_is_nonzero}
 use Rattle.atl_state.proofs.BooksRowLaws.{IsBooked, booked_row, assembled_books_have_rows}
 use Rattle.atl_campaign.proofs.FromRowLaws.{in_range, from_le, by_number-every, unit_ranges, number_ranges, head_ranges, NumberRanges}
 use Rattle.atl_campaign.proofs.GroupLaws.{unkept}
-use Rattle.atl_campaign.proofs.HasLaws.{FitsU32, KeyFitsU32, IsExact, IsOfUnits, is_same_key, ties_itself, things_apart, has_rows_are_rewritten}
+use Rattle.atl_campaign.proofs.HasLaws.{FitsU32, KeyFitsU32, IsExactGoods, IsOfUnits, is_same_key, ties_itself, things_apart, has_rows_are_rewritten}
 use Rattle.atl_campaign.proofs.MarketLaws.{market_known}
 use Rattle.atl_state.proofs.StockRowLaws as market
 use Rattle.atl_campaign.proofs.MapOfRowsLaws.{HaveDistinctNumbers, HasNumber, HaveDistinctNumbers-keys, rows_order, rows_there, rows_found, each_row, row_of, each_passes, each_follows_from_two, each_follows}
@@ -500,13 +500,13 @@ module _ (f : Format) (w : WorldValue) (p : Parts) (k : RowsKeep f w p) where
   KeyedPlaced h = KeyFitsU32 h × Placed h
 
   -- A row of `has` that is in range, has a unit that exists and a key of 32 bits (`KeyedPlaced`), and whose amount is
-  -- found (`IsFound`) is exact (`IsExact`). The numbers of an exact row fit 32 bits, and its amount is not 0.
-  exact : (h : StoredHas) → KeyedPlaced h → ((n : ℕ) → (sort : ℕ) → is_of_unit_and_sort n sort h ≡ true → IsFound n sort h) → IsExact h
+  -- found (`IsFound`) is exact (`IsExactGoods`). The numbers of an exact row fit 32 bits, and its amount is not 0.
+  exact : (h : StoredHas) → KeyedPlaced h → ((n : ℕ) → (sort : ℕ) → is_of_unit_and_sort n sort h ≡ true → IsFound n sort h) → IsExactGoods h
   exact h (keys, (there, range)) found = let amount = exact_of h there (sort_of h range).1 found in record { keys = keys; amount = amount.0; some = amount.1 }
 
-  -- the unit, sort, thing and amount of each row of `has` fit 32 bits, and the amount is not 0 (IsExact)
-  all_exact : AllByRecursion IsExact p.has
-  all_exact = each_follows_from_two KeyedPlaced (λ h. (n : ℕ) → (sort : ℕ) → is_of_unit_and_sort n sort h ≡ true → IsFound n sort h) IsExact exact p.has (each_follows_from_two KeyFitsU32 Placed KeyedPlaced (λ h a b. (a, b)) p.has all_keyed all_placed) all_found
+  -- the unit, sort, thing and amount of each row of `has` fit 32 bits, and the amount is not 0 (IsExactGoods)
+  all_exact : AllByRecursion IsExactGoods p.has
+  all_exact = each_follows_from_two KeyedPlaced (λ h. (n : ℕ) → (sort : ℕ) → is_of_unit_and_sort n sort h ≡ true → IsFound n sort h) IsExactGoods exact p.has (each_follows_from_two KeyFitsU32 Placed KeyedPlaced (λ h a b. (a, b)) p.has all_keyed all_placed) all_found
 
   -- a row of `has` in range is of a unit that has a row, and of sort 0 (items) or 1 (skills)
   of_units : (h : StoredHas) → Placed h → IsOfUnits p.units h
@@ -526,9 +526,9 @@ module _ (f : Format) (w : WorldValue) (p : Parts) (k : RowsKeep f w p) where
   abbrev regions : FinMap nat_cmp Region
   regions = by_number (λ r. as_u32 r.number) (region_of p.markets) p.regions
 
-  -- a row of `market` that is of a market of the world, with its stock in range, is exact (IsExact): region, item and
+  -- a row of `market` that is of a market of the world, with its stock in range, is exact (IsExactGoods): region, item and
   -- stock fit 32 bits, and the stock is not 0
-  exact_market : (m : StoredMarket) → is_of_market w m ≡ true → market_in_range w m ≡ true → market.IsExact m
+  exact_market : (m : StoredMarket) → is_of_market w m ≡ true → market_in_range w m ≡ true → market.IsExactMarket m
   exact_market m named range =
       let found = market_there w.regions (as_u32 m.item) (as_u32 m.region) (get w.regions (as_u32 m.region)) refl named in
       let plan = k.world.regions (as_u32 m.region) found.0 found.2 in
@@ -539,10 +539,10 @@ module _ (f : Format) (w : WorldValue) (p : Parts) (k : RowsKeep f w p) where
       let stock = from_range 1 (stock_limit w (as_u32 m.region) (as_u32 m.item)) m.stock (omega (arith, limit_few)) range in
       record { keys = record { region = whole_below m.region (omega arith); item = whole_below m.item (omega arith) }; stock = stock.0; some = whole_not_zero m.stock stock.0 stock.1 }
 
-  -- the region, item and stock of each row of `market` fit 32 bits, and the stock is not 0 (IsExact)
-  exact_markets : AllByRecursion market.IsExact p.markets
+  -- the region, item and stock of each row of `market` fit 32 bits, and the stock is not 0 (IsExactGoods)
+  exact_markets : AllByRecursion market.IsExactMarket p.markets
   exact_markets =
-      each_follows_from_two (λ m. is_of_market w m ≡ true) (λ m. market_in_range w m ≡ true) market.IsExact exact_market p.markets (each_passes (is_of_market w) (λ m. is_of_market w m ≡ true) (λ m e. e) p.markets k.stocked)
+      each_follows_from_two (λ m. is_of_market w m ≡ true) (λ m. market_in_range w m ≡ true) market.IsExactMarket exact_market p.markets (each_passes (is_of_market w) (λ m. is_of_market w m ≡ true) (λ m e. e) p.markets k.stocked)
       (each_passes (market_in_range w) (λ m. market_in_range w m ≡ true) (λ m e. e) p.markets ranges.markets)
 
   -- the region of each row of `market` has a row of `region`
@@ -602,7 +602,7 @@ module _ (f : Format) (w : WorldValue) (p : Parts) (k : RowsKeep f w p) where
       (each_passes (books_in_range (books_bound p)) (λ r. books_in_range (books_bound p) r ≡ true) (λ r h. h) p.books ranges.books)
 
   -- the books assembled from the rows are written as just the rows of `books`, in some order
-  pub books_said : IsPermutation (books_rows (put_amounts p.books (no_amounts (thing_count w)))) p.books
+  pub books_said : IsPermutation (books_rows (with_books_rows p.books (no_amounts (thing_count w)))) p.books
   books_said =
       assembled_books_have_rows (thing_count w) p.books all_booked k.range.keys.books
 

@@ -26,7 +26,7 @@ pub record HasWholeKey (m : StoredMarket) : Type 0 where
   pub item : FitsU32 m.item
 
 -- the region, the item and the stock of a row of `market` fit 32 bits, and the stock is not 0
-pub record IsExact (m : StoredMarket) : Type 0 where
+pub record IsExactMarket (m : StoredMarket) : Type 0 where
   -- the region and the item of the row fit 32 bits
   pub keys : HasWholeKey m
   -- the stock of the row fits 32 bits
@@ -69,20 +69,20 @@ same_key n m k a b e =
 pub items_apart : (n : ℕ) (markets : List StoredMarket) → AllByRecursion HasWholeKey markets → IsDistinct is_same_key (map market_key markets) → HaveDistinctNumbers item_of (filter (is_row_of_region n) markets)
 items_apart n = group.things_apart market_key is_same_key ties_itself item_of (is_row_of_region n) HasWholeKey (same_key n)
 
--- if all rows are exact (`IsExact`) and their keys differ, the stocks read for region n are written as its rows, in
+-- if all rows are exact (`IsExactMarket`) and their keys differ, the stocks read for region n are written as its rows, in
 -- some order
-stocks_are_written_as_rows : (n : ℕ) (markets : List StoredMarket) → AllByRecursion IsExact markets → IsDistinct is_same_key (map market_key markets) → IsPermutation (stock_rows n (entries (stocks_of n markets))) (filter (is_row_of_region n) markets)
+stocks_are_written_as_rows : (n : ℕ) (markets : List StoredMarket) → AllByRecursion IsExactMarket markets → IsDistinct is_same_key (map market_key markets) → IsPermutation (stock_rows n (entries (stocks_of n markets))) (filter (is_row_of_region n) markets)
 stocks_are_written_as_rows n markets all d =
-    lines_order item_of stock_of (market_row n) (λ m. not (is_zero m.stock)) (filter (is_row_of_region n) markets) (items_apart n markets (each_follows IsExact HasWholeKey (λ m one. one.keys) markets all) d)
-    (each_follows (λ m. IsExact m × (is_row_of_region n m ≡ true)) (λ m. (market_row n (item_of m) (stock_of m) ≡ m) × (not (is_zero m.stock) ≡ true)) (λ m here. (same_row n m (here.0.keys, here.1) here.0.stock, ap not here.0.some)) (filter (is_row_of_region n) markets) (group.all_mine market_key is_same_key ties_itself item_of (is_row_of_region n) IsExact markets all))
+    lines_order item_of stock_of (market_row n) (λ m. not (is_zero m.stock)) (filter (is_row_of_region n) markets) (items_apart n markets (each_follows IsExactMarket HasWholeKey (λ m one. one.keys) markets all) d)
+    (each_follows (λ m. IsExactMarket m × (is_row_of_region n m ≡ true)) (λ m. (market_row n (item_of m) (stock_of m) ≡ m) × (not (is_zero m.stock) ≡ true)) (λ m here. (same_row n m (here.0.keys, here.1) here.0.stock, ap not here.0.some)) (filter (is_row_of_region n) markets) (group.all_mine market_key is_same_key ties_itself item_of (is_row_of_region n) IsExactMarket markets all))
 
 -- the rows of `market` that are written for a region's stocks
 abbrev region_lines : ℕ × Region → List StoredMarket
 region_lines e = stock_rows e.0 (entries e.1.stocks)
 
--- if rows of `market` are exact (`IsExact`), of listed regions, and differ in keys, the regions read with them are
+-- if rows of `market` are exact (`IsExactMarket`), of listed regions, and differ in keys, the regions read with them are
 -- written as these rows, in some order
-pub regions_are_written_as_rows : (markets : List StoredMarket) (regions : List StoredRegion) → HaveDistinctNumbers (λ r. as_u32 r.number) regions → AllByRecursion (λ m. HasNumber (λ r. as_u32 r.number) regions (as_u32 m.region)) markets → AllByRecursion IsExact markets → IsDistinct is_same_key (map market_key markets)
+pub regions_are_written_as_rows : (markets : List StoredMarket) (regions : List StoredRegion) → HaveDistinctNumbers (λ r. as_u32 r.number) regions → AllByRecursion (λ m. HasNumber (λ r. as_u32 r.number) regions (as_u32 m.region)) markets → AllByRecursion IsExactMarket markets → IsDistinct is_same_key (map market_key markets)
     → IsPermutation (market_rows Second (entries (by_number (λ r. as_u32 r.number) (region_of markets) regions))) markets
 regions_are_written_as_rows markets regions apart of all d =
     let lines = λ (r : StoredRegion). region_lines (as_u32 r.number, region_of markets r) in

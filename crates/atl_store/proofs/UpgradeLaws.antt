@@ -22,7 +22,7 @@ use Rattle.atl_sql.specs.PutsCampaignRow.{UpgradesCampaignRow}
 use Rattle.atl_sql.specs.Writes.{RunsStatement}
 use Rattle.atl_sql.proofs.CreateTexts.{is_made, makes_table}
 use Rattle.atl_sql.proofs.ListLaws.{has_map}
-use Rattle.atl_sql.proofs.Made.{Creates}
+use Rattle.atl_sql.proofs.Made.{CreatesTable}
 use Rattle.atl_sql.proofs.PartLaws.{all_among, listed, same_part}
 use Rattle.atl_store.proofs.WholeLaws.{inside_then, inside_weaker}
 
@@ -41,7 +41,7 @@ no_rows : AreKeyedByRowid []
 no_rows = record { apart = tt; ints = tt }
 
 -- the table `market` is made after just the tables of the first format
-module _ (old new : Database) (is : IsFirstFormat old) (made : Creates old_schema new_schema market_table.tree old new) where
+module _ (old new : Database) (is : IsFirstFormat old) (made : CreatesTable old_schema new_schema market_table.tree old new) where
   -- after the table `market` is made, the database has the tables of a campaign (`HasTables`)
   has_all : HasTables new
   has_all = record {

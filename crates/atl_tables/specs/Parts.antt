@@ -1,4 +1,5 @@
--- For proofs alone: the parts of a world before its regions are put into a map. Regions are in the order of the file.
+-- For proofs alone: the parts of a world (rules, terrains, items, kinds, regions) as they are read from its file, and
+-- their ranges. Regions are still a list, in the order of the file.
 use Rattle.std.specs.Prelude.{map, length}
 use Rattle.atl_tables.specs.EachIndex.{EachIndex}
 use Rattle.atl_tables.specs.ItemTable.{item_of}

@@ -12,7 +12,7 @@ pub record RoomySet : Type 0 where
   -- how many numbers the set can hold without taking memory
   pub room : ℕ
 
--- for proofs alone: a set with room encoded as the pair of its numbers and its room
+-- for proofs alone: a set with room encoded as the pair of both, as the kit asks of a type that contracts see
 abbrev pub roomy_set_code : Coded RoomySet
 roomy_set_code =
     code_by (set.FinSet nat_cmp × ℕ)

@@ -44,7 +44,7 @@ abbrev pub world_of_parts : Rules → List Terrain → List Item → List Skill 
 world_of_parts rules terrains items skills kinds regions =
     record { rules = rules; terrains = terrains; items = items; skills = skills; kinds = kinds; regions = regions }
 
--- for proofs alone: a world encoded as nested pairs of its parts
+-- for proofs alone: a world encoded as nested pairs of its parts, as the kit asks of a type that contracts see
 abbrev pub world_code : Coded WorldValue
 world_code =
     code_by (Rules × (List Terrain × (List Item × (List Skill × (List Kind × FinMap nat_cmp RegionPlan)))))

@@ -1,7 +1,7 @@
 //! Builds the books from their rows.
 ghost use Rattle.std.specs.Prelude.{◌≡◌, ◌≤◌, IfOk};
 ghost use Rattle.atl_records.specs.Limits.{possible_things};
-ghost use Rattle.atl_campaign.specs.FromRows.{with_books_row, put_amounts};
+ghost use Rattle.atl_campaign.specs.FromRows.{with_books_row, with_books_rows};
 ghost use Rattle.atl_records.specs.Books.{no_amounts};
 
 use crate::parts::StoredBooks;
@@ -30,7 +30,7 @@ pub(crate) fn books_of(
     rows: &[StoredBooks],
 ) -> Result<Books, AllocError>
     requires { things ≤ possible_things }
-    ensures { IfOk result (λ books. books ≡ put_amounts rows.now (no_amounts things)) }
+    ensures { IfOk result (λ books. books ≡ with_books_rows rows.now (no_amounts things)) }
 {
     let mut books = Books::new(alloc, things)?;
     for row in rows {

@@ -12,7 +12,7 @@ use atl_records::{Faction, Region, Structure};
 use atl_world::{Numbered, Sequence, Text};
 use std::alloc::{AllocError, Global};
 
-/// The text of a name's bytes, which have to keep the name rule.
+/// The name that the bytes of a row are. They have to keep the name rule.
 pub(super) fn name_of(alloc: Global, bytes: &Sequence<u8>) -> Result<Text, AllocError>
     requires { name_ok bytes.now ≡ true }
     ensures { IfOk result (λ name. name ≡ bytes.now) }
@@ -20,7 +20,7 @@ pub(super) fn name_of(alloc: Global, bytes: &Sequence<u8>) -> Result<Text, Alloc
     Text::from_utf8(alloc, bytes.as_slice())
 }
 
-/// The text of a pass text's bytes, which have to keep the rule of pass texts.
+/// The pass text that the bytes of a row are. They have to keep the rule of pass texts.
 pub(crate) fn pass_of(alloc: Global, bytes: &Sequence<u8>) -> Result<Text, AllocError>
     requires { pass_ok bytes.now ≡ true }
     ensures { IfOk result (λ pass. pass ≡ bytes.now) }

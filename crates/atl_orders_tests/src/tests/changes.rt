@@ -1,6 +1,7 @@
 //! Lists of edits to world texts, each with the first fault that the reader of worlds then reports.
 //! The small world (`SMALL_WORLD`) has one region, without items, skills, kinds and markets; each
-//! other world is the small one with more appended (module `worlds`).
+//! other world is the small one with more appended (module `worlds`), or with its last tables cut
+//! off.
 use atl_test_worlds::SMALL_WORLD;
 
 /// An edit: a piece of the world text, what replaces it, and the first fault of the new text
@@ -67,7 +68,7 @@ pub(crate) static SMALL_CHANGES: [Change; 26] = [
 ];
 
 /// Edits of the small world's text without its region: the key `region`, missing or faulty.
-pub(crate) static HEAD_CHANGES: [Change; 4] = [
+pub(crate) static REGION_KEY_CHANGES: [Change; 4] = [
     ("[rules]", "region = 3\n[rules]", "3 WrongType region"),
     ("[rules]", "region = []\n[rules]", "4 OutOfRange region"),
     ("[rules]", "[rules]", "2 Missing region"),
@@ -76,7 +77,7 @@ pub(crate) static HEAD_CHANGES: [Change; 4] = [
 
 /// Edits of the small world's text without terrain and region: the key `terrain`, missing or
 /// faulty.
-pub(crate) static RULES_CHANGES: [Change; 4] = [
+pub(crate) static TERRAIN_KEY_CHANGES: [Change; 4] = [
     ("[rules]", "terrain = 3\n[rules]", "3 WrongType terrain"),
     ("[rules]", "terrain = []\n[rules]", "4 OutOfRange terrain"),
     ("[rules]", "[rules]", "2 Missing terrain"),
@@ -206,7 +207,7 @@ pub(crate) static NAME_CHANGES: [Change; 13] = [
 
 /// Edits of the key `name` of each table of the world with an item, a skill and a kind: missing, of
 /// another type, and within or against the rule of names.
-pub(crate) static TITLE_CHANGES: [Change; 19] = [
+pub(crate) static NAME_KEY_CHANGES: [Change; 19] = [
     ("name = \"plain\"", "", "2 Missing terrain[0].name"),
     ("name = \"wood\"", "", "2 Missing item[0].name"),
     ("name = \"carpentry\"", "", "2 Missing skill[0].name"),
@@ -428,8 +429,9 @@ pub(crate) static OUTPUT_CHANGES: [Change; 6] = [
     ),
 ];
 
-/// Wrong edits of a world's market, each with the fault that is wanted. In the last two rows the
-/// market's region is wrong too, and the fault of the region is reported first.
+/// Edits of the market in the world with one market: keys that are missing, faulty or allowed. In
+/// the last two rows the market's region is wrong too, and the fault of the region is reported
+/// first.
 pub(crate) static MARKET_CHANGES: [Change; 12] = [
     ("item = \"wood\"", "", "2 Missing region[0].market[0].item"),
     (

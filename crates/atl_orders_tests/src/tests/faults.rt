@@ -3,9 +3,10 @@
 //! has one region, without items, skills, kinds and markets.
 use super::asserts::{assert_number, assert_text};
 use super::changes::{
-    ARRAY_CHANGES, Change, DUPLICATE_CHANGES, EQUAL_MARKETS, HEAD_CHANGES, KEY_CHANGES,
-    MARKET_CHANGES, NAME_CHANGES, NEIGHBOUR_CHANGES, OUTPUT_CHANGES, REFERENCE_CHANGES,
-    RULES_CHANGES, SMALL_CHANGES, TITLE_CHANGES, TOO_MANY_MARKETS, TRUTH_CHANGES, TWO_FAULTS,
+    ARRAY_CHANGES, Change, DUPLICATE_CHANGES, EQUAL_MARKETS, KEY_CHANGES, MARKET_CHANGES,
+    NAME_CHANGES, NAME_KEY_CHANGES, NEIGHBOUR_CHANGES, OUTPUT_CHANGES, REFERENCE_CHANGES,
+    REGION_KEY_CHANGES, SMALL_CHANGES, TERRAIN_KEY_CHANGES, TOO_MANY_MARKETS, TRUTH_CHANGES,
+    TWO_FAULTS,
 };
 use super::worlds::{ITEM_SKILL_KIND, fault, small_with, with_markets, with_replaced};
 use atl_tables::WorldFault;
@@ -85,13 +86,13 @@ fn faulty_worlds(rt: HostRuntime) -> Result<(), Fail> {
         &rt,
         rt.alloc(),
         small_world_above("[[region]]"),
-        &HEAD_CHANGES,
+        &REGION_KEY_CHANGES,
     )?;
     assert_changes(
         &rt,
         rt.alloc(),
         small_world_above("[[terrain]]"),
-        &RULES_CHANGES,
+        &TERRAIN_KEY_CHANGES,
     )
 }
 
@@ -100,7 +101,7 @@ fn faulty_worlds(rt: HostRuntime) -> Result<(), Fail> {
 fn assert_thing_changes(rt: &impl Abort, alloc: Global, text: &str) -> Result<(), Fail> {
     assert_changes(rt, alloc, text, &KEY_CHANGES)?;
     assert_changes(rt, alloc, text, &NAME_CHANGES)?;
-    assert_changes(rt, alloc, text, &TITLE_CHANGES)?;
+    assert_changes(rt, alloc, text, &NAME_KEY_CHANGES)?;
     assert_changes(rt, alloc, text, &TRUTH_CHANGES)?;
     assert_changes(rt, alloc, text, &REFERENCE_CHANGES)?;
     assert_changes(rt, alloc, text, &NEIGHBOUR_CHANGES)?;

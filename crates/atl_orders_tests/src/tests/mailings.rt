@@ -376,7 +376,7 @@ static WORDS: [(&str, &str); 3] = [
 ];
 
 /// Asserts the keywords and new names of the orders of each mailing of `WORDS`.
-fn words_are(rt: &impl Abort, alloc: Global, world: &World) -> Result<(), Fail> {
+fn assert_words(rt: &impl Abort, alloc: Global, world: &World) -> Result<(), Fail> {
     for (text, wanted) in WORDS.iter() {
         let mailing = read_mailing(alloc, world, text.as_bytes())?;
         let words = words_of(alloc, &mailing)?;
@@ -396,7 +396,7 @@ static SPANS: [(usize, usize, bool, &[u8]); 5] = [
 ];
 
 /// Asserts the bytes that a mailing has at a span, read as a name.
-fn span_names(
+fn assert_span_name(
     rt: &impl Abort,
     alloc: Global,
     mailing: &Mailing,
@@ -410,10 +410,10 @@ fn span_names(
 }
 
 /// Asserts the bytes that a mailing has at each span of `SPANS`, read as a name.
-fn spans_name(rt: &impl Abort, alloc: Global, world: &World) -> Result<(), Fail> {
+fn assert_span_names(rt: &impl Abort, alloc: Global, world: &World) -> Result<(), Fail> {
     let mailing = read_mailing(alloc, world, b"#ATLANTIS 1\n_\xFF")?;
     for row in SPANS.iter() {
-        span_names(rt, alloc, &mailing, row)?;
+        assert_span_name(rt, alloc, &mailing, row)?;
     }
     Ok(())
 }
@@ -428,8 +428,8 @@ fn faction_of(alloc: Global, world: &World, text: &[u8]) -> Result<usize, Fail> 
 fn assert_all_readings(rt: &impl Abort, alloc: Global, world: &World) -> Result<(), Fail> {
     assert_order_forms(rt, alloc, world)?;
     assert_all_texts(rt, alloc, world)?;
-    words_are(rt, alloc, world)?;
-    spans_name(rt, alloc, world)?;
+    assert_words(rt, alloc, world)?;
+    assert_span_names(rt, alloc, world)?;
     assert_number(rt, faction_of(alloc, world, b"#ATLANTIS 1")?, 1);
     assert_number(
         rt,

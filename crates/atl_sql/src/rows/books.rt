@@ -77,8 +77,8 @@ impl HasSelect for RowWithId<StoredBooks> {
 
     ghost columns = { refl };
 
-    /// The first format, since files of both formats have the table, and the SELECT of all rows of
-    /// `books` with their rowids.
+    /// The SELECT of all rows of `books` with their rowids, after the first format whose files have
+    /// the table: the first.
     fn select_of() -> (Format, &'static str) {
         (
             Format::First,

@@ -171,8 +171,8 @@ impl HasSelect for StoredCampaign {
 
     ghost columns = { refl };
 
-    /// The first format, since files of both formats have the table, and the SELECT of all rows of
-    /// `campaign`.
+    /// The SELECT of all rows of `campaign`, after the first format whose files have the table: the
+    /// first.
     fn select_of() -> (Format, &'static str) {
         (Format::First, SELECT_ALL)
     }

@@ -100,8 +100,8 @@ impl HasSelect for StoredFaction {
 
     ghost columns = { refl };
 
-    /// The first format, since files of both formats have the table, and the SELECT of all rows of
-    /// `faction`.
+    /// The SELECT of all rows of `faction`, after the first format whose files have the table: the
+    /// first.
     fn select_of() -> (Format, &'static str) {
         (
             Format::First,

@@ -111,8 +111,8 @@ impl HasSelect for RowWithId<StoredHas> {
 
     ghost columns = { refl };
 
-    /// The first format, since files of both formats have the table, and the SELECT of all rows of
-    /// `has` with their rowids.
+    /// The SELECT of all rows of `has` with their rowids, after the first format whose files have
+    /// the table: the first.
     fn select_of() -> (Format, &'static str) {
         (
             Format::First,

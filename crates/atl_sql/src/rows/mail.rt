@@ -98,8 +98,8 @@ impl HasSelect for StoredMail {
 
     ghost columns = { refl };
 
-    /// The first format, since files of both formats have the table, and the SELECT of all rows of
-    /// `mail`.
+    /// The SELECT of all rows of `mail`, after the first format whose files have the table: the
+    /// first.
     fn select_of() -> (Format, &'static str) {
         (
             Format::First,

@@ -78,8 +78,8 @@ impl HasSelect for RowWithId<StoredMarket> {
 
     ghost columns = { refl };
 
-    /// The second format, since files of the first lack the table, and the SELECT of all rows of
-    /// `market` with their rowids.
+    /// The SELECT of all rows of `market` with their rowids, after the first format whose files
+    /// have the table: the second.
     fn select_of() -> (Format, &'static str) {
         (
             Format::Second,

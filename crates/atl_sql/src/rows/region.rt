@@ -88,8 +88,8 @@ impl HasSelect for StoredRegion {
 
     ghost columns = { refl };
 
-    /// The first format, since files of both formats have the table, and the SELECT of all rows of
-    /// `region`.
+    /// The SELECT of all rows of `region`, after the first format whose files have the table: the
+    /// first.
     fn select_of() -> (Format, &'static str) {
         (
             Format::First,

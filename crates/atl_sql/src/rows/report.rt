@@ -87,8 +87,8 @@ impl HasSelect for StoredReport {
 
     ghost columns = { refl };
 
-    /// The first format, since files of both formats have the table, and the SELECT of all rows of
-    /// `report`.
+    /// The SELECT of all rows of `report`, after the first format whose files have the table: the
+    /// first.
     fn select_of() -> (Format, &'static str) {
         (
             Format::First,

@@ -100,8 +100,8 @@ impl HasSelect for StoredStructure {
 
     ghost columns = { refl };
 
-    /// The first format, since files of both formats have the table, and the SELECT of all rows of
-    /// `structure`.
+    /// The SELECT of all rows of `structure`, after the first format whose files have the table:
+    /// the first.
     fn select_of() -> (Format, &'static str) {
         (
             Format::First,

@@ -113,8 +113,8 @@ impl HasSelect for StoredUnit {
 
     ghost columns = { refl };
 
-    /// The first format, since files of both formats have the table, and the SELECT of all rows of
-    /// `unit`.
+    /// The SELECT of all rows of `unit`, after the first format whose files have the table: the
+    /// first.
     fn select_of() -> (Format, &'static str) {
         (
             Format::First,

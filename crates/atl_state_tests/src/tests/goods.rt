@@ -1,12 +1,12 @@
 //! Tests of setting single items and skills of units: each is marked by itself.
 use super::making::joined_by;
-use super::shown::{Ask, Row, assert_steps};
+use super::shown::{Question, Row, assert_steps};
 use super::steps::{Step, UnitChange};
 use atl_test_worlds::ISLE;
 use std::test::Fail;
 
 /// The question how much unit 1 has of item 7, and its days of skill 3.
-const GOODS: Ask = Ask::Goods(1, 7, 3);
+const GOODS: Question = Question::Goods(1, 7, 3);
 
 /// Steps that set single items and skills, and what is marked after each. A unit counts as one
 /// part, however many of its items and skills are marked. An item that becomes 0 is marked too; one
@@ -60,13 +60,13 @@ static ONE_BY_ONE: [Row; 13] = [
     ),
     (
         Step::Unit(9, UnitChange::Item(7, 4)),
-        Ask::Goods(9, 7, 3),
+        Question::Goods(9, 7, 3),
         "none",
         "0",
     ),
     (
         Step::Unit(9, UnitChange::Days(3, 30)),
-        Ask::Goods(9, 7, 3),
+        Question::Goods(9, 7, 3),
         "none",
         "0",
     ),

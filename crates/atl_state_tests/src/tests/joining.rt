@@ -2,7 +2,7 @@
 //! when a unit is lent to be changed, or removed.
 use super::compare::{assert_amount, assert_count};
 use super::making::{BOAT, avalon_joins, founded_in};
-use super::shown::{Ask, Row, assert_steps};
+use super::shown::{Question, Row, assert_steps};
 use super::steps::{RegionChange, Step, UnitChange};
 use atl_tables::read_world;
 use atl_test_worlds::ISLE;
@@ -18,70 +18,80 @@ static CALLS: [Row; 14] = [
     // The faction, its unit, its money and its man in the books, and the campaign's row.
     (
         Step::Nothing,
-        Ask::Counts,
+        Question::Counts,
         "[1, 4, 1, 0], next [2, 1]",
         "5, factions [1], units [1], rows [1], goods [1], the campaign, joining money, joining people",
     ),
-    (Step::Unmark, Ask::Counts, "[1, 4, 1, 0], next [2, 1]", "0"),
+    (
+        Step::Unmark,
+        Question::Counts,
+        "[1, 4, 1, 0], next [2, 1]",
+        "0",
+    ),
     (
         Step::Comes(1, 2),
-        Ask::Counts,
+        Question::Counts,
         "[1, 4, 2, 0], next [3, 1]",
         "2, units [2], rows [2], goods [2], the campaign",
     ),
-    (Step::Unmark, Ask::Counts, "[1, 4, 2, 0], next [3, 1]", "0"),
+    (
+        Step::Unmark,
+        Question::Counts,
+        "[1, 4, 2, 0], next [3, 1]",
+        "0",
+    ),
     (
         Step::Begins(BOAT, 1),
-        Ask::Counts,
+        Question::Counts,
         "[1, 4, 2, 1], next [3, 2]",
         "2, structures [1], the campaign",
     ),
     (
         Step::Unmark,
-        Ask::Unit(1),
+        Question::Unit(1),
         "Unit 1: 1 men, 1000 money, guard: false, [1, 3, 0]",
         "0",
     ),
     // A unit that is lent is marked, once; one that is not there is neither lent nor marked.
     (
         Step::Unit(1, UnitChange::LentMoney(7)),
-        Ask::Unit(1),
+        Question::Unit(1),
         "Unit 1: 1 men, 7 money, guard: false, [1, 3, 0]",
         "1, units [1], rows [1], goods [1]",
     ),
     (
         Step::Unit(1, UnitChange::LentMoney(7)),
-        Ask::Unit(1),
+        Question::Unit(1),
         "Unit 1: 1 men, 7 money, guard: false, [1, 3, 0]",
         "1, units [1], rows [1], goods [1]",
     ),
     (
         Step::Unit(9, UnitChange::LentMoney(7)),
-        Ask::Unit(9),
+        Question::Unit(9),
         "none",
         "1, units [1], rows [1], goods [1]",
     ),
-    (Step::Unmark, Ask::Units, "[1, 2]", "0"),
+    (Step::Unmark, Question::Units, "[1, 2]", "0"),
     // What a unit that is gone had is marked until all marks go.
     (
         Step::Unit(1, UnitChange::Money(5)),
-        Ask::Unit(1),
+        Question::Unit(1),
         "Unit 1: 1 men, 5 money, guard: false, [1, 3, 0]",
         "1, units [1], rows [1]",
     ),
     (
         Step::Region(3, RegionChange::Money(7)),
-        Ask::Region(3),
+        Question::Region(3),
         "200 peasants, 7 money",
         "2, regions [3], units [1], rows [1]",
     ),
     (
         Step::Unit(1, UnitChange::Remove),
-        Ask::Units,
+        Question::Units,
         "[2]",
         "2, regions [3], units [1], rows [1], goods [1]",
     ),
-    (Step::Unmark, Ask::Unit(1), "none", "0"),
+    (Step::Unmark, Question::Unit(1), "none", "0"),
 ];
 
 /// Asserts that nothing is marked after the founding, that Avalon joins as faction 1 with unit 1,

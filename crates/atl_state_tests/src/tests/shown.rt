@@ -1,4 +1,4 @@
-//! Prints parts of a campaign and its marks as text, and runs tables of steps with both.
+//! Prints parts of a campaign, and its marks, as text, and asserts both after each step of a table.
 use super::compare::assert_row_text;
 use super::steps::{Step, make_step};
 use atl_campaign::{BooksEntry, Campaign, MOST_UNITS, Thing};
@@ -11,7 +11,7 @@ use std::test::Fail;
 
 /// A question to a campaign, answered as text by `text_of`.
 #[derive(Drop, Clone, Copy)]
-pub(crate) enum Ask {
+pub(crate) enum Question {
     Month,
     /// How many factions, regions, units and structures there are, and the next numbers of a unit
     /// and a structure.
@@ -174,20 +174,20 @@ fn month_text(alloc: Global, campaign: &Campaign) -> Result<String, Fail> {
 }
 
 /// A campaign's answer to a question, as text.
-fn text_of(alloc: Global, campaign: &Campaign, ask: Ask) -> Result<String, Fail> {
+fn text_of(alloc: Global, campaign: &Campaign, ask: Question) -> Result<String, Fail> {
     match ask {
-        Ask::Month => month_text(alloc, campaign),
-        Ask::Counts => counts_text(alloc, campaign),
-        Ask::Faction(number) => faction_text(alloc, campaign, number),
-        Ask::Mail(faction) => mail_text(alloc, campaign, faction),
-        Ask::Report(faction) => report_text(alloc, campaign, faction),
-        Ask::Region(number) => region_text(alloc, campaign, number),
-        Ask::Stock(number, item) => stock_text(alloc, campaign, number, item),
-        Ask::Units => units_text(alloc, campaign),
-        Ask::Unit(number) => unit_text(alloc, campaign, number),
-        Ask::Goods(number, item, skill) => goods_text(alloc, campaign, number, item, skill),
-        Ask::Structure(number) => structure_text(alloc, campaign, number),
-        Ask::Total(thing) => total_text(alloc, campaign, thing),
+        Question::Month => month_text(alloc, campaign),
+        Question::Counts => counts_text(alloc, campaign),
+        Question::Faction(number) => faction_text(alloc, campaign, number),
+        Question::Mail(faction) => mail_text(alloc, campaign, faction),
+        Question::Report(faction) => report_text(alloc, campaign, faction),
+        Question::Region(number) => region_text(alloc, campaign, number),
+        Question::Stock(number, item) => stock_text(alloc, campaign, number, item),
+        Question::Units => units_text(alloc, campaign),
+        Question::Unit(number) => unit_text(alloc, campaign, number),
+        Question::Goods(number, item, skill) => goods_text(alloc, campaign, number, item, skill),
+        Question::Structure(number) => structure_text(alloc, campaign, number),
+        Question::Total(thing) => total_text(alloc, campaign, thing),
     }
 }
 
@@ -326,7 +326,7 @@ fn marks_text(alloc: Global, campaign: &Campaign) -> Result<String, Fail> {
 }
 
 /// A step, a question after it, the answer, and what is marked then (`marks_text`).
-pub(crate) type Row = (Step, Ask, &'static str, &'static str);
+pub(crate) type Row = (Step, Question, &'static str, &'static str);
 
 /// Makes the step of a row, and asserts the answer and the marks that the row wants; `place` is the
 /// row's index.

@@ -1,16 +1,16 @@
 //! Tests of the stocks of a region's market.
 use super::making::joined_by;
-use super::shown::{Ask, Row, assert_steps};
+use super::shown::{Question, Row, assert_steps};
 use super::steps::{RegionChange, Step, UnitChange};
 use atl_campaign::Thing;
 use atl_test_worlds::WOOD_MARKET;
 use std::test::Fail;
 
 /// The question how much wood all units and regions hold.
-const ALL_WOOD: Ask = Ask::Total(Thing::Item(0));
+const ALL_WOOD: Question = Question::Total(Thing::Item(0));
 
 /// The question how much wood region 1 has in stock.
-const STOCK: Ask = Ask::Stock(1, 0);
+const STOCK: Question = Question::Stock(1, 0);
 
 /// Steps that give unit 1 wood and then set stocks of wood: setting a stock marks this stock alone.
 /// Setting the same amount marks nothing, an amount of 0 is not listed, and in a region that isn't
@@ -52,7 +52,7 @@ static WOOD: [Row; 11] = [
     (Step::Unmark, STOCK, "0 of 0", "0"),
     (
         Step::Region(9, RegionChange::Stock(0, 5)),
-        Ask::Stock(9, 0),
+        Question::Stock(9, 0),
         "0 nowhere",
         "0",
     ),

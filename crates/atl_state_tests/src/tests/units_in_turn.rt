@@ -2,7 +2,7 @@
 use super::checks::checked;
 use super::compare::assert_count;
 use super::making::{FAR, joined_in};
-use super::shown::{Ask, Row, assert_steps};
+use super::shown::{Question, Row, assert_steps};
 use super::steps::{FactionChange, RegionChange, Step, UnitChange, make_steps};
 use atl_campaign::Campaign;
 use atl_tables::read_world;
@@ -47,37 +47,37 @@ static UNITS_IN_TURN: [Step; 25] = [
 static MARKS: [Row; 6] = [
     (
         Step::Nothing,
-        Ask::Units,
+        Question::Units,
         "[1, 12, 13, 14]",
         "20, factions [1], regions [3], units [1, 2, 3, 4, 5, 6, 7, 8, 9, 10, 11, 12, 13, 14], \
             rows [1, 2, 3, 4, 5, 6, 7, 8, 9, 10, 11, 12, 13, 14], goods [1, 2, 3, 4, 5, 6, 7, 8, 9, 10, 11, 12, 13, 14], \
             reports [1], the campaign, joining money, joining people",
     ),
-    (Step::Unmark, Ask::Units, "[1, 12, 13, 14]", "0"),
+    (Step::Unmark, Question::Units, "[1, 12, 13, 14]", "0"),
     (
         Step::Unit(13, UnitChange::Remove),
-        Ask::Units,
+        Question::Units,
         "[1, 12, 14]",
         "1, units [13], rows [13], goods [13]",
     ),
     (
         Step::Comes(1, 15),
-        Ask::Units,
+        Question::Units,
         "[1, 12, 14, 15]",
         "3, units [13, 15], rows [13, 15], goods [13, 15], the campaign",
     ),
     (
         Step::Unit(12, UnitChange::Money(0)),
-        Ask::Units,
+        Question::Units,
         "[1, 12, 14, 15]",
         "4, units [12, 13, 15], rows [12, 13, 15], goods [13, 15], the campaign",
     ),
-    (Step::Unmark, Ask::Units, "[1, 12, 14, 15]", "0"),
+    (Step::Unmark, Question::Units, "[1, 12, 14, 15]", "0"),
 ];
 
 /// What `check` has to make of the campaign's rows after `MARKS`: a campaign with the same units,
 /// and without a mark.
-static MADE_AGAIN: [Row; 1] = [(Step::Nothing, Ask::Units, "[1, 12, 14, 15]", "0")];
+static MADE_AGAIN: [Row; 1] = [(Step::Nothing, Question::Units, "[1, 12, 14, 15]", "0")];
 
 /// Asserts `MADE_AGAIN` on the campaign made from the rows of `first`, and that four units are in
 /// region Far.

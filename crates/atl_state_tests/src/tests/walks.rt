@@ -2,7 +2,7 @@
 //! totals.
 use super::compare::{assert_amount, assert_count, assert_text};
 use super::making::{LODGE, joined_by};
-use super::shown::{Ask, Row, assert_steps};
+use super::shown::{Question, Row, assert_steps};
 use super::steps::{Step, UnitChange, make_steps};
 use atl_campaign::{Campaign, Thing};
 use atl_test_worlds::ISLE;
@@ -47,19 +47,19 @@ static MAKING: [Step; 3] = [
 /// What is asked after `MAKING`: the only unit, and the totals of money, people and items over the
 /// four regions and this unit.
 static TOTALS: [Row; 6] = [
-    (Step::Nothing, Ask::Units, "[1]", "0"),
+    (Step::Nothing, Question::Units, "[1]", "0"),
     (
         Step::Nothing,
-        Ask::Unit(1),
+        Question::Unit(1),
         "Unit 1: 1 men, 1000 money, guard: false, [1, 3, 0]",
         "0",
     ),
     // 500 and 100 and 50 of the regions, and 1,000 of the unit.
-    (Step::Nothing, Ask::Total(Thing::Money), "1650", "0"),
+    (Step::Nothing, Question::Total(Thing::Money), "1650", "0"),
     // 1,000 and 200 and 100 peasants, and one man.
-    (Step::Nothing, Ask::Total(Thing::People), "1301", "0"),
-    (Step::Nothing, Ask::Total(Thing::Item(0)), "12", "0"),
-    (Step::Nothing, Ask::Total(Thing::Item(1)), "0", "0"),
+    (Step::Nothing, Question::Total(Thing::People), "1301", "0"),
+    (Step::Nothing, Question::Total(Thing::Item(0)), "12", "0"),
+    (Step::Nothing, Question::Total(Thing::Item(1)), "0", "0"),
 ];
 
 /// Asserts the walks over factions, regions and structures, and the rows of `TOTALS`.

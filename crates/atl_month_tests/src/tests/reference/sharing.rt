@@ -1,4 +1,4 @@
-//! Plays any phase that shares pots on the reference's campaign: orders, pots, shares, events and
+//! Phases that share pots in the reference calculation: their orders, pots, shares, events and
 //! payments.
 use super::plain::{PlainCampaign, PlainRegion};
 use super::pots::{Claim, Claimed, Pot, UnitShare, given_to, outcome, shared};

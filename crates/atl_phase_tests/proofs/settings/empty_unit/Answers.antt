@@ -9,7 +9,7 @@ use Rattle.atl_records.specs.Limits.{most_days}
 use Rattle.atl_campaign.specs.Campaign.{CampaignValue}
 use Rattle.atl_records.specs.declared.records.Unit.{Unit}
 use Rattle.atl_records.proofs.EveryLaws.{every-empty}
-use Rattle.atl_campaign.proofs.HoldingLaws.{MayHaveWithoutNewGuard, of_one_faction_kept, steady-unit_amount}
+use Rattle.atl_campaign.proofs.HoldingLaws.{MayHaveWithoutNewGuard, of_one_faction_kept, steady-new_holding}
 use Rattle.atl_phase_tests.proofs.settings.empty_unit.Goals as goal
 
 -- a unit's holding with neither men nor days of study, and otherwise as it is
@@ -47,7 +47,7 @@ stays_early_without_men w c n before after was is early = by_unit (get c.units n
         let same : before ≡ u.holding = cc in
         let held : without_men u.holding ≡ after = sym (is ∙ ap without_men same) in
         record {
-          steady = steady-unit_amount w c n u after there (subst (MayHaveWithoutNewGuard w u) held (may_lose_men w c n u there early.steady)) early.steady;
+          steady = steady-new_holding w c n u after there (subst (MayHaveWithoutNewGuard w u) held (may_lose_men w c n u there early.steady)) early.steady;
           flags = of_one_faction_kept w c n u after there (λ x. x.holding.guard) (λ g. ap (λ (h : HoldingValue). h.guard) held ∙ g) early.flags;
         }
 

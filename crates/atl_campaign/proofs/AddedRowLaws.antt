@@ -127,8 +127,8 @@ unit_given r n (h ∷ has) items days =
     ∙ ap (λ m. unit_with_goods r (put_rows thing_of amount_of (filter (is_of_unit_and_sort n 0) (h ∷ has)) items) m) (sym (taken_or_not thing_of amount_of (is_of_unit_and_sort n 1) h has (is_of_unit_and_sort n 1 h) days refl))
 
 -- units without goods (bare_unit), once all rows of `has` are added, are the units assembled with these rows (unit_of)
-pub units_given : (has : List StoredHas) (rows : List StoredUnit) → with_rows_added (λ h. as_u32 h.unit) with_has_row has (by_number (λ r. as_u32 r.number) bare_unit rows) ≡ by_number (λ r. as_u32 r.number) (unit_of has) rows
-units_given has rows = with_rows_added-by_number (λ (h : StoredHas). as_u32 h.unit) with_has_row (λ (r : StoredUnit). as_u32 r.number) bare_unit (unit_of has) has (λ r. unit_given r (as_u32 r.number) has empty empty) rows
+pub units_with_rows : (has : List StoredHas) (rows : List StoredUnit) → with_rows_added (λ h. as_u32 h.unit) with_has_row has (by_number (λ r. as_u32 r.number) bare_unit rows) ≡ by_number (λ r. as_u32 r.number) (unit_of has) rows
+units_with_rows has rows = with_rows_added-by_number (λ (h : StoredHas). as_u32 h.unit) with_has_row (λ (r : StoredUnit). as_u32 r.number) bare_unit (unit_of has) has (λ r. unit_given r (as_u32 r.number) has empty empty) rows
 
 -- ---- regions
 
@@ -159,6 +159,6 @@ region_given r n (m ∷ markets) stocks =
 
 -- regions without stocks (bare_region), once all rows of `market` are added, are the regions assembled with these rows
 -- (region_of)
-pub regions_given : (markets : List StoredMarket) (rows : List StoredRegion)
+pub regions_with_rows : (markets : List StoredMarket) (rows : List StoredRegion)
     → with_rows_added (λ m. as_u32 m.region) with_market_row markets (by_number (λ r. as_u32 r.number) bare_region rows) ≡ by_number (λ r. as_u32 r.number) (region_of markets) rows
-regions_given markets rows = with_rows_added-by_number (λ (m : StoredMarket). as_u32 m.region) with_market_row (λ (r : StoredRegion). as_u32 r.number) bare_region (region_of markets) markets (λ r. region_given r (as_u32 r.number) markets empty) rows
+regions_with_rows markets rows = with_rows_added-by_number (λ (m : StoredMarket). as_u32 m.region) with_market_row (λ (r : StoredRegion). as_u32 r.number) bare_region (region_of markets) markets (λ r. region_given r (as_u32 r.number) markets empty) rows
