@@ -26,7 +26,7 @@ explain() {
     UnknownThing) echo 'The world has no item, skill or kind of this name, or NAME is followed by a wrong word.' ;;
     MissingWord) echo 'The line ends too early.' ;;
     BadByte) echo 'A letter or sign is not allowed, also in a comment. It is shown as ? here.' ;;
-    BadAlias) echo 'The word after FORM or NEW is no number from 1 to 9999, or an earlier FORM has it.' ;;
+    BadAlias) echo 'The word after FORM or NEW is no number from 1 to 9999, or it is the number of an earlier FORM.' ;;
     NestedForm) echo 'This FORM is inside the block of another: an END is missing above.' ;;
     EndAlone) echo 'This END has no FORM.' ;;
     BadDirection) echo 'The direction is none of NORTH, SOUTH, EAST and WEST.' ;;

@@ -383,7 +383,7 @@ line 5: 3 BadNumber
     A number is missing here, or is out of its range.
 line 6: 7 BadAlias
     FORM 0
-    The word after FORM or NEW is no number from 1 to 9999, or an earlier FORM has it.
+    The word after FORM or NEW is no number from 1 to 9999, or it is the number of an earlier FORM.
 line 9: 8 NestedForm
     FORM 8
     This FORM is inside the block of another: an END is missing above.
