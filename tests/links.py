@@ -6,7 +6,8 @@
   Each file is there, some of the code cites one of the definitions, and a definition whose first line names sections of docs/RULES.md is under these.
 - Each link of a page leads to a file, and to a heading where it names one, and each file and folder that a page names is there.
 - Each section of a page that code, definitions, tests or pages name, as in `docs/RULES.md, "Shares"`, is there.
-- Each name between backquotes in a comment of the crates is a name of their code, definitions or proofs, or of a file.
+- Each name between backquotes in a comment of the crates, and in the pages on the code (OF_CODE), is a name of their code, definitions or
+  proofs, or of a file.
 
 It ends with 'links: all there'."""
 import glob, os, re, sys
@@ -22,7 +23,8 @@ CITED_NAME = re.compile(rf"{NAME.pattern}(?:(?:::|\.|-){NAME.pattern})*(?:\(\))?
 CITED = re.compile(r"\b((?:docs|web)/\w+\.md), \"([^\"]+)\"(?:(?:,| and|, and) \"([^\"]+)\")*")
 
 # What pages name and the repository doesn't have: files of a club, what the build makes, and what HTTP calls by such names.
-NOT_NAMES_OF_OURS = {"sqlite3"}
+NOT_NAMES_OF_OURS = {"sqlite3", "ANALYZE", "REINDEX", "VACUUM"}
+OF_CODE = ("docs/DECISIONS.md", "docs/GATE.md", "docs/PROVED.md", "crates/*/README.md")
 OF_A_CLUB = re.compile(r"(?:mail|months)/.*|(?:books|mailing|orders|club|island)\.\w+")
 NOT_HERE = {"bench/NAME.txt", "crates/atl_gm/out/atl_gm", "text/plain", "HTTP/1.1"}
 
@@ -218,23 +220,30 @@ def with_comment(path, line):
     return (line[: begins.start()], line[begins.start() :]) if begins else (line, "")
 
 
-def faults_of_comments():
-    names, cited = set(NOT_NAMES_OF_OURS), []
-    for path in sorted(path for ending in ("rt", "antt") for path in glob.glob(f"crates/**/*.{ending}", recursive=True) if os.path.isfile(path)):
-        names.add(os.path.basename(path).split(".")[0])
+def files_of(*patterns):
+    return sorted(path for pattern in patterns for path in glob.glob(pattern, recursive=True) if os.path.isfile(path))
+
+
+def faults_of_cited_names():
+    paths = files_of("crates/**/*.rt", "crates/**/*.antt")
+    names = NOT_NAMES_OF_OURS | {os.path.basename(path).split(".")[0] for path in files_of("crates/**/*", "bench/**/*", "tests/**/*", "examples/*")}
+    cited = [(page, number, line) for page in files_of(*OF_CODE) for number, line in lines_of(page)]
+    for path in paths:
         for number, line in enumerate(read(path).split("\n"), 1):
             code, comment = with_comment(path, line)
             names.update(NAME.findall(code))
-            cited += [(path, number, text) for text in re.findall(r"`([^`]+)`", comment) if CITED_NAME.fullmatch(text)]
+            cited.append((path, number, comment))
     for path, number, text in cited:
-        yield from (f"{path}:{number}: {name} is no name of the crates" for name in NAME.findall(text) if name not in names)
+        for cited_name in re.findall(r"`([^`]+)`", text):
+            if CITED_NAME.fullmatch(cited_name) and not FILE.fullmatch(cited_name):
+                yield from (f"{path}:{number}: {name} is no name of the crates" for name in NAME.findall(cited_name) if name not in names)
 
 
 def main():
     os.chdir(os.path.dirname(os.path.dirname(os.path.abspath(__file__))))
     if sys.argv[1:]:
         sys.exit(__doc__)
-    faults = [*faults_of_rules(), *faults_of_pages(), *faults_of_citations(), *faults_of_comments()]
+    faults = [*faults_of_rules(), *faults_of_pages(), *faults_of_citations(), *faults_of_cited_names()]
     for fault in faults:
         print(fault)
     print(f"links: {len(faults)} faults" if faults else "links: all there")
