@@ -25,7 +25,7 @@ CITED = re.compile(r"\b((?:docs|web)/\w+\.md), \"([^\"]+)\"(?:(?:,| and|, and) \
 # What pages name and the repository doesn't have: files of a club, what the build makes, and what HTTP calls by such names.
 NOT_NAMES_OF_OURS = {"sqlite3", "ANALYZE", "REINDEX", "VACUUM"}
 OF_CODE = ("docs/DECISIONS.md", "docs/GATE.md", "docs/PROVED.md", "crates/*/README.md")
-OF_A_CLUB = re.compile(r"(?:mail|months)/.*|(?:books|mailing|orders|club|island)\.\w+")
+OF_A_CLUB = re.compile(r"(?:mail|months|undone)/.*|(?:books|mailing|orders|club|havens|island)\.\w+")
 NOT_HERE = {"bench/NAME.txt", "crates/atl_gm/out/atl_gm", "text/plain", "HTTP/1.1"}
 
 
