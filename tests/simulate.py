@@ -25,7 +25,7 @@ CLUBS = (
     ("taxer", "maker", "trader", "settler"),
 )
 MONTHS, HALF = 24, 6
-# The 500 peasants of a full plain feed 50 people, who bring 500 by tax and 600 by work, and cost 500. So a region
+# The 500 peasants of a full plain feed 50 people, who bring 500 by tax and 600 by work, and cost 500. So by tax and work
 # leaves its faction 600 a month at most.
 MOST_OF_A_REGION = 600
 # A careless player is out of the game by this month.
