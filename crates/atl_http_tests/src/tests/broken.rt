@@ -29,7 +29,12 @@ pub(crate) fn assert_breaks_off(
 
 /// Asserts WriteFault, the bytes written, and that the faction has joined, in a new campaign. The
 /// writer takes `most` bytes; then it fails if `fails`, and takes none otherwise.
-fn breaks_off_after(rt: &impl Abort, alloc: Global, most: usize, fails: bool) -> Result<(), Fail> {
+fn assert_write_fault_after(
+    rt: &impl Abort,
+    alloc: Global,
+    most: usize,
+    fails: bool,
+) -> Result<(), Fail> {
     let mut service = new_service(alloc)?;
     let mut writer = NarrowWriter::of(alloc, most, fails);
     assert_breaks_off(rt, alloc, &mut service, &mut writer, most);
@@ -41,7 +46,7 @@ fn breaks_off_after(rt: &impl Abort, alloc: Global, most: usize, fails: bool) ->
 #[test]
 fn writes_that_fail(rt: HostRuntime) -> Result<(), Fail> {
     for most in 0..JOINED.len() {
-        breaks_off_after(&rt, rt.alloc(), most, true)?;
+        assert_write_fault_after(&rt, rt.alloc(), most, true)?;
     }
     Ok(())
 }
@@ -51,7 +56,7 @@ fn writes_that_fail(rt: HostRuntime) -> Result<(), Fail> {
 #[test]
 fn writes_that_take_nothing(rt: HostRuntime) -> Result<(), Fail> {
     for most in 0..JOINED.len() {
-        breaks_off_after(&rt, rt.alloc(), most, false)?;
+        assert_write_fault_after(&rt, rt.alloc(), most, false)?;
     }
     Ok(())
 }

@@ -106,7 +106,7 @@ fn over_a_socket(rt: HostRuntime) -> Result<(), Fail> {
 
 /// Asserts that serving ends in the fault Net if the listener doesn't wait and has no connection.
 /// No command was run: the faction that joins next is the first.
-fn nobody_is_served<R: Clock + Abort>(
+fn assert_net_fault<R: Clock + Abort>(
     rt: &R,
     alloc: Global,
     listener: &TcpListener,
@@ -127,7 +127,7 @@ fn no_connection_is_taken(rt: HostRuntime) -> Result<(), Fail> {
         return Err(Fail::new("bind"));
     };
     let mut service = new_service(rt.alloc())?;
-    let done = nobody_is_served(&rt, rt.alloc(), &listener, &mut service);
+    let done = assert_net_fault(&rt, rt.alloc(), &listener, &mut service);
     let _conn = service.end();
     match done {
         Ok(()) => Ok(()),

@@ -17,7 +17,7 @@ people total 1000
 ";
 
 /// Asserts that a request cut short changes nothing, and that a whole one in two pieces joins.
-fn cut_and_whole(
+fn assert_cut_and_whole(
     rt: &impl Abort,
     alloc: Global,
     service: &mut impl HttpService,
@@ -46,7 +46,7 @@ static BY_PIECES: [(usize, usize); 3] = [(1, JOIN.len()), (8, 11), (JOIN.len(), 
 
 /// Asserts that a read that fails before the request is whole runs no command, whichever read it
 /// is.
-fn fails_at_each_read(rt: &impl Abort, alloc: Global, service: &mut impl HttpService) {
+fn assert_failing_reads(rt: &impl Abort, alloc: Global, service: &mut impl HttpService) {
     for (piece, reads) in BY_PIECES.iter() {
         for done in 0..*reads {
             let mut reader = Pieces::of(JOIN.as_bytes(), *piece);
@@ -58,17 +58,17 @@ fn fails_at_each_read(rt: &impl Abort, alloc: Global, service: &mut impl HttpSer
 
 /// Asserts that failed reads run no command, that a join is served which comes byte by byte with
 /// interruptions, and that a reply can be written so.
-fn joins_in_pieces(rt: &impl Abort, alloc: Global, service: &mut impl HttpService) {
-    fails_at_each_read(rt, alloc, service);
+fn assert_joining_in_pieces(rt: &impl Abort, alloc: Global, service: &mut impl HttpService) {
+    assert_failing_reads(rt, alloc, service);
     let mut reader = Pieces::of(JOIN.as_bytes(), 1);
     reader.interruptions = 1;
     reader.reads_left = 2 * JOIN.len();
     assert_reply(rt, alloc, service, &mut reader, JOINED);
-    writes_in_pieces(rt, alloc, service);
+    assert_writing_in_pieces(rt, alloc, service);
 }
 
 /// Asserts that each proper beginning of a request gives the fault Cut and runs no command.
-fn no_front_is_enough(rt: &impl Abort, alloc: Global, service: &mut impl HttpService) {
+fn assert_each_front_is_cut(rt: &impl Abort, alloc: Global, service: &mut impl HttpService) {
     for len in 0..JOIN.len() {
         assert_reply(rt, alloc, service, &mut &JOIN.as_bytes()[..len], "cut");
     }
@@ -77,7 +77,7 @@ fn no_front_is_enough(rt: &impl Abort, alloc: Global, service: &mut impl HttpSer
 
 /// Asserts that Avalon's report is written whole to a writer that takes one byte at a time and is
 /// interrupted before each.
-fn writes_in_pieces(rt: &impl Abort, alloc: Global, service: &mut impl HttpService) {
+fn assert_writing_in_pieces(rt: &impl Abort, alloc: Global, service: &mut impl HttpService) {
     let mut writer = NarrowWriter::of(alloc, REPORTED.len(), true);
     writer.interruptions = 1;
     let mut reader = REPORT.as_bytes();
@@ -107,7 +107,7 @@ static NO_FURTHER: [(&str, usize, &str); 4] = [
 ];
 
 /// Asserts that nothing after the end of a request is read.
-fn reads_no_further(rt: &impl Abort, alloc: Global, service: &mut impl HttpService) {
+fn assert_no_further_reading(rt: &impl Abort, alloc: Global, service: &mut impl HttpService) {
     for (request, reads, wanted) in NO_FURTHER.iter() {
         let mut reader = Pieces::of(request.as_bytes(), 1);
         assert_reply(rt, alloc, service, &mut reader, wanted);
@@ -132,7 +132,7 @@ fn longest_request(alloc: Global) -> Result<Vec<u8>, Fail> {
 }
 
 /// Asserts that the longest mailing is stored if it comes byte by byte.
-fn mails_byte_by_byte(
+fn assert_mailing_byte_by_byte(
     rt: &impl Abort,
     alloc: Global,
     service: &mut impl HttpService,
@@ -166,7 +166,7 @@ static LONG_HEADS: [(usize, usize, &str); 4] = [
 
 /// Asserts the reply to a head with a field whose value has `long` bytes, and `fields` short
 /// fields.
-fn long_head(
+fn assert_long_head(
     rt: &impl Abort,
     alloc: Global,
     service: &mut impl HttpService,
@@ -180,10 +180,14 @@ fn long_head(
 }
 
 /// Asserts the reply to each head of `LONG_HEADS`.
-fn long_heads(rt: &impl Abort, alloc: Global, service: &mut impl HttpService) -> Result<(), Fail> {
+fn assert_long_heads(
+    rt: &impl Abort,
+    alloc: Global,
+    service: &mut impl HttpService,
+) -> Result<(), Fail> {
     assert_reply(rt, alloc, service, &mut JOIN.as_bytes(), JOINED);
     for (long, fields, wanted) in LONG_HEADS.iter() {
-        long_head(rt, alloc, service, *long, *fields, wanted)?;
+        assert_long_head(rt, alloc, service, *long, *fields, wanted)?;
     }
     Ok(())
 }
@@ -193,7 +197,7 @@ fn long_heads(rt: &impl Abort, alloc: Global, service: &mut impl HttpService) ->
 #[test]
 fn in_pieces(rt: HostRuntime) -> Result<(), Fail> {
     let mut service = new_service(rt.alloc())?;
-    joins_in_pieces(&rt, rt.alloc(), &mut service);
+    assert_joining_in_pieces(&rt, rt.alloc(), &mut service);
     let _conn = service.end();
     Ok(())
 }
@@ -202,7 +206,7 @@ fn in_pieces(rt: HostRuntime) -> Result<(), Fail> {
 #[test]
 fn cut_requests_run_no_command(rt: HostRuntime) -> Result<(), Fail> {
     let mut service = new_service(rt.alloc())?;
-    no_front_is_enough(&rt, rt.alloc(), &mut service);
+    assert_each_front_is_cut(&rt, rt.alloc(), &mut service);
     let _conn = service.end();
     Ok(())
 }
@@ -211,7 +215,7 @@ fn cut_requests_run_no_command(rt: HostRuntime) -> Result<(), Fail> {
 #[test]
 fn in_two_pieces(rt: HostRuntime) -> Result<(), Fail> {
     let mut service = new_service(rt.alloc())?;
-    let done = cut_and_whole(&rt, rt.alloc(), &mut service);
+    let done = assert_cut_and_whole(&rt, rt.alloc(), &mut service);
     let _conn = service.end();
     done
 }
@@ -220,7 +224,7 @@ fn in_two_pieces(rt: HostRuntime) -> Result<(), Fail> {
 #[test]
 fn no_further(rt: HostRuntime) -> Result<(), Fail> {
     let mut service = new_service(rt.alloc())?;
-    reads_no_further(&rt, rt.alloc(), &mut service);
+    assert_no_further_reading(&rt, rt.alloc(), &mut service);
     let _conn = service.end();
     Ok(())
 }
@@ -229,7 +233,7 @@ fn no_further(rt: HostRuntime) -> Result<(), Fail> {
 #[test]
 fn heads_at_the_limit(rt: HostRuntime) -> Result<(), Fail> {
     let mut service = new_service(rt.alloc())?;
-    let done = long_heads(&rt, rt.alloc(), &mut service);
+    let done = assert_long_heads(&rt, rt.alloc(), &mut service);
     let _conn = service.end();
     done
 }
@@ -238,7 +242,7 @@ fn heads_at_the_limit(rt: HostRuntime) -> Result<(), Fail> {
 #[test]
 fn the_longest_mailing(rt: HostRuntime) -> Result<(), Fail> {
     let mut service = new_service(rt.alloc())?;
-    let done = mails_byte_by_byte(&rt, rt.alloc(), &mut service);
+    let done = assert_mailing_byte_by_byte(&rt, rt.alloc(), &mut service);
     let _conn = service.end();
     done
 }

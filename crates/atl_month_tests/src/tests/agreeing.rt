@@ -263,7 +263,7 @@ fn calculated_campaign(
 
 /// Asserts that a phase makes of the campaign of `crowd` the campaign and the events that the
 /// reference calculates.
-fn agrees(
+fn assert_agreement(
     rt: &impl Abort,
     alloc: Global,
     world: &World,
@@ -279,9 +279,9 @@ fn agrees(
 
 /// Asserts that each phase of `COMPARED_PHASES` makes of the campaign of `crowd` what the reference
 /// calculates.
-fn all_agree(rt: &impl Abort, alloc: Global, world: &World) -> Result<(), Fail> {
+fn assert_all_agree(rt: &impl Abort, alloc: Global, world: &World) -> Result<(), Fail> {
     for played in COMPARED_PHASES.iter() {
-        agrees(rt, alloc, world, *played)?;
+        assert_agreement(rt, alloc, world, *played)?;
     }
     Ok(())
 }
@@ -291,7 +291,7 @@ fn all_agree(rt: &impl Abort, alloc: Global, world: &World) -> Result<(), Fail> 
 #[test]
 fn phases_agree(rt: HostRuntime) -> Result<(), Fail> {
     let world = crowd_world(rt.alloc())?;
-    all_agree(&rt, rt.alloc(), &world)
+    assert_all_agree(&rt, rt.alloc(), &world)
 }
 
 // ---- shares
@@ -312,7 +312,7 @@ const MOST_SHARED: u64 = 300;
 
 /// Asserts that `share` splits one pot among the wants `wants` as the reference does; a pot above
 /// `MOST_SHARED` and a want above 999,999,999 are a failure.
-fn pot_agrees(rt: &impl Abort, alloc: Global, pot: u64, wants: &[u64]) -> Result<(), Fail> {
+fn assert_pot(rt: &impl Abort, alloc: Global, pot: u64, wants: &[u64]) -> Result<(), Fail> {
     if pot > MOST_SHARED || !are_small(wants) {
         return Err(Fail::new("a pot and wants that are small enough"));
     }
@@ -324,9 +324,9 @@ fn pot_agrees(rt: &impl Abort, alloc: Global, pot: u64, wants: &[u64]) -> Result
 
 /// Asserts that `share` splits each pot up to `MOST_SHARED` among the wants `wants` as the
 /// reference does.
-fn pots_agree(rt: &impl Abort, alloc: Global, wants: &[u64]) -> Result<(), Fail> {
+fn assert_pots(rt: &impl Abort, alloc: Global, wants: &[u64]) -> Result<(), Fail> {
     for pot in 0..=MOST_SHARED {
-        pot_agrees(rt, alloc, pot, wants)?;
+        assert_pot(rt, alloc, pot, wants)?;
     }
     Ok(())
 }
@@ -335,7 +335,7 @@ fn pots_agree(rt: &impl Abort, alloc: Global, wants: &[u64]) -> Result<(), Fail>
 #[test]
 fn shares_agree(rt: HostRuntime) -> Result<(), Fail> {
     for wants in WANTS.iter() {
-        pots_agree(&rt, rt.alloc(), wants)?;
+        assert_pots(&rt, rt.alloc(), wants)?;
     }
     Ok(())
 }

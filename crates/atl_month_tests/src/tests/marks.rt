@@ -235,7 +235,7 @@ static MARKED: [(&str, &str); 6] = [
 ];
 
 /// Asserts that a month of each mailing of `MARKED` marks what its row lists.
-fn months_mark(rt: &impl Abort, alloc: Global, world: &World) -> Result<(), Fail> {
+fn assert_month_marks(rt: &impl Abort, alloc: Global, world: &World) -> Result<(), Fail> {
     for (row, (mailing, wanted)) in MARKED.iter().enumerate() {
         let campaign = island_after_month(alloc, world, mailing)?;
         assert_marks(rt, alloc, row, &campaign, wanted)?;
@@ -247,5 +247,5 @@ fn months_mark(rt: &impl Abort, alloc: Global, world: &World) -> Result<(), Fail
 #[test]
 fn months_mark_what_they_change(rt: HostRuntime) -> Result<(), Fail> {
     let world = read_world(rt.alloc(), ISLE_WITH_MARKET)?;
-    months_mark(&rt, rt.alloc(), &world)
+    assert_month_marks(&rt, rt.alloc(), &world)
 }

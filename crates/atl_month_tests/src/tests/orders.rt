@@ -159,7 +159,7 @@ fn formed(alloc: Global, world: &World) -> Result<Month, Fail> {
 }
 
 /// Asserts which month-long orders of the mailings `texts` count, as `write_orders` prints them.
-fn month_long_are(
+fn assert_month_long_orders(
     rt: &impl Abort,
     alloc: Global,
     world: &World,
@@ -187,7 +187,7 @@ fn month_long_orders(rt: HostRuntime) -> Result<(), Fail> {
         "#ATLANTIS 1\nUNIT 2\nWORK\nTAX\nMOVE north\nUNIT 1\nSTUDY sailing\nBUILD\nGIVE 2 1 wood";
     let second =
         "#ATLANTIS 2\nUNIT 2\nSAIL east\nUNIT 3\nTEACH 1\nUNIT 4\nPRODUCE wood\nUNIT 5\nTAX";
-    month_long_are(
+    assert_month_long_orders(
         &rt,
         rt.alloc(),
         &world,
@@ -197,7 +197,7 @@ fn month_long_orders(rt: HostRuntime) -> Result<(), Fail> {
 }
 
 /// Asserts which units four aliases mean in the month of `formed`: two of them have no unit.
-fn aliases_are(rt: &impl Abort, month: &Month) {
+fn assert_aliases(rt: &impl Abort, month: &Month) {
     assert!(rt; month.alias(1, 1) == Some(7));
     assert!(rt; month.alias(1, 2).is_none());
     assert!(rt; month.alias(2, 2) == Some(6));
@@ -207,7 +207,7 @@ fn aliases_are(rt: &impl Abort, month: &Month) {
 /// Asserts the aliases of the month of `formed`, and which orders the five phases of `orders_text`
 /// get of it.
 fn assert_formed(rt: &impl Abort, alloc: Global, month: &Month) -> Result<(), Fail> {
-    aliases_are(rt, month);
+    assert_aliases(rt, month);
     let output = orders_text(alloc, month)?;
     assert_row(
         rt,
@@ -248,7 +248,7 @@ fn verb_at(month: &Month, faction: u32, place: usize) -> Option<Verb> {
 
 /// Asserts the verbs of orders at some indexes of the month of `formed`, and which factions have a
 /// mailing.
-fn orders_are(rt: &impl Abort, month: &Month) {
+fn assert_orders(rt: &impl Abort, month: &Month) {
     assert_verb(rt, verb_at(month, 1, 1), Some(Verb::Work));
     assert_verb(rt, verb_at(month, 2, 1), Some(Verb::Study));
     assert_verb(rt, verb_at(month, 2, 4), None);
@@ -264,7 +264,7 @@ fn orders_are(rt: &impl Abort, month: &Month) {
 
 /// Asserts that a month has no event, and has `EVENT` once it is added, and that 7 and 9 are its
 /// words of the dice.
-fn events_are(rt: &impl Abort, mut month: Month) -> Result<(), Fail> {
+fn assert_events(rt: &impl Abort, mut month: Month) -> Result<(), Fail> {
     assert!(rt; month.events().is_empty());
     month.add_event(EVENT)?;
     assert!(rt; month.events() == [EVENT].as_slice());
@@ -279,6 +279,6 @@ fn events_are(rt: &impl Abort, mut month: Month) -> Result<(), Fail> {
 fn orders_and_events(rt: HostRuntime) -> Result<(), Fail> {
     let world = world(rt.alloc())?;
     let month = formed(rt.alloc(), &world)?;
-    orders_are(&rt, &month);
-    events_are(&rt, month)
+    assert_orders(&rt, &month);
+    assert_events(&rt, month)
 }

@@ -19,7 +19,7 @@ fn assert_text_and_copy(
 }
 
 /// Asserts that a `Text` made of `text` has its bytes, in whichever of the three ways it is made.
-fn made_in_each_way(rt: &impl Abort, alloc: Global, text: &str) -> Result<(), Fail> {
+fn assert_made_in_each_way(rt: &impl Abort, alloc: Global, text: &str) -> Result<(), Fail> {
     assert_text_and_copy(rt, alloc, &Text::from_str(alloc, text)?, text)?;
     let string = String::from_str(alloc, text)?;
     assert_text_and_copy(rt, alloc, &Text::from_string(string), text)?;
@@ -33,7 +33,7 @@ static TEXTS: [&str; 4] = ["", "a", "Big Bob", "\u{e9}\u{1f600}"];
 #[test]
 fn texts_have_their_bytes(rt: HostRuntime) -> Result<(), Fail> {
     for text in TEXTS.iter() {
-        made_in_each_way(&rt, rt.alloc(), text)?;
+        assert_made_in_each_way(&rt, rt.alloc(), text)?;
     }
     Ok(())
 }

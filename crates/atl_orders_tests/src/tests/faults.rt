@@ -36,7 +36,7 @@ fn old_fault(fault: &str) -> &str {
 
 /// Asserts the first fault of `text`: `second` if it is read in the second format, and `first` if
 /// in the first. The message of a failure names `row`.
-fn faults_are(
+fn assert_faults(
     rt: &impl Abort,
     alloc: Global,
     row: &str,
@@ -62,7 +62,7 @@ pub(crate) fn assert_change(
     wanted: &str,
 ) -> Result<(), Fail> {
     let text = with_replaced(alloc, text, from, to)?;
-    faults_are(rt, alloc, to, text.as_str(), wanted, old_fault(wanted))
+    assert_faults(rt, alloc, to, text.as_str(), wanted, old_fault(wanted))
 }
 
 /// Asserts the first faults that each edit makes, applied alone to `text` (`assert_change`).
@@ -127,11 +127,11 @@ fn assert_market_changes(
 }
 
 /// Asserts the first fault of each edit of `TWO_FAULTS`, in the second format and in the first.
-fn later_faults_are(rt: &impl Abort, alloc: Global) -> Result<(), Fail> {
+fn assert_first_of_two_faults(rt: &impl Abort, alloc: Global) -> Result<(), Fail> {
     let one = with_markets(alloc, 1)?;
     for (from, to, second, first) in TWO_FAULTS.iter() {
         let text = with_replaced(alloc, one.as_str(), from, to)?;
-        faults_are(rt, alloc, to, text.as_str(), second, first)?;
+        assert_faults(rt, alloc, to, text.as_str(), second, first)?;
     }
     Ok(())
 }
@@ -144,7 +144,7 @@ fn faulty_markets(rt: HostRuntime) -> Result<(), Fail> {
     assert_market_changes(&rt, rt.alloc(), 2, &DUPLICATE_CHANGES)?;
     assert_market_changes(&rt, rt.alloc(), 200, &EQUAL_MARKETS)?;
     assert_market_changes(&rt, rt.alloc(), 201, &TOO_MANY_MARKETS)?;
-    later_faults_are(&rt, rt.alloc())
+    assert_first_of_two_faults(&rt, rt.alloc())
 }
 
 /// The text of a region, which a test appends many times to the small world.
@@ -336,7 +336,7 @@ fn long_text(alloc: Global, long: &RepeatedText, times: usize) -> Result<String,
 }
 
 /// Asserts for each row the first fault of the small world with the row's text appended.
-fn long_texts_are(
+fn assert_long_world_texts(
     rt: &impl Abort,
     alloc: Global,
     rows: &[(RepeatedText, usize, &str)],
@@ -352,13 +352,13 @@ fn long_texts_are(
 /// A list of a world is OutOfRange if it is longer than its limit, and not if it is at the limit.
 #[test]
 fn many_elements(rt: HostRuntime) -> Result<(), Fail> {
-    long_texts_are(&rt, rt.alloc(), &MANY)
+    assert_long_world_texts(&rt, rt.alloc(), &MANY)
 }
 
 /// Tables, arrays, headers and dotted keys of a world text may each be 80 deep, and not deeper.
 #[test]
 fn nested_texts(rt: HostRuntime) -> Result<(), Fail> {
-    long_texts_are(&rt, rt.alloc(), &NESTED)
+    assert_long_world_texts(&rt, rt.alloc(), &NESTED)
 }
 
 /// The text of the small world with `count` regions, numbered from 1, instead of its own.
@@ -374,7 +374,7 @@ fn with_regions(alloc: Global, count: u32) -> Result<String, Fail> {
 }
 
 /// Asserts the first fault of the small world with `count` regions.
-fn regions_are(rt: &impl Abort, alloc: Global, count: u32, wanted: &str) -> Result<(), Fail> {
+fn assert_regions(rt: &impl Abort, alloc: Global, count: u32, wanted: &str) -> Result<(), Fail> {
     let text = with_regions(alloc, count)?;
     let actual = fault(alloc, Format::Second, text.as_str())?;
     assert_text(rt, "regions", actual.as_str(), wanted);
@@ -384,8 +384,8 @@ fn regions_are(rt: &impl Abort, alloc: Global, count: u32, wanted: &str) -> Resu
 /// A world may have 10,000 regions, and not one more.
 #[test]
 fn many_regions(rt: HostRuntime) -> Result<(), Fail> {
-    regions_are(&rt, rt.alloc(), 10_000, "none")?;
-    regions_are(&rt, rt.alloc(), 10_001, "4 OutOfRange region")
+    assert_regions(&rt, rt.alloc(), 10_000, "none")?;
+    assert_regions(&rt, rt.alloc(), 10_001, "4 OutOfRange region")
 }
 
 /// Each world fault: its number (0: it has none), its name, and its path (`none`: it has none).

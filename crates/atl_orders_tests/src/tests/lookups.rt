@@ -84,7 +84,7 @@ static NAMES: [(&str, bool, &str); 26] = [
 ];
 
 /// Asserts the item, the skill and the kind that the word of a row names.
-fn word_names(
+fn assert_names_of_word(
     rt: &impl Abort,
     alloc: Global,
     world: &World,
@@ -101,9 +101,9 @@ fn word_names(
 }
 
 /// Asserts what each word of `NAMES` names.
-fn words_name(rt: &impl Abort, alloc: Global, world: &World) -> Result<(), Fail> {
+fn assert_names_of_words(rt: &impl Abort, alloc: Global, world: &World) -> Result<(), Fail> {
     for row in NAMES.iter() {
-        word_names(rt, alloc, world, row)?;
+        assert_names_of_word(rt, alloc, world, row)?;
     }
     Ok(())
 }
@@ -113,5 +113,5 @@ fn words_name(rt: &impl Abort, alloc: Global, world: &World) -> Result<(), Fail>
 #[test]
 fn names_in_orders(rt: HostRuntime) -> Result<(), Fail> {
     let world = world_with(rt.alloc(), NAMED)?;
-    words_name(&rt, rt.alloc(), &world)
+    assert_names_of_words(&rt, rt.alloc(), &world)
 }

@@ -201,7 +201,7 @@ fn puts_thirds(map: &mut MarkedMap<u32>) -> Result<(), Fail> {
 
 /// Asserts that `count` numbers are marked, and that they come in ascending order from 1: all
 /// numbers if `thirds`, otherwise those that 3 doesn't divide.
-fn count_up(rt: &impl Abort, map: &MarkedMap<u32>, thirds: bool, count: usize) {
+fn assert_ascending(rt: &impl Abort, map: &MarkedMap<u32>, thirds: bool, count: usize) {
     assert_number(rt, map.marked_count(), count);
     let mut wanted = 1;
     for number in map.marked_numbers() {
@@ -215,11 +215,11 @@ fn count_up(rt: &impl Abort, map: &MarkedMap<u32>, thirds: bool, count: usize) {
 fn mixes_marks(rt: &impl Abort, map: &mut MarkedMap<u32>, falling: bool) -> Result<(), Fail> {
     map.unmark();
     marks_each(map, falling);
-    count_up(rt, map, true, 1008);
+    assert_ascending(rt, map, true, 1008);
     takes_thirds(map);
-    count_up(rt, map, false, 672);
+    assert_ascending(rt, map, false, 672);
     puts_thirds(map)?;
-    count_up(rt, map, true, 1008);
+    assert_ascending(rt, map, true, 1008);
     map.unmark();
     assert_number(rt, map.marked_count(), 0);
     Ok(())
@@ -233,7 +233,7 @@ fn marks_in_any_order(rt: HostRuntime) -> Result<(), Fail> {
     for number in 0..MANY {
         map.put(number + 1, number)?;
     }
-    count_up(&rt, &map, true, 1008);
+    assert_ascending(&rt, &map, true, 1008);
     mixes_marks(&rt, &mut map, true)?;
     mixes_marks(&rt, &mut map, false)
 }

@@ -100,7 +100,7 @@ fn assert_difference(
 
 /// Asserts for each edit of `CHANGES` whether the world of `text` and the edited one are equal but
 /// for their markets.
-fn all_differ(rt: &impl Abort, alloc: Global, text: &str) -> Result<(), Fail> {
+fn assert_differences(rt: &impl Abort, alloc: Global, text: &str) -> Result<(), Fail> {
     let world = read_world(alloc, text)?;
     for (from, to, alone) in CHANGES.iter() {
         let other = with_replaced(alloc, text, from, to)?;
@@ -113,5 +113,5 @@ fn all_differ(rt: &impl Abort, alloc: Global, text: &str) -> Result<(), Fail> {
 #[test]
 fn worlds_with_other_markets(rt: HostRuntime) -> Result<(), Fail> {
     let text = with_markets(rt.alloc(), 1)?;
-    all_differ(&rt, rt.alloc(), text.as_str())
+    assert_differences(&rt, rt.alloc(), text.as_str())
 }

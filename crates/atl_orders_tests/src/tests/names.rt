@@ -43,7 +43,7 @@ static TEXTS: [(&str, bool, bool); 26] = [
 ];
 
 /// Asserts for each text whether it may be a name, and whether it may be a pass text.
-fn texts_are(rt: &impl Abort, rows: &[(&str, bool, bool)]) {
+fn assert_name_texts(rt: &impl Abort, rows: &[(&str, bool, bool)]) {
     for (text, name, pass) in rows.iter() {
         let actual = (name_ok(text.as_bytes()), pass_ok(text.as_bytes()));
         assert!(rt; actual.0 == *name && actual.1 == *pass, "{text}");
@@ -53,5 +53,5 @@ fn texts_are(rt: &impl Abort, rows: &[(&str, bool, bool)]) {
 /// The rules of names and of pass texts accept and refuse each text of `TEXTS` as its row says.
 #[test]
 fn names_and_pass_texts(rt: HostRuntime) {
-    texts_are(&rt, &TEXTS);
+    assert_name_texts(&rt, &TEXTS);
 }

@@ -83,7 +83,7 @@ fn front_of(alloc: Global, row: &Range, needed: bool) -> Result<String, Fail> {
 }
 
 /// Asserts that replacing a row's line in `text` by `to` makes the fault `fault` at the row's key.
-fn fault_is(
+fn assert_fault_at_key(
     rt: &impl Abort,
     alloc: Global,
     text: &str,
@@ -98,7 +98,7 @@ fn fault_is(
 
 /// Asserts that the reader takes `number` at a row's key if it is in the row's range, and reports
 /// OutOfRange otherwise.
-fn number_is(
+fn assert_number_at_key(
     rt: &impl Abort,
     alloc: Global,
     text: &str,
@@ -109,7 +109,7 @@ fn number_is(
     let (_, line, low, high) = *row;
     let to = format!(in alloc; "{front}{number}")?;
     if number < i64::from(low) || number > i64::from(high) {
-        fault_is(rt, alloc, text, row, to.as_str(), "4 OutOfRange")
+        assert_fault_at_key(rt, alloc, text, row, to.as_str(), "4 OutOfRange")
     } else {
         assert_change(rt, alloc, text, line, to.as_str(), "none")
     }
@@ -117,7 +117,7 @@ fn number_is(
 
 /// Asserts that the reader takes both ends of a row's range at its key, and neither 1.5 nor the
 /// numbers just beyond the ends.
-fn has_range(
+fn assert_range(
     rt: &impl Abort,
     alloc: Global,
     text: &str,
@@ -125,17 +125,17 @@ fn has_range(
     front: &str,
 ) -> Result<(), Fail> {
     let to = format!(in alloc; "{front}1.5")?;
-    fault_is(rt, alloc, text, row, to.as_str(), "3 WrongType")?;
+    assert_fault_at_key(rt, alloc, text, row, to.as_str(), "3 WrongType")?;
     let (low, high) = (i64::from(row.2), i64::from(row.3));
     for number in [low - 1, low, high, high + 1].iter() {
-        number_is(rt, alloc, text, row, front, *number)?;
+        assert_number_at_key(rt, alloc, text, row, front, *number)?;
     }
     Ok(())
 }
 
 /// Asserts the range of each row's key and, if these keys are `needed`, that a missing one is a
 /// fault.
-fn have_ranges(
+fn assert_ranges(
     rt: &impl Abort,
     alloc: Global,
     text: &str,
@@ -144,10 +144,10 @@ fn have_ranges(
 ) -> Result<(), Fail> {
     for row in rows.iter() {
         if needed {
-            fault_is(rt, alloc, text, row, "", "2 Missing")?;
+            assert_fault_at_key(rt, alloc, text, row, "", "2 Missing")?;
         }
         let front = front_of(alloc, row, needed)?;
-        has_range(rt, alloc, text, row, front.as_str())?;
+        assert_range(rt, alloc, text, row, front.as_str())?;
     }
     Ok(())
 }
@@ -157,6 +157,6 @@ fn have_ranges(
 #[test]
 fn numbers_have_ranges(rt: HostRuntime) -> Result<(), Fail> {
     let text = with_markets(rt.alloc(), 1)?;
-    have_ranges(&rt, rt.alloc(), text.as_str(), &NEEDED, true)?;
-    have_ranges(&rt, rt.alloc(), text.as_str(), &OPTIONAL, false)
+    assert_ranges(&rt, rt.alloc(), text.as_str(), &NEEDED, true)?;
+    assert_ranges(&rt, rt.alloc(), text.as_str(), &OPTIONAL, false)
 }

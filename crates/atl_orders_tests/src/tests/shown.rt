@@ -90,7 +90,7 @@ static ISLE_SHOWN: Shown = Shown {
 };
 
 /// Asserts the rules, terrains, items, skills and kinds of a world.
-fn lists_are(rt: &impl Abort, alloc: Global, world: &World, wanted: &Shown) -> Result<(), Fail> {
+fn assert_lists(rt: &impl Abort, alloc: Global, world: &World, wanted: &Shown) -> Result<(), Fail> {
     assert_shown(rt, alloc, "rules", &[*world.rules()], wanted.rules)?;
     assert_shown(rt, alloc, "terrains", world.terrains(), wanted.terrains)?;
     assert_shown(rt, alloc, "items", world.items(), wanted.items)?;
@@ -122,7 +122,12 @@ fn region_text(alloc: Global, world: &World, number: u32) -> Result<String, Fail
 
 /// Asserts the numbers of a world's regions with land, how many regions it has, and what some of
 /// them hold.
-fn regions_are(rt: &impl Abort, alloc: Global, world: &World, wanted: &Shown) -> Result<(), Fail> {
+fn assert_regions(
+    rt: &impl Abort,
+    alloc: Global,
+    world: &World,
+    wanted: &Shown,
+) -> Result<(), Fail> {
     assert_numbers(rt, world.land(), wanted.land);
     assert_number(rt, world.regions().len(), wanted.region_count);
     for (number, region) in wanted.regions.iter() {
@@ -139,8 +144,8 @@ fn regions_are(rt: &impl Abort, alloc: Global, world: &World, wanted: &Shown) ->
 /// Asserts all that the world of a text holds.
 fn assert_world(rt: &impl Abort, alloc: Global, text: &str, wanted: &Shown) -> Result<(), Fail> {
     let world = read_world(alloc, text)?;
-    lists_are(rt, alloc, &world, wanted)?;
-    regions_are(rt, alloc, &world, wanted)
+    assert_lists(rt, alloc, &world, wanted)?;
+    assert_regions(rt, alloc, &world, wanted)
 }
 
 /// The small world and the island are read in full.

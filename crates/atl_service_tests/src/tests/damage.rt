@@ -281,7 +281,7 @@ pub(crate) fn changed<S: Alter + Drop>(
 }
 
 /// Asserts the outcome of opening a changed database after its files were closed and opened.
-fn is_judged<D: Disk + Drop>(
+fn assert_judgement<D: Disk + Drop>(
     rt: &impl Abort,
     alloc: Global,
     files: Files<D>,
@@ -297,7 +297,7 @@ fn is_judged<D: Disk + Drop>(
 /// Asserts, for the SQL statements of each case, the outcome of opening the changed database.
 fn assert_openings(rt: &impl Abort, alloc: Global, cases: &[(&str, Opening)]) -> Result<(), Fail> {
     for (sql, wanted) in cases {
-        is_judged(rt, alloc, new_files(alloc), sql, *wanted)?;
+        assert_judgement(rt, alloc, new_files(alloc), sql, *wanted)?;
     }
     Ok(())
 }

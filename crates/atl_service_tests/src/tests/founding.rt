@@ -82,7 +82,7 @@ static REFUSED: [(&str, &str, &str, &str); 8] = [
 
 /// Asserts why a founding by a world and a pass text is refused, and that it changes no row of the
 /// database.
-fn founds_nothing<S: Alter + Drop>(
+fn assert_refused_founding<S: Alter + Drop>(
     rt: &impl Abort,
     alloc: Global,
     conn: Connection<S>,
@@ -97,7 +97,7 @@ fn founds_nothing<S: Alter + Drop>(
 }
 
 /// Asserts that a founding by one row of `REFUSED` fails the check it names, and changes no row.
-fn is_refused_after(
+fn assert_refusal(
     rt: &impl Abort,
     alloc: Global,
     refused: &(&str, &str, &str, &str),
@@ -105,13 +105,13 @@ fn is_refused_after(
     let (sql, world, pass, words) = *refused;
     let mut conn = Connection::open_in_memory(alloc)?;
     conn.change(sql)?;
-    founds_nothing(rt, alloc, conn, (world, pass), words)
+    assert_refused_founding(rt, alloc, conn, (world, pass), words)
 }
 
 /// Asserts that the founding by each row of `REFUSED` fails the check it names.
-fn are_refused(rt: &impl Abort, alloc: Global) -> Result<(), Fail> {
+fn assert_refusals(rt: &impl Abort, alloc: Global) -> Result<(), Fail> {
     for refused in REFUSED.iter() {
-        is_refused_after(rt, alloc, refused)?;
+        assert_refusal(rt, alloc, refused)?;
     }
     Ok(())
 }
@@ -119,19 +119,19 @@ fn are_refused(rt: &impl Abort, alloc: Global) -> Result<(), Fail> {
 /// A refused founding reports the first check that fails, and changes no row.
 #[test]
 fn the_first_check_that_fails_is_reported(rt: HostRuntime) -> Result<(), Fail> {
-    are_refused(&rt, rt.alloc())
+    assert_refusals(&rt, rt.alloc())
 }
 
 /// Asserts that no second campaign is founded in a database that holds one.
-fn refuses_another(rt: &impl Abort, alloc: Global) -> Result<(), Fail> {
+fn assert_no_second_founding(rt: &impl Abort, alloc: Global) -> Result<(), Fail> {
     let conn = changed(rt, alloc, Connection::open_in_memory(alloc)?, EVERY_TABLE)?;
-    founds_nothing(rt, alloc, conn, (SMALL_WORLD, "gm"), "not empty")
+    assert_refused_founding(rt, alloc, conn, (SMALL_WORLD, "gm"), "not empty")
 }
 
 /// A database that holds a campaign refuses a second founding.
 #[test]
 fn a_campaign_is_founded_once(rt: HostRuntime) -> Result<(), Fail> {
-    refuses_another(&rt, rt.alloc())
+    assert_no_second_founding(&rt, rt.alloc())
 }
 
 /// The SELECT that counts the rows of the books for money under Joining.

@@ -179,7 +179,7 @@ fn checked(alloc: Global, world: &World, campaign: &Campaign) -> Result<Campaign
 
 /// Asserts that a campaign has these rows, and that the campaign that `check` makes of them has
 /// them too.
-fn is_made_of(
+fn assert_made_of(
     rt: &impl Abort,
     alloc: Global,
     world: &World,
@@ -202,7 +202,7 @@ fn assert_campaign(
 ) -> Result<(), Fail> {
     let service = opened(alloc, conn)?;
     let campaign = service.campaign().ok_or("closed")?;
-    is_made_of(rt, alloc, service.world(), campaign, rows)
+    assert_made_of(rt, alloc, service.world(), campaign, rows)
 }
 
 /// Two sessions: one closes month 1, and one finds it closed.

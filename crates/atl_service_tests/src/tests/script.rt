@@ -96,7 +96,7 @@ fn answered(
 }
 
 /// Asserts that a join is answered with the numbers of a faction (`first`) and a unit (`member`).
-fn has_joined(rt: &impl Abort, answer: &Answer, first: u32, member: u32) {
+fn assert_joined(rt: &impl Abort, answer: &Answer, first: u32, member: u32) {
     match answer {
         Answer::Joined { faction, unit } => {
             assert_number(rt, i64::from(*faction), i64::from(first));
@@ -108,7 +108,7 @@ fn has_joined(rt: &impl Abort, answer: &Answer, first: u32, member: u32) {
 
 /// Asserts that a mailing is answered with this many orders (`wanted`) and these faulty lines, each
 /// a line's number and its fault's.
-fn is_mailed(rt: &impl Abort, answer: &Answer, wanted: usize, faulty: &[(u32, u32)]) {
+fn assert_mailed(rt: &impl Abort, answer: &Answer, wanted: usize, faulty: &[(u32, u32)]) {
     match answer {
         Answer::Mailed { orders, faults } => {
             assert_count(rt, *orders, wanted);
@@ -123,7 +123,7 @@ fn is_mailed(rt: &impl Abort, answer: &Answer, wanted: usize, faulty: &[(u32, u3
 }
 
 /// Asserts that a closing is answered with this month.
-fn is_closed(rt: &impl Abort, answer: &Answer, wanted: u32) {
+fn assert_closed(rt: &impl Abort, answer: &Answer, wanted: u32) {
     match answer {
         Answer::MonthDone { month } => assert_number(rt, i64::from(*month), i64::from(wanted)),
         _ => assert!(rt; false),
@@ -131,7 +131,7 @@ fn is_closed(rt: &impl Abort, answer: &Answer, wanted: u32) {
 }
 
 /// Asserts that this month is the last that was closed in the service's campaign.
-fn has_month(rt: &impl Abort, service: &impl AnyService, month: u32) {
+fn assert_month(rt: &impl Abort, service: &impl AnyService, month: u32) {
     match service.campaign() {
         Some(campaign) => assert_number(rt, i64::from(campaign.month()), i64::from(month)),
         None => assert!(rt; false),
@@ -139,7 +139,13 @@ fn has_month(rt: &impl Abort, service: &impl AnyService, month: u32) {
 }
 
 /// Asserts the numbers that the campaign's next faction and unit get, and how many units it has.
-fn has_numbers(rt: &impl Abort, service: &impl AnyService, faction: u32, unit: u32, units: usize) {
+fn assert_next_numbers(
+    rt: &impl Abort,
+    service: &impl AnyService,
+    faction: u32,
+    unit: u32,
+    units: usize,
+) {
     match service.campaign() {
         Some(campaign) => {
             assert_number(rt, i64::from(campaign.next_faction()), i64::from(faction));
@@ -151,7 +157,7 @@ fn has_numbers(rt: &impl Abort, service: &impl AnyService, faction: u32, unit: u
 }
 
 /// Asserts which mail of faction 1 the campaign keeps; None if it keeps none.
-fn keeps(rt: &impl Abort, service: &impl AnyService, text: &Option<&str>) {
+fn assert_kept_mail(rt: &impl Abort, service: &impl AnyService, text: &Option<&str>) {
     match service.campaign() {
         Some(campaign) => match (campaign.mail_of(1), text) {
             (Some(kept), Some(text)) => assert!(rt; kept.as_slice() == text.as_bytes()),
@@ -163,7 +169,7 @@ fn keeps(rt: &impl Abort, service: &impl AnyService, text: &Option<&str>) {
 }
 
 /// Asserts the text of the books of the service's campaign.
-fn has_books(rt: &impl Abort, service: &impl AnyService, wanted: &str) -> Result<(), Fail> {
+fn assert_books(rt: &impl Abort, service: &impl AnyService, wanted: &str) -> Result<(), Fail> {
     match service.books() {
         Some(text) => assert_text(rt, text?.as_str(), wanted),
         None => assert!(rt; false),
@@ -175,9 +181,9 @@ fn has_books(rt: &impl Abort, service: &impl AnyService, wanted: &str) -> Result
 pub(crate) fn assert_answer(rt: &impl Abort, answer: &Answer, step: &Step) {
     match step {
         Step::Answers(_, words) => assert_text(rt, answer_text(answer), words),
-        Step::Joined(_, faction, unit) => has_joined(rt, answer, *faction, *unit),
-        Step::Mailed(_, orders, faulty) => is_mailed(rt, answer, *orders, faulty),
-        Step::Closed(_, month) => is_closed(rt, answer, *month),
+        Step::Joined(_, faction, unit) => assert_joined(rt, answer, *faction, *unit),
+        Step::Mailed(_, orders, faulty) => assert_mailed(rt, answer, *orders, faulty),
+        Step::Closed(_, month) => assert_closed(rt, answer, *month),
         _ => assert!(rt; false),
     }
 }
@@ -185,10 +191,12 @@ pub(crate) fn assert_answer(rt: &impl Abort, answer: &Answer, step: &Step) {
 /// Asserts what a step says of the service's campaign, if it says anything.
 fn assert_campaign(rt: &impl Abort, service: &impl AnyService, step: &Step) -> Result<(), Fail> {
     match step {
-        Step::Closed(_, month) | Step::Month(month) => has_month(rt, service, *month),
-        Step::Numbers(faction, unit, units) => has_numbers(rt, service, *faction, *unit, *units),
-        Step::Keeps(text) => keeps(rt, service, text),
-        Step::Books(wanted) => return has_books(rt, service, wanted),
+        Step::Closed(_, month) | Step::Month(month) => assert_month(rt, service, *month),
+        Step::Numbers(faction, unit, units) => assert_next_numbers(
+            rt, service, *faction, *unit, *units,
+        ),
+        Step::Keeps(text) => assert_kept_mail(rt, service, text),
+        Step::Books(wanted) => return assert_books(rt, service, wanted),
         _ => {}
     }
     Ok(())

@@ -45,7 +45,7 @@ fn total(campaign: &Campaign, thing: Thing) -> Option<u64> {
 
 /// Asserts the month, the pass text, the next numbers and the totals of the small world's campaign
 /// just after its founding.
-fn is_founded(rt: &impl Abort, campaign: &Campaign) {
+fn assert_founded(rt: &impl Abort, campaign: &Campaign) {
     assert_number(rt, i64::from(campaign.month()), 0);
     assert_text(rt, campaign.pass().as_str(), "gm");
     assert_number(rt, i64::from(campaign.next_faction()), 1);
@@ -58,7 +58,7 @@ fn is_founded(rt: &impl Abort, campaign: &Campaign) {
 /// Founds the campaign of the small world, and asserts what it holds.
 fn founds(rt: &impl Abort, alloc: Global, world: &World) -> Result<(), Fail> {
     let campaign = small_campaign(alloc, world)?;
-    is_founded(rt, &campaign);
+    assert_founded(rt, &campaign);
     Ok(())
 }
 
@@ -71,7 +71,7 @@ fn founding(rt: HostRuntime) -> Result<(), Fail> {
 
 /// Asserts what the books of the small world's campaign have of money and people after Avalon has
 /// joined.
-fn has_entries(rt: &impl Abort, campaign: &Campaign) {
+fn assert_entries(rt: &impl Abort, campaign: &Campaign) {
     assert_count(rt, campaign.things(), 2);
     if campaign.things() >= 2 {
         assert_number(rt, campaign.booked(BooksEntry::Founding, Thing::Money), 500);
@@ -86,14 +86,14 @@ fn has_entries(rt: &impl Abort, campaign: &Campaign) {
 }
 
 /// Asserts the totals of money, people and item 0 after Avalon has joined the small world.
-fn has_totals(rt: &impl Abort, campaign: &Campaign) {
+fn assert_totals(rt: &impl Abort, campaign: &Campaign) {
     assert_total(rt, total(campaign, Thing::Money), 1500);
     assert_total(rt, total(campaign, Thing::People), 1001);
     assert_total(rt, total(campaign, Thing::Item(0)), 0);
 }
 
 /// Asserts that faction 1 has joined as Avalon, and isn't gone.
-fn has_faction(rt: &impl Abort, campaign: &Campaign) {
+fn assert_faction(rt: &impl Abort, campaign: &Campaign) {
     match campaign.faction(1) {
         Some(faction) => {
             assert_number(rt, i64::from(faction.number), 1);
@@ -105,7 +105,7 @@ fn has_faction(rt: &impl Abort, campaign: &Campaign) {
 }
 
 /// Asserts that Avalon's unit 1 has one man and is in region 1, and that there is no other unit.
-fn has_unit(rt: &impl Abort, campaign: &Campaign) {
+fn assert_unit(rt: &impl Abort, campaign: &Campaign) {
     match campaign.unit(1) {
         Some(unit) => {
             assert_text(rt, unit.holding.name().as_str(), "Unit 1");
@@ -125,10 +125,10 @@ fn has_unit(rt: &impl Abort, campaign: &Campaign) {
 fn joins(rt: &impl Abort, alloc: Global, world: &World) -> Result<(), Fail> {
     let mut campaign = small_campaign(alloc, world)?;
     avalon_joins(rt, world, &mut campaign);
-    has_entries(rt, &campaign);
-    has_totals(rt, &campaign);
-    has_faction(rt, &campaign);
-    has_unit(rt, &campaign);
+    assert_entries(rt, &campaign);
+    assert_totals(rt, &campaign);
+    assert_faction(rt, &campaign);
+    assert_unit(rt, &campaign);
     Ok(())
 }
 
@@ -156,7 +156,7 @@ fn report_of(alloc: Global, world: &World, campaign: &Campaign) -> Result<Text, 
 }
 
 /// Asserts that the stored report of faction 1 is `FIRST_REPORT`.
-fn has_report(rt: &impl Abort, campaign: &Campaign) {
+fn assert_report(rt: &impl Abort, campaign: &Campaign) {
     match campaign.report(1) {
         Some(stored) => assert_text(rt, stored.as_str(), FIRST_REPORT),
         None => assert!(rt; false),
@@ -172,7 +172,7 @@ fn stores(
 ) -> Result<(), Fail> {
     let text = report_of(alloc, world, campaign)?;
     campaign.set_report(1, text)?;
-    has_report(rt, campaign);
+    assert_report(rt, campaign);
     Ok(())
 }
 

@@ -116,7 +116,7 @@ fn assert_played_on(
 
 /// Asserts that the file of a story is upgraded and keeps its campaign's rows, and is opened and
 /// played on.
-fn is_upgraded(rt: &impl Abort, alloc: Global, story: &Story) -> Result<(), Fail> {
+fn assert_upgraded(rt: &impl Abort, alloc: Global, story: &Story) -> Result<(), Fail> {
     let conn = old_file_of(rt, alloc, story)?;
     let rows = rows_wanted(rt, alloc, story)?;
     let conn = assert_upgrade(rt, alloc, conn, rows.as_str())?;
@@ -230,13 +230,13 @@ static WITH_EARLY_MAIL: Story = Story {
 /// A file of the first format is not opened, is upgraded once, and is then opened and played on.
 #[test]
 fn a_file_is_upgraded_once(rt: HostRuntime) -> Result<(), Fail> {
-    is_upgraded(&rt, rt.alloc(), &FAR_FROM_MARKET)
+    assert_upgraded(&rt, rt.alloc(), &FAR_FROM_MARKET)
 }
 
 /// A mailing that was sent before the upgrade is carried out after it.
 #[test]
 fn early_mail_is_carried_out(rt: HostRuntime) -> Result<(), Fail> {
-    is_upgraded(&rt, rt.alloc(), &WITH_EARLY_MAIL)
+    assert_upgraded(&rt, rt.alloc(), &WITH_EARLY_MAIL)
 }
 
 /// SQL statements on a file of the first format, why it then isn't opened, and why it then isn't
@@ -253,7 +253,7 @@ static REFUSED: [(&str, &str, &str); 8] = [
 ];
 
 /// Asserts for a row of `REFUSED` that the changed file is neither opened nor upgraded, and why.
-fn is_shut(rt: &impl Abort, alloc: Global, refused: &(&str, &str, &str)) -> Result<(), Fail> {
+fn assert_shut(rt: &impl Abort, alloc: Global, refused: &(&str, &str, &str)) -> Result<(), Fail> {
     let (sql, opening, upgrade) = *refused;
     let mut conn = old_file_of(rt, alloc, &FAR_FROM_MARKET)?;
     conn.change(sql)?;
@@ -264,9 +264,9 @@ fn is_shut(rt: &impl Abort, alloc: Global, refused: &(&str, &str, &str)) -> Resu
 }
 
 /// Asserts for each row of `REFUSED` that the changed file is neither opened nor upgraded, and why.
-fn are_shut(rt: &impl Abort, alloc: Global) -> Result<(), Fail> {
+fn assert_all_shut(rt: &impl Abort, alloc: Global) -> Result<(), Fail> {
     for refused in REFUSED.iter() {
-        is_shut(rt, alloc, refused)?;
+        assert_shut(rt, alloc, refused)?;
     }
     Ok(())
 }
@@ -275,5 +275,5 @@ fn are_shut(rt: &impl Abort, alloc: Global) -> Result<(), Fail> {
 /// reported.
 #[test]
 fn the_first_check_of_an_old_file_is_reported(rt: HostRuntime) -> Result<(), Fail> {
-    are_shut(&rt, rt.alloc())
+    assert_all_shut(&rt, rt.alloc())
 }

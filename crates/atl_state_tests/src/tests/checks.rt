@@ -192,22 +192,22 @@ fn assert_rows_come_back(
 
 /// Asserts that `check` makes a campaign as `assert_island` wants it, first of the rows of `GOOD`,
 /// and then of that campaign's own rows.
-fn is_checked(rt: &impl Abort, alloc: Global, world: &World) -> Result<(), Fail> {
+fn assert_checked(rt: &impl Abort, alloc: Global, world: &World) -> Result<(), Fail> {
     let campaign = checked(alloc, world, parts(alloc, &GOOD)?)?;
     assert_island(rt, &campaign);
     assert_rows_come_back(rt, alloc, world, &campaign)
 }
 
 /// Asserts for each case the first broken rule, and that the rows of `GOOD` give their campaign.
-fn rows_are_judged(rt: &impl Abort, alloc: Global, world: &World) -> Result<(), Fail> {
+fn assert_judged_rows(rt: &impl Abort, alloc: Global, world: &World) -> Result<(), Fail> {
     assert_rules(rt, alloc, world, &CASES)?;
     assert_rules(rt, alloc, world, &MARKET_CASES)?;
-    is_checked(rt, alloc, world)
+    assert_checked(rt, alloc, world)
 }
 
 /// Tests that `check` reports the first broken rule, and accepts the rows of a good campaign.
 #[test]
 fn the_first_broken_rule_is_reported(rt: HostRuntime) -> Result<(), Fail> {
     let world = read_world(rt.alloc(), ISLE_WITH_MARKET)?;
-    rows_are_judged(&rt, rt.alloc(), &world)
+    assert_judged_rows(&rt, rt.alloc(), &world)
 }

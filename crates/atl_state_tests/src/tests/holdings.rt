@@ -135,7 +135,7 @@ fn sets_all(rt: &impl Abort, alloc: Global, holding: &mut Holding) -> Result<(),
 }
 
 /// Asserts amounts of single items and skills after `CALLS`, some that are listed and some not.
-fn has_amounts(rt: &impl Abort, holding: &Holding) {
+fn assert_amounts(rt: &impl Abort, holding: &Holding) {
     assert_amount(rt, holding.amount(7), 1);
     assert_amount(rt, holding.amount(2), 0);
     assert_amount(rt, holding.amount(9), 0);
@@ -148,6 +148,6 @@ fn has_amounts(rt: &impl Abort, holding: &Holding) {
 fn setting_parts_of_a_holding(rt: HostRuntime) -> Result<(), Fail> {
     let mut holding = one_man(rt.alloc())?;
     sets_all(&rt, rt.alloc(), &mut holding)?;
-    has_amounts(&rt, &holding);
+    assert_amounts(&rt, &holding);
     Ok(())
 }

@@ -96,7 +96,7 @@ static CALLS: [Row; 14] = [
 
 /// Asserts that nothing is marked after the founding, that Avalon joins as faction 1 with unit 1,
 /// and what is marked after each call of `CALLS`.
-fn comes_and_goes(rt: &impl Abort, alloc: Global, world: &World) -> Result<(), Fail> {
+fn assert_coming_and_going(rt: &impl Abort, alloc: Global, world: &World) -> Result<(), Fail> {
     let mut campaign = founded_in(alloc, world)?;
     assert_count(rt, campaign.marks(), 0);
     let (faction, unit) = avalon_joins(world, &mut campaign)?;
@@ -110,5 +110,5 @@ fn comes_and_goes(rt: &impl Abort, alloc: Global, world: &World) -> Result<(), F
 #[test]
 fn coming_and_going_is_marked(rt: HostRuntime) -> Result<(), Fail> {
     let world = read_world(rt.alloc(), ISLE)?;
-    comes_and_goes(&rt, rt.alloc(), &world)
+    assert_coming_and_going(&rt, rt.alloc(), &world)
 }

@@ -126,18 +126,18 @@ fn takes(holding: &mut Holding, row: &Load) -> Result<(), Fail> {
 }
 
 /// Asserts the three weights of a holding that a row of `LOADS` wants; `place` is the row's index.
-fn weighs(rt: &impl Abort, world: &World, place: usize, holding: &Holding, row: &Load) {
+fn assert_weights(rt: &impl Abort, world: &World, place: usize, holding: &Holding, row: &Load) {
     assert_row(rt, place, goods(world, holding), row.goods);
     assert_row(rt, place, load(world, holding), row.load);
     assert_row(rt, place, carry(world, holding), row.carry);
 }
 
 /// Asserts the three wanted weights for each row of `LOADS`.
-fn weighs_all(rt: &impl Abort, alloc: Global, world: &World) -> Result<(), Fail> {
+fn assert_all_weights(rt: &impl Abort, alloc: Global, world: &World) -> Result<(), Fail> {
     let mut holding = one_man(alloc)?;
     for (place, row) in LOADS.iter().enumerate() {
         takes(&mut holding, row)?;
-        weighs(rt, world, place, &holding, row);
+        assert_weights(rt, world, place, &holding, row);
     }
     Ok(())
 }
@@ -146,5 +146,5 @@ fn weighs_all(rt: &impl Abort, alloc: Global, world: &World) -> Result<(), Fail>
 #[test]
 fn goods_loads_and_carriage(rt: HostRuntime) -> Result<(), Fail> {
     let world = read_world(rt.alloc(), ISLE)?;
-    weighs_all(&rt, rt.alloc(), &world)
+    assert_all_weights(&rt, rt.alloc(), &world)
 }

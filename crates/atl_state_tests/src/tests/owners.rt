@@ -145,14 +145,14 @@ fn owner(campaign: &Campaign, structure: u32) -> u64 {
 }
 
 /// Asserts the owners of both structures, and how many parts are marked, as a case wants them.
-fn has_owners(rt: &impl Abort, row: usize, campaign: &Campaign, case: &Case) {
+fn assert_owners(rt: &impl Abort, row: usize, campaign: &Campaign, case: &Case) {
     assert_row(rt, row, owner(campaign, 1), u64::from(case.owners.0));
     assert_row(rt, row, owner(campaign, 2), u64::from(case.owners.1));
     assert_row(rt, row, campaign.marks() as u64, case.marks as u64);
 }
 
 /// Asserts the units inside each structure, in region 3 and of faction 1, as a case wants them.
-fn has_lists(rt: &impl Abort, row: usize, campaign: &Campaign, case: &Case) {
+fn assert_lists(rt: &impl Abort, row: usize, campaign: &Campaign, case: &Case) {
     assert_numbers(rt, row, campaign.inside(1), case.inside.0);
     assert_numbers(rt, row, campaign.inside(2), case.inside.1);
     assert_numbers(rt, row, campaign.in_region(3), case.region);
@@ -169,8 +169,8 @@ fn case_holds(
 ) -> Result<(), Fail> {
     campaign.unmark();
     make_step(alloc, campaign, case.step)?;
-    has_owners(rt, row, campaign, case);
-    has_lists(rt, row, campaign, case);
+    assert_owners(rt, row, campaign, case);
+    assert_lists(rt, row, campaign, case);
     Ok(())
 }
 
@@ -224,7 +224,7 @@ static ENTERING: [Step; 3] = [
 static OWNERS_AFTER: [(u32, u32, u32); 5] = [(1, 2, 1), (1, 1, 2), (1, 3, 2), (2, 1, 0), (9, 1, 0)];
 
 /// Asserts for each row of `OWNERS_AFTER` who would own the structure.
-fn knows_owners(rt: &impl Abort, campaign: &Campaign) {
+fn assert_next_owners(rt: &impl Abort, campaign: &Campaign) {
     for (row, (structure, leaving, wanted)) in OWNERS_AFTER.iter().enumerate() {
         let actual = campaign.owner_after(*structure, *leaving);
         assert_row(rt, row, u64::from(actual), u64::from(*wanted));
@@ -270,7 +270,7 @@ static SAILING: [Case; 4] = [
 /// Moves all units into the boat, and then asserts the cases of `OWNERS_AFTER` and of `SAILING`.
 fn sails(rt: &impl Abort, alloc: Global, campaign: &mut Campaign) -> Result<(), Fail> {
     make_steps(alloc, campaign, &ENTERING)?;
-    knows_owners(rt, campaign);
+    assert_next_owners(rt, campaign);
     cases_hold(rt, alloc, campaign, &SAILING)?;
     assert_numbers(rt, 0, campaign.in_region(2), &[1, 2, 3]);
     Ok(())

@@ -70,7 +70,7 @@ const BOOKS: &str = "[StoredBooks { entry: 1, thing: 0, amount: 650 }, \
     StoredBooks { entry: 2, thing: 1, amount: 1 }]";
 
 /// Asserts the rows of the campaign, factions, units, their goods, and structures.
-fn shows_people(rt: &impl Abort, alloc: Global, parts: &Parts) -> Result<(), Fail> {
+fn assert_people_rows(rt: &impl Abort, alloc: Global, parts: &Parts) -> Result<(), Fail> {
     assert_rows(rt, alloc, parts.campaign.as_slice(), HEAD)?;
     assert_rows(rt, alloc, parts.factions.as_slice(), FACTIONS)?;
     assert_rows(rt, alloc, parts.units.as_slice(), UNITS)?;
@@ -79,7 +79,7 @@ fn shows_people(rt: &impl Abort, alloc: Global, parts: &Parts) -> Result<(), Fai
 }
 
 /// Asserts the rows of the regions, mailings, reports, books and markets.
-fn shows_others(rt: &impl Abort, alloc: Global, parts: &Parts) -> Result<(), Fail> {
+fn assert_other_rows(rt: &impl Abort, alloc: Global, parts: &Parts) -> Result<(), Fail> {
     assert_rows(rt, alloc, parts.regions.as_slice(), REGIONS)?;
     assert_rows(rt, alloc, parts.mail.as_slice(), MAIL)?;
     assert_rows(rt, alloc, parts.reports.as_slice(), REPORTS)?;
@@ -91,6 +91,6 @@ fn shows_others(rt: &impl Abort, alloc: Global, parts: &Parts) -> Result<(), Fai
 #[test]
 fn rows_of_a_campaign(rt: HostRuntime) -> Result<(), Fail> {
     let parts = rows(rt.alloc())?;
-    shows_people(&rt, rt.alloc(), &parts)?;
-    shows_others(&rt, rt.alloc(), &parts)
+    assert_people_rows(&rt, rt.alloc(), &parts)?;
+    assert_other_rows(&rt, rt.alloc(), &parts)
 }

@@ -11,7 +11,7 @@ use std::process::Abort;
 use std::test::Fail;
 
 /// Asserts that a walk over the factions gives the only one, Avalon.
-fn walks_factions(rt: &impl Abort, campaign: &Campaign) -> Result<(), Fail> {
+fn assert_faction_walk(rt: &impl Abort, campaign: &Campaign) -> Result<(), Fail> {
     assert_count(rt, campaign.factions().count(), 1);
     let (number, faction) = campaign.factions().next().ok_or("a faction")?;
     assert_amount(rt, number, 1);
@@ -20,7 +20,7 @@ fn walks_factions(rt: &impl Abort, campaign: &Campaign) -> Result<(), Fail> {
 }
 
 /// Asserts that a walk over the four regions gives region 1 first.
-fn walks_regions(rt: &impl Abort, campaign: &Campaign) -> Result<(), Fail> {
+fn assert_region_walk(rt: &impl Abort, campaign: &Campaign) -> Result<(), Fail> {
     assert_count(rt, campaign.regions().count(), 4);
     let (number, region) = campaign.regions().next().ok_or("a region")?;
     assert_amount(rt, number, 1);
@@ -29,7 +29,7 @@ fn walks_regions(rt: &impl Abort, campaign: &Campaign) -> Result<(), Fail> {
 }
 
 /// Asserts that a walk over the structures gives the only one, a lodge.
-fn walks_structures(rt: &impl Abort, campaign: &Campaign) -> Result<(), Fail> {
+fn assert_structure_walk(rt: &impl Abort, campaign: &Campaign) -> Result<(), Fail> {
     assert_count(rt, campaign.structures().count(), 1);
     let (number, structure) = campaign.structures().next().ok_or("a structure")?;
     assert_amount(rt, number, 1);
@@ -63,11 +63,11 @@ static TOTALS: [Row; 6] = [
 ];
 
 /// Asserts the walks over factions, regions and structures, and the rows of `TOTALS`.
-fn walks(rt: &impl Abort, alloc: Global, campaign: &mut Campaign) -> Result<(), Fail> {
+fn assert_walks(rt: &impl Abort, alloc: Global, campaign: &mut Campaign) -> Result<(), Fail> {
     make_steps(alloc, campaign, &MAKING)?;
-    walks_factions(rt, campaign)?;
-    walks_regions(rt, campaign)?;
-    walks_structures(rt, campaign)?;
+    assert_faction_walk(rt, campaign)?;
+    assert_region_walk(rt, campaign)?;
+    assert_structure_walk(rt, campaign)?;
     assert_steps(rt, alloc, campaign, &TOTALS)
 }
 
@@ -76,5 +76,5 @@ fn walks(rt: &impl Abort, alloc: Global, campaign: &mut Campaign) -> Result<(), 
 #[test]
 fn walking_over_a_campaign(rt: HostRuntime) -> Result<(), Fail> {
     let mut campaign = joined_by(rt.alloc(), ISLE)?;
-    walks(&rt, rt.alloc(), &mut campaign)
+    assert_walks(&rt, rt.alloc(), &mut campaign)
 }

@@ -110,7 +110,7 @@ fn all_taken(
 }
 
 /// Reduces a unit's days of each skill in proportion to its men who don't starve, rounded down.
-fn keep_days(plain: &mut PlainCampaign, one: UpkeepTaken) {
+fn reduce_days(plain: &mut PlainCampaign, one: UpkeepTaken) {
     let men = one.person.men;
     let left = men.wrapping_sub(one.starved);
     for good in plain.goods.iter_mut() {
@@ -127,7 +127,7 @@ fn take(plain: &mut PlainCampaign, one: UpkeepTaken) -> Result<(), AllocError> {
     let person = one.person;
     let men = person.men.wrapping_sub(one.starved);
     let money = person.money.wrapping_sub(one.paid);
-    keep_days(plain, one);
+    reduce_days(plain, one);
     plain.set_men_and_money(person.number, men, money);
     plain.book(BooksEntry::Upkeep, Thing::Money, person.money, money)?;
     plain.book(BooksEntry::Starved, Thing::People, person.men, men)
