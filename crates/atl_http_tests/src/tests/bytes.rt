@@ -31,7 +31,7 @@ static CASES: [(&[u8], &str); 6] = [
 ];
 
 /// Lets Avalon join, and asserts the reply to each request of `CASES`.
-fn no_texts(rt: &impl Abort, alloc: Global, service: &mut impl HttpService) {
+fn assert_bad_bytes(rt: &impl Abort, alloc: Global, service: &mut impl HttpService) {
     assert_reply(rt, alloc, service, &mut JOIN.as_bytes(), JOINED);
     for (request, wanted) in CASES.iter() {
         let mut reader = *request;
@@ -43,7 +43,7 @@ fn no_texts(rt: &impl Abort, alloc: Global, service: &mut impl HttpService) {
 #[test]
 fn no_text(rt: HostRuntime) -> Result<(), Fail> {
     let mut service = new_service(rt.alloc())?;
-    no_texts(&rt, rt.alloc(), &mut service);
+    assert_bad_bytes(&rt, rt.alloc(), &mut service);
     let _conn = service.end();
     Ok(())
 }

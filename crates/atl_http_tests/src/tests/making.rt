@@ -97,7 +97,7 @@ pub(crate) fn assert_replies(
 }
 
 /// Serves requests in turn on a new campaign of the small world, and asserts each reply.
-pub(crate) fn plays(rt: &impl Abort, alloc: Global, cases: &[Case]) -> Result<(), Fail> {
+pub(crate) fn play(rt: &impl Abort, alloc: Global, cases: &[Case]) -> Result<(), Fail> {
     let mut service = new_service(alloc)?;
     assert_replies(rt, alloc, &mut service, cases);
     let _conn = service.end();

@@ -1,5 +1,5 @@
 //! Tests of requests with their whole replies (docs/FORMATS.md, "HTTP").
-use super::making::{Case, plays};
+use super::making::{Case, play};
 use std::test::Fail;
 
 /// The request by which Avalon joins.
@@ -82,7 +82,7 @@ static JOINING: [Case; 6] = [
 /// A join, a second join under the same name, and requests for the report get their replies.
 #[test]
 fn joining(rt: HostRuntime) -> Result<(), Fail> {
-    plays(&rt, rt.alloc(), &JOINING)
+    play(&rt, rt.alloc(), &JOINING)
 }
 
 /// Requests and their replies: a faction joins and sends orders, a month is closed, and a second
@@ -106,7 +106,7 @@ static A_MONTH: [Case; 4] = [
 /// Orders with two faulty lines, a closing, and the same closing again get their replies.
 #[test]
 fn a_month(rt: HostRuntime) -> Result<(), Fail> {
-    plays(&rt, rt.alloc(), &A_MONTH)
+    play(&rt, rt.alloc(), &A_MONTH)
 }
 
 /// Requests and their replies: a faction joins, quits by its orders, and is refused further orders
@@ -130,7 +130,7 @@ static QUITTING: [Case; 4] = [
 /// After a faction quit, its later orders are refused.
 #[test]
 fn quitting(rt: HostRuntime) -> Result<(), Fail> {
-    plays(&rt, rt.alloc(), &QUITTING)
+    play(&rt, rt.alloc(), &QUITTING)
 }
 
 /// Requests with their replies: joins, reports, closings and mailings, all but one join refused.
@@ -173,7 +173,7 @@ static REFUSALS: [Case; 9] = [
 /// Refused joins, reports, closings and mailings get their statuses, names and numbers.
 #[test]
 fn refusals(rt: HostRuntime) -> Result<(), Fail> {
-    plays(&rt, rt.alloc(), &REFUSALS)
+    play(&rt, rt.alloc(), &REFUSALS)
 }
 
 /// Heads of requests with their replies: refused ones, some with a wrong number of Host fields, and
@@ -196,7 +196,7 @@ static HEADS: [Case; 6] = [
 /// Faulty heads are refused with BadRequest, and a head that isn't whole gives the fault Cut.
 #[test]
 fn heads(rt: HostRuntime) -> Result<(), Fail> {
-    plays(&rt, rt.alloc(), &HEADS)
+    play(&rt, rt.alloc(), &HEADS)
 }
 
 /// Requests with their replies: paths without a route, and methods that a route doesn't have.
@@ -219,7 +219,7 @@ static ROUTES: [Case; 13] = [
 /// Paths without a route are refused, and so are methods that a route doesn't have.
 #[test]
 fn routes(rt: HostRuntime) -> Result<(), Fail> {
-    plays(&rt, rt.alloc(), &ROUTES)
+    play(&rt, rt.alloc(), &ROUTES)
 }
 
 /// Requests with their replies: bodies without a good length or with two, no or several pass texts,
@@ -281,7 +281,7 @@ static LENGTHS: [Case; 14] = [
 /// doesn't arrive gives the fault Cut.
 #[test]
 fn lengths(rt: HostRuntime) -> Result<(), Fail> {
-    plays(&rt, rt.alloc(), &LENGTHS)
+    play(&rt, rt.alloc(), &LENGTHS)
 }
 
 /// Joins with their replies: bodies that are no JSON object with the texts `name` and `pass`, and
@@ -325,7 +325,7 @@ static BODIES: [Case; 9] = [
 /// A join whose body is no JSON object with the texts `name` and `pass` is refused with BadJson.
 #[test]
 fn bodies(rt: HostRuntime) -> Result<(), Fail> {
-    plays(&rt, rt.alloc(), &BODIES)
+    play(&rt, rt.alloc(), &BODIES)
 }
 
 /// Joins with their replies: bodies with `name`, `pass` and a value that can't be read: one nested
@@ -353,5 +353,5 @@ static VALUES: [Case; 4] = [
 /// A join whose body has a JSON value that can't be read is refused with BadJson.
 #[test]
 fn values(rt: HostRuntime) -> Result<(), Fail> {
-    plays(&rt, rt.alloc(), &VALUES)
+    play(&rt, rt.alloc(), &VALUES)
 }

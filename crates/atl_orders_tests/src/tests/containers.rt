@@ -86,7 +86,7 @@ pub(crate) fn map_of_three(alloc: Global) -> Result<Numbered<u32>, Fail> {
 
 /// Reads, changes and removes entries of the map of `map_of_three`, also under a number that it
 /// doesn't have, and asserts what is read.
-fn changes_entries(rt: &impl Abort, map: &mut Numbered<u32>) {
+fn change_entries(rt: &impl Abort, map: &mut Numbered<u32>) {
     assert!(rt; map.get(20) == Some(&2));
     assert!(rt; map.get(2).is_none());
     if let Some(value) = map.get_mut(20) {
@@ -103,6 +103,6 @@ fn numbered_maps_keep_their_values(rt: HostRuntime) -> Result<(), Fail> {
     assert_map(&rt, rt.alloc(), &Numbered::new(rt.alloc()), &[])?;
     let mut map = map_of_three(rt.alloc())?;
     assert_map(&rt, rt.alloc(), &map, &[1, 1, 20, 2, 30, 3])?;
-    changes_entries(&rt, &mut map);
+    change_entries(&rt, &mut map);
     assert_map(&rt, rt.alloc(), &map, &[20, 9, 30, 3])
 }

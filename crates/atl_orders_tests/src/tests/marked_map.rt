@@ -155,7 +155,7 @@ fn changes_are_marked(rt: HostRuntime) -> Result<(), Fail> {
 }
 
 /// Makes the calls of `ROUND` 200 times, and then those of `MARKS`.
-fn repeats_round(rt: &impl Abort, alloc: Global, map: &mut MarkedMap<u32>) -> Result<(), Fail> {
+fn repeat_round(rt: &impl Abort, alloc: Global, map: &mut MarkedMap<u32>) -> Result<(), Fail> {
     for _ in 0..200 {
         assert_steps(rt, alloc, map, &ROUND)?;
     }
@@ -166,7 +166,7 @@ fn repeats_round(rt: &impl Abort, alloc: Global, map: &mut MarkedMap<u32>) -> Re
 #[test]
 fn removed_numbers_stay_marked(rt: HostRuntime) -> Result<(), Fail> {
     let mut map = MarkedMap::from_values(rt.alloc(), map_of_three(rt.alloc())?)?;
-    repeats_round(&rt, rt.alloc(), &mut map)
+    repeat_round(&rt, rt.alloc(), &mut map)
 }
 
 /// How many numbers the map of the test `marks_in_any_order` has: one less than the prime 1009.
@@ -212,7 +212,7 @@ fn assert_ascending(rt: &impl Abort, map: &MarkedMap<u32>, thirds: bool, count: 
 
 /// Marks all numbers as `marks_each` does, takes out each third one, inserts these again, clears
 /// all marks, and asserts the marked numbers after each of these.
-fn mixes_marks(rt: &impl Abort, map: &mut MarkedMap<u32>, falling: bool) -> Result<(), Fail> {
+fn mix_marks(rt: &impl Abort, map: &mut MarkedMap<u32>, falling: bool) -> Result<(), Fail> {
     map.unmark();
     marks_each(map, falling);
     assert_ascending(rt, map, true, 1008);
@@ -234,6 +234,6 @@ fn marks_in_any_order(rt: HostRuntime) -> Result<(), Fail> {
         map.put(number + 1, number)?;
     }
     assert_ascending(&rt, &map, true, 1008);
-    mixes_marks(&rt, &mut map, true)?;
-    mixes_marks(&rt, &mut map, false)
+    mix_marks(&rt, &mut map, true)?;
+    mix_marks(&rt, &mut map, false)
 }

@@ -1,7 +1,7 @@
 //! Tests of `Close`: the reports, books and tables after a month, and the refusals.
 use super::commands::JOIN_OF_AVALON;
 use super::mailings::FAULTY;
-use super::script::{CommandSpec, Course, Step, plays, plays_course};
+use super::script::{CommandSpec, Course, Step, play, play_course};
 use super::tables::{
     BOOKS_SUM, FACTIONS, INCOME, MAIL_BYTES, MAILINGS, MONEY, MONTH, NEXT, REGION_MONEY,
     REPORT_BYTES, UNITS, UPKEEP, WAGES,
@@ -94,14 +94,14 @@ static FIRST_MONTHS: [Course; 2] = [
 /// Closing a month without mail gives the report, books and tables worked out by hand.
 #[test]
 fn a_month_is_closed(rt: HostRuntime) -> Result<(), Fail> {
-    plays_course(&rt, rt.alloc(), &FIRST_MONTHS[0])
+    play_course(&rt, rt.alloc(), &FIRST_MONTHS[0])
 }
 
 /// Closing a month reports a faulty line of a mailing, carries out the mailing's good order, and
 /// removes the mailing.
 #[test]
 fn a_faulty_line_is_reported_and_the_mail_is_gone(rt: HostRuntime) -> Result<(), Fail> {
-    plays_course(&rt, rt.alloc(), &FIRST_MONTHS[1])
+    play_course(&rt, rt.alloc(), &FIRST_MONTHS[1])
 }
 
 /// Closings that are refused: wrong pass text, wrong month, and a wrong number of words of the
@@ -140,7 +140,7 @@ static NOBODY: [Step; 2] = [
 /// Two months are closed in a campaign that no faction has joined: only the region's money grows.
 #[test]
 fn a_month_without_factions(rt: HostRuntime) -> Result<(), Fail> {
-    plays(&rt, rt.alloc(), SMALL_WORLD, &NOBODY, &AFTER_NOBODY)
+    play(&rt, rt.alloc(), SMALL_WORLD, &NOBODY, &AFTER_NOBODY)
 }
 
 /// Avalon's report where nobody finds work: 5 money don't keep one man for a month, so he starves
@@ -175,7 +175,7 @@ static AFTER_ALL_STARVED: [(&str, Option<i64>); 6] = [
 /// A faction whose last man starves is gone: its mail is refused, and its report stays.
 #[test]
 fn a_faction_that_starves_is_gone(rt: HostRuntime) -> Result<(), Fail> {
-    plays(
+    play(
         &rt,
         rt.alloc(),
         NO_WORK_PLACES,

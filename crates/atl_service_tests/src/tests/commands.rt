@@ -2,7 +2,7 @@
 use super::closing::{AFTER_MONTH_ONE, AFTER_WORK, MONTH_ONE};
 use super::compare::assert_count;
 use super::making::found_in_memory;
-use super::script::{CommandSpec, Step, assert_answer, commands_of, plays};
+use super::script::{CommandSpec, Step, assert_answer, commands_of, play};
 use super::serving::AnyService;
 use super::tables::{
     AFTER_JOINING, BOOKS_SUM, FACTIONS, MAIL_BYTES, MAILINGS, MONEY, NEXT, REPORT_BYTES, UNITS,
@@ -55,7 +55,7 @@ static ONE_JOINS: [Step; 2] = [
 #[test]
 fn first_report(rt: HostRuntime) -> Result<(), Fail> {
     assert_count(&rt, FIRST_REPORT.len(), 161);
-    plays(&rt, rt.alloc(), SMALL_WORLD, &ONE_JOINS, &AFTER_JOINING)
+    play(&rt, rt.alloc(), SMALL_WORLD, &ONE_JOINS, &AFTER_JOINING)
 }
 
 /// Steps in which two factions join, and the second asks for its report.
@@ -75,7 +75,7 @@ static AFTER_TWO: [(&str, Option<i64>); 3] = [
 /// The first report of a second faction shows the first faction's unit, but not its money.
 #[test]
 fn another_faction_is_seen_without_money(rt: HostRuntime) -> Result<(), Fail> {
-    plays(&rt, rt.alloc(), SMALL_WORLD, &TWO_JOIN, &AFTER_TWO)
+    play(&rt, rt.alloc(), SMALL_WORLD, &TWO_JOIN, &AFTER_TWO)
 }
 
 /// Steps in which a faction joins in the island's second land region, and asks for its report.
@@ -90,7 +90,7 @@ static AFTER_FAR: [(&str, Option<i64>); 2] = [(FACTIONS, Some(1)), (UNITS, Some(
 /// A faction that joins the island with the dice word 1 begins in the second land region.
 #[test]
 fn the_second_land_region(rt: HostRuntime) -> Result<(), Fail> {
-    plays(&rt, rt.alloc(), ISLE, &FAR_JOINS, &AFTER_FAR)
+    play(&rt, rt.alloc(), ISLE, &FAR_JOINS, &AFTER_FAR)
 }
 
 /// Steps of a club: joins, mailings and reports, some of them refused.
@@ -137,7 +137,12 @@ fn assert_answers(rt: &impl Abort, answers: &[Answer], steps: &[Step]) {
 
 /// Runs the commands of steps as one list, and asserts that each answer is the one that its step
 /// wants.
-fn runs_all(rt: &impl Abort, service: &mut impl AnyService, commands: &[Command], steps: &[Step]) {
+fn run_in_one_list(
+    rt: &impl Abort,
+    service: &mut impl AnyService,
+    commands: &[Command],
+    steps: &[Step],
+) {
     match service.run_all(commands) {
         Ok(answers) => assert_answers(rt, &answers, steps),
         Err(_) => assert!(rt; false),
@@ -160,7 +165,7 @@ fn run_commands(
     list: &CommandList,
 ) -> Result<(), Fail> {
     let mut service = found_in_memory(alloc, SMALL_WORLD)?;
-    runs_all(rt, &mut service, commands, list.steps);
+    run_in_one_list(rt, &mut service, commands, list.steps);
     assert_tables(rt, &mut service.end(), list.after);
     Ok(())
 }
@@ -205,6 +210,6 @@ fn run_lists(rt: &impl Abort, alloc: Global) -> Result<(), Fail> {
 /// tables.
 #[test]
 fn a_list_is_run_as_one_by_one(rt: HostRuntime) -> Result<(), Fail> {
-    plays(&rt, rt.alloc(), SMALL_WORLD, LISTS[0].steps, LISTS[0].after)?;
+    play(&rt, rt.alloc(), SMALL_WORLD, LISTS[0].steps, LISTS[0].after)?;
     run_lists(&rt, rt.alloc())
 }

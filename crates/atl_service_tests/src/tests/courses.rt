@@ -2,7 +2,7 @@
 //! factions' units.
 use super::closing::MONTH_ONE;
 use super::commands::JOIN_OF_AVALON;
-use super::script::{CommandSpec, Course, Step, plays_course};
+use super::script::{CommandSpec, Course, Step, play_course};
 use super::tables::{
     BOOKS_SUM, DAYS, DONE, FACTIONS, GOODS, MAILINGS, MONEY, MONTH, NEXT, REGION_MONEY, STARVED,
     UNITS,
@@ -59,7 +59,7 @@ const AFTER_BOTH: [(&str, Option<i64>); 8] = [
 /// tables.
 #[test]
 fn both_months_are_closed(rt: HostRuntime) -> Result<(), Fail> {
-    plays_course(&rt, rt.alloc(), &COURSES[0])
+    play_course(&rt, rt.alloc(), &COURSES[0])
 }
 
 /// The command by which Cork joins.
@@ -98,7 +98,7 @@ const AFTER_MONTH_OF_TWO: [(&str, Option<i64>); 12] = [
 /// A month with the orders of two factions, without a stopped disk, leaves the worked-out tables.
 #[test]
 fn a_month_of_two_factions_is_closed(rt: HostRuntime) -> Result<(), Fail> {
-    plays_course(&rt, rt.alloc(), &COURSES[1])
+    play_course(&rt, rt.alloc(), &COURSES[1])
 }
 
 /// The courses that `crashes` plays: two months in the small world, and a month on the island.

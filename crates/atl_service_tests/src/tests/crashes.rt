@@ -264,7 +264,12 @@ const MANY_CALLS: u64 = 1_000;
 
 /// Stops one disk at each of its calls in turn, and asserts each time what a crash then leaves
 /// (`stopped`). The last run is the one in which all writes of the plan are done.
-fn stops(rt: &impl Abort, alloc: Global, plan: &Plan, which: WhichDisk) -> Result<(), Fail> {
+fn stop_at_each_call(
+    rt: &impl Abort,
+    alloc: Global,
+    plan: &Plan,
+    which: WhichDisk,
+) -> Result<(), Fail> {
     for calls in 0..MANY_CALLS {
         let done = stopped(rt, alloc, stopping(alloc, which, calls), plan)?;
         if done.saturating_add(1) == plan.stages.len() {
@@ -280,7 +285,7 @@ fn stops(rt: &impl Abort, alloc: Global, plan: &Plan, which: WhichDisk) -> Resul
 fn assert_stops_of_all(rt: &impl Abort, alloc: Global, which: WhichDisk) -> Result<(), Fail> {
     for course in COURSES.iter() {
         let plan = planned(alloc, course)?;
-        stops(rt, alloc, &plan, which)?;
+        stop_at_each_call(rt, alloc, &plan, which)?;
     }
     Ok(())
 }

@@ -2,7 +2,7 @@
 use super::commands::JOIN_OF_AVALON;
 use super::compare::assert_text;
 use super::damage::changed;
-use super::script::{Step, plays};
+use super::script::{Step, play};
 use super::serving::Tables;
 use super::tables::MONEY;
 use super::unchanged::{EVERY_TABLE, all_rows, assert_all_rows};
@@ -153,7 +153,7 @@ static AFTER_NO_MONEY: [(&str, Option<i64>); 3] = [
 /// A faction that joins without money has no money booked under Joining.
 #[test]
 fn nothing_is_booked_of_no_money(rt: HostRuntime) -> Result<(), Fail> {
-    plays(
+    play(
         &rt,
         rt.alloc(),
         NO_START_MONEY,

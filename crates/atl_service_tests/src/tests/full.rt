@@ -138,7 +138,7 @@ fn fill(conn: &mut Connection<MemStore>, filled: &FullCase) -> Result<(), Fail> 
 
 /// Runs the join of a `FullCase` in the campaign that it filled, and asserts its answer and what
 /// the tables hold afterwards.
-fn answers(
+fn run_join(
     rt: &impl Abort,
     alloc: Global,
     conn: Connection<MemStore>,
@@ -154,7 +154,7 @@ fn answers(
 fn join_is_answered(rt: &impl Abort, alloc: Global, filled: &FullCase) -> Result<(), Fail> {
     let mut conn = joined(rt, alloc)?;
     fill(&mut conn, filled)?;
-    answers(rt, alloc, conn, filled)
+    run_join(rt, alloc, conn, filled)
 }
 
 /// Fills each campaign of `FULL_CASES`, and asserts the answer to the join in it.

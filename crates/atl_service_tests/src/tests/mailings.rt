@@ -1,6 +1,6 @@
 //! Tests of `Mail`: storing mailings, and refusals.
 use super::commands::JOIN_OF_AVALON;
-use super::script::{CommandSpec, Step, plays};
+use super::script::{CommandSpec, Step, play};
 use super::tables::{MAIL_BYTES, MAILINGS};
 use super::unchanged::{EVERY_TABLE, assert_unchanged};
 use atl_test_worlds::SMALL_WORLD;
@@ -26,7 +26,7 @@ static AFTER_ONE: [(&str, Option<i64>); 1] = [(MAILINGS, Some(1))];
 /// A mailing with a faulty line is stored whole, and the answer has the line's fault.
 #[test]
 fn one_faulty_line(rt: HostRuntime) -> Result<(), Fail> {
-    plays(&rt, rt.alloc(), SMALL_WORLD, &ONE_FAULTY, &AFTER_ONE)
+    play(&rt, rt.alloc(), SMALL_WORLD, &ONE_FAULTY, &AFTER_ONE)
 }
 
 /// Steps in which a faction sends two mailings: the second replaces the first.
@@ -43,7 +43,7 @@ static AFTER_TWO: [(&str, Option<i64>); 2] = [(MAILINGS, Some(1)), (MAIL_BYTES, 
 /// A faction's second mailing replaces its first.
 #[test]
 fn the_last_mailing_is_kept(rt: HostRuntime) -> Result<(), Fail> {
-    plays(&rt, rt.alloc(), SMALL_WORLD, &TWO_SENT, &AFTER_TWO)
+    play(&rt, rt.alloc(), SMALL_WORLD, &TWO_SENT, &AFTER_TWO)
 }
 
 /// Mailings that are refused, one for each refusal of `Mail`, in the campaign that the SQL
@@ -79,5 +79,5 @@ static AFTER_LONG: [(&str, Option<i64>); 2] = [(MAILINGS, Some(1)), (MAIL_BYTES,
 /// A mailing of 65,536 bytes is stored, and one of 65,537 is refused.
 #[test]
 fn a_mailing_has_65536_bytes_at_most(rt: HostRuntime) -> Result<(), Fail> {
-    plays(&rt, rt.alloc(), SMALL_WORLD, &LIMITS, &AFTER_LONG)
+    play(&rt, rt.alloc(), SMALL_WORLD, &LIMITS, &AFTER_LONG)
 }

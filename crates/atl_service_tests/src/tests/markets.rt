@@ -1,7 +1,7 @@
 //! Tests of a market over three months: it is stocked, sells to a unit, and buys nothing when full.
 use super::closing::MONTH_ONE;
 use super::commands::JOIN_OF_AVALON;
-use super::script::{CommandSpec, Step, plays};
+use super::script::{CommandSpec, Step, play};
 use super::tables::{FORMAT, GOODS, MONEY, MONTH, REGION_MONEY, STOCK, STOCKED};
 use atl_test_worlds::WOOD_MARKET;
 use std::test::Fail;
@@ -80,8 +80,8 @@ static BEFORE_STOCKING: [(&str, Option<i64>); 2] = [(STOCKED, Some(0)), (STOCK, 
 /// A market is empty before the first month, and stocked after it.
 #[test]
 fn a_market_is_stocked(rt: HostRuntime) -> Result<(), Fail> {
-    plays(&rt, rt.alloc(), WOOD_MARKET, &[], &BEFORE_STOCKING)?;
-    plays(&rt, rt.alloc(), WOOD_MARKET, &STOCKED_ONCE, &AFTER_STOCKING)
+    play(&rt, rt.alloc(), WOOD_MARKET, &[], &BEFORE_STOCKING)?;
+    play(&rt, rt.alloc(), WOOD_MARKET, &STOCKED_ONCE, &AFTER_STOCKING)
 }
 
 /// The steps of three months: the market is stocked, a unit buys, and it tries to sell.
@@ -110,5 +110,5 @@ static AFTER_TRADES: [(&str, Option<i64>); 6] = [
 /// A unit buys from a market in stock, and can't sell to it when it is full.
 #[test]
 fn a_unit_trades(rt: HostRuntime) -> Result<(), Fail> {
-    plays(&rt, rt.alloc(), WOOD_MARKET, &TRADES, &AFTER_TRADES)
+    play(&rt, rt.alloc(), WOOD_MARKET, &TRADES, &AFTER_TRADES)
 }

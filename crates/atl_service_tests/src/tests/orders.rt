@@ -2,7 +2,7 @@
 //! quits.
 use super::closing::MONTH_ONE;
 use super::commands::JOIN_OF_AVALON;
-use super::script::{CommandSpec, Step, plays};
+use super::script::{CommandSpec, Step, play};
 use super::tables::{FACTIONS, MAILINGS, MONEY, MONTH, NEXT, REGION_MONEY, UNITS};
 use atl_test_worlds::{SMALL_WORLD, THREE_PEASANTS};
 use std::test::Fail;
@@ -50,7 +50,7 @@ static AFTER_NOBODY_CAME: [(&str, Option<i64>); 4] = [
 /// A unit formed in a region with three peasants gets no recruit, and is swept.
 #[test]
 fn nobody_is_recruited_of_three_peasants(rt: HostRuntime) -> Result<(), Fail> {
-    plays(
+    play(
         &rt,
         rt.alloc(),
         THREE_PEASANTS,
@@ -107,5 +107,5 @@ static AFTER_IT_QUIT: [(&str, Option<i64>); 4] = [
 /// A faction that quits is gone after the month: its mail is refused, and its report stays.
 #[test]
 fn a_faction_quits(rt: HostRuntime) -> Result<(), Fail> {
-    plays(&rt, rt.alloc(), SMALL_WORLD, &IT_QUITS, &AFTER_IT_QUIT)
+    play(&rt, rt.alloc(), SMALL_WORLD, &IT_QUITS, &AFTER_IT_QUIT)
 }

@@ -1,7 +1,7 @@
 //! Tests of refused joins and reports, which change nothing, and of the numbers of refusals.
 use super::commands::{FIRST_REPORT, JOIN_OF_AVALON};
 use super::compare::assert_number;
-use super::script::{CommandSpec, Step, plays};
+use super::script::{CommandSpec, Step, play};
 use super::tables::AFTER_JOINING;
 use super::unchanged::{EVERY_TABLE, assert_unchanged};
 use atl_service::Refusal;
@@ -23,8 +23,8 @@ static JOINS_TWICE: [Step; 5] = [
 /// A second join under the name Avalon is refused.
 #[test]
 fn a_name_is_taken_once(rt: HostRuntime) -> Result<(), Fail> {
-    plays(&rt, rt.alloc(), SMALL_WORLD, &JOINS_ONCE, &AFTER_JOINING)?;
-    plays(&rt, rt.alloc(), SMALL_WORLD, &JOINS_TWICE, &AFTER_JOINING)
+    play(&rt, rt.alloc(), SMALL_WORLD, &JOINS_ONCE, &AFTER_JOINING)?;
+    play(&rt, rt.alloc(), SMALL_WORLD, &JOINS_TWICE, &AFTER_JOINING)
 }
 
 /// Joins and reports that are refused, each with its refusal, in the campaign that the SQL

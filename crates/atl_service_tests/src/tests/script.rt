@@ -233,7 +233,7 @@ pub(crate) fn follow(
 
 /// Founds a campaign in memory, runs the steps and asserts what they want, and asserts what the
 /// tables hold at the end.
-pub(crate) fn plays(
+pub(crate) fn play(
     rt: &impl Abort,
     alloc: Global,
     world: &str,
@@ -258,7 +258,7 @@ pub(crate) struct Course {
 
 /// Plays a course in memory, and asserts all that it wants; the campaign is opened again after the
 /// rows are added.
-pub(crate) fn plays_course(rt: &impl Abort, alloc: Global, course: &Course) -> Result<(), Fail> {
+pub(crate) fn play_course(rt: &impl Abort, alloc: Global, course: &Course) -> Result<(), Fail> {
     let conn = found_in_memory(alloc, course.world)?.end();
     let mut service = open_after_sql(alloc, conn, course.rows)?;
     let done = follow(rt, alloc, &mut service, course.steps);

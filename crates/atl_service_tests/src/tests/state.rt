@@ -56,7 +56,7 @@ fn assert_founded(rt: &impl Abort, campaign: &Campaign) {
 }
 
 /// Founds the campaign of the small world, and asserts what it holds.
-fn founds(rt: &impl Abort, alloc: Global, world: &World) -> Result<(), Fail> {
+fn found_small_world(rt: &impl Abort, alloc: Global, world: &World) -> Result<(), Fail> {
     let campaign = small_campaign(alloc, world)?;
     assert_founded(rt, &campaign);
     Ok(())
@@ -66,7 +66,7 @@ fn founds(rt: &impl Abort, alloc: Global, world: &World) -> Result<(), Fail> {
 #[test]
 fn founding(rt: HostRuntime) -> Result<(), Fail> {
     let world = small_world(rt.alloc())?;
-    founds(&rt, rt.alloc(), &world)
+    found_small_world(&rt, rt.alloc(), &world)
 }
 
 /// Asserts what the books of the small world's campaign have of money and people after Avalon has
@@ -122,7 +122,7 @@ fn assert_unit(rt: &impl Abort, campaign: &Campaign) {
 }
 
 /// Has Avalon join the small world, and asserts the books, the totals, the faction and its unit.
-fn joins(rt: &impl Abort, alloc: Global, world: &World) -> Result<(), Fail> {
+fn join_small_world(rt: &impl Abort, alloc: Global, world: &World) -> Result<(), Fail> {
     let mut campaign = small_campaign(alloc, world)?;
     avalon_joins(rt, world, &mut campaign);
     assert_entries(rt, &campaign);
@@ -136,12 +136,12 @@ fn joins(rt: &impl Abort, alloc: Global, world: &World) -> Result<(), Fail> {
 #[test]
 fn joining(rt: HostRuntime) -> Result<(), Fail> {
     let world = small_world(rt.alloc())?;
-    joins(&rt, rt.alloc(), &world)
+    join_small_world(&rt, rt.alloc(), &world)
 }
 
 /// Sets the money of unit 1 to 7 through the holding that the campaign lends, and asserts the total
 /// of money.
-fn lends(rt: &impl Abort, campaign: &mut Campaign) {
+fn lend_holding(rt: &impl Abort, campaign: &mut Campaign) {
     if let Some(holding) = campaign.unit_mut(1) {
         holding.set_money(7);
     }
@@ -164,7 +164,7 @@ fn assert_report(rt: &impl Abort, campaign: &Campaign) {
 }
 
 /// Stores the report of what faction 1 sees, and asserts that `FIRST_REPORT` is then stored.
-fn stores(
+fn store_report(
     rt: &impl Abort,
     alloc: Global,
     world: &World,
@@ -181,8 +181,8 @@ fn stores(
 fn lends_and_stores(rt: &impl Abort, alloc: Global, world: &World) -> Result<(), Fail> {
     let mut campaign = small_campaign(alloc, world)?;
     avalon_joins(rt, world, &mut campaign);
-    let done = stores(rt, alloc, world, &mut campaign);
-    lends(rt, &mut campaign);
+    let done = store_report(rt, alloc, world, &mut campaign);
+    lend_holding(rt, &mut campaign);
     done
 }
 

@@ -60,7 +60,7 @@ pub(crate) fn assert_all_rows<S: Alter>(
 
 /// Runs a step, and asserts its answer, and that the service's campaign has the same rows before
 /// and after.
-fn leaves_rows(
+fn assert_rows_stay(
     rt: &impl Abort,
     alloc: Global,
     service: &mut impl AnyService,
@@ -82,7 +82,7 @@ fn leaves_all_rows<S: Alter + Drop>(
     let mut conn = conn;
     let rows = all_rows(alloc, &mut conn)?;
     let mut service = opened(alloc, conn)?;
-    let done = leaves_rows(rt, alloc, &mut service, step);
+    let done = assert_rows_stay(rt, alloc, &mut service, step);
     let mut conn = service.end();
     done?;
     assert_all_rows(rt, alloc, &mut conn, rows.as_str())?;

@@ -1,6 +1,6 @@
 //! A test of a whole month, worked out by hand: ten units of two factions with every kind of order
 //! but SELL and BUY.
-use super::script::{CommandSpec, Course, Step, plays_course};
+use super::script::{CommandSpec, Course, Step, play_course};
 use super::tables::{MAILINGS, MONTH, NEXT, UNITS};
 use atl_test_worlds::ISLE;
 use std::test::Fail;
@@ -186,5 +186,5 @@ static MONTH_OF_TEN: Course = Course {
 /// tables worked out by hand.
 #[test]
 fn ten_units_carry_out_all_orders(rt: HostRuntime) -> Result<(), Fail> {
-    plays_course(&rt, rt.alloc(), &MONTH_OF_TEN)
+    play_course(&rt, rt.alloc(), &MONTH_OF_TEN)
 }

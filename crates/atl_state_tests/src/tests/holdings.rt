@@ -126,7 +126,7 @@ fn text_of(alloc: Global, holding: &Holding) -> Result<String, Fail> {
 }
 
 /// Makes each call of `CALLS`, and asserts the holding after it.
-fn sets_all(rt: &impl Abort, alloc: Global, holding: &mut Holding) -> Result<(), Fail> {
+fn set_all(rt: &impl Abort, alloc: Global, holding: &mut Holding) -> Result<(), Fail> {
     for (row, (part, wanted)) in CALLS.iter().enumerate() {
         sets(alloc, holding, *part)?;
         assert_row_text(rt, row, text_of(alloc, holding)?.as_str(), wanted);
@@ -147,7 +147,7 @@ fn assert_amounts(rt: &impl Abort, holding: &Holding) {
 #[test]
 fn setting_parts_of_a_holding(rt: HostRuntime) -> Result<(), Fail> {
     let mut holding = one_man(rt.alloc())?;
-    sets_all(&rt, rt.alloc(), &mut holding)?;
+    set_all(&rt, rt.alloc(), &mut holding)?;
     assert_amounts(&rt, &holding);
     Ok(())
 }

@@ -160,7 +160,7 @@ fn assert_lists(rt: &impl Abort, row: usize, campaign: &Campaign, case: &Case) {
 }
 
 /// Clears the marks, makes the step of a case, and asserts all that the case wants after it.
-fn case_holds(
+fn assert_case(
     rt: &impl Abort,
     alloc: Global,
     campaign: &mut Campaign,
@@ -182,7 +182,7 @@ fn cases_hold(
     cases: &[Case],
 ) -> Result<(), Fail> {
     for (row, case) in cases.iter().enumerate() {
-        case_holds(rt, alloc, campaign, row, case)?;
+        assert_case(rt, alloc, campaign, row, case)?;
     }
     Ok(())
 }
@@ -268,7 +268,7 @@ static SAILING: [Case; 4] = [
 ];
 
 /// Moves all units into the boat, and then asserts the cases of `OWNERS_AFTER` and of `SAILING`.
-fn sails(rt: &impl Abort, alloc: Global, campaign: &mut Campaign) -> Result<(), Fail> {
+fn sail_all(rt: &impl Abort, alloc: Global, campaign: &mut Campaign) -> Result<(), Fail> {
     make_steps(alloc, campaign, &ENTERING)?;
     assert_next_owners(rt, campaign);
     cases_hold(rt, alloc, campaign, &SAILING)?;
@@ -281,5 +281,5 @@ fn sails(rt: &impl Abort, alloc: Global, campaign: &mut Campaign) -> Result<(), 
 #[test]
 fn going_inside_a_structure(rt: HostRuntime) -> Result<(), Fail> {
     let mut campaign = peopled(rt.alloc())?;
-    sails(&rt, rt.alloc(), &mut campaign)
+    sail_all(&rt, rt.alloc(), &mut campaign)
 }

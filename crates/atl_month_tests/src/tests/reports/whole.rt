@@ -76,7 +76,7 @@ fn assert_report(
 }
 
 /// Has Avalon join a campaign just founded, and asserts its report.
-fn joins_and_reads(rt: &impl Abort, alloc: Global, world: &World) -> Result<(), Fail> {
+fn join_and_read(rt: &impl Abort, alloc: Global, world: &World) -> Result<(), Fail> {
     let mut campaign = founded_in(alloc, world)?;
     avalon_joins(world, &mut campaign)?;
     assert_report(rt, alloc, world, &campaign)
@@ -86,5 +86,5 @@ fn joins_and_reads(rt: &impl Abort, alloc: Global, world: &World) -> Result<(), 
 #[test]
 fn orders_and_regions(rt: HostRuntime) -> Result<(), Fail> {
     let world = read_world(rt.alloc(), SMALL_WORLD)?;
-    joins_and_reads(&rt, rt.alloc(), &world)
+    join_and_read(&rt, rt.alloc(), &world)
 }
