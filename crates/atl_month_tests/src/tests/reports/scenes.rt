@@ -102,8 +102,8 @@ pub(crate) struct Scene {
     /// The stocks: region, item and amount.
     pub stocks: &'static [(i64, i64, i64)],
     /// What is booked: entry, thing and amount. If the list is empty, the books are those of the
-    /// founding, and all that units have is booked under Joining in addition, and all stocks under
-    /// Stocked.
+    /// founding. In addition, the money, men and first two items of all units are booked under
+    /// Joining, and all stocks under Stocked.
     pub books: &'static [(i64, i64, i64)],
 }
 
