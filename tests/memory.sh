@@ -29,7 +29,12 @@ db=$work/campaign.db
 "$here/gm" found --world "$here/worlds/isle.toml" --db "$db" --pass gm >/dev/null || exit 1
 program=$here/crates/atl_gm/out/atl_gm
 calls=$here/crates/atl_memory_tests/out/atl_memory_tests
-if [ ! -x "$calls" ] || [ -n "$(find "$here"/crates/*/src -newer "$calls" -print -quit)" ]; then
+# the sources that the program of calls is made of: those of no other crate of tests
+newer() {
+  find "$here/crates/atl_memory_tests/src" -newer "$calls"
+  find "$here"/crates/*/src -newer "$calls" ! -path '*_tests/*'
+}
+if [ ! -x "$calls" ] || [ -n "$(newer)" ]; then
   (cd "$here/crates/atl_test_worlds" && rt lib) >"$work/built" 2>&1
   (cd "$here/crates/atl_memory_tests" && rt run) >>"$work/built" 2>&1 || { tail -n 20 "$work/built" >&2; exit 1; }
   touch "$calls"
