@@ -25,8 +25,8 @@ CLUBS = (
     ("taxer", "maker", "trader", "settler"),
 )
 MONTHS, HALF = 24, 6
-# The 500 peasants of a full plain feed 50 people, who bring 500 by tax and 600 by work, and cost 500. So with the 50
-# people that scripted players keep in a region it leaves 600 a month. (With 100 people it would leave 700.)
+# The 500 peasants of a full plain feed 50 people, who bring 500 by tax and 600 by work, and cost 500. So with 50 people it
+# leaves its faction 600 a month, which is the bound for scripted players. (With 100 people it would leave 700.)
 MOST_OF_A_REGION = 600
 # A careless player is out of the game by this month.
 GONE_BY = 6
