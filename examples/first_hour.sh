@@ -1,6 +1,6 @@
 #!/usr/bin/env bash
 # A club's first hour: a campaign is founded on an island, two players join, one sends orders, the first month is closed, and reports are read. It prints
-# each command and what the program answers, and works in a temporary folder. Called without arguments; the program is built first where it isn't.
+# each command and what the program answers, and works in a temporary folder. Called without arguments, it takes a few seconds; nothing is proved or built.
 set -eu
 here=$(cd "$(dirname "$(readlink -f "$0")")/.." && pwd)
 club=$(mktemp -d)
@@ -66,7 +66,7 @@ printf '$ gm books --db club.db >/dev/null && cp club.db before-1.db\n'
 "$here/gm" books --db club.db >/dev/null && cp club.db before-1.db
 gm report --db before-1.db --faction 1 --pass apple
 
-tell 'The moderator closes the first month: all orders are carried out, and each faction gets a new report. examples/close_month.sh does this with the copy.'
+tell 'The moderator closes the first month: all orders are carried out, and each faction gets a new report. kiwirudder close does this with the copy.'
 gm close --db club.db --month 1 --pass moderator --seed 3
 
 tell 'The first player reads what came of the orders. The new unit is unit 3, whose four recruits earned what they need.'

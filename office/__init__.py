@@ -1,0 +1,1 @@
+"""The club's office: all that happens between the players' mailboxes and the proved program."""

@@ -1,0 +1,1 @@
+"""Months: close, replay, go back, keep copies, publish."""

@@ -1,0 +1,1 @@
+"""A club's folder, and the program that keeps its campaign."""

@@ -1,0 +1,1 @@
+"""Messages of players, and letters to them."""

@@ -1,0 +1,1 @@
+"""Orders as the replies to players show them."""
