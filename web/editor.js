@@ -1,114 +1,136 @@
-// The text box with its line numbers. Marks of faulty lines go along as lines above them are added or removed.
+// The text box with its line numbers. Marks of faulty lines follow their lines as others are added, changed or removed.
 
-import { byId } from './dom.js';
-import { badLines, splitLines } from './mailing.js';
+import { byId, el, on } from './dom.js';
+import { readMailing } from './judge.js';
+import { followLines } from './line_marks.js';
+import { badLines } from './mailing.js';
+import { splitLines } from './texts.js';
+import { theWorld } from './world.js';
+
+const LEAST_LINES = 20;
+export const box = /** @type {HTMLTextAreaElement} */ (byId('orders-text'));
 
 let lines = [''];
+/** @type {T.Mark[]} */
 let faults = [];
-let bad = [];
+let read = readMailing('');
+let here = 1;
+let bad = badLines([]);
+/** @type {HTMLElement[]} */
 const numbers = [];
-const marked = [];
+// What is seen of the text, in pixels: how far it is scrolled, and how high the box and a line are.
+const seen = { top: 0, height: 0, line: 24 };
 
-export const text = () => byId('orders-text').value;
+export const text = () => box.value;
+export const mailingNow = () => read;
 export const faultyLines = () => faults;
 export const badLinesNow = () => bad;
+
+// The lines in which the program will find a fault, if the page has the world. The line being typed is left out.
+export function foreseen() {
+  const typed = document.activeElement === box ? here : 0;
+  return theWorld() ? read.faults.filter(([line]) => line !== typed) : [];
+}
+
+/** @param {number} line */
 export const faultyText = (line) => lines[line - 1] ?? '';
 
+/** @type {T.Act} */
 export function setText(fresh) {
-  byId('orders-text').value = fresh;
+  box.value = fresh;
   takeLines();
 }
 
-// Marks the faulty lines of the text that was sent, which may have been edited since.
+/** @type {T.SetFaults} */
 export function setFaults(pairs, sent = text()) {
   lines = splitLines(sent);
   faults = pairs.map(([line, number]) => ({ line, number, changed: false }));
   takeLines();
 }
 
-export function clearFaults() {
-  setFaults([]);
-}
-
 function takeLines() {
-  const fresh = splitLines(text());
-  faults = moved(faults, lines, fresh);
+  read = readMailing(text(), theWorld()?.known);
+  const fresh = read.lines.map((line) => line.text);
+  const places = faults.length > 0 ? followLines(lines, fresh) : [];
+  faults = faults.map((fault) => {
+    const place = places[fault.line - 1] ?? -1;
+    return place >= 0 ? { ...fault, line: place + 1 }
+      : { ...fault, line: Math.min(fault.line, fresh.length), changed: true };
+  });
   lines = fresh;
-  bad = badLines(text());
+  here = lineNow();
+  bad = badLines(read.lines);
   showLines();
 }
 
-function moved(list, old, fresh) {
-  const start = sameStart(old, fresh);
-  const end = sameEnd(old, fresh, start);
-  return list.map((fault) => {
-    if (fault.line <= start) return fault;
-    if (fault.line > old.length - end) return { ...fault, line: fault.line + fresh.length - old.length };
-    return { ...fault, line: Math.min(fault.line, fresh.length), changed: true };
+function lineNow() {
+  const { value, selectionStart: at } = box;
+  let line = 1;
+  for (let end = value.indexOf('\n'); end >= 0 && end < at; end = value.indexOf('\n', end + 1)) line += 1;
+  return line;
+}
+
+// The line of the text in which the caret is, as it was read.
+export const lineHere = () => read.lines[lineNow() - 1];
+
+// Shows the numbers of the lines that are seen, with their marks. It asks nothing of the layout, which takes long.
+function showLines() {
+  const first = Math.floor(seen.top / seen.line);
+  const count = Math.min(lines.length - first, Math.max(LEAST_LINES, Math.ceil(seen.height / seen.line) + 1));
+  while (numbers.length < count) numbers.push(byId('orders-lines').appendChild(el('div')));
+  for (const node of numbers.splice(Math.max(count, 0))) node.remove();
+  const marks = new Map(bad.map(({ line }) => [line, 'warned']));
+  for (const [line] of foreseen()) marks.set(line, 'warned');
+  for (const { line, changed } of faults) if (!changed) marks.set(line, 'faulty');
+  numbers.forEach((node, index) => {
+    const line = first + index + 1;
+    node.dataset.line = node.textContent = String(line);
+    node.className = marks.get(line) ?? '';
+    node.style.transform = `translateY(${first * seen.line - seen.top}px)`;
   });
 }
 
-function sameStart(old, fresh) {
-  let count = 0;
-  while (count < old.length && count < fresh.length && old[count] === fresh[count]) count += 1;
-  return count;
+const lineHeight = () => parseFloat(getComputedStyle(box).lineHeight) || seen.line;
+
+function measure() {
+  Object.assign(seen, { top: box.scrollTop, height: box.clientHeight, line: lineHeight() });
+  showLines();
 }
 
-function sameEnd(old, fresh, start) {
-  const most = Math.min(old.length, fresh.length) - start;
-  let count = 0;
-  while (count < most && old[old.length - 1 - count] === fresh[fresh.length - 1 - count]) count += 1;
-  return count;
-}
-
-function showLines() {
-  for (const node of numbers.splice(lines.length)) node.remove();
-  const fresh = document.createDocumentFragment();
-  while (numbers.length < lines.length) {
-    const node = newLine(numbers.length + 1);
-    numbers.push(node);
-    fresh.append(node);
-  }
-  byId('orders-lines').append(fresh);
-  for (const node of marked.splice(0)) node.className = '';
-  mark(bad, 'warned');
-  mark(faults.filter((fault) => !fault.changed), 'faulty');
-  scrollLines();
-}
-
-function mark(entries, name) {
-  for (const { line } of entries) {
-    const node = numbers[line - 1];
-    if (!node) continue;
-    node.className = name;
-    marked.push(node);
-  }
-}
-
-function newLine(number) {
-  const node = document.createElement('div');
-  node.dataset.line = String(number);
-  node.textContent = String(number);
-  return node;
-}
-
-function scrollLines() {
-  byId('orders-lines').scrollTop = byId('orders-text').scrollTop;
-}
-
+/** @param {number} line */
 export function jumpTo(line) {
-  const box = byId('orders-text');
-  const start = lines.slice(0, line - 1).reduce((sum, text) => sum + text.length + 1, 0);
+  const start = lines.slice(0, line - 1).join('\n').length + (line > 1 ? 1 : 0);
+  select(start, start + faultyText(line).length, line);
+}
+
+/** @type {T.PlaceCaret} */
+export const placeCaret = (place) => select(place, place, splitLines(text().slice(0, place)).length);
+
+/** @type {T.Select} */
+function select(start, end, line) {
   box.focus();
-  box.setSelectionRange(start, start + (lines[line - 1] ?? '').length);
-  box.scrollTop = Math.max(0, (line - 1) * parseFloat(getComputedStyle(box).lineHeight) - box.clientHeight / 3);
+  box.setSelectionRange(start, end);
+  box.scrollTop = Math.max(0, (line - 1) * lineHeight() - box.clientHeight / 3);
   box.scrollLeft = 0;
 }
 
-export function watchText(act) {
-  const box = byId('orders-text');
-  box.addEventListener('scroll', scrollLines);
-  box.addEventListener('input', () => {
+/** @type {T.WatchText} */
+export function watchText(act, look) {
+  const move = () => {
+    here = lineNow();
+    showLines();
+    look();
+  };
+  on(box, 'focus', move);
+  on(box, 'blur', (event) => event.relatedTarget !== byId('orders-names') && move());
+  on(box, 'keyup click', () => here !== lineNow() && move());
+  on(document, 'world', () => {
+    takeLines();
+    look();
+  });
+  on(box, 'scroll', measure);
+  new ResizeObserver(measure).observe(box);
+  on(box, 'input', () => {
     takeLines();
     act();
   });

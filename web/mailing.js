@@ -1,7 +1,9 @@
-// Reads the text of a mailing as far as it can be read without the world.
+// Signs of a mailing, the report that is on it, and texts to start from.
 
-export const MOST_BYTES = 65536;
+import { capitals, MOST_NUMBER, nameIn, numberIn, readMailing, slotOf } from './judge.js';
+import { allOwn } from './unit_rows.js';
 
+/** @type {[RegExp, string][]} */
 const SIGNS = [
   [/[\u201c\u201d\u201e\u201f\u00ab\u00bb]/g, '"'],
   [/[\u2018\u2019\u201a\u201b]/g, "'"],
@@ -11,119 +13,84 @@ const SIGNS = [
   [/[\u200b-\u200d\u2060\ufeff\u00ad]/g, ''],
 ];
 
-export function splitLines(text) {
-  return text.replace(/\r\n?/g, '\n').split('\n');
+/** @param {string} text */
+export const plainSigns = (text) => SIGNS.reduce((sofar, [signs, plain]) => sofar.replace(signs, plain), text);
+
+/** @type {T.BadLines} */
+export const badLines = (lines) => lines.filter(({ kind }) => kind === 'bad')
+  .map(({ line, text }) => ({ line, signs: [...new Set(text.match(/[^\t\x20-\x7e]/gu))] }));
+
+/** @type {T.AmountAsked} */
+export function amountAsked({ verb, words }) {
+  const after = capitals(words[1]?.text ?? '') === 'NEW' ? 3 : 2;
+  const at = ['BUY', 'SELL', 'RECRUIT'].includes(verb) ? 1 : ['GIVE', 'PAY', 'TRANSFER'].includes(verb) ? after : -1;
+  return words[at] ? numberIn(words[at].text, MOST_NUMBER) : null;
 }
 
-export function byteLength(text) {
-  return new TextEncoder().encode(text).length;
+/** @type {T.FitsMailing} */
+export function fits({ text, orders: count, faults }, report) {
+  const events = report.events.filter((event) => event.line > 0);
+  const faulty = new Set(faults.map(([line]) => line));
+  const orders = readMailing(text).lines.filter(({ kind, line }) => kind === 'order' && !faulty.has(line));
+  return orders.length === count && faults.length === report.faults.length
+    && faults.every(([line, number], i) => line === report.faults[i].line && number === report.faults[i].number)
+    && sameOrders(orders, events) && sameNames(orders, report);
 }
 
-export function plainSigns(text) {
-  return SIGNS.reduce((sofar, [signs, plain]) => sofar.replace(signs, plain), text);
+/** @type {T.SameOrders} */
+function sameOrders(orders, events) {
+  const byLine = new Map(events.map((event) => [event.line, event]));
+  // Only the last one of the orders of a unit that have one slot counts.
+  const counting = new Set(new Map(orders.map((order) => [
+    `${slotOf(order.verb) ?? order.line} ${unitOf(order, byLine)}`, order.line])).values());
+  return byLine.size === events.length && counting.size === events.length
+    && orders.every((order) => counting.has(order.line) === byLine.has(order.line) && fitsEvent(order, byLine));
 }
 
-export function lineWords(line) {
-  const words = [];
-  const form = /[ \t]*(?:"([^"]*)"?|([^ \t;"]+)|(;))/y;
-  for (let found = form.exec(line); found && !found[3]; found = form.exec(line)) {
-    words.push(found[1] === undefined ? found[2] : found[1]);
-  }
-  return words;
+/** @type {T.UnitOf} */
+const unitOf = ({ form, unit }, events) => (form ? events.get(form)?.done : unit) ?? 0;
+
+/** @type {T.FitsEvent} */
+function fitsEvent(order, events) {
+  const event = events.get(order.line);
+  if (event === undefined) return true;
+  if (event.verb !== order.verb || event.unit !== unitOf(order, events)) return false;
+  const asked = amountAsked(order);
+  return asked === null || event.done === undefined || event.done === asked
+    || (slotOf(order.verb) !== null && event.done < asked);
 }
 
-// A list with, for each line of the text, its kind, verb and unit. The unit of a FORM's block is null.
-export function readMailing(text) {
-  const state = { inside: false, over: false, unit: null, outer: null, block: false, faction: null };
-  const lines = splitLines(text).map((line, index) => ({ line: index + 1, text: line, ...readLine(state, line) }));
-  return { faction: state.faction, lines };
+/** @type {T.SameNames} */
+function sameNames(orders, report) {
+  const events = new Map(report.events.map((event) => [event.line, event]));
+  const named = new Map(orders.filter(({ verb, words: [, what, name], line }) => verb === 'NAME' && name
+    && capitals(what.text) === 'UNIT' && events.get(line)?.done !== undefined)
+    .map((order) => [unitOf(order, events), nameIn(order.words[2])]));
+  return allOwn(report).every(({ number, name }) => (named.get(number) ?? name) === name);
 }
 
-function readLine(state, line) {
-  const words = lineWords(line);
-  const verb = (words[0] || '').toUpperCase();
-  if (state.over) return { kind: 'outside' };
-  if (!state.inside) return readOutside(state, verb, words);
-  if (verb === '#END') {
-    state.over = true;
-    return { kind: 'end' };
-  }
-  if (/[^\t\x20-\x7e]/.test(line)) return { kind: 'bad' };
-  if (words.length === 0) return { kind: 'blank' };
-  return readOrder(state, verb, words);
-}
+/** @param {number} faction */
+export const emptyMailing = (faction) => `#ATLANTIS ${faction}\n`;
 
-function readOutside(state, verb, words) {
-  if (verb !== '#ATLANTIS') return { kind: 'outside' };
-  state.inside = true;
-  state.faction = numberOf(words[1]);
-  return { kind: 'header' };
-}
-
-function readOrder(state, verb, words) {
-  if (verb === 'UNIT') {
-    Object.assign(state, { unit: numberOf(words[1]), block: false });
-    return { kind: 'unit', unit: state.unit };
-  }
-  if (verb === 'END') {
-    if (state.block) Object.assign(state, { unit: state.outer, block: false });
-    return { kind: 'block' };
-  }
-  const order = { kind: 'order', verb: verb === 'BOARD' ? 'ENTER' : verb, unit: state.unit };
-  if (verb === 'FORM' && !state.block) Object.assign(state, { outer: state.unit, unit: null, block: true });
-  return order;
-}
-
-function numberOf(word) {
-  return /^\d+$/.test(word || '') ? Number(word) : null;
-}
-
-// The lines with a letter or sign that can't be in orders: [{line, signs}].
-export function badLines(text) {
-  return readMailing(text).lines.filter((entry) => entry.kind === 'bad')
-    .map((entry) => ({ line: entry.line, signs: [...new Set(entry.text.match(/[^\t\x20-\x7e]/gu))] }));
-}
-
-// Whether the report may be on this mailing: {text, orders, faults: [[line, number], ..]}.
-export function fits(mailing, report) {
-  const asked = report.events.filter((event) => event.line > 0);
-  return sameFaults(mailing.faults, report.faults) && (asked.length > 0 || mailing.orders === 0)
-    && fitsLines(readMailing(mailing.text).lines, asked);
-}
-
-function sameFaults(faults, reported) {
-  return faults.length === reported.length
-    && faults.every(([line, number], i) => line === reported[i].line && number === reported[i].number);
-}
-
-function fitsLines(lines, events) {
-  return events.every((event) => {
-    const entry = lines[event.line - 1];
-    return entry && entry.kind === 'order' && entry.verb === event.verb
-      && (entry.unit === null || entry.unit === event.unit);
-  });
-}
-
-export function emptyMailing(faction) {
-  return `#ATLANTIS ${faction}\n`;
-}
-
-// A text to start the next month from: each unit of the report with a comment.
+/** @type {T.Template} */
 export function template(report) {
-  const lines = [`#ATLANTIS ${report.faction}`, `; orders for month ${report.month + 1}`];
-  for (const region of report.regions) {
-    const units = region.units.filter((unit) => unit.own);
-    if (units.length > 0) lines.push('', `; in region ${region.number} ${plain(region.name)}`);
-    for (const unit of units) lines.push(unitLine(unit), '');
+  const lines = [`#ATLANTIS ${report.faction}`, `; orders for month ${(report.month ?? 0) + 1}`];
+  for (const { number, name, units } of report.regions) {
+    const own = units.filter((unit) => unit.own);
+    if (own.length > 0) lines.push('', `; in region ${number} ${plain(name)}`);
+    for (const { number: unit, name: called, men, money } of own) {
+      lines.push(`UNIT ${unit} ; ${plain(called)}: ${men} men, ${money} money`, '');
+    }
   }
   lines.push('#END', '');
   return lines.join('\n').replace(/\n\n\n/g, '\n\n');
 }
 
-function unitLine(unit) {
-  return `UNIT ${unit.number} ; ${plain(unit.name)}: ${unit.men} men, ${unit.money} money`;
-}
+/** @param {string} name */
+const plain = (name) => name.replace(/[^\x20-\x7e]/g, '?');
 
-function plain(name) {
-  return name.replace(/[^\x20-\x7e]/g, '?');
+/** @type {T.FirstPlace} */
+export function firstPlace(text) {
+  const found = /^UNIT .*\n/im.exec(text) ?? /^#ATLANTIS .*\n/im.exec(text);
+  return found ? found.index + found[0].length : 0;
 }

@@ -1,47 +1,68 @@
-// Starts the page: the tabs, and the four parts.
+// Starts the page: the tabs, and the parts. Each part shows what is kept as it starts, so their order doesn't matter.
 
-import { byId } from './dom.js';
+import { startArchive } from './archive_panel.js';
+import { byId, on, tell } from './dom.js';
+import { startJoin } from './join_panel.js';
+import { startMap } from './map_panel.js';
+import { startOrderClicks } from './order_clicks.js';
+import { startOrders } from './orders_panel.js';
+import { signIn, startReport } from './report_panel.js';
+import { startSignIn, takeFaction } from './sign_in.js';
 import { lastFaction } from './store.js';
-import { startSignIn, takeFaction } from './signin.js';
-import { startJoin } from './join.js';
-import { startOrders } from './orders.js';
-import { startReport } from './reading.js';
-import { startMap } from './map.js';
+import { startUnits } from './units_panel.js';
+import { loadWorld } from './world.js';
 
-const TABS = ['join', 'orders', 'report', 'map'];
+const TABS = ['join', 'units', 'orders', 'report', 'map'];
 
-export function showTab(name) {
+/** @param {string} name */
+function showTab(name) {
   takeFaction();
   for (const tab of TABS) {
     byId(`tab-${tab}`).setAttribute('aria-selected', String(tab === name));
+    byId(`tab-${tab}`).tabIndex = tab === name ? 0 : -1;
     byId(`panel-${tab}`).hidden = tab !== name;
   }
   history.replaceState(null, '', `#${name}`);
-  document.dispatchEvent(new CustomEvent('tab', { detail: name }));
+  tell('tab');
 }
 
-function moveByKey(event) {
-  const step = { ArrowLeft: -1, ArrowRight: 1 }[event.key];
-  if (!step) return;
-  const here = TABS.indexOf(event.target.id.slice('tab-'.length));
-  const name = TABS[(here + step + TABS.length) % TABS.length];
-  event.preventDefault();
+// Shows a part of the page that the player did not choose by its tab, and takes the focus along.
+/** @type {T.GoTo} */
+function goTo(name) {
   showTab(name);
-  byId(`tab-${name}`).focus();
+  byId(`panel-${name}`).querySelector('h2')?.focus();
 }
 
 function startTabs() {
-  for (const name of TABS) {
-    byId(`tab-${name}`).addEventListener('click', () => showTab(name));
-    byId(`tab-${name}`).addEventListener('keydown', moveByKey);
-  }
+  TABS.forEach((name, index) => {
+    on(`tab-${name}`, 'click', () => showTab(name));
+    on(`tab-${name}`, 'keydown', (event) => {
+      const step = event.key === 'ArrowLeft' ? -1 : event.key === 'ArrowRight' ? 1 : 0;
+      if (step === 0) return;
+      event.preventDefault();
+      const next = TABS[(index + step + TABS.length) % TABS.length];
+      showTab(next);
+      byId(`tab-${next}`).focus();
+    });
+  });
   const asked = location.hash.slice(1);
-  showTab(TABS.includes(asked) ? asked : lastFaction() ? 'orders' : 'join');
+  showTab(TABS.includes(asked) ? asked : lastFaction() ? 'units' : 'join');
 }
 
+async function signInAndGo() {
+  const outcome = await signIn();
+  if (outcome.tone === 'good' && !byId('panel-join').hidden) goTo('units');
+  return outcome;
+}
+
+startSignIn(signInAndGo);
 startOrders();
 startReport();
 startMap();
-startJoin(showTab);
-startSignIn();
+startArchive();
+startUnits();
+startOrderClicks(goTo);
+startJoin(goTo);
 startTabs();
+byId('not-started').remove();
+loadWorld();

@@ -1,82 +1,109 @@
-// What this browser keeps, by faction. Where it can't keep a thing, the page holds it until it is closed.
+// What this browser keeps, by faction: 0 has what is written without one. Where it can't keep a thing, the page holds
+// it until it is closed.
+
+import { on } from './dom.js';
+import { attempt, jsonIn } from './texts.js';
 
 const PREFIX = 'atlantis.';
+/** @type {Map<string, string>} */
 const held = new Map();
 
-function get(key) {
-  if (held.has(key)) return held.get(key);
-  try {
-    return localStorage.getItem(PREFIX + key);
-  } catch {
-    return null;
-  }
-}
+/** @param {string} key */
+const get = (key) => held.get(key) ?? attempt(() => localStorage.getItem(PREFIX + key), null);
 
+/** @type {T.SetKept} */
 function set(key, value) {
-  try {
+  held.set(key, value);
+  return attempt(() => {
     localStorage.setItem(PREFIX + key, value);
-    held.delete(key);
-    return true;
-  } catch {
-    held.set(key, value);
-    return false;
-  }
+    return held.delete(key);
+  }, false);
 }
 
+/** @param {string} key */
 function remove(key) {
   held.delete(key);
-  try {
-    localStorage.removeItem(PREFIX + key);
-  } catch {
-    // Nothing is kept then.
-  }
+  attempt(() => localStorage.removeItem(PREFIX + key), undefined);
 }
 
-function keptKeys() {
-  try {
-    return Object.keys(localStorage).filter((key) => key.startsWith(PREFIX)).map((key) => key.slice(PREFIX.length));
-  } catch {
-    return [];
-  }
+/** @param {string} start */
+function keysFrom(start) {
+  const kept = attempt(() => Object.keys(localStorage), []).filter((key) => key.startsWith(PREFIX))
+    .map((key) => key.slice(PREFIX.length));
+  return [...new Set([...held.keys(), ...kept])].filter((key) => key.startsWith(start));
 }
 
-export const lastFaction = () => Number(get('faction')) || null;
+export const lastFaction = () => Number(get('faction'));
+/** @param {number} faction */
 export const keepLastFaction = (faction) => set('faction', String(faction));
 
-export const keptPass = (faction) => get(`${faction}.pass`);
-export const keepPass = (faction, pass) => set(`${faction}.pass`, pass);
-export const forgetPass = (faction) => remove(`${faction}.pass`);
+/** @type {T.KeptStore} */
+const kept = (name) => ({
+  of: (faction) => get(`${faction}.${name}`),
+  keep: (faction, value) => set(`${faction}.${name}`, String(value)),
+  forget: (faction) => remove(`${faction}.${name}`),
+});
 
-export const draftOf = (faction) => get(`${faction}.draft`);
-export const keepDraft = (faction, text) => set(`${faction}.draft`, text);
-export const forgetDraft = (faction) => remove(`${faction}.draft`);
+/** @type {T.KeptListStore} */
+function keptList(name) {
+  const { of, keep } = kept(name);
+  let read = { source: '', list: /** @type {any[]} */ ([]) };
+  return {
+    of(faction) {
+      const source = of(faction) ?? '[]';
+      const list = read.source === source ? read.list : jsonIn(source);
+      read = { source, list: Array.isArray(list) ? list : [] };
+      return read.list;
+    },
+    keep: (faction, list) => keep(faction, JSON.stringify(list)),
+  };
+}
 
-// The text that was last replaced at the press of a button. Without a faction it is kept under 0.
-export const earlierOf = (faction) => get(`${faction ?? 0}.earlier`);
-export const keepEarlier = (faction, text) => set(`${faction ?? 0}.earlier`, text);
-export const forgetEarlier = (faction) => remove(`${faction ?? 0}.earlier`);
+export const { of: keptPass, keep: keepPass, forget: forgetPass } = kept('pass');
+export const { of: draftOf, keep: keepDraft, forget: forgetDraftText } = kept('draft');
+// The latest month whose report was kept as the draft was begun.
+const { of: draftMonth, keep: keepDraftMonth, forget: forgetDraftMonth } = kept('draft_month');
+// Whether the draft was sent without an answer, so that it may have been taken.
+export const { of: wasUnknown, keep: keepUnknown, forget: forgetUnknown } = kept('unknown');
+// What was replaced, the newest first.
+export const { of: earlierOf, keep: keepEarlier } = /** @type {T.KeptList<T.EarlierText>} */ (keptList('texts'));
+// The oldest first.
+export const { of: mailingsOf, keep: keepMailings } = /** @type {T.KeptList<T.Mailing>} */ (keptList('mailings'));
 
+export { keepDraftMonth };
+
+/** @param {number} faction */
+export function draftMonthOf(faction) {
+  const month = draftMonth(faction);
+  return month === null ? null : Number(month);
+}
+
+/** @param {number} faction */
+export function forgetDraft(faction) {
+  forgetDraftText(faction);
+  forgetDraftMonth(faction);
+}
+
+/** @param {number} faction */
 export function monthsOf(faction) {
   const start = `${faction}.report.`;
-  const keys = new Set([...keptKeys(), ...held.keys()].filter((key) => key.startsWith(start)));
-  return [...keys].map((key) => Number(key.slice(start.length))).sort((a, b) => a - b);
+  return keysFrom(start).map((key) => Number(key.slice(start.length))).sort((a, b) => a - b);
 }
 
+/** @param {number} faction */
 export const latestMonth = (faction) => monthsOf(faction).pop() ?? null;
+/** @type {T.ReportOf} */
 export const reportOf = (faction, month) => get(`${faction}.report.${month}`);
+/** @type {T.KeepReport} */
 export const keepReport = (faction, month, text) => set(`${faction}.report.${month}`, text);
+/** @type {T.ForgetReport} */
 export const forgetReport = (faction, month) => remove(`${faction}.report.${month}`);
 
-// Accepted mailings, the oldest first: {text, at, orders, faults, after, month}. `after` is the latest month whose
-// report was kept then, and `month` is the month that the mailing was for, as soon as that is known.
-export function mailingsOf(faction) {
-  try {
-    const list = JSON.parse(get(`${faction}.mailings`) || '[]');
-    return Array.isArray(list) ? list : [];
-  } catch {
-    return [];
-  }
-}
+/** @param {number} faction */
+export const forgetFaction = (faction) => keysFrom(`${faction}.`).forEach(remove);
 
-export const keepMailings = (faction, list) => set(`${faction}.mailings`, JSON.stringify(list));
-export const forgetMailings = (faction) => remove(`${faction}.mailings`);
+/** @type {T.WatchTabs} */
+export const watchTabs = (act) => on(window, 'storage', ({ key }) => {
+  const found = /^atlantis\.(\d+)\.(\w+)$/.exec(key ?? '');
+  if (found) act(Number(found[1]), found[2]);
+});

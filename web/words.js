@@ -1,5 +1,6 @@
 // What the answers, faults and refusals mean, in words.
 
+/** @type {Record<number, [string, string]>} */
 export const LINE_FAULTS = {
   1: ['NoUnit',
     'no UNIT line is above this order, or the FORM above it has a fault. Write UNIT and a number above it.'],
@@ -16,15 +17,18 @@ export const LINE_FAULTS = {
   11: ['BadName', 'a name has 1 to 40 characters, and no space at its beginning or end.'],
 };
 
+/** @type {Record<number, [string, string]>} */
 export const EVENT_FAULTS = {
   1: ['NotYours', 'the unit is not there, or it is not yours. Look at the numbers in your report.'],
   2: ['NotHere',
     'the other unit or the structure is not in this region, or the unit is not inside. Give first, then go.'],
-  3: ['NotEnough', 'the unit has less than the order asks for. PAY or GIVE to it in the same month. For an order PAY or GIVE of its own, only a unit with a lower number comes first.'],
+  3: ['NotEnough', 'the unit has less than the order asks for. PAY or GIVE to it in the same month. '
+    + 'For an order PAY or GIVE of its own, only a unit with a lower number comes first.'],
   4: ['NoRoom', 'the receiver cannot hold so much. Give less.'],
   5: ['Guarded', 'another faction guards the region. Ask them to stop with GUARD 0, or go elsewhere.'],
   6: ['NotOwner', 'another unit owns the structure. Let the owner PROMOTE this one.'],
-  7: ['NotInside', 'the unit is inside no structure, or in none of this kind. ENTER in the same month, or for NAME in the month before.'],
+  7: ['NotInside', 'the unit is inside no structure, or in none of this kind. '
+    + 'ENTER in the same month, or for NAME in the month before.'],
   8: ['UnitLimit', 'no further unit can be formed. Transfer men to units that are there.'],
   9: ['AtSea', 'the unit is on water. Sail to land first.'],
   10: ['NoMen', 'the unit has no men. TRANSFER some to it.'],
@@ -45,6 +49,7 @@ export const EVENT_FAULTS = {
   24: ['NoMarket', 'the region has no market for this item. Look at the markets in your report.'],
 };
 
+/** @type {Record<string, string>} */
 export const REFUSALS = {
   BadName:
     'a name has 1 to 40 English letters, digits, spaces and signs. It has no " and no space at its beginning or end.',
@@ -73,13 +78,15 @@ export const REFUSALS = {
   BadJson: 'the program cannot read this request. Ask the moderator.',
 };
 
+/** @type {Record<T.Lost, string>} */
 export const LOST = {
-  Timeout: 'No answer came in 30 seconds.',
+  Timeout: 'The server was silent for 30 seconds.',
   Unreachable: 'The server cannot be reached. It is down, or you are offline. Try again later.',
   CutOff: 'The answer was cut off. Try again.',
   Redirect: 'The server sent the request elsewhere (a redirect), so it was not followed. Ask the moderator.',
 };
 
+/** @type {Record<number, string>} */
 export const STATUSES = {
   400: 'the server cannot read this request. Ask the moderator.',
   401: 'the server asks for a sign-in of its own. Ask the moderator.',
@@ -96,57 +103,69 @@ export const STATUSES = {
   504: 'the program did not answer in time. Try again later.',
 };
 
-export const JOINING_CLOSED = 'The moderator has closed joining: ask them.';
-
+/** @param {number} n */
 const men = (n) => (n === 1 ? '1 man' : `${n} men`);
 
+// What came of an order, whose number is followed by ` of N` where N is more, and what that says.
+/** @type {Record<string, (some: string, n: number) => string>} */
 const DONE = {
-  FORM: (n) => `formed unit ${n}`,
-  PAY: (n) => `paid ${n} money`,
-  GIVE: (n) => `gave ${n}`,
-  TRANSFER: (n) => `moved ${men(n)}`,
-  SELL: (n) => `sold ${n}`,
-  BUY: (n) => `bought ${n}`,
-  TAX: (n) => `took ${n} money`,
-  RECRUIT: (n) => `hired ${men(n)}`,
-  BUILD: (n) => `built ${n}`,
-  TEACH: (n) => `taught ${men(n)}`,
-  STUDY: (n) => `learned ${n} days`,
-  PRODUCE: (n) => `made ${n}`,
-  WORK: (n) => `earned ${n} money`,
+  FORM: (some) => `formed unit ${some}`,
+  PAY: (some) => `paid ${some} money`,
+  GIVE: (some) => `gave ${some}`,
+  TRANSFER: (_, n) => `moved ${men(n)}`,
+  SELL: (some) => `sold ${some}`,
+  BUY: (some) => `bought ${some}`,
+  TAX: (some) => `took ${some} money`,
+  RECRUIT: (some, n) => `hired ${some === String(n) ? men(n) : `${some} men`}`,
+  BUILD: (some) => `built ${some}`,
+  TEACH: (_, n) => `taught ${men(n)}`,
+  STUDY: (some) => `learned ${some} days`,
+  PRODUCE: (some) => `made ${some}`,
+  WORK: (some) => `earned ${some} money`,
 };
 
-export function doneWords(verb, number) {
-  if (Object.hasOwn(DONE, verb)) return DONE[verb](number);
+/** @type {T.DoneWords} */
+export function doneWords(verb, number, asked = null) {
+  const some = asked !== null && asked > number ? `${number} of ${asked}` : String(number);
+  if (Object.hasOwn(DONE, verb)) return DONE[verb](some, number);
   return number === 0 ? 'done' : `done ${number}`;
 }
 
-function faultOf(table, number, name) {
+/** @type {T.BringsAmount} */
+export const bringsAmount = (verb) => verb !== 'FORM' && Object.hasOwn(DONE, verb);
+
+/** @type {T.FaultOf} */
+const faultOf = (table) => (number, name) => {
   const known = Object.hasOwn(table, number) ? table[number] : null;
-  if (known && (name === undefined || name === known[0])) return `${known[0]}: ${known[1]}`;
-  return `${name || 'fault'} (number ${number})`;
-}
+  return known && (name ?? known[0]) === known[0] ? known.join(': ') : `${name || 'fault'} (number ${number})`;
+};
 
-export function lineFaultWords(number, name) {
-  return faultOf(LINE_FAULTS, number, name);
-}
+export const lineFaultWords = faultOf(LINE_FAULTS);
+export const eventFaultWords = faultOf(EVENT_FAULTS);
 
-export function eventFaultWords(number, name) {
-  return faultOf(EVENT_FAULTS, number, name);
-}
-
+/** @param {string} name */
 export function refusalWords(name) {
   return Object.hasOwn(REFUSALS, name) ? `${name}: ${REFUSALS[name]}` : `${name}: the program refused this.`;
 }
 
+/** @param {number} status */
 export function statusWords(status) {
   const known = Object.hasOwn(STATUSES, status) ? STATUSES[status] : 'this page does not know what that means.';
   return `Status ${status}: ${known}`;
 }
 
+const FORMAT = new Intl.NumberFormat('en');
+
+/** @param {number} number */
+export const numbered = (number) => FORMAT.format(number);
+
+/** @type {T.Counted} */
 export function counted(number, one, many = `${one}s`) {
-  return `${number.toLocaleString('en')} ${number === 1 ? one : many}`;
+  return `${numbered(number)} ${number === 1 ? one : many}`;
 }
+
+/** @type {T.CountedFaults} */
+export const countedFaults = ({ orders, faults }) => `${counted(orders, 'order')}, ${counted(faults.length, 'fault')}`;
 
 // form, example, what it does, what it needs
 export const ORDERS = [

@@ -27,5 +27,5 @@ class Checks:
         except Exception as error:  # a case that breaks must not stop the others
             steps = [f'{step.filename.rsplit("/", 1)[-1]}:{step.lineno}'
                      for step in traceback.extract_tb(error.__traceback__)]
-            where = ' > '.join(step for step in steps if step.startswith(('lines.py', 'page.py')))
+            where = ' > '.join(step for step in steps if not step.startswith(('checks.py', 'driver.py')))
             self.differs(f'{where}: {type(error).__name__} {error}')

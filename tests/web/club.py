@@ -87,7 +87,8 @@ class Proxy:
     def __init__(self, folder):
         self.folder = os.path.join(folder, 'nginx')
         os.mkdir(self.folder)
-        self.port = free_port()
+        self.root = os.path.join(HERE, 'web')
+        self.port, self.plain_port = free_port(), free_port()
         self.process = None
 
     @property
@@ -98,10 +99,11 @@ class Proxy:
         with open(os.path.join(HERE, 'web', 'nginx.conf')) as file:
             lines = file.read()
         own = [
-            (r'listen 443 ssl;', f'listen 127.0.0.1:{self.port};'),
+            (r'listen 80;\n  listen \[::\]:80;', f'listen 127.0.0.1:{self.plain_port};'),
+            (r'listen 443 ssl;\n  listen \[::\]:443 ssl;', f'listen 127.0.0.1:{self.port};'),
             (r'ssl_certificate \S+;\n', ''),
             (r'ssl_certificate_key \S+;\n', ''),
-            (r'root \S+;', f'root "{HERE}/web";'),
+            (r'root \S+;', f'root "{self.root}";'),
             (r'proxy_pass http://127\.0\.0\.1:8080;', f'proxy_pass {club.site};'),
         ]
         for old, new in own + changes:

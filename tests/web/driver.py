@@ -11,7 +11,7 @@ import urllib.request
 
 ELEMENT = 'element-6066-11e4-a52e-4f735466cecf'
 KEYS = {'Tab': '\ue004', 'Enter': '\ue007', 'Space': ' ', 'Shift': '\ue008', 'Control': '\ue009', 'Down': '\ue015',
-        'Right': '\ue014'}
+        'Right': '\ue014', 'Escape': '\ue00c'}
 ARGUMENTS = ['--headless=new', '--disable-gpu', '--disable-dev-shm-usage', '--no-first-run', '--no-proxy-server',
              '--disable-background-networking', '--disable-component-update', '--disable-sync',
              '--host-resolver-rules=MAP * ~NOTFOUND, EXCLUDE 127.0.0.1', '--window-size=1100,900']
@@ -162,6 +162,24 @@ class Browser:
     def count(self, css):
         return self.run('return document.querySelectorAll(arguments[0]).length', css)
 
+    def tabs(self):
+        """The handles of the tabs of the browser."""
+        return self.call('GET', '/window/handles')
+
+    def open_tab(self):
+        """Opens a tab, and goes to it. Returns its handle."""
+        handle = self.call('POST', '/window/new', {'type': 'tab'})['handle']
+        self.go_to_tab(handle)
+        return handle
+
+    def go_to_tab(self, handle):
+        self.call('POST', '/window', {'handle': handle})
+
+    def close_tab(self, back):
+        """Closes the tab, and goes to another one."""
+        self.call('DELETE', '/window')
+        self.go_to_tab(back)
+
     def has_alert(self):
         try:
             self.call('GET', '/alert/text')
@@ -179,6 +197,21 @@ class Browser:
 
     def devtools(self, command, **parameters):
         return self.call('POST', '/goog/cdp/execute', {'cmd': command, 'params': parameters})
+
+    def script_time(self, script, *arguments, layout=False):
+        """The milliseconds of the processor that the script takes, whatever else the machine does. With `layout` those
+        that the page takes then to be laid out are added."""
+        wanted = ('ScriptDuration', 'LayoutDuration', 'RecalcStyleDuration') if layout else ('ScriptDuration',)
+
+        def spent():
+            metrics = self.devtools('Performance.getMetrics')['metrics']
+            return sum(metric['value'] for metric in metrics if metric['name'] in wanted)
+        self.devtools('Performance.enable', timeDomain='threadTicks')
+        before = spent()
+        self.run(script + ('; document.body.offsetHeight' if layout else ''), *arguments)
+        after = spent()
+        self.devtools('Performance.disable')
+        return (after - before) * 1000
 
     def size(self, width, height, mobile=False):
         self.devtools('Emulation.setDeviceMetricsOverride', width=width, height=height, deviceScaleFactor=1,

@@ -14,7 +14,7 @@ HEADERS = {
         "default-src 'self'; base-uri 'none'; form-action 'none'; frame-ancestors 'none'",
     'X-Content-Type-Options': 'nosniff',
     'Referrer-Policy': 'same-origin',
-    'Cache-Control': 'no-store',
+    'Strict-Transport-Security': 'max-age=31536000',
 }
 TYPES = {'.html': 'text/html; charset=utf-8', '.js': 'text/javascript', '.css': 'text/css', '.svg': 'image/svg+xml',
          '.png': 'image/png'}
@@ -43,6 +43,10 @@ class Lines:
         self.proxy.start(self.club, [FAST])
         run('joining by curl', self.joins)
         run('files of the page', self.files)
+        run('kept files', self.kept_files)
+        run('gzip', self.packed)
+        run('port 80', self.redirected)
+        run('listen', self.hosts)
         run('/close', self.close_is_denied)
         run('another site', self.other_sites)
         run('long mailings', self.lengths)
@@ -80,11 +84,39 @@ class Lines:
             self.headers(path, head)
         self.checks.same('status of a file that is not there', 404, self.ask('/none.html')[0])
         for path in ('/report/1', '/report/9', '/close/1'):
-            self.headers(path, self.ask(path, '-H', 'Atlantis-Pass: apple')[1])
+            self.headers(path, self.ask(path, '-H', 'Atlantis-Pass: apple')[1], 'no-store')
 
-    def headers(self, path, head):
-        for name, value in HEADERS.items():
+    def headers(self, path, head, keeping='no-cache'):
+        for name, value in [*HEADERS.items(), ('Cache-Control', keeping)]:
             self.checks.same(f'{name} of {path}', value, field(head, name))
+
+    def kept_files(self):
+        """A browser that keeps a file is answered 304 without it, as long as the file is the same."""
+        _, head, body = self.ask('/main.js')
+        tag = field(head, 'ETag')
+        again = self.ask('/main.js', '-H', f'If-None-Match: {tag}')
+        self.checks.same('status of a file that is kept', (304, ''), again[::2])
+        self.checks.true('a file that is kept was sent before', 'startTabs' in body)
+
+    def packed(self):
+        """The files of the page, and the answers of the program, are sent packed to a client that takes that."""
+        for path in ('/index.html', '/style.css', '/words.js', '/report/1'):
+            _, head, plain = self.ask(path, '-H', 'Atlantis-Pass: apple')
+            self.checks.same(f'Content-Encoding of {path}', None, field(head, 'Content-Encoding'))
+            _, head, text = self.ask(path, '-H', 'Atlantis-Pass: apple', '--compressed')
+            self.checks.same(f'Content-Encoding of {path} for a browser', 'gzip', field(head, 'Content-Encoding'))
+            self.checks.same(f'text of {path}', plain, text)
+
+    def redirected(self):
+        """Who asks without TLS is sent to the name of the host, whatever the request says of it."""
+        status, head, _ = curl(f'http://127.0.0.1:{self.proxy.plain_port}/report/1?a', '-H', 'Host: evil.example')
+        self.checks.same('where port 80 leads', (301, 'https://club.example.org/report/1?a'),
+                         (status, field(head, 'Location')))
+
+    def hosts(self):
+        """Both versions of IP are listened to on both ports."""
+        listens = re.findall(r'^  listen (.*);$', read('web/nginx.conf'), re.M)
+        self.checks.same('lines of listen', ['80', '[::]:80', '443 ssl', '[::]:443 ssl'], listens)
 
     def close_is_denied(self):
         paths = ('/close/1', '/close', '/close/1?a', '//close/1', '/%63lose/1', '/orders/../close/1', '/./close/1',

@@ -34,6 +34,15 @@ WORK
 HOSTILE = ['<b>x</b>', '<img src=x onerror=alert(1)>', "Tom & 'Jerry' &lt;i&gt;",
            '</textarea><script>alert(2)</script>']
 SIGNS = '<i>&"\'</i>'
+# Types letters all over the text.
+LETTERS_TYPED = 11
+TYPED = """const box = document.querySelector('#orders-text');
+for (let i = 0; i < arguments[0]; i += 1) {
+  box.setRangeText('x', i * 1000, i * 1000, 'end');
+  box.dispatchEvent(new InputEvent('input', {bubbles: true, inputType: 'insertText'}));
+}"""
+# Milliseconds of the processor.
+MOST_OF_A_KEY = 20
 KEPT = 'return JSON.stringify([Object.entries(localStorage), Object.entries(sessionStorage), document.cookie])'
 CONTRAST = r'''
 const rgb = (text) => (text.match(/[\d.]+/g) || []).map(Number);
@@ -134,24 +143,12 @@ class Page:
         return self.browser.run(KEPT)
 
 
-class Cases:
-    def __init__(self, checks, browser, proxy, club, hostile, shots):
-        self.checks, self.browser, self.proxy, self.club, self.hostile = checks, browser, proxy, club, hostile
-        self.page = Page(browser, proxy, shots)
+class PageCases:
+    """Cases of one campaign, which are played on the page one after another."""
 
-    def all(self):
-        self.proxy.start(self.club, [FAST])
-        self.page.open()
-        for name in ('joining', 'keeping', 'taken', 'faults', 'mending', 'drafts', 'closing', 'reading', 'events',
-                     'saving', 'map', 'template', 'refusals', 'lengths', 'keyboard', 'remembering', 'down', 'closed',
-                     'limit', 'other site', 'new unit', 'phone', 'schemes'):
-            self.case(name)
-        self.proxy.stop()
-        self.proxy.start(self.hostile, [FAST])
-        self.case('another campaign')
-        self.case('hostile names')
-        self.case('gone')
-        self.proxy.stop()
+    def __init__(self, checks, page, club):
+        self.checks, self.page, self.club = checks, page, club
+        self.browser, self.proxy = page.browser, page.proxy
 
     def case(self, name):
         self.checks.run(f'page, {name}', self.watched, getattr(self, name.replace(' ', '_')))
@@ -170,6 +167,26 @@ class Cases:
         """Starts nginx again with some lines changed."""
         self.proxy.stop()
         self.proxy.start(self.club, list(changes))
+
+
+class Cases(PageCases):
+    def __init__(self, checks, page, club, hostile):
+        super().__init__(checks, page, club)
+        self.hostile = hostile
+
+    def all(self):
+        self.proxy.start(self.club, [FAST])
+        self.page.open()
+        for name in ('joining', 'keeping', 'taken', 'faults', 'mending', 'drafts', 'closing', 'reading', 'events',
+                     'saving', 'map', 'template', 'refusals', 'lengths', 'keyboard', 'remembering', 'down', 'closed',
+                     'limit', 'other site', 'new unit', 'phone', 'schemes'):
+            self.case(name)
+        self.proxy.stop()
+        self.proxy.start(self.hostile, [FAST])
+        self.case('another campaign')
+        self.case('hostile names')
+        self.case('gone')
+        self.proxy.stop()
 
     def joining(self):
         self.page.shot('1-join')
@@ -336,6 +353,8 @@ class Cases:
             self.says(f'{length} bytes', r'65,536', self.page.send(text.ljust(length, 'x')))
         self.says('signs of two bytes', r'65,536', self.page.send(text[:-1] + '\u00e9'))
         self.says('many lines', r'\b10,?000 orders\b', self.page.send('#ATLANTIS 1\nUNIT 1\n' + 'WORK\n' * 10000))
+        spent = self.browser.script_time(TYPED, LETTERS_TYPED) / LETTERS_TYPED
+        self.checks.true('a key in many lines is handled at once', spent < MOST_OF_A_KEY, spent)
         begun = time.monotonic()
         self.browser.type('#orders-text', 'work')
         self.checks.true('typing in many lines ends', time.monotonic() - begun < 60, time.monotonic() - begun)
@@ -473,7 +492,7 @@ class Cases:
         self.checks.same('the units of the template', ['1', '2'], re.findall(r'^UNIT (\d+)', template, re.M))
 
     def each_tab(self, act):
-        for name in ('join', 'orders', 'report', 'map'):
+        for name in ('join', 'units', 'orders', 'report', 'map'):
             self.page.tab(name)
             act(name)
 

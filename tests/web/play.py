@@ -1,14 +1,19 @@
-"""Runs all cases of tests/web: starts campaigns, nginx and a browser, asks the lines of web/nginx.conf, and plays on the page.
-Called by tests/web.sh with a folder for its files, and perhaps one for pictures of the page."""
+"""Runs all cases of tests/web: starts campaigns, nginx and a browser, asks the lines of web/nginx.conf, and plays on
+the page. Called by tests/web.sh with a folder for its files, and perhaps one for pictures of the page."""
 import os
 import signal
 import sys
 
+from access import Access
 from checks import Checks
 from club import HERE, Club, Proxy
 from driver import Browser, Driver
+from files import Files
 from lines import Lines
-from page import Cases, hostile_world
+from page import Cases, Page, hostile_world
+from signing import Signing
+from texts import Texts
+from world import World
 
 
 def play(folder, shots):
@@ -16,7 +21,8 @@ def play(folder, shots):
     clubs, stops = [], []
     try:
         world = os.path.join(HERE, 'worlds', 'coast.toml')
-        for name, text in (('lines', world), ('page', world), ('hostile', hostile_world(folder))):
+        for name, text in (('lines', world), ('page', world), ('texts', world), ('hostile', hostile_world(folder)),
+                           ('world', world)):
             clubs.append(Club(folder, name, text))
             stops.append(clubs[-1].stop)
             clubs[-1].start()
@@ -25,7 +31,13 @@ def play(folder, shots):
         Lines(checks, clubs[0], proxy).all()
         driver = Driver(folder)
         stops.append(driver.stop)
-        Cases(checks, Browser(driver), proxy, clubs[1], clubs[2], shots).all()
+        page = Page(Browser(driver), proxy, shots)
+        Cases(checks, page, clubs[1], clubs[3]).all()
+        Texts(checks, page, clubs[2]).all()
+        Signing(checks, page, clubs[2]).all()
+        Access(checks, page, clubs[2]).all()
+        Files(checks, page, clubs[2]).all()
+        World(checks, page, clubs[4]).all()
     finally:
         for stop in reversed(stops):
             stop()

@@ -1,48 +1,50 @@
 // Finds a place on the map for each region by walking its exits. Regions whose place is taken, or that no way leads to,
 // begin a part of their own.
 
+/** @type {Record<T.Way, [number, number]>} */
 const STEPS = { north: [0, -1], south: [0, 1], east: [1, 0], west: [-1, 0] };
+/** @type {Record<T.Way, T.Way>} */
 const BACK = { north: 'south', south: 'north', east: 'west', west: 'east' };
 const LEAST_WIDTH = 5;
 
-// All regions of the reports, given from the oldest to the newest, by number. `seen` is the month of the last report
-// that has the region, and null where only a way to it is known.
+/** @type {T.Gather} */
 export function gather(reports) {
+  /** @type {T.Regions} */
   const regions = new Map();
-  for (const report of reports) {
-    for (const region of report.regions) regions.set(region.number, { ...region, seen: report.month });
+  for (const { month, regions: list } of reports) {
+    for (const region of list) regions.set(region.number, { ...region, seen: month ?? 0 });
   }
-  for (const region of [...regions.values()]) addNeighbours(regions, region);
+  for (const region of [...regions.values()]) {
+    for (const [way, number] of waysFrom(region)) {
+      const there = regions.get(number) ?? { number, seen: null, exits: {} };
+      regions.set(number, there);
+      if (there.seen === null) there.exits[BACK[way]] = region.number;
+    }
+  }
   return regions;
 }
 
-function addNeighbours(regions, region) {
-  for (const [way, number] of Object.entries(region.exits)) {
-    if (!regions.has(number)) regions.set(number, { number, seen: null, exits: {} });
-    const there = regions.get(number);
-    if (there.seen === null) there.exits[BACK[way]] = region.number;
-  }
-}
+/** @type {T.WaysFrom} */
+const waysFrom = (region) => /** @type {[T.Way, number][]} */ (Object.entries(region?.exits ?? {}));
 
-// {places: number -> {x, y}, ways, crooked, width, height}. A way is drawn between its two places, and a crooked one
-// can't be.
+/** @type {T.LayOut} */
 export function layOut(regions) {
+  /** @type {T.MapPart[]} */
   const parts = [];
+  /** @type {T.Placed} */
   const placed = new Map();
-  for (const number of startingOrder(regions)) if (!placed.has(number)) parts.push(walk(number, regions, placed));
-  const { places, width, height } = pack(parts);
-  return { places, width, height, ...sortWays(regions, placed) };
+  const all = [...regions.values()]
+    .sort((a, b) => Number(a.seen === null) - Number(b.seen === null) || a.number - b.number);
+  for (const { number } of all) if (!placed.has(number)) parts.push(walk(number, regions, placed));
+  return { ...pack(parts), ...sortWays(regions, placed) };
 }
 
-function startingOrder(regions) {
-  const all = [...regions.values()].sort((a, b) => a.number - b.number);
-  const first = all.filter((region) => region.seen !== null);
-  return [...first, ...all.filter((region) => region.seen === null)].map((region) => region.number);
-}
-
+/** @type {T.Walk} */
 function walk(start, regions, placed) {
+  /** @type {T.MapPart} */
   const part = new Map();
   const taken = new Set();
+  /** @type {T.Put} */
   const put = (number, x, y) => {
     const place = { part, x, y };
     part.set(number, place);
@@ -51,7 +53,7 @@ function walk(start, regions, placed) {
   };
   put(start, 0, 0);
   for (const [number, place] of part) {
-    for (const [way, to] of Object.entries(regions.get(number).exits)) {
+    for (const [way, to] of waysFrom(regions.get(number))) {
       const [x, y] = [place.x + STEPS[way][0], place.y + STEPS[way][1]];
       if (!placed.has(to) && !taken.has(`${x},${y}`)) put(to, x, y);
     }
@@ -59,12 +61,12 @@ function walk(start, regions, placed) {
   return part;
 }
 
-// Puts the parts beside and below one another, with a free column or row between them.
+/** @type {T.Pack} */
 function pack(parts) {
   const boxes = parts.map(boxOf);
   const area = boxes.reduce((sum, box) => sum + (box.width + 1) * (box.height + 1), 0);
-  const least = Math.max(LEAST_WIDTH, Math.ceil(Math.sqrt(area)));
-  const most = boxes.reduce((width, box) => Math.max(width, box.width), least);
+  const most = Math.max(LEAST_WIDTH, Math.ceil(Math.sqrt(area)), ...boxes.map(({ width }) => width));
+  /** @type {T.MapPart} */
   const places = new Map();
   const at = { x: 0, y: 0, height: 0, width: 0 };
   for (const box of boxes) {
@@ -77,6 +79,7 @@ function pack(parts) {
   return { places, width: at.width, height: at.y + at.height };
 }
 
+/** @type {T.BoxOf} */
 function boxOf(part) {
   let [left, right, top, bottom] = [0, 0, 0, 0];
   for (const { x, y } of part.values()) {
@@ -85,12 +88,17 @@ function boxOf(part) {
   return { part, left, top, width: right - left + 1, height: bottom - top + 1 };
 }
 
+/** @type {T.SortWays} */
 function sortWays(regions, placed) {
+  /** @type {T.MapWay[]} */
   const ways = [];
+  /** @type {T.MapWay[]} */
   const crooked = [];
   for (const region of regions.values()) {
-    for (const [way, to] of Object.entries(region.exits)) {
-      if (!isFirst(regions, region, way, to)) continue;
+    for (const [way, to] of waysFrom(region)) {
+      const isTwice = regions.get(to)?.seen !== null && regions.get(to)?.exits[BACK[way]] === region.number;
+      // A way that is known from both of its ends is listed once.
+      if (region.seen === null || (isTwice && way !== 'south' && way !== 'east')) continue;
       const list = isStraight(placed.get(region.number), way, placed.get(to)) ? ways : crooked;
       list.push({ from: region.number, way, to });
     }
@@ -98,14 +106,6 @@ function sortWays(regions, placed) {
   return { ways, crooked };
 }
 
-// A way that is known from both of its ends is listed once.
-function isFirst(regions, region, way, to) {
-  if (region.seen === null) return false;
-  const there = regions.get(to);
-  return there.seen === null || there.exits[BACK[way]] !== region.number || way === 'south' || way === 'east';
-}
-
-function isStraight(here, way, there) {
-  const [dx, dy] = STEPS[way];
-  return here.part === there.part && here.x + dx === there.x && here.y + dy === there.y;
-}
+/** @type {T.IsStraight} */
+const isStraight = (here, way, there) => here !== undefined && here.part === there?.part
+  && here.x + STEPS[way][0] === there.x && here.y + STEPS[way][1] === there.y;
