@@ -1,16 +1,24 @@
 //! Opens the database file of a campaign, runs a subcommand's work on it, and shuts it.
+ghost use Rattle.std.specs.Prelude.{IfOk, IsTrue};
+ghost use Rattle.sqlite_std_file.specs.File.{file_is_usable};
+
 use crate::failure::Failure;
 use atl_service::{Answer, Command, Refused, Service, found, open, upgrade};
-use sqlite::{Alter, Connection, FileFrom, FileStore, Start, Wary};
+use sqlite::{Alter, Connection, FileFrom, FileStore, Files, Options, Start, Wary};
 use sqlite_disk::Disk;
+use sqlite_std_file::OpenError;
 use std::alloc::Global;
 use std::fs;
+use std::hash::{BuildHasher, RandomState};
 use std::io::ErrorKind;
 
 /// The work of a subcommand on an open campaign, over any store.
 pub trait Work {
     /// The type of the work's result.
     type Done: Drop;
+
+    /// Whether the file may grow by far more than one command adds.
+    const LASTS: bool = false;
 
     /// Does the work on an open service, and returns its result or a failure.
     fn run<S: Alter>(&self, service: &mut Service<S>) -> Result<Self::Done, Failure>;
@@ -88,14 +96,79 @@ fn confirm_file(rt: &HostRuntime, path: &str) -> Result<(), Failure> {
     Err(Failure::Store)
 }
 
-/// Opens the file as a database, or makes it. A file that is made has no checksums on its pages,
-/// since a `sqlite3` without the extension for checksums would spoil them.
+/// How many pages of the database are kept in memory at most.
+const MOST_PAGES: u64 = 2_000;
+
+/// The number of bytes of a page, as the program makes a database.
+const PAGE_BYTES: u64 = 4_096;
+
+/// How many pages are kept in memory beyond those of the file, since a command adds some.
+const SPARE_PAGES: u64 = 64;
+
+/// How many pages of a file of this length are kept in memory: all, and a quarter more for what a
+/// command adds. The memory for them is cleared at each start, so more would cost time.
+fn pages_for(bytes: u64) -> u64 {
+    let pages = bytes / PAGE_BYTES;
+    if MOST_PAGES <= pages {
+        return MOST_PAGES;
+    }
+    (pages + pages / 4 + SPARE_PAGES).min(MOST_PAGES)
+}
+
+/// The length of the file in bytes; 0 where there is none.
+fn length_of(rt: &HostRuntime, path: &str) -> Result<u64, Failure> {
+    match fs::metadata(rt, path) {
+        Ok(metadata) => Ok(metadata.len()),
+        Err(error) if error.kind() == ErrorKind::NotFound => Ok(0),
+        Err(error) => Err(Failure::of_system(error, Failure::Store)),
+    }
+}
+
+/// How the kit keeps pages in memory, with a number drawn at random for its log. Store if none can
+/// be drawn.
+fn options_for(rt: &HostRuntime, pages: u64) -> Result<Options, Failure> {
+    let state = match RandomState::new(rt) {
+        Ok(state) => state,
+        Err(_) => return Err(Failure::Store),
+    };
+    let mut options = Options::new(state.hash_one(&0u8));
+    options.cache_pages = pages as usize;
+    Ok(options)
+}
+
+/// Opens the database file and its log, and makes those that are missing. A path that SQLite would
+/// read in another way is refused.
+fn open_files<S: Start>(
+    rt: &HostRuntime,
+    path: &str,
+    start: S,
+) -> Result<Files<FileFrom<S>>, Failure>
+    ensures usable { IfOk result (λ files. IsTrue (file_is_usable S.Start files.log)
+        × IsTrue (file_is_usable S.Start files.db)) }
+{
+    if path == ":memory:" || path.starts_with("file:") {
+        return Err(Failure::Store);
+    }
+    match sqlite_std_file::open(rt, path, start) {
+        Ok(files) => Ok(files),
+        Err(OpenError::OutOfMemory) => Err(Failure::Memory),
+        Err(OpenError::Io(error)) => Err(Failure::of_system(error, Failure::Store)),
+        Err(OpenError::Busy | OpenError::HotJournal) => Err(Failure::Store),
+    }
+}
+
+/// Opens the file as a database, or makes it, with so many pages in memory. A file that is made has
+/// no checksums on its pages, since a `sqlite3` without the extension for checksums would spoil
+/// them.
 fn connect<S: Start>(
     rt: &HostRuntime,
     path: &str,
     start: S,
+    pages: u64,
 ) -> Result<Connection<FileStore<FileFrom<S>>>, Failure> {
-    match Connection::open_from(rt, path, false, start) {
+    let files = open_files(rt, path, start)?;
+    let options = options_for(rt, pages)?;
+    match Connection::open_files_with(rt.alloc(), files, options, false) {
         Ok(conn) => Ok(conn),
         Err((error, _)) => Err(Failure::from(error)),
     }
@@ -162,7 +235,11 @@ pub fn work_on<W: Work>(
     if !matches!(&opening, Opening::Founded { .. }) {
         confirm_file(rt, path)?;
     }
-    let conn = connect(rt, path, Wary)?;
+    let pages = match &opening {
+        Opening::Kept if !W::LASTS => pages_for(length_of(rt, path)?),
+        _ => MOST_PAGES,
+    };
+    let conn = connect(rt, path, Wary, pages)?;
     let (done, conn) = run_work(rt.alloc(), conn, opening, work);
     both_results(done, shut(conn))
 }

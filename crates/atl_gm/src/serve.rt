@@ -33,6 +33,9 @@ impl<'a> Work for Serving<'a> {
     // Nothing: the work has no result besides what it serves.
     type Done = ();
 
+    // Many commands come.
+    const LASTS: bool = true;
+
     /// Listens on the port, and serves the connections one after the other.
     fn run<S: Alter>(&self, service: &mut Service<S>) -> Result<(), Failure> {
         let address = (Ipv4Addr::LOCALHOST, self.port);
