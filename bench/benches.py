@@ -4,6 +4,12 @@ import importlib.machinery, importlib.util, os, re, subprocess, sys, tempfile, t
 HERE = os.path.dirname(os.path.abspath(__file__))
 
 
+def program():
+    """The path of the program that gm runs, or the end of the bench where there is none."""
+    found = subprocess.run([os.path.join(HERE, "..", "gm"), "path"], stdout=subprocess.PIPE, text=True)
+    return found.stdout.strip() or sys.exit(1)
+
+
 def bench(name):
     """Another bench of this folder, as a module."""
     loader = importlib.machinery.SourceFileLoader(name, os.path.join(HERE, name))

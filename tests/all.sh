@@ -1,28 +1,40 @@
 #!/usr/bin/env bash
 # Runs all tests: the gate (rt ci), and then each script over the program that the gate built. Called as
-#   tests/all.sh            for all of them
-#   tests/all.sh scripts    for the scripts alone, over the program as ./gm finds it
+#   tests/all.sh            for all of them; it needs the Rattle kit
+#   tests/all.sh scripts    for the scripts alone, over the program that ./gm runs, without the kit
 # It prints a line for each script, what a failed one printed, and last 'N passed, N failed, N skipped', the gate's own counted in. A script that
 # lacks a tool is skipped, with a line that says how to get the tool; where CI is set, a skipped script counts as failed.
 set -u
 here=$(cd "$(dirname "$0")/.." && pwd)
 cd "$here" || exit 1
+# nginx and debootstrap are where a user's PATH may not lead.
+PATH=$PATH:/usr/sbin:/sbin
 log=$(mktemp)
 trap 'rm -f "$log"' EXIT
 passed=0 failed=0 skipped=0
 
 # the package of Debian that has a tool, where its name is another
-declare -A package=([cc]=gcc [chromedriver]=chromium-driver)
+declare -A package=([cc]=gcc [chromedriver]=chromium-driver [xz]=xz-utils [node]=nodejs [tsc]=node-typescript
+  [dovecot]=dovecot-imapd)
+
+# the program that the gate built: the scripts try this one, and compare the release with it
+built=()
 
 # count_gate: runs the gate, shows what it prints, and counts what its last line counts
 count_gate() {
   rt ci 2>&1 | tee "$log"
   if [[ $(tail -n 1 "$log") =~ ([0-9]+)\ passed,\ ([0-9]+)\ failed ]]; then
     passed=$((passed + BASH_REMATCH[1])) failed=$((failed + BASH_REMATCH[2]))
+    built=("$here/crates/atl_gm/out/atl_gm")
   else
-    echo 'all: rt ci did not come to its end'
+    echo 'all: rt ci did not come to its end. It needs the Rattle kit; without it, call tests/all.sh scripts'
     failed=$((failed + 1))
   fi
+}
+
+# name_program: has all scripts run the program that the gate built, or else the one that ./gm finds
+name_program() {
+  ATL_GM=${built[0]:-$(./gm path)} && export ATL_GM || unset ATL_GM
 }
 
 # skip NAME REASON: counts a script that could not run
@@ -59,7 +71,10 @@ is_same_crowd() {
 }
 
 [ "${1:-}" = scripts ] || count_gate
-try start '' tests/start.sh
+name_program
+try release python3 tests/release.py "${built[@]}"
+try start 'python3 git xz' tests/start.py
+try package python3 tests/package.py
 try first_hour '' examples/first_hour.sh
 try program sqlite3 tests/program.sh
 try upgrade sqlite3 tests/upgrade.sh
@@ -68,7 +83,6 @@ try links python3 tests/links.py
 try believe python3 tests/believe.py --check
 try sentences python3 tests/sentences.py
 try http 'sqlite3 curl' tests/http.sh
-try club 'sqlite3 curl' tests/club.sh
 try plain python3 tests/plain.py crates/atl_phase_tests/data/*.txt
 try island '' cmp worlds/isle.toml crates/atl_phase_tests/data/island.toml
 try crowd python3 is_same_crowd
@@ -76,6 +90,14 @@ try simulate python3 tests/simulate.py
 try killed 'sqlite3 strace' tests/killed.sh 40
 try cuts 'strace python3' tests/cuts.py
 try slow python3 tests/slow.sh
+try office_types mypy mypy --strict office tests/office
+try office python3 python3 -B -m unittest discover -s tests/office -t .
+try office_year python3 tests/office/year_by_mail.py
+try office_stopped 'python3 openssl strace' tests/office/stopped.py
+try office_served python3 tests/office/served.py
+try page_modules node node --test tests/web/unit/*.test.js
+try page_types tsc tsc -p tsconfig.json
+try page_judge 'node python3' node tests/web/judge_beside_gm.js 600
 try web 'curl python3 nginx chromium chromedriver' tests/web.sh
 try memory 'sqlite3 curl cc' tests/memory.sh 11 997
 echo "$passed passed, $failed failed, $skipped skipped"

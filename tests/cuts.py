@@ -15,7 +15,7 @@ sys.dont_write_bytecode = True
 from cut_disk import Failed, Record, calls_in, path_of, put_files, read_files, recording, states, strace
 
 HERE = os.path.join(os.path.dirname(os.path.abspath(__file__)), "..")
-PROGRAM = os.path.join(HERE, "crates", "atl_gm", "out", "atl_gm")
+PROGRAM = subprocess.run([os.path.join(HERE, "gm"), "path"], stdout=subprocess.PIPE, text=True).stdout.strip()
 ISLE, SMALL = (os.path.join(HERE, "worlds", name) for name in ("isle.toml", "small.toml"))
 OLD = os.path.join(HERE, "tests", "old", "trial.db")
 SEED = "5"
@@ -459,8 +459,8 @@ def main():
         print("cuts: TIMES and SEED are numbers from 1, and strace has to be there", file=sys.stderr)
         return 2
     times, seed = numbers + [1, 1][len(numbers) :]
-    if subprocess.run([os.path.join(HERE, "gm"), "books"], capture_output=True).returncode != 2:
-        print("cuts: the program is not built", file=sys.stderr)
+    if not PROGRAM:
+        print("cuts: gm finds no program", file=sys.stderr)
         return 2
     with tempfile.TemporaryDirectory() as root:
         try:

@@ -15,7 +15,7 @@ trap 'rm -rf "$work"' EXIT
 db=$work/campaign.db
 mailing=$work/mailing
 "$here/gm" found --world "$here/worlds/isle.toml" --db "$db" --pass gm >/dev/null || exit 1
-program=$here/crates/atl_gm/out/atl_gm
+program=$("$here/gm" path)
 "$program" join --db "$db" --name Avalon --pass pw --seed 0 >/dev/null || exit 1
 first=$work/first.db
 cp "$db" "$first"

@@ -16,7 +16,7 @@ RULES = "docs/RULES.md"
 PARTS = ("Definition", "code", "tests")
 LINK = re.compile(r"\[([^\]]*)\]\(([^)\s]*)\)")
 PATH = re.compile(r"(?:\./)?[\w.-]+(?:/[\w.-]+)*/?")
-IN_TEXT = re.compile(r"(?<![\w./-])(?:bench|crates|docs|examples|tests|web|worlds)/[\w./-]*\w")
+IN_TEXT = re.compile(r"(?<![\w./-])(?:bench|crates|docs|examples|package|release|tests|tools|web|worlds)/[\w./-]*\w")
 FILE = re.compile(r"[\w-]+\.(?:antt|c|conf|edit|md|py|rt|sh|toml|txt)$")
 NAME = re.compile(r"[A-Za-z_][\w']*")
 CITED_NAME = re.compile(rf"{NAME.pattern}(?:(?:::|\.|-){NAME.pattern})*(?:\(\))?")
@@ -25,7 +25,7 @@ CITED = re.compile(r"\b((?:docs|web)/\w+\.md), \"([^\"]+)\"(?:(?:,| and|, and) \
 # What pages name and the repository doesn't have: files of a club, what the build makes, and what HTTP calls by such names.
 NOT_NAMES_OF_OURS = {"sqlite3", "ANALYZE", "REINDEX", "VACUUM"}
 OF_CODE = ("docs/DECISIONS.md", "docs/GATE.md", "docs/PROVED.md", "crates/*/README.md")
-OF_A_CLUB = re.compile(r"(?:mail|months|undone)/.*|(?:books|mailing|orders|club|havens|island)\.\w+")
+OF_A_CLUB = re.compile(r"(?:mail|months|undone|out|office)/.*|(?:books|mailing|orders|club|players|factions|world|island|slip|new|(?:report-|mail-)?\d+)\.\w+")
 NOT_HERE = {"bench/NAME.txt", "crates/atl_gm/out/atl_gm", "text/plain", "HTTP/1.1"}
 
 
@@ -54,7 +54,7 @@ class Section:
 
 
 def pages():
-    return ["README.md", "web/README.md", *sorted(glob.glob("docs/*.md")), *sorted(glob.glob("crates/**/README.md", recursive=True))]
+    return ["README.md", "web/README.md", *sorted(glob.glob("docs/*.md")), "release/README.md", *sorted(glob.glob("crates/**/README.md", recursive=True))]
 
 
 def read(path):

@@ -1,12 +1,13 @@
 #!/usr/bin/env bash
 # Plays what docs/PLAYER.md, docs/MODERATOR.md and README.md show, and compares what the program prints with what the
 # page says. Each page is played from its top to its end, in a folder of its own with the worlds and the examples in
-# it. Called without arguments, it ends with 'pages: all as printed'. A block between fences
+# it. Called without arguments, or with some of the pages, it ends with 'pages: all as printed'. A block between fences
 # is played if its first fence has one of these words, and passed over if it has another or none:
 #   campaign W SEED  a new campaign begins, with the world file W and this seed; the block is the answer
 #   join NAME PASS   a faction joins, whose pass text is PASS; the block is the answer
 #   mailing F        the block is mailed for faction F
 #   answer F         the block is the answer to the mailing that was sent last
+#   reply F          the block is the office's reply to that mailing, where it comes by mail
 #   month N          month N is closed; the block is the answer
 #   report F         the block is the report of faction F
 #   file NAME        the block is the file of that name
@@ -14,9 +15,11 @@
 #                    line; the lines after it are what it prints
 #   console http     the same, with curl over port 8080, in the place of which another port is taken
 #   console sqlite3  the same, with sqlite3
-# The moderator's pass text is 'moderator'. PLAYER.md and README.md begin with a campaign of worlds/isle.toml and the
-# seed 3. In that of README.md Avalon has joined, and month 1 is closed before the report. Without curl or sqlite3 a
-# page is played up to the block that needs it.
+#   console TIME     the same; from here on the clock of kiwirudder shows this time, as 2026-01-09T20:30
+# A folder of the page that is printed with its whole path is /home/gm/club on the page. The moderator's pass text is
+# 'moderator'. PLAYER.md and README.md begin with a campaign of worlds/isle.toml and the seed 3. In that of README.md
+# Avalon has joined, and month 1 is closed before the report. Without curl or sqlite3 a page is played up to the block
+# that needs it. The program is $GM, or else the gm of this repository.
 set -u
 here=$(cd "$(dirname "$0")/.." && pwd)
 work=$(mktemp -d)
@@ -31,7 +34,9 @@ command_of() {
   printf '#!/bin/sh\nexec %s "$@"\n' "$(printf '%q ' "${@:2}")" >"$work/bin/$1"
   chmod +x "$work/bin/$1"
 }
-command_of gm "$here/gm"
+command_of gm "${GM:-$here/gm}"
+command_of kiwirudder "$here/kiwirudder"
+export TZ=UTC KIWIRUDDER_NOW=2026-01-05T19:00
 for script in "$here"/examples/*.sh; do
   command_of "${script##*/}" "$script"
 done
@@ -72,6 +77,14 @@ mailing() {
   cp "$printed" "$answer"
 }
 
+# reply FACTION: the campaign of the page comes under the office, which takes the mailing again
+reply() {
+  echo moderator >pass && echo "$seed" >seed
+  kiwirudder init . --moderator gm@example.org >init.log && kiwirudder address "$1" player@example.org >address.log
+  cp mailing.txt "mail/in/$1.txt" && kiwirudder take >take.log
+  sed '1,/^$/d' out/reply-*-"$1".eml
+}
+
 month() {
   run close --month "$1" --pass moderator --seed "$seed"
 }
@@ -93,7 +106,7 @@ session() {
     status_before
     eval "${text:2}" >"$output" 2>&1 </dev/null 3<&- 4<&-
     told=$?
-    cat "$output"
+    sed "s|$work|/home/gm|g" "$output"
     text=
   done 3<"$block"
 }
@@ -103,6 +116,7 @@ console() {
   case ${1:-} in
     http) [ -n "$has_curl" ] || pass_over curl ;;
     sqlite3) [ -n "$has_sqlite3" ] || pass_over sqlite3 ;;
+    2*) KIWIRUDDER_NOW=$1 ;;
   esac
   [ "${1:-}" != http ] || sed -i "s/8080/$port/g" "$block"
   session >"$printed"
@@ -122,6 +136,7 @@ play() {
     join) join "$2" "$3" && same "$printed" ;;
     mailing) mailing "$2" ;;
     answer) same "$answer" ;;
+    reply) reply "$2" >"$printed" 2>&1 && same "$printed" ;;
     month) month "$2" && same "$printed" ;;
     report)
       [ "$page" != README.md ] || month 1
@@ -144,7 +159,7 @@ prepare() {
 # play_page PAGE: each of its blocks, in a folder of its own
 play_page() {
   local page=$1 begin=0 inside= line number=0 played=0 seed passes
-  mkdir "$work/folder" && cd "$work/folder" && cp -r "$here/worlds" "$here/examples" .
+  mkdir "$work/club" && cd "$work/club" && cp -r "$here/worlds" "$here/examples" .
   prepare
   while IFS= read -r line <&4; do
     number=$((number + 1))
@@ -161,9 +176,9 @@ play_page() {
   [ "$played" -gt 0 ] || stop 'no block of the page is played'
 }
 
-for page in README.md docs/PLAYER.md docs/MODERATOR.md; do
+for page in ${*:-README.md docs/PLAYER.md docs/MODERATOR.md}; do
   (play_page "$page") || failed=1
-  rm -rf "$work/folder"
+  rm -rf "$work/club"
 done
 [ "$failed" = 0 ] && echo 'pages: all as printed'
 exit "$failed"

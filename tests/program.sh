@@ -290,6 +290,8 @@ check 'a report where no file is' 1 '' 'fault: NotACampaign' report --db "$none"
 check 'books where no file is' 1 '' 'fault: NotACampaign' books --db "$none"
 check 'a serving where no file is' 1 '' 'fault: NotACampaign' serve --db "$none" --port 0 --count 0 --seed 0
 check 'an upgrade where no file is' 1 '' 'fault: NotACampaign' upgrade --world "$small" --db "$none"
+check 'a founding in memory' 1 '' 'fault: Store' found --world "$small" --db :memory: --pass gm
+check 'a founding at an address' 1 '' 'fault: Store' found --world "$small" --db "file:$none" --pass gm
 check 'a report of an empty path' 1 '' 'fault: NotACampaign' report --db '' --faction 1 --pass pw
 check 'a report below a file' 1 '' 'fault: Store' report --db "$db/none" --faction 1 --pass pw
 check 'a report of a folder that is not there' 1 '' 'fault: Store' report --db "$none/" --faction 1 --pass pw
