@@ -76,13 +76,13 @@ try release python3 tests/release.py "${built[@]}"
 try start 'python3 git xz' tests/start.py
 try package python3 tests/package.py
 try first_hour '' examples/first_hour.sh
-try program sqlite3 tests/program.sh
+try program 'sqlite3 python3' tests/program.sh
 try upgrade sqlite3 tests/upgrade.sh
-try pages 'sqlite3 curl' tests/pages.sh
+try pages 'sqlite3 curl python3' tests/pages.sh
 try links python3 tests/links.py
 try believe python3 tests/believe.py --check
 try sentences python3 tests/sentences.py
-try http 'sqlite3 curl' tests/http.sh
+try http 'sqlite3 curl python3' tests/http.sh
 try plain python3 tests/plain.py crates/atl_phase_tests/data/*.txt
 try island '' cmp worlds/isle.toml crates/atl_phase_tests/data/island.toml
 try crowd python3 is_same_crowd
@@ -99,6 +99,6 @@ try page_modules node node --test tests/web/unit/*.test.js
 try page_types tsc tsc -p tsconfig.json
 try page_judge 'node python3' node tests/web/judge_beside_gm.js 600
 try web 'curl python3 nginx chromium chromedriver' tests/web.sh
-try memory 'sqlite3 curl cc' tests/memory.sh 11 997
+try memory 'sqlite3 curl cc python3' tests/memory.sh 11 997
 echo "$passed passed, $failed failed, $skipped skipped"
 [ "$failed" = 0 ]

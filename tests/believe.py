@@ -5,7 +5,7 @@ The types of the code that they speak of follow.
 
 tests/believe.py            prints all of it, then the names of the kit that it uses, and last how much it is
 tests/believe.py --count    prints how much it is
-tests/believe.py --check    sees that each name has its definition, that nothing for proofs alone is reached, and that README.md gives the counts of --count and names definitions that
+tests/believe.py --check    sees that each name has its definition, that nothing for proofs alone is reached, and that docs/PROVED.md gives the counts of --count and names definitions that
                             are there
 
 It follows names and not files, so a definition that nothing cites isn't printed. The definitions of the kit are listed by name alone."""
@@ -19,6 +19,8 @@ from links import sections_of
 
 SERVICE = "crates/atl_service/src/service.rt"
 CALL, CLAUSES = "run_all", ("headline", "balances")
+# the page that gives the counts
+PAGE = "docs/PROVED.md"
 # What the kit has for patterns. Any other name of the kit that a pattern has is bound there.
 KIT_CONSTRUCTORS = set("true false zero suc pos negsuc None Some Ok Err [] ∷ no_items item no_members member".split())
 
@@ -241,14 +243,14 @@ def faults_of(all_of, contract):
     for definition, place in all_of.definitions.items():
         if definition.module.is_for_proofs():
             yield f"{place} is reached, and its file is for proofs alone"
-    text = "\n".join(code.read_lines("README.md"))
+    text = "\n".join(code.read_lines(PAGE))
     if counted(all_of) not in " ".join(text.split()):
-        yield f"README.md doesn't say: {counted(all_of)}"
+        yield f"{PAGE} doesn't say: {counted(all_of)}"
     for crate, name, words in re.findall(r"\| (\w+)/specs/(\w+)\.antt \| (.*?) \|", text):
         module = all_of.modules.get(f"Rattle.{crate}.specs.{name}")
         for word in re.findall(r"`(\w+)`", words):
             if not module or word not in module.words:
-                yield f"README.md names {word} of {crate}/specs/{name}.antt, which isn't there"
+                yield f"{PAGE} names {word} of {crate}/specs/{name}.antt, which isn't there"
 
 
 def main():
@@ -259,7 +261,7 @@ def main():
     if sys.argv[1:] == ["--check"]:
         faults = [*faults_of(all_of, contract)]
         print(*faults, sep="\n", end="\n" if faults else "")
-        print(f"believe: {len(faults)} faults" if faults else "believe: as README.md says")
+        print(f"believe: {len(faults)} faults" if faults else f"believe: as {PAGE} says")
         sys.exit(bool(faults))
     if not sys.argv[1:]:
         signal.signal(signal.SIGPIPE, signal.SIG_DFL)

@@ -7,7 +7,8 @@ here=$(cd "$(dirname "$0")/.." && pwd)
 work=$(mktemp -d)
 trap 'rm -rf "$work"' EXIT
 failed=0
-port=$((20000 + RANDOM % 20000))
+. "$here/tests/ports.sh"
+port=$(free_port)
 site=http://127.0.0.1:$port
 net=$work/net.db line=$work/line.db
 

@@ -12,12 +12,13 @@ set -u
 here=$(cd "$(dirname "$0")/.." && pwd)
 step=${1:-1} program_step=${2:-97}
 [[ $step =~ ^[1-9][0-9]*$ && $program_step =~ ^[1-9][0-9]*$ ]] || { echo 'memory: a step is a number from 1' >&2; exit 2; }
-for tool in cc curl sqlite3; do
+for tool in cc curl sqlite3 python3; do
   command -v "$tool" >/dev/null || { echo "memory: $tool is not there" >&2; exit 2; }
 done
 work=$(mktemp -d)
 trap 'rm -rf "$work"' EXIT
 failed=0 growths=1 code=
+. "$here/tests/ports.sh"
 
 fail() {
   echo "memory: $*"
@@ -112,7 +113,8 @@ each() {
 # join_by_http GROWTH: serves one joining on a copy of the file, where this growth is refused. The status of the reply, or 000 where there is none, is in
 # `code`, its body in out, and what the program said in err.
 join_by_http() {
-  local port=$((20000 + RANDOM % 20000)) server
+  local port server
+  port=$(free_port)
   copied "$db"
   rm -f "$work/blown" "$work/out"
   FUSE=$1 FUSE_LOG=$work/blown LD_PRELOAD=$heap "$program" serve --db "$work/run.db" --port "$port" --count 1 --seed 0 >/dev/null 2>"$work/err" &

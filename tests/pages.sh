@@ -24,7 +24,8 @@ set -u
 here=$(cd "$(dirname "$0")/.." && pwd)
 work=$(mktemp -d)
 trap 'rm -rf "$work"' EXIT
-port=$((20000 + RANDOM % 20000))
+. "$here/tests/ports.sh"
+port=$(free_port)
 block=$work/block printed=$work/printed answer=$work/answer
 failed=0
 

@@ -5,6 +5,7 @@
 set -u
 here=$(cd "$(dirname "$0")/.." && pwd)
 . "$here/tests/checks.sh"
+. "$here/tests/ports.sh"
 
 small=$here/worlds/small.toml
 isle=$here/worlds/isle.toml
@@ -415,7 +416,7 @@ told=$?
 ) || failed=1
 
 # Ports. One program holds a port until two connections were served; the first shows that it does.
-port=$((20000 + RANDOM % 20000))
+port=$(free_port)
 "$here/gm" serve --db "$work/isle.db" --port "$port" --count 2 --seed 0 >"$work/held" 2>&1 &
 holder=$!
 
