@@ -19,9 +19,9 @@
 #   console TIME     the same; from here on the clock of kiwirudder shows this time, as 2026-01-09T20:30
 # A folder of the page that is printed with its whole path is /home/gm/club on the page. The moderator's pass text is
 # 'moderator'. PLAYER.md and README.md begin with a campaign of worlds/isle.toml and the seed 3. In that of README.md
-# Avalon has joined, and month 1 is closed before the report. SERVER.md begins with the club of MODERATOR.md, which three
-# factions have joined. Without curl or sqlite3 a page is played up to the block that needs it. The program is $GM, or
-# else the gm of this repository.
+# Avalon has joined, and month 1 is closed before the report. SERVER.md begins with the club of MODERATOR.md, which
+# three factions have joined. Without curl or sqlite3 a page is played up to the block that needs it. The program is
+# $GM, or else the gm of this repository.
 set -u
 here=$(cd "$(dirname "$0")/.." && pwd)
 work=$(mktemp -d)
