@@ -1,8 +1,9 @@
 #!/usr/bin/env bash
-# Plays what docs/PLAYER.md, docs/MODERATOR.md and README.md show, and compares what the program prints with what the
-# page says. Each page is played from its top to its end, in a folder of its own with the worlds and the examples in
-# it. Called without arguments, or with some of the pages, it ends with 'pages: all as printed'. A block between fences
-# is played if its first fence has one of these words, and passed over if it has another or none:
+# Plays what docs/PLAYER.md, docs/MODERATOR.md, docs/SERVER.md, docs/WORLDS.md and README.md show, and compares what the
+# program prints with what the page says. Each page is played from its top to its end, in a folder of its own with the
+# worlds and the examples in it. Called without arguments, or with some of the pages, it ends with 'pages: all as
+# printed'. A block between fences is played if its first fence has one of these words, and passed over if it has
+# another or none:
 #   campaign W SEED  a new campaign begins, with the world file W and this seed; the block is the answer
 #   join NAME PASS   a faction joins, whose pass text is PASS; the block is the answer
 #   mailing F        the block is mailed for faction F
@@ -18,8 +19,9 @@
 #   console TIME     the same; from here on the clock of kiwirudder shows this time, as 2026-01-09T20:30
 # A folder of the page that is printed with its whole path is /home/gm/club on the page. The moderator's pass text is
 # 'moderator'. PLAYER.md and README.md begin with a campaign of worlds/isle.toml and the seed 3. In that of README.md
-# Avalon has joined, and month 1 is closed before the report. Without curl or sqlite3 a page is played up to the block
-# that needs it. The program is $GM, or else the gm of this repository.
+# Avalon has joined, and month 1 is closed before the report. SERVER.md begins with the club of MODERATOR.md, which
+# three factions have joined. Without curl or sqlite3 a page is played up to the block that needs it. The program is
+# $GM, or else the gm of this repository.
 set -u
 here=$(cd "$(dirname "$0")/.." && pwd)
 work=$(mktemp -d)
@@ -149,10 +151,18 @@ play() {
   esac
 }
 
+# club_of_three: the club that docs/MODERATOR.md makes, up to its last joining
+club_of_three() {
+  kiwirudder init . --world worlds/coast.toml --moderator gm@example.org --seed 5417 &&
+    kiwirudder join "The Grey Havens" ann@example.org && kiwirudder join Bree bob@example.org &&
+    kiwirudder join Rohan eve@example.org
+}
+
 # prepare: what was done before the page begins
 prepare() {
   case $page in
     README.md | docs/PLAYER.md) campaign worlds/isle.toml 3 ;;
+    docs/SERVER.md) club_of_three >club.log 2>&1 || stop "no club: $(cat club.log)" ;;
   esac
   [ "$page" != README.md ] || join Avalon apple
 }
@@ -177,7 +187,7 @@ play_page() {
   [ "$played" -gt 0 ] || stop 'no block of the page is played'
 }
 
-for page in ${*:-README.md docs/PLAYER.md docs/MODERATOR.md}; do
+for page in ${*:-README.md docs/PLAYER.md docs/MODERATOR.md docs/SERVER.md docs/WORLDS.md}; do
   (play_page "$page") || failed=1
   rm -rf "$work/club"
 done

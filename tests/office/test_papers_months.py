@@ -1,4 +1,4 @@
-"""Reading the folder `months`. The books are those of docs/MODERATOR.md, "Play a year by yourself"."""
+"""Reading the folder `months`. The books are those of docs/WORLDS.md, "Play a year by yourself"."""
 
 import shutil
 import tempfile

@@ -39,7 +39,7 @@ class Lines:
 
     def all(self):
         run = self.checks.run
-        run('README.md', self.printed)
+        run('SERVER.md', self.printed)
         self.proxy.start(self.club, [FAST])
         run('joining by curl', self.joins)
         run('files of the page', self.files)
@@ -64,7 +64,7 @@ class Lines:
         return curl(*arguments, self.proxy.site + path)
 
     def printed(self):
-        blocks = re.findall(r'^```nginx\n(.*?)^```$', read('web/README.md'), re.M | re.S)
+        blocks = re.findall(r'^```nginx\n(.*?)^```$', read('docs/SERVER.md'), re.M | re.S)
         self.checks.same('what the page prints', [read('web/nginx.conf')], blocks)
 
     def joins(self):
