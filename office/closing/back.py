@@ -9,11 +9,13 @@ from __future__ import annotations
 
 import filecmp
 import re
+import shutil
 import sqlite3
 from collections.abc import Callable, Iterator
 from contextlib import closing, contextmanager
 from dataclasses import asdict, dataclass
 from pathlib import Path
+from tempfile import TemporaryDirectory
 
 from office.closing.folder import MonthFolder, Sent, months_in, read_bytes
 from office.closing.month import logs_of, numbered
@@ -22,7 +24,7 @@ from office.club.club import Club, parse_seed
 from office.club.deadline import Closings
 from office.club.files import copy_file, move_file, read_json, remove_file, write_file, write_json
 from office.club.locks import campaign_lock
-from office.club.program import Refusal
+from office.club.program import Fault, Program, Refusal
 from office.errors import OfficeError
 
 Say = Callable[[str], None]
@@ -78,25 +80,41 @@ def back(club: Club, month: int, say: Say) -> None:
 
 @contextmanager
 def _newest(club: Club) -> Iterator[Campaign | None]:
-    """The campaign as it is; None where its file is lost or damaged, which is what one may want to go back from."""
-    if _is_broken(club.places.campaign):
-        with campaign_lock(club.places.serve_lock):
+    """The campaign as it is; None where its file is lost or damaged or has the log of another file next to it, which is
+    what one may want to go back from."""
+    with campaign_lock(club.places.serve_lock):
+        is_broken = _is_broken(club)
+        if is_broken:
             yield None
-    else:
+    if not is_broken:
         with club.with_campaign() as campaign:
             yield campaign
 
 
-def _is_broken(file: Path) -> bool:
+def _is_broken(club: Club) -> bool:
+    """By a copy of the file and its logs: whoever opens a file brings a log's changes into it, and these may be those of
+    another file."""
+    file = club.places.campaign
     if not file.is_file() or not file.stat().st_size:
         return True
+    with TemporaryDirectory(prefix="kiwirudder-") as folder:
+        for path in (file, *logs_of(file)):
+            if path.exists():
+                shutil.copyfile(path, Path(folder) / path.name)
+        return not _is_whole(Path(folder) / file.name)
+
+
+def _is_whole(copy: Path) -> bool:
     try:
-        with closing(sqlite3.connect(file, timeout=0)) as database:
-            return bool(database.execute("PRAGMA quick_check").fetchone() != ("ok",))
-    except sqlite3.OperationalError:
+        Program(copy.parent, copy.name).books()
+        with closing(sqlite3.connect(copy)) as database:
+            return bool(database.execute("PRAGMA quick_check").fetchone() == ("ok",))
+    except Fault as fault:
+        if fault.line == "fault: Memory":
+            raise
         return False
     except sqlite3.DatabaseError:
-        return True
+        return False
 
 
 def _read_plan(club: Club) -> Plan | None:

@@ -5,6 +5,7 @@ from __future__ import annotations
 
 import os
 import shutil
+import sqlite3
 import unittest
 from datetime import datetime, timedelta
 from pathlib import Path
@@ -208,6 +209,24 @@ class Back(ClubOfThree):
                 self.assertIn("the newest campaign can't be read, so the mail of the open month isn't in mail/again",
                               self.said)
                 self.club.close(2)
+
+    def test_only_a_copy_is_judged(self) -> None:
+        """A log next to the file may be that of another file, and whoever opens the file brings it in."""
+        file, log = self.root / "club.db", self.root / "club.db-wal"
+        file.write_bytes(b"no database, but some text")
+        log.write_bytes(b"a log of another file")
+        opened = []
+        real = sqlite3.connect
+
+        def connect(path: Path, timeout: float = 5.0) -> sqlite3.Connection:
+            opened.append(Path(path))
+            return real(path, timeout)
+
+        with patch("sqlite3.connect", connect), patch("office.closing.back.copy_file", side_effect=OSError(28, "full")):
+            with self.assertRaises(OSError):
+                self.back(2)
+        self.assertNotIn(file, opened)
+        self.assertEqual((file.read_bytes(), log.read_bytes()), (b"no database, but some text", b"a log of another file"))
 
     def test_stopped(self) -> None:
         """Going back to another month has to wait."""
