@@ -80,6 +80,7 @@ try program 'sqlite3 python3' tests/program.sh
 try upgrade sqlite3 tests/upgrade.sh
 try pages 'sqlite3 curl python3' tests/pages.sh
 try links python3 tests/links.py
+try rules_index python3 tests/rules_index.py
 try believe python3 tests/believe.py --check
 try sentences python3 tests/sentences.py
 try http 'sqlite3 curl python3' tests/http.sh

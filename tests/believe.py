@@ -15,7 +15,7 @@ sys.dont_write_bytecode = True
 
 import believe_antt as antt
 import believe_code as code
-from links import sections_of
+from rules_index import rows
 
 SERVICE = "crates/atl_service/src/service.rt"
 CALL, CLAUSES = "run_all", ("headline", "balances")
@@ -174,10 +174,10 @@ def read_all():
 def titles_by_path(all_of):
     """The title under which each file of definitions is printed, and the titles in their order."""
     titles, order = {}, []
-    for section in sections_of("docs/RULES.md"):
-        order.append(section.title)
-        for path in section.files("Definition"):
-            titles.setdefault(path, section.title)
+    for row in rows():
+        order.append(row.title)
+        for file in row.definitions:
+            titles.setdefault(file.path, row.title)
     beside = {crate: f"Other definitions of {crate}" for crate in all_of.crates}
     for module in all_of.modules.values():
         titles.setdefault(module.path, beside[module.path.split("/")[1]])

@@ -1,9 +1,6 @@
 #!/usr/bin/env python3
 """Checks the pages against the repository, and prints each fault with its line:
 
-- Under each heading (##) of docs/RULES.md is a paragraph that says where its definition, its code and its tests are, as
-  `Definition: [Share](../crates/atl_shares/specs/Share.antt); code: [shares](../crates/atl_shares/src/shares.rt); tests: [shares](..).`
-  Each file is there, some of the code cites one of the definitions, and a definition whose first line names sections of docs/RULES.md is under these.
 - Each link of a page leads to a file, and to a heading where it names one, and each file and folder that a page names is there.
 - Each section of a page that code, definitions, tests or pages name, as in `docs/RULES.md, "Shares"`, is there.
 - Each name between backquotes in a comment of the crates, and in the pages on the code (OF_CODE), is a name of their code, definitions or
@@ -12,8 +9,6 @@
 It ends with 'links: all there'."""
 import glob, os, re, sys
 
-RULES = "docs/RULES.md"
-PARTS = ("Definition", "code", "tests")
 LINK = re.compile(r"\[([^\]]*)\]\(([^)\s]*)\)")
 PATH = re.compile(r"(?:\./)?[\w.-]+(?:/[\w.-]+)*/?")
 IN_TEXT = re.compile(r"(?<![\w./-])(?:bench|crates|docs|examples|package|release|tests|tools|web|worlds)/[\w./-]*\w")
@@ -29,28 +24,7 @@ OF_A_CLUB = re.compile(r"(?:mail|months|undone|out|office)/.*|(?:books|mailing|o
 NOT_HERE = {"bench/NAME.txt", "crates/atl_gm/out/atl_gm", "text/plain", "HTTP/1.1"}
 
 
-# ---- the sections of a page
-
-
-class Section:
-    """A section (##) of a page, with the lines under its heading."""
-
-    def __init__(self, page, title, line):
-        self.page, self.title, self.line, self.text = page, title, line, []
-
-    def where(self):
-        """The paragraph that says where it is, or nothing."""
-        lines = self.text[1:]
-        text = " ".join(lines[: lines.index("")] if "" in lines else lines)
-        return text if text.startswith(f"{PARTS[0]}: ") else ""
-
-    def files(self, part):
-        """The files of one part, as paths from the top of the repository."""
-        for piece in self.where().rstrip(".").split("; "):
-            name, _, rest = piece.partition(": ")
-            if name == part:
-                return [os.path.normpath(os.path.join(os.path.dirname(self.page), path)) for _, path in LINK.findall(rest)]
-        return []
+# ---- pages
 
 
 def pages():
@@ -60,60 +34,6 @@ def pages():
 def read(path):
     with open(path, encoding="utf-8") as file:
         return file.read()
-
-
-def sections_of(page):
-    sections = []
-    for number, line in enumerate(read(page).split("\n"), 1):
-        if line.startswith("## "):
-            sections.append(Section(page, line[3:], number))
-        elif sections:
-            sections[-1].text.append(line)
-    return sections
-
-
-def faults_of_section(section):
-    """What is wrong with the paragraph under a heading."""
-    form = r"; ".join(rf"{part}: {LINK.pattern}(?:, {LINK.pattern})*" for part in PARTS)
-    if not re.fullmatch(form + r"\.", section.where()):
-        yield "no paragraph of the form 'Definition: [..](..); code: [..](..); tests: [..](..).' is right under the heading"
-        return
-    missing = [path for part in PARTS for path in section.files(part) if not os.path.isfile(path)]
-    yield from (f"{path} isn't there" for path in missing)
-    if not missing:
-        yield from faults_of_files(section)
-
-
-def faults_of_files(section):
-    for path in section.files("Definition"):
-        titles = titles_named(path)
-        if not re.fullmatch(r"crates/\w+/specs/\w+\.antt", path):
-            yield f"{path} is no file of definitions"
-        elif titles and section.title not in titles:
-            yield f"{path} names other sections: {', '.join(sorted(titles))}"
-    if not any(cites(code, path) for code in section.files("code") for path in section.files("Definition")):
-        yield "none of the code cites one of the definitions"
-
-
-def titles_named(path):
-    """The sections of docs/RULES.md that the first line of a file of definitions names."""
-    return {title for title in re.findall(rf"{RULES}, \"([^\"]*)\"", read(path).split("\n")[0])}
-
-
-def cites(code, path):
-    """Whether a file of code brings in a name of a file of definitions, or holds the numbers that it defines."""
-    _, crate, _, name = path[: -len(".antt")].split("/")
-    return f"Rattle.{crate}.specs.{name}." in read(code) or code == f"crates/{crate}/src/{name.lower()}.rt"
-
-
-def faults_of_rules():
-    sections = sections_of(RULES)
-    for section in sections:
-        yield from (f"{RULES}:{section.line}: {section.title}: {fault}" for fault in faults_of_section(section))
-    for path in sorted(glob.glob("crates/*/specs/*.antt")):
-        for title in titles_named(path):
-            if not any(section.title == title and path in section.files("Definition") for section in sections):
-                yield f"{RULES}: {title}: {path} names this section, and isn't under it"
 
 
 # ---- what pages name
@@ -243,7 +163,7 @@ def main():
     os.chdir(os.path.dirname(os.path.dirname(os.path.abspath(__file__))))
     if sys.argv[1:]:
         sys.exit(__doc__)
-    faults = [*faults_of_rules(), *faults_of_pages(), *faults_of_citations(), *faults_of_cited_names()]
+    faults = [*faults_of_pages(), *faults_of_citations(), *faults_of_cited_names()]
     for fault in faults:
         print(fault)
     print(f"links: {len(faults)} faults" if faults else "links: all there")

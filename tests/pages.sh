@@ -1,9 +1,9 @@
 #!/usr/bin/env bash
-# Plays what docs/PLAYER.md, docs/MODERATOR.md, docs/SERVER.md, docs/WORLDS.md and README.md show, and compares what the
-# program prints with what the page says. Each page is played from its top to its end, in a folder of its own with the
-# worlds and the examples in it. Called without arguments, or with some of the pages, it ends with 'pages: all as
-# printed'. A block between fences is played if its first fence has one of these words, and passed over if it has
-# another or none:
+# Plays what docs/QUICKSTART.md, TUTORIAL.md, PLAYER.md, MODERATOR.md, SERVER.md and WORLDS.md and README.md show, and
+# compares what the program prints with what the page says. Each page is played from its top to its end, in a folder of
+# its own with the worlds and the examples in it. Called without arguments, or with some of the pages, it ends with
+# 'pages: all as printed'. A block between fences is played if its first fence has one of these words, and passed over if
+# it has another or none:
 #   campaign W SEED  a new campaign begins, with the world file W and this seed; the block is the answer
 #   join NAME PASS   a faction joins, whose pass text is PASS; the block is the answer
 #   mailing F        the block is mailed for faction F
@@ -11,6 +11,7 @@
 #   reply F          the block is the office's reply to that mailing, where it comes by mail
 #   month N          month N is closed; the block is the answer
 #   report F         the block is the report of faction F
+#   lines F          the block is some lines of the report of faction F, in their order
 #   file NAME        the block is the file of that name
 #   console          a line that begins with '$ ' is a command, which a backslash at its end carries on in the next
 #                    line; the lines after it are what it prints
@@ -18,10 +19,11 @@
 #   console sqlite3  the same, with sqlite3
 #   console TIME     the same; from here on the clock of kiwirudder shows this time, as 2026-01-09T20:30
 # A folder of the page that is printed with its whole path is /home/gm/club on the page. The moderator's pass text is
-# 'moderator'. PLAYER.md and README.md begin with a campaign of worlds/isle.toml and the seed 3. In that of README.md
-# Avalon has joined, and month 1 is closed before the report. SERVER.md begins with the club of MODERATOR.md, which
-# three factions have joined. Without curl or sqlite3 a page is played up to the block that needs it. The program is
-# $GM, or else the gm of this repository.
+# 'moderator'. TUTORIAL.md and README.md begin with a campaign of worlds/isle.toml and the seed 3, and QUICKSTART.md with
+# one of worlds/coast.toml and the seed 41. In those of README.md and QUICKSTART.md Avalon has joined. A page that shows a
+# report after a mailing, and not that the month is closed, has it closed before the report. SERVER.md begins with the
+# club of MODERATOR.md, which three factions have joined. Without curl or sqlite3 a page is played up to the block that
+# needs it. The program is $GM, or else the gm of this repository.
 set -u
 here=$(cd "$(dirname "$0")/.." && pwd)
 work=$(mktemp -d)
@@ -66,7 +68,7 @@ run() {
 campaign() {
   rm -f club.db*
   run found --world "$1" --pass moderator
-  seed=$2 passes=(none)
+  seed=$2 passes=(none) closed=0 waits=
 }
 
 join() {
@@ -78,6 +80,7 @@ mailing() {
   cp "$block" mailing.txt
   run mail --faction "$1" --pass "${passes[$1]}" --file mailing.txt
   cp "$printed" "$answer"
+  waits=1
 }
 
 # reply FACTION: the campaign of the page comes under the office, which takes the mailing again
@@ -90,6 +93,19 @@ reply() {
 
 month() {
   run close --month "$1" --pass moderator --seed "$seed"
+  closed=$1 waits=
+}
+
+# report FACTION: the report of the last month, which is closed now if a mailing still waits
+report() {
+  [ -z "$waits" ] || month $((closed + 1))
+  run report --faction "$1" --pass "${passes[$1]}"
+}
+
+# has_lines: each line of the block is in what was printed, in the order of the block
+has_lines() {
+  diff -d "$block" "$printed" | grep -q '^<' && stop "the report hasn't these lines, in this order:"$'\n'"$(cat "$printed")"
+  return 0
 }
 
 # status_before: the status of the command of the session that was run last, so that the next one finds it as $?
@@ -141,10 +157,8 @@ play() {
     answer) same "$answer" ;;
     reply) reply "$2" >"$printed" 2>&1 && same "$printed" ;;
     month) month "$2" && same "$printed" ;;
-    report)
-      [ "$page" != README.md ] || month 1
-      run report --faction "$2" --pass "${passes[$2]}" && same "$printed"
-      ;;
+    report) report "$2" && same "$printed" ;;
+    lines) report "$2" && has_lines ;;
     file) cp "$block" "$2" ;;
     console) console "${2:-}" ;;
     *) played=$((played - 1)) ;;
@@ -161,15 +175,18 @@ club_of_three() {
 # prepare: what was done before the page begins
 prepare() {
   case $page in
-    README.md | docs/PLAYER.md) campaign worlds/isle.toml 3 ;;
+    README.md | docs/TUTORIAL.md) campaign worlds/isle.toml 3 ;;
+    docs/QUICKSTART.md) campaign worlds/coast.toml 41 ;;
     docs/SERVER.md) club_of_three >club.log 2>&1 || stop "no club: $(cat club.log)" ;;
   esac
-  [ "$page" != README.md ] || join Avalon apple
+  case $page in
+    README.md | docs/QUICKSTART.md) join Avalon apple ;;
+  esac
 }
 
 # play_page PAGE: each of its blocks, in a folder of its own
 play_page() {
-  local page=$1 begin=0 inside= line number=0 played=0 seed passes
+  local page=$1 begin=0 inside= line number=0 played=0 seed passes closed waits
   mkdir "$work/club" && cd "$work/club" && cp -r "$here/worlds" "$here/examples" .
   prepare
   while IFS= read -r line <&4; do
@@ -187,7 +204,7 @@ play_page() {
   [ "$played" -gt 0 ] || stop 'no block of the page is played'
 }
 
-for page in ${*:-README.md docs/PLAYER.md docs/MODERATOR.md docs/SERVER.md docs/WORLDS.md}; do
+for page in ${*:-README.md docs/QUICKSTART.md docs/TUTORIAL.md docs/PLAYER.md docs/MODERATOR.md docs/SERVER.md docs/WORLDS.md}; do
   (play_page "$page") || failed=1
   rm -rf "$work/club"
 done

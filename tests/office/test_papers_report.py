@@ -1,4 +1,4 @@
-"""Reading reports. Most of the texts are those that docs/PLAYER.md shows, as the program printed them."""
+"""Reading reports. Most of the texts are those that docs/TUTORIAL.md shows, as the program printed them."""
 
 import unittest
 from pathlib import Path
@@ -140,9 +140,10 @@ class OrdinaryReports(unittest.TestCase):
         self.assertEqual((report.regions, report.events, report.men), ((), (), 0))
 
     def test_every_report_of_the_guide(self) -> None:
-        """Each block that docs/PLAYER.md shows as a report is read without a fault."""
+        """Each block that a page for players shows as a report is read without a fault."""
         worlds = [read_world(ROOT / f"worlds/{name}.toml") for name in ("isle", "coast")]
-        blocks = (ROOT / "docs/PLAYER.md").read_text().split("```report ")[1:]
+        pages = [(ROOT / f"docs/{name}.md").read_text() for name in ("QUICKSTART", "TUTORIAL", "PLAYER")]
+        blocks = [block for page in pages for block in page.split("```report ")[1:]]
         self.assertGreater(len(blocks), 5)
         for block in blocks:
             text = block.partition("\n")[2].partition("```")[0]

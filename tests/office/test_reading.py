@@ -57,6 +57,14 @@ class Verbs(unittest.TestCase):
                     for word in re.findall(r"[A-Z]{3,}", row.split("|")[1])}
         self.assertEqual(keywords, set(VERBS))
 
+    def test_card_has_each_form_of_a_line(self) -> None:
+        """The card of the quick start has each keyword once, and says what it does in ten words or fewer."""
+        page = (PAGES / "QUICKSTART.md").read_text()
+        rows = re.findall(r"^\| ([^|]*) \|[^|]*\| ([^|]*) \|$", page[page.index("| order | then |"):], re.MULTILINE)[1:]
+        keywords = [word for first, _ in rows for word in re.findall(r"[A-Z]{3,}", first)]
+        self.assertEqual(sorted(keywords), sorted([*VERBS, "UNIT", "END"]))
+        self.assertEqual([words for _, words in rows if len(words.split()) > 10], [])
+
     def test_slots_are_those_of_the_page(self) -> None:
         page = (PAGES / "RULES.md").read_text()
         months = re.search(r"\*\*Which orders count\.\*\*(.*?)are month-long", page, re.DOTALL)
@@ -70,9 +78,9 @@ class Verbs(unittest.TestCase):
 
 class Faults(unittest.TestCase):
     def test_the_pages_mailing_with_each_fault(self) -> None:
-        page = (PAGES / "PLAYER.md").read_text()
+        page = (PAGES / "TUTORIAL.md").read_text()
         mailing, answer = re.findall(r"```(?:mailing|answer) 1\n(.*?)```",
-                                     page[page.index("This mailing has each of these faults once"):], re.DOTALL)[:2]
+                                     page[page.index("## Each fault of a line"):], re.DOTALL)[:2]
         expected = {int(line): int(fault) for line, fault in re.findall(r"line (\d+): (\d+)", answer)}
         readings = read_orders(mailing.splitlines()[1:-1], 2)
         # the world isn't known here, so `STUDY magic` is no fault
@@ -137,7 +145,7 @@ class CleanOrders(unittest.TestCase):
 
 class Reports(unittest.TestCase):
     def test_units_of_the_pages_report(self) -> None:
-        page = (PAGES / "PLAYER.md").read_text()
+        page = (PAGES / "TUTORIAL.md").read_text()
         report = re.findall(r"```report 1\n(.*?)```", page, re.DOTALL)[1]
         units = units_of_report(report)
         assert units

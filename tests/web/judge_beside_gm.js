@@ -77,7 +77,7 @@ function randomMailing(words) {
 
 // All mailings that the pages and the tests' data have.
 function foundMailings() {
-  const files = [...['PLAYER', 'RULES', 'MODERATOR'].map((name) => `docs/${name}.md`),
+  const files = [...['QUICKSTART', 'TUTORIAL', 'PLAYER', 'RULES', 'MODERATOR'].map((name) => `docs/${name}.md`),
     ...readdirSync(join(HERE, 'crates/atl_phase_tests/data')).map((name) => `crates/atl_phase_tests/data/${name}`)];
   const texts = files.map((file) => readFileSync(join(HERE, file), 'utf8'));
   return texts.flatMap((text) => text.match(/^[> ]*#ATLANTIS \d(?:(?!\n```|\n=|\n\n\n|#END)[\s\S]){1,3000}/gm) ?? [])
