@@ -1,0 +1,66 @@
+-- The columns of a row as a first column and the others, and what columns of a table in a schema are.
+use Rattle.std.specs.Prelude.{◌≡◌, ◌&&◌, ℕ, Bool, true, false, List, [], ◌∷◌, map, Option, Some, None}
+use Rattle.std.specs.List.{range_with_len}
+use Rattle.sqlite_value.specs.declared.value.Value.{Value}
+use Rattle.sqlite_value.specs.Order.{Row, column}
+use Rattle.sqlite_value.specs.declared.value.Value.TheVariants.{Null}
+use Rattle.sqlite_value.specs.declared.keys.Collation.TheVariants.{Binary}
+use Rattle.sqlite_schema.specs.declared.schema.Kind.{Kind}
+use Rattle.sqlite_schema.specs.declared.schema.Column.{Column}
+use Rattle.sqlite_rules.specs.Cast.{cast}
+
+-- the values in `count` columns of a row, from the column at index `at` on
+abbrev pub columns_from : ℕ → ℕ → Row → Row
+columns_from at count row = map (column row) (range_with_len at count)
+
+-- ---- the columns of a table
+
+-- a column of this name and kind, STRICT and NOT NULL, without a default
+abbrev pub strict_column : List ℕ → Kind → Column
+strict_column name kind = record { name = name; kind = kind; is_strict = true; not_null = true; default = Null; collation = Binary }
+
+-- a column for each of these names and kinds in their order (`strict_column`); where one list is longer, its rest is
+-- left out
+abbrev pub strict_columns : List Kind → List (List ℕ) → List Column
+strict_columns [] names = []
+strict_columns (kind ∷ kinds) [] = []
+strict_columns (kind ∷ kinds) (name ∷ names) = strict_column name kind ∷ strict_columns kinds names
+
+-- the row has one value for each column, and SQL stores it there unchanged
+abbrev pub Fits : List Column → Row → Type 0
+Fits [] [] = Unit {0}
+Fits [] (v ∷ vs) = ⊥
+Fits (c ∷ cs) [] = ⊥
+Fits (c ∷ cs) (v ∷ vs) = (cast c.kind v ≡ v) × Fits cs vs
+
+-- ---- fields
+
+-- two values, if both are there
+abbrev pub both : {X Y : Type 0} → Option X → Option Y → Option (X × Y)
+both None b = None
+both (Some x) None = None
+both (Some x) (Some y) = Some (x, y)
+
+-- the first field as the first value, and the others after it
+abbrev pub encode_then : {X Y : Type 0} → (X → Value) → (Y → Row) → X × Y → Row
+encode_then one more x = one x.0 ∷ more x.1
+
+-- the first value as the first field, and the others after it
+abbrev pub decode_then : {X Y : Type 0} → (Value → Option X) → (Row → Option Y) → Row → Option (X × Y)
+decode_then one more [] = None
+decode_then one more (v ∷ vs) = both (one v) (more vs)
+
+-- no field, of a row without a value
+abbrev pub decode_end : Row → Option (Unit {0})
+decode_end [] = Some tt
+decode_end (v ∷ vs) = None
+
+-- whether the first value and the others have their columns' types
+abbrev pub have_types_then : (Value → Bool) → (Row → Bool) → Row → Bool
+have_types_then one more [] = false
+have_types_then one more (v ∷ vs) = one v && more vs
+
+-- whether a row has no value
+abbrev pub have_types_end : Row → Bool
+have_types_end [] = true
+have_types_end (v ∷ vs) = false

@@ -1,0 +1,4 @@
+pub mod FieldLaws
+pub mod Fields
+pub mod FormLaws
+pub mod Forms
