@@ -1,13 +1,17 @@
--- Law for commands that `step` refuses: the answer Refused with nothing changed is right for them (`Answers`).
-use Rattle.std.proofs.Common.{◌≡◌, refl}
+-- Laws on a command's answer: Refused with nothing changed is right where `step` refuses the command (`Answers`). After
+-- a fault the campaign that a crash leaves is good (`LeavesGood`).
+use Rattle.std.proofs.Common.{◌≡◌, ℕ, List, refl, inl, inr}
 use Rattle.sqlite_trees.specs.declared.store.Store.{Ghosts}
 use Rattle.sqlite.specs.Held.{Held}
+use Rattle.sqlite.specs.State.{State}
 use Rattle.atl_world.specs.Worlds.{WorldValue}
 use Rattle.atl_campaign.specs.Campaign.{CampaignValue}
 use Rattle.atl_campaign.specs.Good.{IsGood}
+use Rattle.atl_store.specs.Keeps.{LeavesAfterFault}
 use Rattle.atl_service.specs.declared.command.Command.{Command}
 use Rattle.atl_service.specs.declared.command.Answer.TheVariants.{Refused}
 use Rattle.atl_service.specs.declared.command.Refusal.{Refusal}
+use Rattle.atl_service.specs.Left.{LeavesGood}
 use Rattle.atl_service.specs.Step.{step}
 use Rattle.atl_service.specs.Answering.{Answers}
 
@@ -21,4 +25,13 @@ is_refused g w c conn command why is good = record {
   same = (refl, refl);
   good = good;
   tables = λ clean text keeps. keeps;
+}
+
+-- if the campaigns before and after a write that ended in a fault are good, so is the one that a crash leaves
+-- (`LeavesGood`)
+pub leaves_good : (w : WorldValue) (faults : ℕ) (s : State) (text : List ℕ) (before after : CampaignValue) → IsGood w before → IsGood w after → LeavesAfterFault faults s text before after → LeavesGood w faults s text before after
+leaves_good w faults s text before after good good_after stops = record {
+  tables = stops;
+  good = good;
+  crash = λ db left. elim (stops.crash db left) [ inl old ↦ inl old | inr new ↦ inr (new, good_after) ];
 }

@@ -10,7 +10,7 @@ use Rattle.sqlite.specs.Held.{state}
 use Rattle.sqlite.specs.State.{State, HasCleanDisk}
 use Rattle.atl_world.specs.Worlds.{WorldValue}
 use Rattle.atl_campaign.specs.Campaign.{CampaignValue}
-use Rattle.atl_store.specs.Keeps.{HoldsCampaign, IsLater, Keeps, LeavesAfterFault}
+use Rattle.atl_store.specs.Keeps.{HoldsCampaign, IsLater, Keeps}
 use Rattle.atl_store.proofs.WorldTextLaws.{world_text_is}
 use Rattle.atl_service.specs.declared.command.Command.{Command}
 use Rattle.atl_service.specs.declared.command.Answer.{Answer}
@@ -18,16 +18,21 @@ use Rattle.atl_service.specs.declared.command.Answer.TheVariants.{Joined, Mailed
 use Rattle.atl_service.specs.declared.command.Fault.{Fault as Failure}
 use Rattle.atl_service.specs.declared.command.Fault.TheVariants.{Memory, Store, Closed}
 use Rattle.atl_service.specs.Causes.{OfCommand, HasCause, IsFault}
+use Rattle.atl_service.specs.Left.{LeavesGood}
 use Rattle.atl_service.specs.Step.{step}
 use Rattle.atl_service.specs.Service.{ServiceValue, text_in}
 use Rattle.atl_service.specs.Runs.{Runs, RunsAt, RunsOpen, Accepts, Closes, RunsAll, Follows, FollowsAt, AreClosed, Headline, Interrupted, HeadlineAt}
 
--- what a fault may leave in the tables (`LeavesAfterFault`) if the disk had failed `many` times before, it may leave
--- also if it had failed `few` times, which is no more
-stops_from : (few many : ℕ) (s : State) (text : List ℕ) (before after : CampaignValue) → few ≤ many → LeavesAfterFault many s text before after → LeavesAfterFault few s text before after
-stops_from few many s text before after h stops = record {
-  still = stops.still;
-  shuts = elim stops.shuts [ inl up ↦ inl up | inr more ↦ inr (lower few many s.faults h more) ];
+-- what a fault may leave in the tables (`LeavesGood`) if the disk had failed `many` times before, it may leave also if
+-- it had failed `few` times, which is no more
+stops_from : (w : WorldValue) (few many : ℕ) (s : State) (text : List ℕ) (before after : CampaignValue) → few ≤ many → LeavesGood w many s text before after → LeavesGood w few s text before after
+stops_from w few many s text before after h stops = record {
+  tables = record {
+    still = stops.tables.still;
+    shuts = elim stops.tables.shuts [ inl up ↦ inl up | inr more ↦ inr (lower few many s.faults h more) ];
+    crash = stops.tables.crash;
+  };
+  good = stops.good;
   crash = stops.crash;
 }
   where
@@ -52,8 +57,8 @@ module _ {S : Type 0} (g : Ghosts S) where
     f.0,
     f.1,
     f.2,
-    λ clean. subst (λ t. LeavesAfterFault few (state g new.conn) t c (step w c x).0) (same clean) (stops_from few many (state g new.conn) t c (step w c x).0 h (f.3 clean)),
-    record { old = f.4.old; held = λ clean. subst (λ t. Keeps (state g f.4.old) t c) (same clean) (f.4.held clean); cause = f.4.cause },
+    λ clean. subst (λ t. LeavesGood w few (state g new.conn) t c (step w c x).0) (same clean) (stops_from w few many (state g new.conn) t c (step w c x).0 h (f.3 clean)),
+    record { old = f.4.old; since = omega (arith, h, f.4.since); held = λ clean. subst (λ t. Keeps (state g f.4.old) t c) (same clean) (f.4.held clean); cause = f.4.cause },
   )
 
   -- If a command was carried out, its answer is that of `step`, and the later answers follow from the campaign of
@@ -76,19 +81,20 @@ module _ {S : Type 0} (g : Ghosts S) where
 
   -- After a command that ended in a fault with its cause, the rest of the list is answered Closed, and the service
   -- stays closed. On a clean disk the tables stay at the campaign before the command, and a crash leaves that or the
-  -- one of `step` (`LeavesAfterFault`).
+  -- one of `step`, which then is good (`LeavesGood`).
   ended_in_fault : (old mid new : ServiceValue S) (c : CampaignValue) (x : Command) (fault : Failure) (cs : List Command) (rs : List Answer) → Closes g c old x mid → HasCause g (OfCommand old.world c x) old.conn mid.conn fault → HoldsCampaign g old.conn (text_in g old.conn) c
       → (HasCleanDisk (state g mid.conn) → HasCleanDisk (state g old.conn)) → FollowsAt g mid cs rs new mid.campaign
-      → AreClosed cs rs × (new.campaign ≡ None) × (HasCleanDisk (state g new.conn) → LeavesAfterFault (state g old.conn).faults (state g new.conn) (text_in g old.conn) c (step old.world c x).0) × IsFault g (text_in g old.conn) old.world c x fault new.conn
+      → AreClosed cs rs × (new.campaign ≡ None) × (HasCleanDisk (state g new.conn) → LeavesGood old.world (state g old.conn).faults (state g new.conn) (text_in g old.conn) c (step old.world c x).0)
+      × IsFault g (text_in g old.conn) (state g old.conn).faults old.world c x fault new.conn
       × (new.world ≡ old.world)
   ended_in_fault old mid new c x fault cs rs closes cause holds clean rest =
       let shut : mid.campaign ≡ None = ap (λ (e : ServiceValue S). e.campaign) closes.same in
       let on = subst (FollowsAt g mid cs rs new) shut rest in
-      let says : IsFault g (text_in g old.conn) old.world c x fault mid.conn = record { old = old.conn; held = λ h. holds (clean h); cause = cause } in (
+      let says : IsFault g (text_in g old.conn) (state g old.conn).faults old.world c x fault mid.conn = record { old = old.conn; since = omega arith; held = λ h. holds (clean h); cause = cause } in (
         on.0,
         ap (λ (e : ServiceValue S). e.campaign) on.1 ∙ shut,
-        subst (λ (e : ServiceValue S). HasCleanDisk (state g e.conn) → LeavesAfterFault (state g old.conn).faults (state g e.conn) (text_in g old.conn) c (step old.world c x).0) (sym on.1) closes.tables,
-        subst (λ (e : ServiceValue S). IsFault g (text_in g old.conn) old.world c x fault e.conn) (sym on.1) says,
+        subst (λ (e : ServiceValue S). HasCleanDisk (state g e.conn) → LeavesGood old.world (state g old.conn).faults (state g e.conn) (text_in g old.conn) c (step old.world c x).0) (sym on.1) closes.tables,
+        subst (λ (e : ServiceValue S). IsFault g (text_in g old.conn) (state g old.conn).faults old.world c x fault e.conn) (sym on.1) says,
         ap (λ (e : ServiceValue S). e.world) on.1 ∙ ap (λ (e : ServiceValue S). e.world) closes.same,
       )
 
@@ -129,6 +135,7 @@ module _ {S : Type 0} (g : Ghosts S) where
       → RunsAll g mid cs rs new → RunsAll g old (x ∷ cs) (a ∷ rs) new
   run_first old mid new x a cs rs holds ran later rest = record {
     follows = first_at old mid new x a cs rs old.campaign refl ran rest.later.clean later holds rest.follows;
+    each = (mid, ran, later, rest.each);
     later = later_on (state g old.conn) (state g mid.conn) (state g new.conn) later rest.later;
   }
 
@@ -141,7 +148,7 @@ module _ {S : Type 0} (g : Ghosts S) where
   -- to an empty list of commands, no answers and an unchanged service are what `run_all` promises (`RunsAll`), if the
   -- tables of a service with a campaign hold it
   pub run_none : (now : ServiceValue S) → IfSome now.campaign (λ c. HoldsCampaign g now.conn (text_in g now.conn) c) → RunsAll g now [] [] now
-  run_none now holds = record { follows = none_left now now.campaign refl holds; later = record { clean = λ h. h; counts = omega arith; shield = λ s. s } }
+  run_none now holds = record { follows = none_left now now.campaign refl holds; each = refl; later = record { clean = λ h. h; counts = omega arith; shield = λ s. s } }
 
   -- ---- the loop of `run_all`
 

@@ -10,7 +10,7 @@ use Rattle.atl_orders.specs.declared.fault.MailFault.{MailFault}
 use Rattle.atl_orders.specs.declared.fault.MailFault.TheVariants as mail
 use Rattle.atl_campaign.specs.Campaign.{CampaignValue}
 use Rattle.atl_campaign.specs.Good.{IsGood}
-use Rattle.atl_store.specs.Keeps.{Keeps, LeavesAfterFault, IsLater, LeavesOthersAlone}
+use Rattle.atl_store.specs.Keeps.{Keeps, IsLater, LeavesOthersAlone}
 use Rattle.atl_store.specs.declared.fault.WriteFault.{WriteFault}
 use Rattle.atl_store.specs.declared.fault.WriteFault.TheVariants as write
 use Rattle.atl_service.specs.declared.answering.MailError.{MailError}
@@ -21,6 +21,7 @@ use Rattle.atl_service.specs.declared.command.Answer.TheVariants.{Joined, Mailed
 use Rattle.atl_service.specs.declared.command.Fault.{Fault as Failure}
 use Rattle.atl_service.specs.declared.command.Fault.TheVariants as fault
 use Rattle.atl_service.specs.declared.command.Refusal.TheVariants as why
+use Rattle.atl_service.specs.Left.{LeavesGood}
 use Rattle.atl_service.specs.Step.{step}
 
 -- The answer is no `Fault`.
@@ -52,12 +53,12 @@ pub record Answers {S : Type 0} (g : Ghosts S) (w : WorldValue) (before : Campai
   -- if the disk is clean, tables that held the campaign before hold the campaign after, with the same world text
   pub tables : HasCleanDisk (state g new) → (text : List ℕ) → Keeps (state g old) text before → Keeps (state g new) text after
 
--- A command ended in a fault: on a clean disk, tables that held the campaign before the command still do
--- (`LeavesAfterFault`). A crash leaves that campaign or the one after `step`.
+-- A command ended in a fault: on a clean disk, tables that held the campaign before the command still do. A crash
+-- leaves that campaign or the one after `step`, and the one that it leaves is good (`LeavesGood`).
 abbrev pub CommandLeavesAfterFault : {S : Type 0} → Ghosts S → WorldValue → CampaignValue → Held S → Command → Held S → Type 0
 CommandLeavesAfterFault g w before old command new =
     HasCleanDisk (state g new) → (text : List ℕ) → Keeps (state g old) text before
-    → LeavesAfterFault (state g old).faults (state g new) text before (step w before command).0
+    → LeavesGood w (state g old).faults (state g new) text before (step w before command).0
 
 -- After any command, answered or failed, the connection is in no transaction. A disk that isn't clean stays so, no
 -- failure of it is forgotten, and reads that are compared with digests stay so (`IsLater`). If the disk is clean,

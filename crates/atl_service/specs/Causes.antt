@@ -1,6 +1,6 @@
 -- Why a command or founding ended in the fault Memory or Store: the error that a call of its write gave. A disk is
 -- clean if each read has returned what was written (docs/PROVED.md, "Premises").
-use Rattle.std.specs.Prelude.{◌≡◌, ◌⊎◌, ℕ, List, Bool, true, false, Ok}
+use Rattle.std.specs.Prelude.{◌≡◌, ◌⊎◌, ◌≤◌, ℕ, List, Bool, true, false, Ok}
 use Rattle.sqlite_trees.specs.declared.store.Store.{Ghosts}
 use Rattle.sqlite.specs.declared.error.Error.{Error}
 use Rattle.sqlite.specs.Held.{Held, state}
@@ -63,11 +63,14 @@ HasCause g own old new Memory = LacksMemory g own old new
 HasCause g own old new Store = GivesOtherError g own old new
 HasCause g own old new Closed = ⊥
 
--- The fault of a command has its cause, and, if the disk is clean, the tables before the command held the campaign `c`.
-pub record IsFault {S : Type 0} (g : Ghosts S) (text : List ℕ) (w : WorldValue) (c : CampaignValue)
+-- The fault of a command of a list has its cause, which came after the list began: until then the disk had failed
+-- `faults` times. If the disk is clean, the tables before the command held the campaign `c`.
+pub record IsFault {S : Type 0} (g : Ghosts S) (text : List ℕ) (faults : ℕ) (w : WorldValue) (c : CampaignValue)
     (command : Command) (fault : Fault) (new : Held S) : Type 0 where
   -- the connection before the command
   pub old : Held S
+  -- the connection before the command is one after the list began: it counts all failures of the disk until then
+  pub since : faults ≤ (state g old).faults
   -- if the disk is clean, the tables before the command held the campaign `c` and the text
   pub held : HasCleanDisk (state g new) → Keeps (state g old) text c
   -- the fault has its cause between the connection before the command and the one after it (`HasCause`)

@@ -1,6 +1,7 @@
 pub mod Numbers
 pub mod Closing
 pub mod Step
+pub mod Left
 pub mod Service
 pub mod Causes
 pub mod Answering

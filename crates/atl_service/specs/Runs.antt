@@ -6,7 +6,7 @@ use Rattle.sqlite.specs.Held.{state}
 use Rattle.sqlite.specs.State.{HasCleanDisk}
 use Rattle.atl_world.specs.Worlds.{WorldValue}
 use Rattle.atl_campaign.specs.Campaign.{CampaignValue}
-use Rattle.atl_store.specs.Keeps.{HoldsCampaign, IsLater, LeavesAfterFault}
+use Rattle.atl_store.specs.Keeps.{HoldsCampaign, IsLater}
 use Rattle.atl_service.specs.declared.command.Command.{Command}
 use Rattle.atl_service.specs.declared.command.Answer.{Answer}
 use Rattle.atl_service.specs.declared.command.Answer.TheVariants.{Joined, Mailed, MonthDone, Text, Refused, Fault}
@@ -14,6 +14,7 @@ use Rattle.atl_service.specs.declared.command.Answer.TheVariants as Answers
 use Rattle.atl_service.specs.declared.command.Fault.{Fault as Failure}
 use Rattle.atl_service.specs.declared.command.Fault.TheVariants.{Memory, Store, Closed}
 use Rattle.atl_service.specs.Causes.{OfCommand, HasCause, IsFault}
+use Rattle.atl_service.specs.Left.{LeavesGood}
 use Rattle.atl_service.specs.Step.{step, run_of}
 use Rattle.atl_service.specs.Service.{ServiceValue, text_in}
 
@@ -34,16 +35,17 @@ pub record Accepts {S : Type 0} (g : Ghosts S) (c : CampaignValue) (old : Servic
 abbrev pub Refuses : {S : Type 0} → CampaignValue → ServiceValue S → Command → Answer → ServiceValue S → Type 0
 Refuses c old command answer new = (step old.world c command ≡ (c, answer)) × (new ≡ old)
 
--- A fault closed the service: if the disk is clean, the tables hold the campaign before the command
--- (`LeavesAfterFault`). A crash leaves that campaign or the one after `step`.
+-- A fault closed the service: if the disk is clean, the tables hold the campaign before the command. A crash leaves
+-- that campaign or the one after `step`, and the one that it leaves is good (`LeavesGood`).
 pub record Closes {S : Type 0} (g : Ghosts S) (c : CampaignValue) (old : ServiceValue S)
     (command : Command) (new : ServiceValue S) : Type 0 where
   -- the service is closed, so has no campaign; its world is as before
   pub same : new ≡ record old { conn = new.conn; campaign = None }
   -- if the disk is clean, the tables hold the campaign before the command while the connection is open, and a crash
-  -- leaves that campaign or the one after `step` (`LeavesAfterFault`)
+  -- leaves that campaign or the one after `step`; the one that it leaves is good (`LeavesGood`)
   pub tables : HasCleanDisk (state g new.conn)
-      → LeavesAfterFault (state g old.conn).faults (state g new.conn) (text_in g old.conn) c (step old.world c command).0
+      → LeavesGood old.world (state g old.conn).faults (state g new.conn) (text_in g old.conn)
+      c (step old.world c command).0
 
 -- What one command may answer in a service that is open with campaign `c`, and what each answer leaves of the service.
 -- Joined, Mailed, MonthDone and Text carry the command out (`Accepts`). Text, which is a report, and Refused change
@@ -72,6 +74,18 @@ Runs g old command answer new = RunsAt g old command answer new old.campaign
 
 -- ---- lists of commands
 
+-- Each command of the list was run by itself, in the service that the one before it left, and gave its answer
+-- (`Runs`). The last one left service `new`.
+abbrev pub RunOneByOne : {S : Type 0} → Ghosts S → ServiceValue S → List Command → List Answer → ServiceValue S → Type 0
+RunOneByOne g old [] [] new = new ≡ old
+RunOneByOne {S} g old (command ∷ cs) (answer ∷ rs) new =
+    (next : ServiceValue S)
+    × Runs g old command answer next
+    × IsLater (state g old.conn) (state g next.conn)
+    × RunOneByOne g next cs rs new
+RunOneByOne g old [] (answer ∷ rs) new = ⊥
+RunOneByOne g old (command ∷ cs) [] new = ⊥
+
 -- There is one answer for each command, and each is Closed.
 abbrev pub AreClosed : List Command → List Answer → Type 0
 AreClosed [] [] = ⊤
@@ -82,7 +96,7 @@ AreClosed (c ∷ cs) [] = ⊥
 -- From campaign `c` on, the answers are those of `step` up to the first fault, and Closed after it. Without a fault the
 -- service ends with the last campaign, which on a clean disk the tables hold. After a fault the service is closed, and
 -- the fault has its cause. On a clean disk the tables then stay at the campaign of the commands before the fault
--- (`LeavesAfterFault`). `faults` is how often the disk had failed before.
+-- (`LeavesGood`). `faults` is how often the disk had failed before.
 abbrev pub Follows : {S : Type 0} → Ghosts S → List ℕ → ℕ → WorldValue → CampaignValue → List Command → List Answer
     → ServiceValue S → Type 0
 Follows g text faults w c [] [] new = (new.campaign ≡ Some c) × HoldsCampaign g new.conn text c
@@ -100,8 +114,8 @@ Follows g text faults w c (command ∷ cs) (Fault fault ∷ rs) new =
     (fault ≢ Closed)
     × AreClosed cs rs
     × (new.campaign ≡ None)
-    × (HasCleanDisk (state g new.conn) → LeavesAfterFault faults (state g new.conn) text c (step w c command).0)
-    × IsFault g text w c command fault new.conn
+    × (HasCleanDisk (state g new.conn) → LeavesGood w faults (state g new.conn) text c (step w c command).0)
+    × IsFault g text faults w c command fault new.conn
 Follows g text faults w c [] (a ∷ rs) new = ⊥
 Follows g text faults w c (command ∷ cs) [] new = ⊥
 
@@ -119,6 +133,8 @@ pub record RunsAll {S : Type 0} (g : Ghosts S) (old : ServiceValue S) (commands 
   -- the answers are those of `step` up to the first fault, and Closed after it (`Follows`), or, if the service was
   -- closed, each answer is Closed and nothing changes
   pub follows : FollowsAt g old commands answers new old.campaign
+  -- each command was run by itself, in the service that the one before it left (`RunOneByOne`)
+  pub each : RunOneByOne g old commands answers new
   -- a disk that isn't clean stays so, no failure of it is forgotten, and reads that are compared with digests stay so
   -- (`IsLater`)
   pub later : IsLater (state g old.conn) (state g new.conn)
@@ -135,7 +151,7 @@ pub record Headline {S : Type 0} (g : Ghosts S) (text : List ℕ) (w : WorldValu
   pub tables : HoldsCampaign g new.conn text (run_of w c commands).0
 
 -- A command ended in a fault that has its cause: the answers before it are those of `run_of`, and all later answers are
--- Closed. If the disk is clean, the tables stay at the campaign of the commands before the fault (`LeavesAfterFault`).
+-- Closed. If the disk is clean, the tables stay at the campaign of the commands before the fault (`LeavesGood`).
 pub record Interrupted {S : Type 0} (g : Ghosts S) (text : List ℕ) (faults : ℕ) (w : WorldValue) (c : CampaignValue)
     (commands : List Command) (answers : List Answer) (new : ServiceValue S) : Type 0 where
   -- the number of commands before the command that failed
@@ -156,12 +172,14 @@ pub record Interrupted {S : Type 0} (g : Ghosts S) (text : List ℕ) (faults : �
       ++ Answers.Fault fault ∷ map (λ _. Answers.Fault Closed) (drop (count + 1) commands)
   -- the service is closed, so has no campaign
   pub campaign_is : new.campaign ≡ None
-  -- the fault has its cause, and, if the disk is clean, the tables held the campaign of the commands before it
-  pub cause : IsFault g text w (run_of w c (take count commands)).0 command fault new.conn
+  -- the fault has its cause, which came after the list began, and, if the disk is clean, the tables held the campaign
+  -- of the commands before it
+  pub cause : IsFault g text faults w (run_of w c (take count commands)).0 command fault new.conn
   -- If the disk is clean, the tables hold the campaign of the commands before the fault, while the connection is open.
-  -- On a clean disk, a crash leaves that campaign or the one after the command that failed (`LeavesAfterFault`).
+  -- On a clean disk, a crash leaves that campaign or the one after the command that failed; the one that it leaves is
+  -- good (`LeavesGood`).
   pub tables : HasCleanDisk (state g new.conn)
-      → LeavesAfterFault faults (state g new.conn) text
+      → LeavesGood w faults (state g new.conn) text
       (run_of w c (take count commands)).0 (run_of w c (take (count + 1) commands)).0
 
 -- From an open service `Headline` holds, or a command ended in a fault (`Interrupted`). From a closed one every answer

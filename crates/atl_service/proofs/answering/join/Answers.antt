@@ -3,16 +3,17 @@ use Rattle.sqlite.specs.Held.{state}
 use Rattle.atl_campaign.specs.Campaign.{CampaignValue, MarkedCampaign}
 use Rattle.atl_sql.specs.Causes.{IsFaultOfError}
 use Rattle.atl_store.specs.Faults.{write_fault}
-use Rattle.atl_store.specs.Keeps.{LeavesAfterFault}
+use Rattle.atl_campaign.specs.Good.{IsGood}
 use Rattle.atl_store.specs.OwnStatements.{OfJoining}
 use Rattle.atl_store.proofs.StayLaws.{on_err}
 use Rattle.atl_service.specs.declared.command.Command.TheVariants.{Join}
 use Rattle.atl_service.specs.declared.command.Refusal.TheVariants as why
+use Rattle.atl_service.specs.Left.{LeavesGood}
 use Rattle.atl_service.specs.Step.{reported, step}
 use Rattle.atl_service.specs.Causes.{OfCommand}
 use Rattle.atl_service.proofs.CauseLaws.{call_has_cause}
 use Rattle.atl_service.specs.Answering.{CommandLeavesAfterFault}
-use Rattle.atl_service.proofs.AnswerLaws.{is_refused}
+use Rattle.atl_service.proofs.AnswerLaws.{is_refused, leaves_good}
 use Rattle.atl_campaign.proofs.GoodLaws.{IsGood-joined}
 use Rattle.atl_service.proofs.JoinStepLaws.{bad_name, bad_pass, is_taken, is_too_full, steps_on, joining_is, arrives}
 use Rattle.atl_service.proofs.answering.join.Goals as goal
@@ -68,7 +69,7 @@ returns-clause-ok g c =
     }
 
 -- If `write_join` fails, on a clean disk the tables keep the campaign before the join. A crash leaves this campaign or
--- the one after the join (`CommandLeavesAfterFault`).
+-- the one after the join, which then is good (`CommandLeavesAfterFault`).
 pub returns-in_err-write_join-clause-err : goal.returns-in_err-write_join-clause-err
 returns-in_err-write_join-clause-err g c = on_err _ (CommandLeavesAfterFault g.S.Store c.args.world.now c.args.campaign.now.value c.args.conn.now (Join c.args.name.now c.args.pass.now c.args.word) c.write_join.new.conn) (λ clean text keeps.
     let w = c.args.world.now in
@@ -76,8 +77,10 @@ returns-in_err-write_join-clause-err g c = on_err _ (CommandLeavesAfterFault g.S
     let is = rw (c.as_slice-3.ensures, c.as_slice-4.ensures) at c.in-Ok.ensures.definition in
     let done : c.store_first_report.new.campaign.value ≡ reported w c.join.new.self.value c.in-Ok.numbers.0 = c.in_ok-store_first_report.ensures.ok in
     let steps = steps_on w old c.args.name.now c.args.pass.now c.args.word c.join.new.self.value c.in-Ok.numbers.0 c.in-Ok.numbers.1 (cc) (cc) is in
-    let stops = c.in_err-write_join.ensures.err clean text old keeps (rw done (joining_is w c.args.name.now c.args.pass.now c.args.word old c.join.new.self.value c.in-Ok.numbers.0 c.in-Ok.numbers.1 c.requires.good is)) in
-    subst (λ (after : CampaignValue). LeavesAfterFault (state g.S.Store c.args.conn.now).faults (state g.S.Store c.write_join.new.conn) text old after) (done ∙ sym (ap (λ p. p.0) steps)) stops)
+    let good : IsGood w c.store_first_report.new.campaign.value = rw done (IsGood-joined w c.args.name.now c.args.pass.now c.args.word old c.join.new.self.value c.in-Ok.numbers.0 c.in-Ok.numbers.1 _ is c.requires.good c.join.ensures.sound) in
+    let stops = leaves_good w (state g.S.Store c.args.conn.now).faults (state g.S.Store c.write_join.new.conn) text old c.store_first_report.new.campaign.value c.requires.good good
+    (c.in_err-write_join.ensures.err clean text old keeps (rw done (joining_is w c.args.name.now c.args.pass.now c.args.word old c.join.new.self.value c.in-Ok.numbers.0 c.in-Ok.numbers.1 c.requires.good is))) in
+    subst (λ (after : CampaignValue). LeavesGood w (state g.S.Store c.args.conn.now).faults (state g.S.Store c.write_join.new.conn) text old after) (done ∙ sym (ap (λ p. p.0) steps)) stops)
 
 -- `write_join` gets a campaign with the new faction, its unit and its report, and with money and people among the
 -- things of the books (`HasArrival`)

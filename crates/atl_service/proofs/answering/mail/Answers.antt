@@ -3,12 +3,13 @@ use Rattle.sqlite.specs.Held.{state}
 use Rattle.atl_campaign.specs.Campaign.{CampaignValue, MarkedCampaign, with_mail}
 use Rattle.atl_sql.specs.Causes.{IsFaultOfError}
 use Rattle.atl_store.specs.Faults.{write_fault}
-use Rattle.atl_store.specs.Keeps.{LeavesAfterFault}
 use Rattle.atl_store.specs.OwnStatements.{OfMail}
 use Rattle.atl_store.proofs.StayLaws.{on_err}
 use Rattle.atl_service.specs.declared.command.Command.TheVariants.{Mail}
 use Rattle.atl_service.specs.Answering.{CommandLeavesAfterFault}
 use Rattle.atl_campaign.proofs.GoodLaws.{IsGood-with_mail}
+use Rattle.atl_service.specs.Left.{LeavesGood}
+use Rattle.atl_service.proofs.AnswerLaws.{leaves_good}
 use Rattle.atl_service.proofs.CauseLaws.{call_has_cause}
 use Rattle.atl_service.proofs.answering.mail.Goals as goal
 
@@ -26,12 +27,14 @@ returns-clause-ok g c =
     }
 
 -- If `write_mail` fails, on a clean disk the tables keep the campaign before the mailing. A crash leaves this campaign
--- or the one after the mailing (`CommandLeavesAfterFault`).
+-- or the one after the mailing, which then is good (`CommandLeavesAfterFault`).
 pub returns-in_err-write_mail-clause-err : goal.returns-in_err-write_mail-clause-err
 returns-in_err-write_mail-clause-err g c = on_err _ (CommandLeavesAfterFault g.S.Store c.args.world.now c.args.campaign.now.value c.args.conn.now (Mail c.args.faction c.args.pass.now c.args.text.now) c.write_mail.new.conn) (λ clean text keeps.
+    let w = c.args.world.now in
     let old = c.args.campaign.now.value in
-    let stops = rw c.as_slice.ensures at (c.in_err-write_mail.ensures.err clean text old keeps) in
-    subst (λ (after : CampaignValue). LeavesAfterFault (state g.S.Store c.args.conn.now).faults (state g.S.Store c.write_mail.new.conn) text old after) (sym (ap (λ p. p.0) c.in-Ok.ensures.step)) stops)
+    let good = IsGood-with_mail w old c.args.faction c.args.text.now c.in-Ok.ensures.own c.in-Ok.ensures.active c.requires.good in
+    let stops = leaves_good w (state g.S.Store c.args.conn.now).faults (state g.S.Store c.write_mail.new.conn) text old (with_mail old c.args.faction c.args.text.now) c.requires.good good (rw c.as_slice.ensures at (c.in_err-write_mail.ensures.err clean text old keeps)) in
+    subst (λ (after : CampaignValue). LeavesGood w (state g.S.Store c.args.conn.now).faults (state g.S.Store c.write_mail.new.conn) text old after) (sym (ap (λ p. p.0) c.in-Ok.ensures.step)) stops)
 
 -- if `write_mail` fails, on a clean disk an error of one of its calls is the cause of the fault of the mailing
 -- (`HasCause`)

@@ -4,12 +4,13 @@ use Rattle.atl_campaign.specs.Campaign.{CampaignValue, MarkedCampaign}
 use Rattle.atl_campaign.proofs.CoverLaws.{marks-trans}
 use Rattle.atl_sql.specs.Causes.{IsFaultOfError}
 use Rattle.atl_store.specs.Faults.{write_fault}
-use Rattle.atl_store.specs.Keeps.{LeavesAfterFault}
 use Rattle.atl_store.specs.OwnStatements.{OfChange}
 use Rattle.atl_store.proofs.StayLaws.{on_err}
 use Rattle.atl_service.specs.declared.command.Command.TheVariants.{Close}
 use Rattle.atl_service.specs.Answering.{CommandLeavesAfterFault}
 use Rattle.atl_service.specs.Causes.{OfCommand}
+use Rattle.atl_service.specs.Left.{LeavesGood}
+use Rattle.atl_service.proofs.AnswerLaws.{leaves_good}
 use Rattle.atl_service.proofs.CauseLaws.{call_has_cause}
 use Rattle.atl_service.proofs.CloseLaws.{closed_after_reports, few_things}
 use Rattle.atl_service.proofs.closing.close.Goals as goal
@@ -23,15 +24,15 @@ write_changes-requires-clause-things g c =
     few_things w after c.in_default.ensures.ok.world done.1
 
 -- If `write_changes` fails, on a clean disk the tables keep the campaign before the close. A crash leaves this campaign
--- or the one after the close (`CommandLeavesAfterFault`).
+-- or the one after the close, which then is good (`CommandLeavesAfterFault`).
 pub returns-in_err-write_changes-clause-err : goal.returns-in_err-write_changes-clause-err
 returns-in_err-write_changes-clause-err g c = on_err _ (CommandLeavesAfterFault g.S.Store c.args.world.now c.args.campaign.now.value c.args.conn.now (Close c.args.month c.args.pass.now c.args.words.now) c.write_changes.new.conn) (λ clean text keeps.
     let old = c.args.campaign.now.value in
     let after = c.report_to_all.new.campaign.value in
     let done = rw c.as_slice.ensures at (closed_after_reports c.args.world.now old c.turn_month.new.campaign.value after c.as_slice.result.now c.in_ok-outcome.outcome c.in_ok-outcome.ensures.outcome c.in_ok-report_to_all.ensures.what c.in_ok-outcome.ensures.there c.in_ok-outcome.ensures.good) in
     let marks = marks-trans c.args.campaign.now c.turn_month.new.campaign c.report_to_all.new.campaign c.in_ok-outcome.ensures.marks c.in_ok-report_to_all.ensures.marks in
-    let stops = c.in_err-write_changes.ensures.err clean text old keeps marks.covers in
-    subst (λ (a : CampaignValue). LeavesAfterFault (state g.S.Store c.args.conn.now).faults (state g.S.Store c.write_changes.new.conn) text old a) (done.0 ∙ sym (ap (λ p. p.0) c.in_default.ensures.ok.step_is)) stops)
+    let stops = leaves_good c.args.world.now (state g.S.Store c.args.conn.now).faults (state g.S.Store c.write_changes.new.conn) text old after c.requires.good done.1 (c.in_err-write_changes.ensures.err clean text old keeps marks.covers) in
+    subst (λ (a : CampaignValue). LeavesGood c.args.world.now (state g.S.Store c.args.conn.now).faults (state g.S.Store c.write_changes.new.conn) text old a) (done.0 ∙ sym (ap (λ p. p.0) c.in_default.ensures.ok.step_is)) stops)
 
 -- a close that succeeds leaves the campaign of `step`, on a clean disk also in the tables (`Answers`)
 pub returns-clause-ok : goal.returns-clause-ok

@@ -1,0 +1,20 @@
+-- What a command that ended in a fault leaves in the tables: the campaign before it, and after a crash a good campaign.
+use Rattle.std.specs.Prelude.{◌⊎◌, ℕ, List}
+use Rattle.sqlite_trees.specs.Tree.{Trees}
+use Rattle.sqlite.specs.State.{State}
+use Rattle.atl_world.specs.Worlds.{WorldValue}
+use Rattle.atl_campaign.specs.Campaign.{CampaignValue}
+use Rattle.atl_campaign.specs.Good.{IsGood}
+use Rattle.atl_store.specs.Keeps.{LeavesAfterFault, Stores}
+
+-- After a fault the tables, while the connection is open, hold the campaign `before`, which is good. A crash leaves
+-- this campaign or the campaign `after`, and leaves `after` only if that is good too.
+-- `faults` counts the failures of the disk before the call.
+pub record LeavesGood (w : WorldValue) (faults : ℕ) (s : State) (text : List ℕ) (before after : CampaignValue) : Type 0 where
+  -- while the connection is open it keeps the campaign `before`, and a crash leaves `before` or `after`
+  -- (`LeavesAfterFault`)
+  pub tables : LeavesAfterFault faults s text before after
+  -- the campaign `before` is good
+  pub good : IsGood w before
+  -- a crash leaves a file that stores the campaign `before`, or the campaign `after`, which then is good
+  pub crash : (db : Trees) → s.may_leave db → Stores db text before ⊎ (Stores db text after × IsGood w after)
