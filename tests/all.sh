@@ -91,6 +91,7 @@ try simulate python3 tests/simulate.py
 try killed 'sqlite3 strace' tests/killed.sh 40
 try cuts 'strace python3' tests/cuts.py
 try slow python3 tests/slow.sh
+try given_up 'python3 strace' tests/given_up.py
 try office_types mypy mypy --strict office tests/office
 try office python3 python3 -B -m unittest discover -s tests/office -t .
 try office_year python3 tests/office/year_by_mail.py
