@@ -49,9 +49,12 @@ function soonNote() {
 }
 
 /** @type {T.FaultWords} */
-const faultWords = (line, number, changed = false) => [link(`line ${line}`, () => jumpTo(line)), `: ${
-  lineFaultWords(number)} ${oddSigns(faultyText(line)).map(signName).join(' ')} `,
-changed ? '(changed after it was sent)' : el('code', {}, faultyText(line).trim().slice(0, MOST_LETTERS))];
+function faultWords(line, number, changed = false) {
+  const written = faultyText(line);
+  const signs = oddSigns(written).map(signName).join(' ');
+  return [link(`line ${line}`, () => jumpTo(line)), `: ${lineFaultWords(number)} ${signs && `Here: ${signs} `}`,
+    changed ? '(changed after it was sent)' : el('code', {}, written.trim().slice(0, MOST_LETTERS))];
+}
 
 /** @param {string} sign */
 const signName = (sign) => (/[\p{L}\p{N}\p{P}\p{S}]/u.test(sign) ? sign

@@ -85,7 +85,7 @@ export function losses(report) {
 export function showRegion(region, names) {
   const { number, name, terrain, peasants, money } = region;
   const units = new Map(region.units.map((unit) => [unit.number, unit.name]));
-  return el('section', { class: 'region' }, el('h3', {}, `Region ${number} ${name}, ${terrain}`),
+  return el('section', {}, el('h3', {}, `Region ${number} ${name}, ${terrain}`),
     el('p', {}, `${numbered(peasants)} peasants, ${numbered(money)} money. ${exitWords(region.exits, names)} ${
       upkeepWords(region)}`),
     titledList('h4', 'Markets', region.markets.map(({ item, stock, price, wanted, pays }) => `${item}: ${
