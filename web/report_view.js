@@ -8,7 +8,7 @@ import { bringsAmount, counted, doneWords, eventFaultWords, lineFaultWords, numb
 import { theWorld } from './world.js';
 
 const NO_MAILING = 'These orders were sent from elsewhere, or this browser does not keep them.';
-const LATER = 'does not count: a later order of this unit takes its place.';
+const LATER = 'does not count: a later order takes its place.';
 const SHOWN = ['unit', 'block', 'order'];
 
 /** @type {T.ShowReport} */
@@ -25,7 +25,7 @@ export function showReport(report, mailing) {
 function ordersPart(report, mailing) {
   const rows = outcomes(report, mailing);
   return el('section', {}, el('h3', {}, 'What came of the orders'),
-    losses(report).map((words) => paragraph('answer bad', words)), rows.length === 0 ? null : [
+    losses(report).map((words) => paragraph('answer bad', words)), rows.length === 0 ? 'None.' : [
       el('table', { class: 'outcomes' },
         el('tr', {}, ['Line', 'Order', 'What came of it'].map((title) => el('th', { scope: 'col' }, title))), rows),
       mailing ? null : paragraph('help', NO_MAILING)]);
