@@ -193,8 +193,6 @@ export type Attributes = Record<string, string | number>;
 export type Make<E> = (tag: string, attributes?: Attributes, ...children: Children) => E;
 /** Takes a text. */
 export type Act = (text: string) => void;
-/** Shows a part of the page by its name. */
-export type GoTo = (name: string) => void;
 
 /** A faction and its pass text. */
 export interface Sign {
