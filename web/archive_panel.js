@@ -1,4 +1,4 @@
-// The part that saves what the browser keeps of a faction as one file, and takes such a file in.
+// Saves what the browser keeps of a faction as one file, and takes such a file in.
 
 import { archiveText, joinEarlier, joinMailings, MOST_FILE_BYTES, planImport, readArchive } from './archive.js';
 import { answerAt, button, byId, fieldById, on, saveFile, tell } from './dom.js';
@@ -26,16 +26,17 @@ function keptOf(faction) {
 
 function save() {
   const faction = currentFaction();
-  if (!faction) return answer('bad', NO_NUMBER);
-  return saveFile(`faction-${faction}.json`, archiveText(keptOf(faction)), 'application/json');
+  if (!faction) answer('bad', NO_NUMBER);
+  else saveFile(`faction-${faction}.json`, archiveText(keptOf(faction)), 'application/json');
 }
 
 async function open() {
   const [file] = fieldById('archive-file').files ?? [];
-  if (!file) return undefined;
+  if (!file) return;
   const archive = file.size > MOST_FILE_BYTES ? { fault: 'This file is too long.' } : readArchive(await file.text());
   fieldById('archive-file').value = '';
-  return 'fault' in archive ? answer('bad', `${archive.fault} Nothing was taken from it.`) : offer(archive);
+  if ('fault' in archive) answer('bad', `${archive.fault} Nothing was taken from it.`);
+  else offer(archive);
 }
 
 /** @type {T.Offer} */
@@ -44,10 +45,12 @@ function offer(archive) {
   const { months, newDraft } = planImport(kept, archive);
   const differs = [months.length > 0 ? counted(months.length, 'report') : '', newDraft && kept.draft ? 'the draft' : '']
     .filter(Boolean).join(' and ');
-  if (differs === '') return take(archive, true);
-  return answer('mixed', `In the file ${differs} of faction ${archive.faction} differ from what this browser keeps. `,
-    button('Take what is missing here', () => take(archive, false)), ' ',
-    button('Take all of the file', () => take(archive, true)));
+  if (differs === '') take(archive, true);
+  else {
+    answer('mixed', `In the file ${differs} of faction ${archive.faction} differ from what this browser keeps. `,
+      button('Take what is missing here', () => take(archive, false)), ' ',
+      button('Take all of the file', () => take(archive, true)));
+  }
 }
 
 /** @type {T.Take} */
@@ -55,7 +58,7 @@ function take(archive, all) {
   const { faction } = archive;
   const kept = keptOf(faction);
   const { reports, months, newDraft, draft } = planImport(kept, archive);
-  const takesDraft = newDraft && (all || !kept.draft);
+  const takesDraft = draft && newDraft && (all || !kept.draft);
   const other = takesDraft ? kept.draft : newDraft ? draft : null;
   const earlier = [...(other ? [{ text: other.text, at: Date.now() }] : []), ...kept.earlier];
   const isKept = [
@@ -63,9 +66,9 @@ function take(archive, all) {
       .map(([month, text]) => keepReport(faction, month, text)),
     keepMailings(faction, joinMailings(kept.mailings, archive.mailings, MOST_MAILINGS)),
     keepEarlier(faction, joinEarlier(earlier, archive.earlier, MOST_EARLIER)),
-    !draft || !takesDraft || keepDraft(faction, draft.text),
+    !takesDraft || keepDraft(faction, draft.text),
   ].every(Boolean);
-  if (draft && takesDraft && draft.after !== null) keepDraftMonth(faction, draft.after);
+  if (takesDraft && draft.after !== null) keepDraftMonth(faction, draft.after);
   showFaction(faction);
   tell('imported');
   answer(isKept ? 'good' : 'mixed', `The file of faction ${faction} was taken in. ${isKept

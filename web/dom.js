@@ -24,6 +24,16 @@ function fill(node, attributes, children) {
   return node;
 }
 
+/** @type {T.MakeOf} */
+export const paragraph = (kind, ...children) => el('p', { class: kind }, ...children);
+
+/** @type {T.ListOf} */
+export const listOf = (items, attributes = {}) => el('ul', attributes, items.map((item) => el('li', {}, item)));
+
+/** @type {T.TitledList} */
+export const titledList = (heading, title, lines) => (
+  lines.length === 0 ? [] : [el(heading, {}, title), listOf(lines)]);
+
 /** @type {T.Refill} */
 export function refill(id, ...children) {
   byId(id).replaceChildren();
@@ -50,7 +60,7 @@ export function button(text, act, attributes = {}) {
 export const link = (text, act) => button(text, act, { class: 'link' });
 
 /** @type {T.AnswerAt} */
-export const answerAt = (id) => (/** @type {T.Tone} */ tone, /** @type {T.Children} */ ...parts) => {
+export const answerAt = (id) => (tone, ...parts) => {
   byId(id).className = `answer ${tone}`;
   refill(id, ...parts);
 };
@@ -70,9 +80,6 @@ export async function busy(id, work) {
 /** @type {T.SaveFile} */
 export function saveFile(name, text, type) {
   const address = URL.createObjectURL(new Blob([text], { type }));
-  const to = el('a', { href: address, download: name });
-  document.body.append(to);
-  to.click();
-  to.remove();
+  el('a', { href: address, download: name }).click();
   setTimeout(() => URL.revokeObjectURL(address), 10000);
 }

@@ -16,8 +16,7 @@ export const lastMailing = (faction) => mailingsOf(faction).at(-1) ?? null;
 
 /** @type {T.IsPending} */
 export function isPending(faction, { month, after }) {
-  const latest = latestMonth(faction);
-  return month === undefined && (after === null || latest === null || after >= latest);
+  return month === undefined && (after ?? Infinity) >= (latestMonth(faction) ?? 0);
 }
 
 /** @param {number} faction */

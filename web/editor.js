@@ -2,9 +2,7 @@
 
 import { byId, el, on } from './dom.js';
 import { readMailing } from './judge.js';
-import { followLines } from './line_marks.js';
-import { badLines } from './mailing.js';
-import { splitLines } from './texts.js';
+import { followLines, splitLines } from './texts.js';
 import { theWorld } from './world.js';
 
 const LEAST_LINES = 20;
@@ -15,21 +13,19 @@ let lines = [''];
 let faults = [];
 let read = readMailing('');
 let here = 1;
-let bad = badLines([]);
 /** @type {HTMLElement[]} */
 const numbers = [];
-// What is seen of the text, in pixels: how far it is scrolled, and how high the box and a line are.
+// In pixels: how far the text is scrolled, and how high the box and a line are.
 const seen = { top: 0, height: 0, line: 24 };
 
 export const text = () => box.value;
 export const mailingNow = () => read;
 export const faultyLines = () => faults;
-export const badLinesNow = () => bad;
 
-// The lines in which the program will find a fault, if the page has the world. The line being typed is left out.
+/** @type {T.Foreseen} */
 export function foreseen() {
   const typed = document.activeElement === box ? here : 0;
-  return theWorld() ? read.faults.filter(([line]) => line !== typed) : [];
+  return read.faults.filter(([line]) => line !== typed && (theWorld() || read.lines[line - 1].kind === 'bad'));
 }
 
 /** @param {number} line */
@@ -59,28 +55,20 @@ function takeLines() {
   });
   lines = fresh;
   here = lineNow();
-  bad = badLines(read.lines);
   showLines();
 }
 
-function lineNow() {
-  const { value, selectionStart: at } = box;
-  let line = 1;
-  for (let end = value.indexOf('\n'); end >= 0 && end < at; end = value.indexOf('\n', end + 1)) line += 1;
-  return line;
-}
+const lineNow = () => box.value.slice(0, box.selectionStart).split('\n').length;
 
-// The line of the text in which the caret is, as it was read.
 export const lineHere = () => read.lines[lineNow() - 1];
 
-// Shows the numbers of the lines that are seen, with their marks. It asks nothing of the layout, which takes long.
+// Only the lines that are seen have numbers. This asks nothing of the layout, which takes long.
 function showLines() {
   const first = Math.floor(seen.top / seen.line);
   const count = Math.min(lines.length - first, Math.max(LEAST_LINES, Math.ceil(seen.height / seen.line) + 1));
   while (numbers.length < count) numbers.push(byId('orders-lines').appendChild(el('div')));
   for (const node of numbers.splice(Math.max(count, 0))) node.remove();
-  const marks = new Map(bad.map(({ line }) => [line, 'warned']));
-  for (const [line] of foreseen()) marks.set(line, 'warned');
+  const marks = new Map(foreseen().map(([line]) => [line, 'warned']));
   for (const { line, changed } of faults) if (!changed) marks.set(line, 'faulty');
   numbers.forEach((node, index) => {
     const line = first + index + 1;
@@ -90,27 +78,25 @@ function showLines() {
   });
 }
 
-const lineHeight = () => parseFloat(getComputedStyle(box).lineHeight) || seen.line;
-
 function measure() {
-  Object.assign(seen, { top: box.scrollTop, height: box.clientHeight, line: lineHeight() });
+  Object.assign(seen, {
+    top: box.scrollTop, height: box.clientHeight, line: parseFloat(getComputedStyle(box).lineHeight) || seen.line,
+  });
   showLines();
 }
 
 /** @param {number} line */
 export function jumpTo(line) {
   const start = lines.slice(0, line - 1).join('\n').length + (line > 1 ? 1 : 0);
-  select(start, start + faultyText(line).length, line);
+  select(start, start + faultyText(line).length);
 }
 
-/** @type {T.PlaceCaret} */
-export const placeCaret = (place) => select(place, place, splitLines(text().slice(0, place)).length);
-
 /** @type {T.Select} */
-function select(start, end, line) {
+export function select(start, end = start) {
   box.focus();
   box.setSelectionRange(start, end);
-  box.scrollTop = Math.max(0, (line - 1) * lineHeight() - box.clientHeight / 3);
+  measure();
+  box.scrollTop = Math.max(0, (lineNow() - 1) * seen.line - box.clientHeight / 3);
   box.scrollLeft = 0;
 }
 

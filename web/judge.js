@@ -1,20 +1,18 @@
 // Reads a mailing as the program does: what each line says, or its fault (docs/RULES.md, "Reading a mailing").
 
-import { nameFault } from './names.js';
 import { splitLines } from './texts.js';
+import { LINE_FAULTS, refusalWords } from './words.js';
 
 export const MOST_BYTES = 65536;
 export const MOST_NUMBER = 999999999;
 export const LAST_NUMBER = 9999;
-const FAULT = {
-  NoUnit: 1, UnknownOrder: 2, BadNumber: 3, UnknownThing: 4, MissingWord: 5, BadByte: 6, BadAlias: 7, NestedForm: 8,
-  EndAlone: 9, BadDirection: 10, BadName: 11,
-};
+const MOST_SAID = 50000;
+const FAULT = Object.fromEntries(Object.keys(LINE_FAULTS).map((name, index) => [name, index + 1]));
 // What the words after a keyword name. `kind` may be missing, and `units` goes on to the line's end.
 const PARTS = new Map([
   'UNIT number', 'FORM alias', 'END', 'NAME what name', 'GUARD flag', 'ENTER number', 'BOARD number', 'LEAVE',
-  'PROMOTE unit', 'GIVE unit number item', 'PAY unit number', 'TRANSFER unit number', 'SELL number item',
-  'BUY number item', 'TAX', 'RECRUIT number', 'QUIT number', 'STUDY skill', 'TEACH unit units', 'PRODUCE item',
+  'PROMOTE unit', 'GIVE unit amount item', 'PAY unit amount', 'TRANSFER unit amount', 'SELL amount item',
+  'BUY amount item', 'TAX', 'RECRUIT amount', 'QUIT number', 'STUDY skill', 'TEACH unit units', 'PRODUCE item',
   'BUILD kind', 'WORK', 'MOVE way', 'SAIL way',
 ].map((row) => [row.split(' ')[0], row.split(' ').slice(1)]));
 /** @type {Record<string, string[]>} */
@@ -22,21 +20,24 @@ export const WORDS = {
   keyword: [...PARTS.keys()], way: ['NORTH', 'SOUTH', 'EAST', 'WEST'], what: ['UNIT', 'FACTION', 'BUILDING', 'SHIP'],
 };
 const WORD = /([ \t]*)(?:"([^"]*)"?|([^ \t;"]+))/y;
-/** @type {T.Word[]} */
-const NONE = [];
 export const MONTH_LONG = ['MOVE', 'SAIL', 'BUILD', 'TEACH', 'STUDY', 'PRODUCE', 'WORK'];
 export const LAST_COUNTS = ['TAX', 'RECRUIT', 'SELL', 'BUY'];
 
+/** @param {string} pass */
+export const passFault = (pass) => (/^[\x21-\x7e]{1,40}$/.test(pass) ? null : refusalWords('BadPassText'));
+
+/** @param {string} name */
+export const nameFault = (name) => (/^(?! )(?!.* $)[\x20\x21\x23-\x7e]{1,40}$/.test(name) ? null
+  : refusalWords('BadName'));
+
 /** @type {T.Capitals} */
-export const capitals = (word) => (/^[\0-\x7f]*$/.test(word) ? word.toUpperCase()
-  : word.replace(/[a-z]+/g, (letters) => letters.toUpperCase()));
+export const capitals = (word) => word.replace(/[a-z]+/g, (letters) => letters.toUpperCase());
 
 /** @type {T.SlotOf} */
 export const slotOf = (verb) => (MONTH_LONG.includes(verb) ? 'month' : LAST_COUNTS.includes(verb) ? verb : null);
 
 /** @param {string} line */
 export function wordsOf(line) {
-  /** @type {T.Word[]} */
   const words = [];
   WORD.lastIndex = 0;
   for (let found = WORD.exec(line); found; found = WORD.exec(line)) {
@@ -58,18 +59,18 @@ export function numberIn(text, most, least = 1) {
   return number >= least && number <= most ? number : null;
 }
 
-// The lines that were read last, since of a long text little changes between two readings.
-/** @type {{known: T.Known | null, lately: Map<string, T.Said>, now: Map<string, T.Said>}} */
-const cache = { known: null, lately: new Map(), now: new Map() };
+// The lines that were read, since of a long text little changes between two readings.
+/** @type {{known: T.Known | null, said: Map<string, T.Said>}} */
+const cache = { known: null, said: new Map() };
 
 /** @type {T.SaidBy} */
 function saidBy(text) {
-  const said = cache.now.get(text) ?? cache.lately.get(text) ?? sayOf(text);
-  cache.now.set(text, said);
+  const said = cache.said.get(text) ?? sayOf(text);
+  cache.said.set(text, said);
   return said;
 }
 
-/** @type {T.SayOf} */
+/** @type {T.SaidBy} */
 function sayOf(text) {
   if (/[^\t\x20-\x7e]/.test(text)) return { words: [], verb: '', kind: 'bad', fault: FAULT.BadByte };
   const words = wordsOf(text);
@@ -84,7 +85,7 @@ function sayOf(text) {
 
 /** @type {T.ReadMailing} */
 export function readMailing(text, known = null) {
-  Object.assign(cache, { known, lately: known === cache.known ? cache.now : new Map(), now: new Map() });
+  if (known !== cache.known || cache.said.size > MOST_SAID) Object.assign(cache, { known, said: new Map() });
   const reader = new Reader();
   const lines = splitLines(text).map((line, index) => reader.read(line, index + 1));
   return {
@@ -101,16 +102,16 @@ class Reader {
   faction = null;
   /** @type {number | null} */
   unit = null;
-  // The line of the FORM whose block is open, and whether that FORM has a fault.
-  /** @type {number | null} */
+  /** @type {number | null} the line of the FORM whose block is open */
   form = null;
+  // Whether that FORM has a fault.
   skipped = false;
   aliases = new Set();
 
   /** @param {string} text @param {number} line */
   read(text, line) {
     /** @type {T.MailingLine} */
-    const made = { line, text, kind: 'outside', words: NONE, verb: '', unit: null, form: null, fault: 0 };
+    const made = { line, text, kind: 'outside', words: [], verb: '', unit: null, form: null, fault: 0 };
     if (this.over) return made;
     if (!this.inside) {
       if (!begins(text, '#ATLANTIS')) return made;
@@ -120,10 +121,7 @@ class Reader {
     } else if (begins(text, '#END')) {
       this.over = true;
       made.kind = 'end';
-    } else {
-      ({ words: made.words, verb: made.verb, kind: made.kind, fault: made.fault } = saidBy(text));
-      this.readInside(made);
-    }
+    } else this.readInside(Object.assign(made, saidBy(text)));
     return made;
   }
 
@@ -192,9 +190,17 @@ function partFault(word, part) {
   if (part === 'what') return WORDS.what.includes(capitals(word.text)) ? 0 : FAULT.UnknownThing;
   if (part === 'name') return nameFault(nameIn(word)) === null ? 0 : FAULT.BadName;
   if (part === 'item' || part === 'skill' || part === 'kind') {
-    return !known || known[part].has(nameIn(word).toLowerCase()) ? 0 : FAULT.UnknownThing;
+    return known?.[part].has(nameIn(word).toLowerCase()) === false ? FAULT.UnknownThing : 0;
   }
   return numberIn(word.text, MOST_NUMBER) === null ? FAULT.BadNumber : 0;
+}
+
+/** @type {T.AmountAsked} */
+export function amountAsked({ verb, words }) {
+  for (const [part, at] of walk(words, PARTS.get(verb) ?? [])) {
+    if (part === 'amount' || !words[at]) return numberIn(words[at]?.text ?? '', MOST_NUMBER);
+  }
+  return null;
 }
 
 /** @type {T.PartAt} */

@@ -1,13 +1,12 @@
-// Starts the page: the tabs, and the parts. Each part shows what is kept as it starts, so their order doesn't matter.
+// Starts the tabs, and the parts in any order.
 
 import { startArchive } from './archive_panel.js';
-import { byId, on, tell } from './dom.js';
-import { startJoin } from './join_panel.js';
+import { byId, el, on, refill, tell } from './dom.js';
 import { startMap } from './map_panel.js';
 import { startOrderClicks } from './order_clicks.js';
 import { startOrders } from './orders_panel.js';
 import { signIn, startReport } from './report_panel.js';
-import { startSignIn, takeFaction } from './sign_in.js';
+import { startJoin, startSignIn, takeFaction } from './sign_in.js';
 import { lastFaction } from './store.js';
 import { startUnits } from './units_panel.js';
 import { loadWorld } from './world.js';
@@ -26,14 +25,16 @@ function showTab(name) {
   tell('tab');
 }
 
-// Shows a part of the page that the player did not choose by its tab, and takes the focus along.
-/** @type {T.GoTo} */
+// Shows a part that the player did not choose by its tab, and takes the focus along.
+/** @param {string} name */
 function goTo(name) {
   showTab(name);
   byId(`panel-${name}`).querySelector('h2')?.focus();
 }
 
 function startTabs() {
+  refill('tabs', TABS.map((name) => el('button', { role: 'tab', id: `tab-${name}`, 'aria-controls': `panel-${name}` },
+    name[0].toUpperCase() + name.slice(1))));
   TABS.forEach((name, index) => {
     on(`tab-${name}`, 'click', () => showTab(name));
     on(`tab-${name}`, 'keydown', (event) => {
@@ -45,24 +46,19 @@ function startTabs() {
       byId(`tab-${next}`).focus();
     });
   });
+  on(document, 'go', ({ detail }) => goTo(detail));
   const asked = location.hash.slice(1);
   showTab(TABS.includes(asked) ? asked : lastFaction() ? 'units' : 'join');
 }
 
-async function signInAndGo() {
-  const outcome = await signIn();
-  if (outcome.tone === 'good' && !byId('panel-join').hidden) goTo('units');
-  return outcome;
-}
-
-startSignIn(signInAndGo);
+startSignIn(signIn);
 startOrders();
 startReport();
 startMap();
 startArchive();
 startUnits();
-startOrderClicks(goTo);
-startJoin(goTo);
+startOrderClicks();
+startJoin();
 startTabs();
 byId('not-started').remove();
 loadWorld();

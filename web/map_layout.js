@@ -1,10 +1,8 @@
 // Finds a place on the map for each region by walking its exits. Regions whose place is taken, or that no way leads to,
 // begin a part of their own.
 
-/** @type {Record<T.Way, [number, number]>} */
-const STEPS = { north: [0, -1], south: [0, 1], east: [1, 0], west: [-1, 0] };
-/** @type {Record<T.Way, T.Way>} */
-const BACK = { north: 'south', south: 'north', east: 'west', west: 'east' };
+/** @type {Record<T.Way, [number, number, T.Way]>} the step, and the way back */
+const STEPS = { north: [0, -1, 'south'], south: [0, 1, 'north'], east: [1, 0, 'west'], west: [-1, 0, 'east'] };
 const LEAST_WIDTH = 5;
 
 /** @type {T.Gather} */
@@ -18,7 +16,7 @@ export function gather(reports) {
     for (const [way, number] of waysFrom(region)) {
       const there = regions.get(number) ?? { number, seen: null, exits: {} };
       regions.set(number, there);
-      if (there.seen === null) there.exits[BACK[way]] = region.number;
+      if (there.seen === null) there.exits[STEPS[way][2]] = region.number;
     }
   }
   return regions;
@@ -29,9 +27,7 @@ const waysFrom = (region) => /** @type {[T.Way, number][]} */ (Object.entries(re
 
 /** @type {T.LayOut} */
 export function layOut(regions) {
-  /** @type {T.MapPart[]} */
   const parts = [];
-  /** @type {T.Placed} */
   const placed = new Map();
   const all = [...regions.values()]
     .sort((a, b) => Number(a.seen === null) - Number(b.seen === null) || a.number - b.number);
@@ -41,14 +37,12 @@ export function layOut(regions) {
 
 /** @type {T.Walk} */
 function walk(start, regions, placed) {
-  /** @type {T.MapPart} */
   const part = new Map();
   const taken = new Set();
   /** @type {T.Put} */
   const put = (number, x, y) => {
-    const place = { part, x, y };
-    part.set(number, place);
-    placed.set(number, place);
+    part.set(number, { x, y });
+    placed.set(number, { part, x, y });
     taken.add(`${x},${y}`);
   };
   put(start, 0, 0);
@@ -66,7 +60,6 @@ function pack(parts) {
   const boxes = parts.map(boxOf);
   const area = boxes.reduce((sum, box) => sum + (box.width + 1) * (box.height + 1), 0);
   const most = Math.max(LEAST_WIDTH, Math.ceil(Math.sqrt(area)), ...boxes.map(({ width }) => width));
-  /** @type {T.MapPart} */
   const places = new Map();
   const at = { x: 0, y: 0, height: 0, width: 0 };
   for (const box of boxes) {
@@ -81,31 +74,25 @@ function pack(parts) {
 
 /** @type {T.BoxOf} */
 function boxOf(part) {
-  let [left, right, top, bottom] = [0, 0, 0, 0];
-  for (const { x, y } of part.values()) {
-    [left, right, top, bottom] = [Math.min(left, x), Math.max(right, x), Math.min(top, y), Math.max(bottom, y)];
-  }
-  return { part, left, top, width: right - left + 1, height: bottom - top + 1 };
+  const [across, down] = [[...part.values()].map(({ x }) => x), [...part.values()].map(({ y }) => y)];
+  const [left, top] = [Math.min(...across), Math.min(...down)];
+  return { part, left, top, width: Math.max(...across) - left + 1, height: Math.max(...down) - top + 1 };
 }
 
 /** @type {T.SortWays} */
 function sortWays(regions, placed) {
-  /** @type {T.MapWay[]} */
-  const ways = [];
-  /** @type {T.MapWay[]} */
-  const crooked = [];
+  /** @type {{ways: T.MapWay[], crooked: T.MapWay[]}} */
+  const sorted = { ways: [], crooked: [] };
   for (const region of regions.values()) {
     for (const [way, to] of waysFrom(region)) {
-      const isTwice = regions.get(to)?.seen !== null && regions.get(to)?.exits[BACK[way]] === region.number;
+      const [dx, dy, back] = STEPS[way];
+      const isTwice = regions.get(to)?.seen !== null && regions.get(to)?.exits[back] === region.number;
       // A way that is known from both of its ends is listed once.
       if (region.seen === null || (isTwice && way !== 'south' && way !== 'east')) continue;
-      const list = isStraight(placed.get(region.number), way, placed.get(to)) ? ways : crooked;
-      list.push({ from: region.number, way, to });
+      const [here, there] = [placed.get(region.number), placed.get(to)];
+      const isStraight = here && here.part === there?.part && here.x + dx === there.x && here.y + dy === there.y;
+      sorted[isStraight ? 'ways' : 'crooked'].push({ from: region.number, way, to });
     }
   }
-  return { ways, crooked };
+  return sorted;
 }
-
-/** @type {T.IsStraight} */
-const isStraight = (here, way, there) => here !== undefined && here.part === there?.part
-  && here.x + STEPS[way][0] === there.x && here.y + STEPS[way][1] === there.y;

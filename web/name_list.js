@@ -1,11 +1,10 @@
-// The list of names that fit the word being typed, below the text box. Tab leads to it, and no key of the text box has
-// another meaning because of it.
+// The names that fit the word being typed, below the text box. Tab leads to them, and no key of the text box changes.
 
-import { completions } from './complete.js';
+import { completions } from './compose.js';
 import { byId, el, on, refill } from './dom.js';
 import { box, lineHere } from './editor.js';
 import { counted } from './words.js';
-import { theWorld } from './world.js';
+import { reportNow, theWorld } from './world.js';
 
 const list = byId('orders-names');
 /** @type {ReturnType<typeof completions>} */
@@ -14,8 +13,10 @@ let chosen = 0;
 
 const lineStart = () => box.value.lastIndexOf('\n', box.selectionStart - 1) + 1;
 
-/** @type {T.Look} */
-function look(units) {
+const units = () => (reportNow()?.regions ?? []).flatMap((region) => region.units)
+  .map(({ number, name }) => ({ name: String(number), note: name }));
+
+function look() {
   const world = theWorld();
   const isTyped = document.activeElement === box && box.selectionStart === box.selectionEnd;
   const line = isTyped ? lineHere() : null;
@@ -52,12 +53,9 @@ function choose(index) {
 function take(index) {
   const choice = found?.choices[index];
   if (!found || !choice) return;
-  const [start, end] = [lineStart() + found.from, box.selectionStart];
   box.focus();
-  box.setSelectionRange(start, end);
-  if (document.execCommand('insertText', false, choice.text)) return;
-  box.setRangeText(choice.text, start, end, 'end');
-  box.dispatchEvent(new InputEvent('input', { bubbles: true }));
+  box.setSelectionRange(lineStart() + found.from, box.selectionStart);
+  document.execCommand('insertText', false, choice.text);
 }
 
 /** @param {KeyboardEvent} event */
@@ -70,9 +68,8 @@ function byKey(event) {
   event.preventDefault();
 }
 
-/** @type {T.StartNameList} */
-export function startNameList(units) {
-  on(box, 'input click keyup focus', () => look(units));
+export function startNameList() {
+  on(box, 'input click keyup focus', look);
   on(box, 'blur', (event) => {
     if (event.relatedTarget === list) return;
     found = null;

@@ -1,7 +1,7 @@
-// Orders by click: a window for one unit, whose buttons write orders into the text, and a way back.
+// A window for one unit, whose buttons write orders into the text, and a way back.
 
 import { ordersByUnit, unitLine, wordFor, writeOrder } from './compose.js';
-import { button, byId, el, fieldById, on, refill } from './dom.js';
+import { button, byId, el, fieldById, on, refill, tell } from './dom.js';
 import { jumpTo, text } from './editor.js';
 import { MOST_BYTES, MOST_NUMBER, readMailing } from './judge.js';
 import { writeText } from './orders_panel.js';
@@ -11,12 +11,10 @@ import { byteLength } from './texts.js';
 import { counted, numbered } from './words.js';
 import { reportNow, theWorld } from './world.js';
 
-const NO_HEADER = 'The text of your orders has no line #ATLANTIS. Put one at its top first.';
-const TOO_LONG = 'The text of your orders would be too long.';
+const NO_HEADER = 'Your text has no line #ATLANTIS. Put one at its top first.';
+const TOO_LONG = 'Your text would be too long.';
 
 const dialog = /** @type {HTMLDialogElement} */ (byId('click'));
-/** @type {T.GoTo} */
-let goTo = () => {};
 /** @type {{unit: T.Unit, region: T.Region} | null} */
 let chosen = null;
 /** @type {{before: string, after: string}[]} */
@@ -54,20 +52,20 @@ function groups(unit, region) {
   /** @type {T.Go} */
   const go = (verb) => Object.entries(region.exits).map(([way, number]) => {
     const there = world?.region?.find((known) => known.number === number);
-    return one(`${verb} ${way}`, undefined, there ? `${number} ${there.name}, ${there.terrain}` : `region ${number}`);
+    return one(`${verb} ${way}`, there ? `${number} ${there.name}, ${there.terrain}` : `region ${number}`);
   });
   return [
     go('MOVE'), unit.inside ? go('SAIL') : [],
     region.markets.filter(({ stock }) => stock > 0).map(({ item, stock, price: cost }) => one(`BUY ${item}`,
-      () => `BUY ${amount(Math.min(stock, money / cost))} ${wordFor(item)}`, `${stock} at ${cost}`)),
+      `${stock} at ${cost}`, () => `BUY ${amount(Math.min(stock, money / cost))} ${wordFor(item)}`)),
     region.markets.filter(({ item }) => held.has(item)).map(({ item, wanted, pays }) => one(`SELL ${item}`,
-      () => `SELL ${amount(Math.min(wanted, held.get(item) ?? 0))} ${wordFor(item)}`, `${wanted} at ${pays}`)),
-    [...held].filter(to).map(([item, most]) => one(`GIVE ${item}`,
-      () => `GIVE ${to()} ${amount(most)} ${wordFor(item)}`, String(most))),
-    [one('RECRUIT', () => `RECRUIT ${amount(recruits)}`, price > 0 ? `at ${price}` : ''), one('TAX'), one('WORK')],
-    skills.map(({ name, fee }) => one(`STUDY ${name}`, () => `STUDY ${wordFor(name)}`,
-      fee ? `fee ${numbered(fee * unit.men)}` : '')),
-    made.map(({ name }) => one(`PRODUCE ${name}`, () => `PRODUCE ${wordFor(name)}`)),
+      `${wanted} at ${pays}`, () => `SELL ${amount(Math.min(wanted, held.get(item) ?? 0))} ${wordFor(item)}`)),
+    [...held].filter(to).map(([item, most]) => one(`GIVE ${item}`, `${most}`,
+      () => `GIVE ${to()} ${amount(most)} ${wordFor(item)}`)),
+    [one('RECRUIT', price > 0 ? `at ${price}` : '', () => `RECRUIT ${amount(recruits)}`), one('TAX'), one('WORK')],
+    skills.map(({ name, fee }) => one(`STUDY ${name}`, fee ? `fee ${numbered(fee * unit.men)}` : '',
+      () => `STUDY ${wordFor(name)}`)),
+    made.map(({ name }) => one(`PRODUCE ${name}`, '', () => `PRODUCE ${wordFor(name)}`)),
   ];
 }
 
@@ -76,7 +74,7 @@ const amount = (most) => Math.min(
   MOST_NUMBER, Math.max(1, Math.floor(Number(fieldById('click-amount').value) || most)));
 
 /** @type {T.One} */
-const one = (title, order = () => title, note = '') => button(
+const one = (title, note = '', order = () => title) => button(
   note ? `${title} (${note})` : title, () => write(order()));
 
 /** @param {string} order */
@@ -122,17 +120,15 @@ export const regionOrders = (number) => (reportNow()?.regions ?? []).flatMap(({ 
 
 /** @type {T.ShowUnit} */
 export function showUnit(number) {
-  goTo('orders');
+  tell('go', 'orders');
   jumpTo(unitLine(text(), number) ?? text().split('\n').length);
 }
 
-/** @param {T.GoTo} go */
-export function startOrderClicks(go) {
-  goTo = go;
+export function startOrderClicks() {
   on('click-undo', 'click', undo);
   on('click-close', 'click', () => dialog.close());
   on('click-text', 'click', () => {
     dialog.close();
-    if (chosen) showUnit(chosen.unit.number);
+    showUnit(chosenUnit());
   });
 }

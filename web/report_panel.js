@@ -1,24 +1,22 @@
-// The part that fetches a report, keeps it by month, and shows it as text and read.
+// Fetches reports, keeps them by month, and shows them as text and read.
 
-import { answerAt, busy, button, byId, el, fieldById, on, refill, saveFile, tell } from './dom.js';
+import { answerAt, busy, button, byId, el, fieldById, on, paragraph, refill, saveFile, tell } from './dom.js';
 import { fits } from './mailing.js';
-import { parseReport } from './report_parser.js';
 import { showReport } from './report_view.js';
-import { accepted, ask, refusalOf, unreadable } from './requests.js';
+import { ask, refusalOf, unreadable } from './requests.js';
 import { answerSignIn, currentFaction, isRight, rightSign, signedIn } from './sign_in.js';
 import {
   forgetFaction, forgetReport, keepMailings, keepReport, latestMonth, mailingsOf, monthsOf, reportOf,
 } from './store.js';
+import { NONE_KEPT } from './words.js';
 import { readReport } from './world.js';
 
 // Milliseconds between two questions whether a month was closed.
 const PAUSE = 60000;
 const SLOW = 300000;
-const NO_REPORT = 'The server sent something that is not a report of this faction. It is shown below, and not kept.';
-const NONE_KEPT = 'This browser keeps no report of this faction yet. Fetch it with your faction number and pass text.';
-const OTHERS_KEPT = ' does not go with the months that this browser keeps. The moderator may have begun another'
-  + ' campaign, or put back an older month. It is shown below, and not kept yet.';
-const NO_WAY_BACK = 'This cannot be undone.';
+const NO_REPORT = 'The server sent no report of this faction. What it sent is shown below, and not kept.';
+const OTHERS_KEPT = ' does not go with the months that this browser keeps: the moderator may have begun another'
+  + ' campaign, or put back an older month. It is not kept yet.';
 const answer = answerAt('report-answer');
 
 /** @type {{text: string, month: number | null} | null} */
@@ -36,11 +34,11 @@ function mailingOf(faction, report) {
 
 /** @type {T.SettleMailing} */
 function settleMailing(faction, report) {
+  const { month } = report;
   const found = mailingOf(faction, report);
-  if (found === null || found.month !== undefined || report.month === null) return;
-  const settled = { ...found, month: report.month };
+  if (!found || found.month !== undefined || month === null) return;
   keepMailings(faction, mailingsOf(faction).filter((mailing) => mailing.month !== undefined || mailing.at >= found.at)
-    .map((mailing) => (mailing === found ? settled : mailing)));
+    .map((mailing) => (mailing === found ? { ...found, month } : mailing)));
 }
 
 /** @type {T.SignIn} */
@@ -51,16 +49,17 @@ export async function signIn() {
   const { faction } = sign;
   const reply = await ask(`/report/${faction}`, sign);
   if (faction !== currentFaction()) return { tone: 'plain', words: '' };
-  if (!accepted(reply)) return { tone: 'bad', words: refusalOf(reply) };
-  const report = readReport(reply.text);
-  if (report.month === null || report.faction !== faction) {
+  if (!reply.isOk) return { tone: 'bad', words: refusalOf(reply) };
+  const { month, name, ...report } = readReport(reply.text);
+  if (month === null || report.faction !== faction) {
     display(reply.text, null, null);
     return { tone: 'bad', words: reply.text.trim() === '' ? unreadable(reply) : NO_REPORT };
   }
   isRight(sign);
   askedAt = Date.now();
-  take(faction, report.month, reply.text);
-  return { tone: 'good', words: `Signed in: faction ${faction} “${report.name}”, month ${report.month}.` };
+  take(faction, month, reply.text);
+  if (!byId('panel-join').hidden) tell('go', 'units');
+  return { tone: 'good', words: `Signed in: faction ${faction} “${name}”, month ${month}.` };
 }
 
 async function fetchReport() {
@@ -69,13 +68,12 @@ async function fetchReport() {
   if (tone !== 'good') answer(tone, words);
 }
 
-// Asks from time to time whether a month was closed, if the program took the pass text before.
 async function watchMonths() {
   const sign = rightSign();
   if (document.hidden || sign === null || Date.now() - askedAt < PAUSE) return;
   askedAt = Date.now();
   const reply = await ask(`/report/${sign.faction}`, sign);
-  const { month, faction } = parseReport(accepted(reply) ? reply.text : '');
+  const { month, faction } = readReport(reply.isOk ? reply.text : '');
   const latest = latestMonth(sign.faction);
   if (month === null || faction !== sign.faction || faction !== currentFaction() || month <= (latest ?? -1)) return;
   const older = shown !== null && shown.month !== latest ? shown.month : null;
@@ -89,8 +87,8 @@ function take(faction, month, text) {
   const latest = latestMonth(faction) ?? -1;
   const kept = reportOf(faction, month);
   if (kept === text && latest === month) {
-    show(faction, month, month === 0 ? 'Month 0: no month has been closed yet.'
-      : `Month ${month} is still the last one that was closed.`);
+    show(faction, month);
+    answer('plain', `Month ${month} is still the newest.`);
   } else if (kept !== null || latest > month) askToReplace(faction, month, text);
   else keep(faction, month, text);
 }
@@ -122,58 +120,58 @@ function askToReplace(faction, month, text) {
 }
 
 /** @type {T.Show} */
-function show(faction, month, words = '') {
+function show(faction, month) {
   const options = monthsOf(faction).reverse().map((kept) => el('option', { value: kept }, `Month ${kept}`));
-  refill('report-month', options.length > 0 ? options : el('option', { value: '' }, 'none'));
-  fieldById('report-month').disabled = options.length === 0;
-  if (month !== null) fieldById('report-month').value = String(month);
+  refill('report-month', options.length > 0 ? options : el('option', { value: 'null' }, 'none'));
+  fieldById('report-month').value = String(month);
   const text = reportOf(faction, month) ?? '';
   display(text, month, mailingOf(faction, readReport(text)));
-  answer('plain', words);
+  answer('plain');
 }
 
 /** @type {T.Display} */
 function display(text, month, mailing) {
   shown = text === '' ? null : { text, month };
   byId('report-text').textContent = text;
-  byId('report-text').hidden = byId('report-text-title').hidden = byId('report-save').hidden = text === '';
+  for (const id of ['report-text', 'report-text-title', 'report-save']) byId(id).hidden = text === '';
   const report = readReport(text);
-  refill('report-read', text === '' ? el('p', { class: 'note' }, NONE_KEPT)
+  refill('report-read', text === '' ? paragraph('note', NONE_KEPT)
     : report.month === null ? null : showReport(report, mailing));
 }
 
 const showLatest = () => show(currentFaction(), latestMonth(currentFaction()));
 
 function showChosen() {
-  const month = fieldById('report-month').value;
-  if (month !== '') show(currentFaction(), Number(month));
+  const month = Number.parseInt(fieldById('report-month').value, 10);
+  if (month >= 0) show(currentFaction(), month);
 }
 
 function save() {
-  if (!shown) return;
-  saveFile(`faction-${currentFaction() || 'unknown'}-month-${shown.month ?? 'unknown'}.txt`, shown.text, 'text/plain');
+  if (shown) saveFile(`faction-${currentFaction()}-month-${shown.month ?? 'unknown'}.txt`, shown.text, 'text/plain');
 }
 
 function dropMonth() {
   const faction = currentFaction();
   const { month, text } = shown ?? { month: null, text: '' };
-  if (month === null || reportOf(faction, month) !== text) return answer('plain', 'What is shown is not kept.');
-  if (!confirm(`Remove month ${month}? ${NO_WAY_BACK}`)) return undefined;
-  forgetReport(faction, month);
-  tell('kept');
-  showLatest();
-  return answer('plain', `This browser no longer keeps month ${month}.`);
+  if (month === null || reportOf(faction, month) !== text) answer('plain', 'What is shown is not kept.');
+  else if (isSure(`month ${month}`)) {
+    forgetReport(faction, month);
+    tell('kept');
+    showLatest();
+  }
 }
 
 function forgetAll() {
   const faction = currentFaction();
-  if (!faction || !confirm(`Remove all that is kept for faction ${faction}? ${NO_WAY_BACK}`)) return;
+  if (!faction || !isSure(`all that is kept for faction ${faction}`)) return;
   forgetFaction(faction);
   fieldById('remember').checked = false;
   showLatest();
   tell('kept');
-  answer('plain', `This browser keeps nothing of faction ${faction} now.`);
 }
+
+/** @param {string} what */
+const isSure = (what) => confirm(`Remove ${what}? This cannot be undone.`);
 
 export function startReport() {
   on('report-fetch', 'click', () => busy('report-fetch', fetchReport));

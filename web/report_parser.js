@@ -2,13 +2,7 @@
 
 import { splitLines } from './texts.js';
 
-/** @type {T.Region} */
-const NOWHERE = {
-  number: 0, name: '', terrain: '', peasants: 0, money: 0, exits: {}, markets: [], structures: [], units: [],
-};
-
-// The forms of lines: `#part` is a number, `*part` some words, and `"part"` a name in quotes. A line that has no place
-// before the first region, or a second time, is read as `false`.
+// The forms of lines: `#part` is a number, `*part` some words, and `"part"` a name in quotes.
 /** @type {[string, T.ReadLine][]} */
 const FORMS = [
   ['Atlantis report, month #month, faction #faction "name"',
@@ -20,12 +14,11 @@ const FORMS = [
   ['Unit #unit: #starved starved', (report, event) => report.events.push({ line: 0, ...event })],
   ['Region #number "name", *terrain: #peasants peasants, #money money', (report, region) => report.regions.push(
     { ...region, exits: {}, markets: [], structures: [], units: [] })],
-  ['Exits: *list',
-    (_, { list }, region) => region !== NOWHERE && (list === 'none' || readExits(region, list.split(', ')))],
+  ['Exits: *list', (_, { list }, region) => region && (list === 'none' || readExits(region, list.split(', ')))],
   ['Market *item: #stock in stock at #price, #wanted wanted at #pays',
-    (_, market, region) => region !== NOWHERE && region.markets.push(market)],
+    (_, market, region) => region?.markets.push(market)],
   ['Structure #number "name", *kind, #done of #size, owner #owner',
-    (_, structure, region) => region !== NOWHERE && region.structures.push(structure)],
+    (_, structure, region) => region?.structures.push(structure)],
   ['\\* Unit #number "name": #men men, #money money(?<rest>|, .+)', (report, unit, region, forms) => addUnit(
     region, { ...unit, own: true, faction: report.faction ?? 0, factionName: report.name ?? '' }, forms)],
   ['- Unit #number "name" of faction #faction "factionName": #men men(?<rest>|, .+)',
@@ -58,52 +51,46 @@ function readLine(report, line, forms) {
     /** @type {any} */
     const parts = { ...found.groups };
     for (const part of numbers) parts[part] = Number(parts[part]);
-    return read(report, parts, report.regions.at(-1) ?? NOWHERE, forms);
+    return read(report, parts, report.regions.at(-1), forms);
   }
   return false;
 }
 
 /** @type {T.ReadExits} */
-function readExits(region, list) {
-  const ways = list.map((way) => /^(north|south|east|west) (\d+)$/.exec(way));
-  for (const way of ways) if (way) region.exits[/** @type {T.Way} */ (way[1])] = Number(way[2]);
-  return !ways.includes(null);
-}
+const readExits = (region, list) => list.every((text) => {
+  const way = /^(north|south|east|west) (\d+)$/.exec(text);
+  if (way) region.exits[/** @type {T.Way} */ (way[1])] = Number(way[2]);
+  return way;
+});
 
 /** @type {T.AddUnitReport} */
 function addUnit(region, { rest, ...parts }, forms) {
-  if (region === NOWHERE) return false;
   const unit = { ...parts, guard: false, inside: 0, items: [], skills: [], other: [] };
-  region.units.push(unit);
-  if (forms !== null && readRest(unit, rest, forms)) return true;
-  for (const part of rest.split(', ').slice(1)) guessPart(unit, part);
-  return true;
+  if (!forms || !readRest(unit, rest, forms)) for (const part of rest.split(', ').slice(1)) guessPart(unit, part);
+  return region?.units.push(unit);
 }
 
 /** @type {T.RestFormsReport} */
 function restForms({ items, skills }) {
-  const [item, skill, end] = [anyOf(items), anyOf(skills), '(?=, |$)'];
+  const item = `, (\\d+) (${anyOf(items)})(?=, |$)`;
+  const skill = `, (${anyOf(skills)}) (\\d) \\((\\d+)\\)(?=, |$)`;
   return {
-    whole: new RegExp('^(, guard)?(?:, in (\\d+))?'
-      + `((?:, \\d+ (?:${item})${end})*)((?:, (?:${skill}) \\d \\(\\d+\\)${end})*)$`),
-    item: new RegExp(`, (\\d+) (${item})${end}`, 'g'),
-    skill: new RegExp(`, (${skill}) (\\d) \\((\\d+)\\)${end}`, 'g'),
+    whole: new RegExp(`^(?<guard>, guard)?(, in (?<inside>\\d+))?(?<items>(${item})*)(?<skills>(${skill})*)$`),
+    item: new RegExp(item, 'g'), skill: new RegExp(skill, 'g'),
   };
 }
 
 /** @type {T.AnyOf} */
-function anyOf(names) {
-  const list = [...names].sort((one, other) => other.length - one.length);
-  return list.length === 0 ? '(?!)' : list.map((name) => name.replace(/[^\w ]/g, '\\$&')).join('|');
-}
+const anyOf = (names) => [...names].sort((one, other) => other.length - one.length)
+  .map((name) => name.replace(/[^\w ]/g, '\\$&')).join('|') || '(?!)';
 
 /** @type {T.ReadRest} */
 function readRest(unit, rest, { whole, item, skill }) {
-  const found = whole.exec(rest);
+  const found = whole.exec(rest)?.groups;
   if (!found) return false;
-  const [, guard, inside, items, skills] = found;
+  const { guard, inside = 0, items, skills } = found;
   Object.assign(unit, {
-    guard: guard !== undefined, inside: Number(inside ?? 0),
+    guard: guard !== undefined, inside: Number(inside),
     items: [...items.matchAll(item)].map(([, amount, name]) => ({ amount: Number(amount), name })),
     skills: [...skills.matchAll(skill)]
       .map(([, name, level, days]) => ({ name, level: Number(level), days: Number(days) })),

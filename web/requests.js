@@ -7,10 +7,10 @@ import { LOST, refusalWords, statusWords } from './words.js';
 const SILENCE = 30000;
 
 /** @type {T.Ask} */
-export async function ask(path, { method = 'GET', pass, body } = {}) {
+export async function ask(path, { pass, body } = {}) {
   const stop = new AbortController();
   let timer = setTimeout(() => stop.abort(), SILENCE + (body?.length ?? 0));
-  const waitAnew = () => {
+  const heard = () => {
     clearTimeout(timer);
     timer = setTimeout(() => stop.abort(), SILENCE);
   };
@@ -18,18 +18,24 @@ export async function ask(path, { method = 'GET', pass, body } = {}) {
   let lost = 'Unreachable';
   try {
     const reply = await fetch(path, {
-      method, headers: pass === undefined ? {} : { 'Atlantis-Pass': pass }, body, redirect: 'manual', cache: 'no-store',
-      signal: stop.signal,
+      method: body === undefined ? 'GET' : 'POST', headers: pass === undefined ? {} : { 'Atlantis-Pass': pass }, body,
+      redirect: 'manual', cache: 'no-store', signal: stop.signal,
     });
     lost = reply.type === 'opaqueredirect' ? 'Redirect' : 'CutOff';
-    if (lost === 'CutOff') return { status: reply.status, text: await textOf(reply, waitAnew) };
+    if (lost === 'CutOff') return replyOf(reply.status, await textOf(reply, heard));
   } catch {
     if (stop.signal.aborted) lost = 'Timeout';
   } finally {
     clearTimeout(timer);
   }
-  return { status: 0, text: '', lost };
+  return replyOf(0, '', lost);
 }
+
+/** @type {T.ReplyOf} */
+const replyOf = (status, text, lost) => {
+  const json = Object(jsonIn(text));
+  return { status, text, lost, isOk: status === 200, json, error: typeof json.error === 'string' ? json.error : null };
+};
 
 /** @type {T.TextOf} */
 async function textOf(reply, heard) {
@@ -44,32 +50,12 @@ async function textOf(reply, heard) {
 }
 
 /** @param {T.Reply} reply */
-export function jsonOf(reply) {
-  const value = jsonIn(reply.text);
-  return typeof value === 'object' ? value : null;
-}
-
-/** @param {T.Reply} reply */
-export const accepted = (reply) => reply.status === 200;
-
-/** @type {T.ErrorOf} */
-export function errorOf(reply) {
-  const error = jsonOf(reply)?.error;
-  return typeof error === 'string' ? error : null;
-}
-
-/** @param {T.Reply} reply */
-export function refusalOf(reply) {
-  if (reply.lost) return LOST[reply.lost];
-  const error = errorOf(reply);
-  return error === null ? statusWords(reply.status) : refusalWords(error);
-}
+export const refusalOf = ({ lost, error, status }) => (
+  lost ? LOST[lost] : error === null ? statusWords(status) : refusalWords(error));
 
 /** @type {T.IsUnknown} */
-export function isUnknown(reply) {
-  if (reply.lost) return reply.lost !== 'Redirect';
-  return errorOf(reply) === null && [500, 502, 504].includes(reply.status);
-}
+export const isUnknown = ({ lost, error, status }) => (
+  lost ? lost !== 'Redirect' : error === null && [500, 502, 504].includes(status));
 
 /** @param {T.Reply} reply */
 export function unreadable(reply) {

@@ -13,9 +13,9 @@ const get = (key) => held.get(key) ?? attempt(() => localStorage.getItem(PREFIX 
 
 /** @type {T.SetKept} */
 function set(key, value) {
-  held.set(key, value);
+  held.set(key, String(value));
   return attempt(() => {
-    localStorage.setItem(PREFIX + key, value);
+    localStorage.setItem(PREFIX + key, String(value));
     return held.delete(key);
   }, false);
 }
@@ -35,12 +35,12 @@ function keysFrom(start) {
 
 export const lastFaction = () => Number(get('faction'));
 /** @param {number} faction */
-export const keepLastFaction = (faction) => set('faction', String(faction));
+export const keepLastFaction = (faction) => set('faction', faction);
 
 /** @type {T.KeptStore} */
 const kept = (name) => ({
   of: (faction) => get(`${faction}.${name}`),
-  keep: (faction, value) => set(`${faction}.${name}`, String(value)),
+  keep: (faction, value) => set(`${faction}.${name}`, value),
   forget: (faction) => remove(`${faction}.${name}`),
 });
 
@@ -62,26 +62,22 @@ function keptList(name) {
 export const { of: keptPass, keep: keepPass, forget: forgetPass } = kept('pass');
 export const { of: draftOf, keep: keepDraft, forget: forgetDraftText } = kept('draft');
 // The latest month whose report was kept as the draft was begun.
-const { of: draftMonth, keep: keepDraftMonth, forget: forgetDraftMonth } = kept('draft_month');
+const draftMonth = kept('draft_month');
+export const keepDraftMonth = draftMonth.keep;
 // Whether the draft was sent without an answer, so that it may have been taken.
 export const { of: wasUnknown, keep: keepUnknown, forget: forgetUnknown } = kept('unknown');
-// What was replaced, the newest first.
-export const { of: earlierOf, keep: keepEarlier } = /** @type {T.KeptList<T.EarlierText>} */ (keptList('texts'));
-// The oldest first.
-export const { of: mailingsOf, keep: keepMailings } = /** @type {T.KeptList<T.Mailing>} */ (keptList('mailings'));
+/** @type {T.KeptList<T.EarlierText>} what was replaced, the newest first */
+export const { of: earlierOf, keep: keepEarlier } = keptList('texts');
+/** @type {T.KeptList<T.Mailing>} the oldest first */
+export const { of: mailingsOf, keep: keepMailings } = keptList('mailings');
 
-export { keepDraftMonth };
-
-/** @param {number} faction */
-export function draftMonthOf(faction) {
-  const month = draftMonth(faction);
-  return month === null ? null : Number(month);
-}
+/** @type {T.DraftMonthOf} */
+export const draftMonthOf = (faction) => jsonIn(draftMonth.of(faction) ?? '');
 
 /** @param {number} faction */
 export function forgetDraft(faction) {
   forgetDraftText(faction);
-  forgetDraftMonth(faction);
+  draftMonth.forget(faction);
 }
 
 /** @param {number} faction */

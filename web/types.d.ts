@@ -156,17 +156,10 @@ export interface Mark {
   changed: boolean;
 }
 
-/** A part of a text and of another one, by the indexes of lines. */
-export interface Part {
-  from: number;
-  to: number;
-  start: number;
-  end: number;
-}
-
 /**
  * The text with an order for a unit, and the order's line. It takes the place of the order of the same slot that counts
- * for the unit, or else it is the last one below the unit's last UNIT line. Null where the text has no header.
+ * for the unit, whose indent and comment stay, or else it is the last one below the unit's last UNIT line. Null where
+ * the text has no header.
  */
 export type WriteOrder = (
   text: string, faction: number, unit: number, order: string, names?: Known | null,
@@ -183,6 +176,12 @@ export interface Reply {
   status: number;
   text: string;
   lost?: Lost;
+  /** whether the program did what was asked */
+  isOk: boolean;
+  /** the value of a text that is JSON, or an empty object */
+  json: any;
+  /** the name of the program's refusal */
+  error: string | null;
 }
 export type Lost = 'Timeout' | 'Unreachable' | 'CutOff' | 'Redirect';
 
@@ -194,8 +193,6 @@ export type Attributes = Record<string, string | number>;
 export type Make<E> = (tag: string, attributes?: Attributes, ...children: Children) => E;
 /** Takes a text. */
 export type Act = (text: string) => void;
-/** Shows a part of the page by its name. */
-export type GoTo = (name: string) => void;
 
 /** A faction and its pass text. */
 export interface Sign {
@@ -209,9 +206,8 @@ export interface Outcome {
   words: string;
 }
 
-export type Ask = (
-  path: string, request?: { method?: string; pass?: string; body?: string | Uint8Array },
-) => Promise<Reply>;
+/** A request with a body is a POST. */
+export type Ask = (path: string, request?: { pass?: string; body?: string }) => Promise<Reply>;
 export type TakeReport = (faction: number, month: number, text: string) => void;
 
 /** A text that is kept of each faction. `keep` is false where the browser can't. */
@@ -256,12 +252,10 @@ export interface Plan {
  */
 export type Join<E> = (kept: readonly E[], others: readonly E[], most: number) => E[];
 
-/** The outcomes of lines: line, order, tone and words of each. */
-export type Outcomes = [number, Child, string, string][];
 export type NameByNumber = Map<number, string>;
 
-/** Reads the parts of a line, and is false where it has no place. */
-export type ReadLine = (report: Report, parts: any, region: Region, forms: RestForms | null) => unknown;
+/** Reads the parts of a line below a region, and is false where it has no place. */
+export type ReadLine = (report: Report, parts: any, region: Region | undefined, forms: RestForms | null) => unknown;
 
 /** The end of an own unit's line. */
 export interface RestForms {
@@ -359,28 +353,10 @@ export type Offer = (archive: Archive) => void;
 
 export type Take = (archive: Archive, all: boolean) => void;
 
-// ---- functions of complete.js
-
-/**
- * The place of the word that ends at a place of a line, and what it can be: {from, choices}. Without choices it is
- * null. `lists` has the choices by what a word names: item, skill, kind and unit.
- */
-export type Completions = (
-  line: string, at: number, lists: Record<string, Choice[]>,
-) => { from: number; choices: { text: string; name: string; note?: string | undefined }[] } | null;
-
-export type ChoicesOf = (part: string | null, lists: Record<string, Choice[]>) => Choice[];
-
-/** A unit is found by its name too. */
-export type Fits = (choice: Choice, begun: string) => boolean;
-
 // ---- functions of compose.js
 
 /** The word that means a name in an order. */
 export type WordFor = (name: string) => string;
-
-/** The line of an order with another order in its place. Its indent and its comment stay. */
-export type InPlaceOf = (line: MailingLine, order: string) => string;
 
 export type AddUnit = (
   text: string, lines: MailingLine[], unit: number, order: string,
@@ -394,7 +370,17 @@ export type ChangeCompose = (
 export type UnitLine = (text: string, unit: number) => number | null;
 
 /** The orders that count for each unit, by its number, as they are written without their comments. */
-export type OrdersByUnit = (lines: MailingLine[]) => Map<number, { line: number; verb: string; text: string }[]>;
+export type OrdersByUnit = (lines: MailingLine[]) => Map<number | null, { verb: string; text: string }[]>;
+
+/**
+ * The place of the word that ends at a place of a line, and what it can be: {from, choices}. Without choices it is
+ * null. `lists` has the choices by what a word names: item, skill, kind and unit. A unit is found by its name too.
+ */
+export type Completions = (
+  line: string, at: number, lists: Record<string, Choice[]>,
+) => { from: number; choices: { text: string; name: string; note?: string | undefined }[] } | null;
+
+export type ChoicesOf = (part: string, lists: Record<string, Choice[]>) => Choice[];
 
 // ---- functions of dom.js
 
@@ -411,8 +397,18 @@ export type Button = (text: string, act: () => unknown, attributes?: Attributes)
 
 export type Link = (text: string, act: () => unknown) => HTMLElement;
 
+export type Answer = (tone: Tone, ...parts: Children) => void;
+
 /** What shows messages in an element. */
-export type AnswerAt = (id: string) => (tone: Tone, ...parts: Children) => void;
+export type AnswerAt = (id: string) => Answer;
+
+/** A paragraph of a class. */
+export type MakeOf = (kind: string, ...children: Children) => HTMLElement;
+
+/** A list below its title, and nothing where it is empty. */
+export type TitledList = (heading: string, title: string, lines: string[]) => HTMLElement[];
+
+export type ListOf = (items: (Child | Child[])[], attributes?: Attributes) => HTMLElement;
 
 /** Runs the work of a button, once at a time. */
 export type Busy = (id: string, work: () => Promise<unknown>) => Promise<void>;
@@ -445,10 +441,14 @@ export type KeepReplaced = (faction: number, written: string) => void;
 /** Marks the faulty lines of the text that was sent, which may have been edited since. */
 export type SetFaults = (pairs: [number, number][], sent?: string) => void;
 
-/** Puts the caret at a place of the text. */
-export type PlaceCaret = (place: number) => void;
+/**
+ * The lines in which the program will find a fault, and its number, but for the line being typed. Without a world these
+ * are the lines with a letter or sign that can't be in orders.
+ */
+export type Foreseen = () => [number, number][];
 
-export type Select = (start: number, end: number, line: number) => void;
+/** Selects a part of the text, or puts the caret at a place of it. */
+export type Select = (start: number, end?: number) => void;
 
 /** `act` comes after each change of the text, and `look` after the caret went to another line. */
 export type WatchText = (act: () => void, look: () => void) => void;
@@ -471,8 +471,6 @@ export type NumberIn = (text: string, most: number, least?: number) => number | 
 /** What a line says by itself. */
 export type SaidBy = (text: string) => Said;
 
-export type SayOf = (text: string) => Said;
-
 /** Without the names that the world knows no name is an UnknownThing. */
 export type ReadMailing = (text: string, known?: Known | null) => Reading;
 
@@ -480,40 +478,16 @@ export type PartsFault = (words: Word[], parts: string[]) => number;
 
 export type PartFault = (word: Word, part: string) => number;
 
-/** What the word at an index names: a part of PARTS, `keyword`, `alias`, or null where nothing is read. */
-export type PartAt = (words: Word[], index: number) => string | null;
-
-// ---- functions of line_marks.js
-
-/**
- * For each line of the old text, its index in the fresh one, or -1 if it is gone or was changed. Equal lines at the
- * start and the end go together, then lines that are in both texts once, and so on between these.
- */
-export type FollowLines = (old: string[], fresh: string[]) => number[];
-
-/** Places the lines at both ends of the part, and returns the parts that are left to do. */
-export type FollowPart = (old: string[], fresh: string[], whole: Part, places: number[]) => Part[];
-
-/** The place of each line that is once in a part of a text, and -1 for the others. */
-export type LinesOnce = (lines: string[], from: number, to: number) => Map<string, number>;
-
-export type PairsOnce = (mine: Map<string, number>, theirs: Map<string, number>) => number[][];
-
-/** The longest row of pairs that rises in both texts. */
-export type RisingRow = (pairs: number[][]) => number[][];
-
-// ---- functions of mailing.js
-
-/** The lines with a letter or sign that can't be in orders, of a mailing that was read. */
-export type BadLines = (lines: MailingLine[]) => { line: number; signs: string[] }[];
-
 /** The amount that an order asks for, or null where it names none. */
 export type AmountAsked = (order: MailingLine) => number | null;
 
+/** What the word at an index names: a part of PARTS, `keyword`, `alias`, or null where nothing is read. */
+export type PartAt = (words: Word[], index: number) => string | null;
+
+// ---- functions of mailing.js
+
 /** Whether the report may be on this mailing: its faults are the same, and each order that counts has its one event. */
 export type FitsMailing = (mailing: Mailing, report: Report) => boolean;
-
-export type SameOrders = (orders: MailingLine[], events: Event[]) => boolean;
 
 /** The unit that an order was for: in a block the one that its FORM made, or unit 0. */
 export type UnitOf = (order: MailingLine, events: Map<number, Event>) => number;
@@ -521,7 +495,7 @@ export type UnitOf = (order: MailingLine, events: Map<number, Event>) => number;
 export type FitsEvent = (order: MailingLine, events: Map<number, Event>) => boolean;
 
 /** Whether the units that were named are called so. */
-export type SameNames = (orders: MailingLine[], report: Report) => boolean;
+export type SameNames = (orders: MailingLine[], events: Map<number, Event>, report: Report) => boolean;
 
 /** A text to start the next month from: each unit of the report with a comment. */
 export type Template = (report: Report) => string;
@@ -558,8 +532,6 @@ export type BoxOf = (part: MapPart) => { part: MapPart; left: number; top: numbe
 
 export type SortWays = (regions: Regions, placed: Placed) => { ways: MapWay[]; crooked: MapWay[] };
 
-export type IsStraight = (here: PlaceInPart | undefined, way: Way, there: PlaceInPart | undefined) => boolean;
-
 // ---- functions of map_panel.js
 
 export type DrawWay = (from: Place, to: Place) => SVGElement;
@@ -573,19 +545,14 @@ export type ChooseNow = (number: number) => void;
 
 export type Choose = (number: number | null) => void;
 
-export type Details = (region: MapRegion) => HTMLElement;
+export type Details = (region: MapRegion) => Child[];
 
 export type ByKey = (event: KeyboardEvent, region: MapRegion) => void;
 
 // ---- functions of name_list.js
 
-/** `units` gives the units that orders can name. */
-export type Look = (units: () => Choice[]) => void;
-
 /** Puts a name in the place of the word, so that the browser can undo it. */
 export type TakeNameList = (index: number) => void;
-
-export type StartNameList = (units: () => Choice[]) => void;
 
 // ---- functions of order_clicks.js
 
@@ -597,7 +564,7 @@ export type Groups = (unit: Unit, region: Region) => HTMLElement[][];
 
 export type Go = (verb: string) => HTMLElement[];
 
-export type One = (title: string, order?: () => string, note?: string) => HTMLElement;
+export type One = (title: string, note?: string, order?: () => string) => HTMLElement;
 
 /** Buttons for the units in a region, and for those that can come there from the next one. */
 export type RegionOrders = (number: number) => HTMLElement[];
@@ -607,13 +574,15 @@ export type ShowUnit = (number: number) => void;
 
 // ---- functions of orders_notes.js
 
-export type ListNote = (title: string, rows: [number, ...(Node | string)[]][], more?: Child) => HTMLElement;
+/** What is said of a faulty line. */
+export type FaultWords = (line: number, number: number, changed?: boolean) => (Node | string)[];
 
 // ---- functions of orders_panel.js
 
-export type HeardOfTab = (faction: number, name: string) => void;
+/** The texts that can be put into the editor: what was replaced, and then what was accepted last. */
+export type TextsOf = (faction: number) => (EarlierText | Mailing)[];
 
-export type TabNote = (theirs: string | null) => HTMLElement;
+export type HeardOfTab = (faction: number, name: string) => void;
 
 export type OrdersIn = (reply: Reply) => Taken | null;
 
@@ -634,7 +603,7 @@ export type SettleMailing = (faction: number, report: Report) => void;
 /** Asks for the report, shows it, and returns what to say of the faction and its pass text. */
 export type SignIn = () => Promise<Outcome>;
 
-export type Show = (faction: number, month: number | null, words?: string) => void;
+export type Show = (faction: number, month: number | null) => void;
 
 export type Display = (text: string, month: number | null, mailing: Mailing | null) => void;
 
@@ -647,7 +616,9 @@ export type ReadLineReport = (report: Report, line: string, forms: RestForms | n
 
 export type ReadExits = (region: Region, list: string[]) => boolean;
 
-export type AddUnitReport = (region: Region, parts: Unit & {rest: string}, forms: RestForms | null) => boolean;
+export type AddUnitReport = (
+  region: Region | undefined, parts: Unit & {rest: string}, forms: RestForms | null,
+) => unknown;
 
 /** The parts come in the order guard, structure, items, skills. */
 export type RestFormsReport = (names: Names) => RestForms;
@@ -667,12 +638,11 @@ export type ShowReport = (report: Report, mailing: Mailing | null) => HTMLElemen
 
 export type OrdersPart = (report: Report, mailing: Mailing | null) => HTMLElement;
 
-/** The roles stay where the style sheet shows the rows of a table in another way. */
-export type OrdersTable = (rows: Outcomes) => HTMLElement;
+/** A row for each order, and for each line with a fault. */
+export type OutcomesOf = (report: Report, mailing: Mailing | null) => HTMLElement[];
 
-export type MailingRows = (report: Report, mailing: Mailing) => Outcomes;
-
-export type EventRows = (report: Report) => Outcomes;
+/** A line of which only the verb is known. */
+export type BareLine = (line: number, text?: string) => MailingLine;
 
 export type ToneOf = (event: Event, asked: number | null) => "done" | "failed" | "less";
 
@@ -689,16 +659,16 @@ export type UpkeepWords = (region: Region) => string;
 
 export type ExitWords = (exits: Exits, names: NameByNumber) => string;
 
-export type Cards = (title: string, list: string[][]) => HTMLElement | null;
-
 /** A unit that nobody has named is called by its number. */
 export type UnitTitle = (unit: {number: number, name: string}) => string;
+
+export type UnitWords = (unit: Unit) => string;
 
 // ---- functions of requests.js
 
 export type TextOf = (reply: Response, heard: () => void) => Promise<string>;
 
-export type ErrorOf = (reply: Reply) => string | null;
+export type ReplyOf = (status: number, text: string, lost?: Lost) => Reply;
 
 /** Whether the program may have carried out the request, although its own answer didn't come. */
 export type IsUnknown = (reply: Reply) => boolean;
@@ -708,7 +678,8 @@ export type IsUnknown = (reply: Reply) => boolean;
 /** Notes that the program took this pass text. It is kept only now, and only if the player asks for it. */
 export type IsRight = (sign: Sign) => void;
 
-export type SignInAs = (number: number, pass: string) => void;
+/** The faction and the pass text of the fields, if the program took them; or null. */
+export type RightSign = () => Sign | null;
 
 /** The faction and the pass text of the fields, or what to do. */
 export type SignedIn = () => Sign | {fault: string};
@@ -718,12 +689,14 @@ export type StartSignIn = (signIn: () => Promise<Outcome>) => void;
 
 // ---- functions of store.js
 
-export type SetKept = (key: string, value: string) => boolean;
+export type SetKept = (key: string, value: string | number) => boolean;
 
 export type KeptStore = (name: string) => Kept;
 
 /** A list is read once for each text that is kept. It must not be changed. */
 export type KeptListStore = (name: string) => KeptList<any>;
+
+export type DraftMonthOf = (faction: number) => number | null;
 
 export type ReportOf = (faction: number, month?: number | null) => string | null;
 
@@ -739,15 +712,19 @@ export type WatchTabs = (act: (faction: number, name: string) => void) => void;
 /** A line ends at a line feed, and one carriage return right before it is dropped. */
 export type SplitLines = (text: string) => string[];
 
+/**
+ * For each line of the old text, its index in the fresh one, or -1 if it is gone or was changed. Equal lines at the
+ * start and the end go together, and between these the lines of one text, if both have as many of them.
+ */
+export type FollowLines = (old: string[], fresh: string[]) => number[];
+
+/** The indexes of the lines in a part of a text, by what they say. */
+export type LinesByText = (lines: string[], start: number, end: number) => Map<string, number[]>;
+
 // ---- functions of unit_rows.js
 
-export type OwnOf = (units: Unit[]) => Unit[];
-
-/** The own units of a report. */
-export type AllOwn = (report: Report) => Unit[];
-
 /** `orders` has the orders of the month by unit. */
-export type RowsOf = (report: Report, orders: Map<number, {text: string}[]>) => Row[];
+export type RowsOf = (report: Report, orders: Map<number | null, {text: string}[]>) => Row[];
 
 /** The rows in which all words of a search are. */
 export type FindRows = (rows: Row[], search: string, textOf: (row: Row) => string) => Row[];
@@ -791,8 +768,6 @@ export type AddRows = (body: HTMLElement, found: Row[], from?: number) => void;
 
 export type ChangesOfUnits = (before: Report, now: Report) => HTMLElement[];
 
-export type List = (title: string, lines: string[]) => HTMLElement[];
-
 // ---- functions of words.js
 
 /** What an order did. `asked` is the amount that it asked for, or null where it names none. */
@@ -801,7 +776,7 @@ export type DoneWords = (verb: string, number: number, asked?: number | null) =>
 /** Whether the number of an order that was done counts what it brought. */
 export type BringsAmount = (verb: string) => boolean;
 
-export type FaultOf = (table: Record<number, [string, string]>) => (number: number, name?: string) => string;
+export type FaultOf = (table: Record<string, string>) => (number: number, name?: string) => string;
 
 export type Counted = (number: number, one: string, many?: string) => string;
 

@@ -1,9 +1,11 @@
 // The rows of the table of units, what they owe, and what changed since another report.
 
-/** @type {T.OwnOf} */
+import { grouped } from './texts.js';
+
+/** @param {T.Unit[]} units */
 const ownOf = (units) => units.filter((unit) => unit.own);
 
-/** @type {T.AllOwn} */
+/** @param {T.Report} report */
 export const allOwn = (report) => report.regions.flatMap((region) => ownOf(region.units));
 
 /** @type {T.RowsOf} */
@@ -46,16 +48,9 @@ export function upkeepOf(region, maintenance) {
 }
 
 /** @param {T.Unit[]} units */
-function amountsOf(units) {
-  /** @type {Map<string, number>} */
-  const amounts = new Map();
-  for (const { men, money, items } of units) {
-    for (const { name, amount } of [{ name: 'men', amount: men }, { name: 'money', amount: money ?? 0 }, ...items]) {
-      amounts.set(name, (amounts.get(name) ?? 0) + amount);
-    }
-  }
-  return amounts;
-}
+const amountsOf = (units) => new Map([...grouped(units.flatMap(({ men, money, items }) => [
+  { name: 'men', amount: men }, { name: 'money', amount: money ?? 0 }, ...items]), ({ name }) => name)]
+  .map(([name, parts]) => [name, sumOf(parts, ({ amount }) => amount)]));
 
 /** @type {T.ChangesOf} */
 function changesOf(before, now) {

@@ -1,49 +1,42 @@
-// The part with the faction's units: what failed, who may starve, a table of all, and what changed in the month.
+// Shows the faction's units: what failed, who may starve, a table of all, and what changed in the month.
 
 import { ordersByUnit } from './compose.js';
-import { button, byId, el, fieldById, link, on, refill } from './dom.js';
+import { button, byId, el, fieldById, link, listOf, on, paragraph, refill, titledList } from './dom.js';
 import { text } from './editor.js';
 import { readMailing } from './judge.js';
 import { chosenUnit, openOrders, showUnit } from './order_clicks.js';
-import { eventWords, losses, ownerOf, unitTitle, upkeepWords } from './report_view.js';
+import {
+  eventWords, goodsOf, losses, skillsOf, strangerWords, unitTitle, upkeepWords, whereOf,
+} from './report_view.js';
+import { grouped } from './texts.js';
 import { changesBetween, findRows, rowsOf, sortRows, sumOf, upkeepOf } from './unit_rows.js';
-import { counted, numbered } from './words.js';
+import { counted, NONE_KEPT, numbered } from './words.js';
 import { reportNow, theWorld } from './world.js';
 
 const MOST_NEWS = 12;
 const AT_ONCE = 30;
-const NO_UNITS = 'This browser keeps no report with a unit of yours. Fetch the report first.';
 
-/** @param {T.Row} row */
-const goodsOf = ({ unit }) => unit.items.map(({ amount, name }) => `${numbered(amount)} ${name}`).join(', ');
-/** @param {T.Row} row */
-const skillsOf = ({ unit }) => unit.skills.map(({ name, level }) => `${name} ${level}`).join(', ');
 /** @param {T.Event} event */
 const failed = ({ fault, starved }) => fault !== undefined || starved !== undefined;
 /** @param {T.Event} event */
 const cameOf = (event) => (event.starved !== undefined ? `${numbered(event.starved)} starved`
   : `${event.verb}: ${event.fault === undefined ? eventWords(event) : event.name}`);
 
-// A title, what the rows are sorted by, and what a cell shows.
-/** @type {[string, (row: T.Row) => string | number, (row: T.Row) => T.Child | T.Child[]][]} */
+// A title, what the rows are sorted by, and what a cell shows if it is something else.
+/** @type {[string, (row: T.Row) => string | number, ((row: T.Row) => T.Child | T.Child[])?][]} */
 const COLUMNS = [
   ['Unit', ({ unit }) => unit.number, ({ unit }) => link(unitTitle(unit).slice(5), () => openOrders(unit.number))],
-  ['Region', ({ region }) => region.number, ({ region }) => `${region.number} ${region.name}`],
-  ['Men', ({ unit }) => unit.men, ({ unit }) => numbered(unit.men)],
-  ['Money', ({ unit }) => unit.money ?? 0, ({ unit }) => numbered(unit.money ?? 0)],
-  ['Goods', goodsOf, goodsOf],
-  ['Skills', skillsOf, skillsOf],
+  ['Region', ({ region }) => region.number,
+    ({ region, unit }) => [`${region.number} ${region.name}`, ...whereOf(unit)].filter(Boolean).join(', ')],
+  ['Men', ({ unit }) => unit.men],
+  ['Money', ({ unit }) => unit.money ?? 0],
+  ['Goods', ({ unit }) => goodsOf(unit)],
+  ['Skills', ({ unit }) => skillsOf(unit)],
   ['Orders', ({ orders }) => orders.length,
     ({ orders, unit }) => link(orders.join('; ') || 'none', () => showUnit(unit.number))],
   ['Last month', ({ events }) => events.filter(failed).length, ({ events }) => events.flatMap((event, index) => [
     index === 0 ? '' : '; ', failed(event) ? el('strong', {}, cameOf(event)) : cameOf(event)])],
 ];
-/** @type {Record<string, (row: T.Row) => boolean>} */
-const WHICH = {
-  all: () => true,
-  failed: (row) => row.events.some(failed),
-  idle: (row) => !row.orders.some((order) => /^(MOVE|SAIL|BUILD|TEACH|STUDY|PRODUCE|WORK)\b/i.test(order)),
-};
 
 /** @type {T.Row[]} */
 let rows = [];
@@ -53,13 +46,12 @@ let down = false;
 /** @type {T.RowsIn} */
 const rowsIn = (report) => (report ? rowsOf(report, ordersByUnit(readMailing(text(), theWorld()?.known).lines)) : []);
 
-// Draws the whole part anew, if it is seen.
 function showUnits() {
   if (byId('panel-units').hidden) return;
   const [report, before] = [reportNow(), reportNow(1)];
   rows = rowsIn(report);
   byId('units-all').hidden = rows.length === 0;
-  refill('units-news', report ? newsOf(report) : el('p', { class: 'note' }, NO_UNITS));
+  refill('units-news', report ? newsOf(report) : paragraph('note', NONE_KEPT));
   byId('units-changes').hidden = before === null;
   refill('units-changes', report && before ? changesOf(before, report) : []);
   showRows();
@@ -67,17 +59,15 @@ function showUnits() {
 
 /** @type {T.NewsOf} */
 function newsOf(report) {
-  /** @type {Map<string, Set<number>>} */
-  const faults = new Map();
-  for (const event of report.events.filter(({ fault }) => fault !== undefined)) {
-    const words = `${event.verb}: ${eventWords(event)}`;
-    faults.set(words, (faults.get(words) ?? new Set()).add(event.unit));
-  }
-  const news = [...losses(report), ...report.regions.flatMap(shortWords), ...[...faults].map(([words, units]) => `${
-    units.size === 1 ? 'Unit' : 'Units'} ${[...units].join(', ')}: ${words}`)];
+  const faults = grouped(report.events.filter(({ fault }) => fault !== undefined),
+    (event) => `${event.verb}: ${eventWords(event)}`);
+  const news = [...losses(report), ...report.regions.flatMap(shortWords), ...[...faults].map(([words, events]) => {
+    const units = [...new Set(events.map(({ unit }) => unit))];
+    return `${units.length === 1 ? 'Unit' : 'Units'} ${units.join(', ')}: ${words}`;
+  })];
   const more = news.length > MOST_NEWS ? [`.. and ${news.length - MOST_NEWS} more, in the report.`] : [];
   return [el('p', {}, totals()), news.length === 0 ? null
-    : el('ul', { class: 'news' }, [...news.slice(0, MOST_NEWS), ...more].map((words) => el('li', {}, words)))];
+    : listOf([...news.slice(0, MOST_NEWS), ...more], { class: 'news' })];
 }
 
 function totals() {
@@ -97,20 +87,17 @@ function shortWords(region) {
 }
 
 /** @param {T.Row} row */
-const wordsIn = (row) => [row.unit.number, row.unit.name, row.region.number, row.region.name, goodsOf(row),
-  skillsOf(row), ...row.orders, ...row.events.map(cameOf)].join(' ');
+const wordsIn = ({ unit, region, orders, events }) => [unit.number, unit.name, region.number, region.name,
+  ...whereOf(unit), goodsOf(unit), skillsOf(unit), ...orders, ...events.map(cameOf)].join(' ');
 
 function showRows() {
-  const which = WHICH[fieldById('units-which').value];
-  const fitting = findRows(rows.filter(which), fieldById('units-find').value, wordsIn);
-  const found = sortRows(fitting, COLUMNS[sorted][1], down);
+  const found = sortRows(findRows(rows, fieldById('units-find').value, wordsIn), COLUMNS[sorted][1], down);
   byId('units-count').textContent = found.length === rows.length ? ''
     : `${found.length} of ${counted(rows.length, 'unit')}`;
-  const head = COLUMNS.map(([title], index) => el('th', {
-    scope: 'col', 'aria-sort': index !== sorted ? 'none' : down ? 'descending' : 'ascending',
-  }, button(title, () => sortBy(index))));
   const body = el('tbody');
-  refill('units', el('thead', {}, el('tr', {}, head)), body);
+  refill('units', el('thead', {}, el('tr', {}, COLUMNS.map(([title], index) => el('th', {
+    scope: 'col', 'aria-sort': index !== sorted ? 'none' : down ? 'descending' : 'ascending',
+  }, button(title, () => sortBy(index)))))), body);
   addRows(body, found);
 }
 
@@ -121,10 +108,12 @@ function addRows(body, found, from = 0) {
 }
 
 /** @param {T.Row} row */
-const rowOf = (row) => el('tr', { 'data-unit': row.unit.number }, COLUMNS.map(([, , cell], index) => (
-  index === 0 ? el('th', { scope: 'row' }, cell(row)) : el('td', {}, cell(row)))));
+const rowOf = (row) => el('tr', { 'data-unit': row.unit.number }, COLUMNS.map(([, value, cell], index) => {
+  const shown = cell ? cell(row) : value(row);
+  return el(index === 0 ? 'th' : 'td', {}, typeof shown === 'number' ? numbered(shown) : shown);
+}));
 
-// Shows the orders of the unit that was chosen in the table, and gives the focus back to it.
+// The window for a unit was closed: its row shows its orders, and has the focus again.
 function showOrders() {
   const shown = byId('units').querySelector(`[data-unit="${chosenUnit()}"]`);
   if (byId('panel-units').hidden || shown === null) return;
@@ -145,15 +134,12 @@ function sortBy(index) {
 /** @type {T.ChangesOfUnits} */
 function changesOf(before, now) {
   const { faction, regions, units } = changesBetween(before, now);
-  /** @type {T.List} */
-  const list = (title, lines) => [el('h3', {}, title),
-    lines.length === 0 ? el('p', {}, 'No change.') : el('ul', {}, lines.map((line) => el('li', {}, line)))];
   return [el('summary', {}, `What changed since month ${before.month}`),
-    ...list('Your faction', faction.map(changeWords)),
-    ...list('Regions', regions.map(({ region, changes, seen, gone }) => `${region.number} ${region.name}: ${[
-      ...changes.map(changeWords), ...seen.map((unit) => `came: ${unitTitle(unit)} of ${ownerOf(unit)}`),
-      ...gone.map((unit) => `gone: ${unitTitle(unit)} of ${ownerOf(unit)}`)].join('; ')}`)),
-    ...list('Units', units.map((unit) => `${unitTitle(unit)}: ${
+    ...titledList('h3', 'Your faction', faction.map(changeWords)),
+    ...titledList('h3', 'Regions', regions.map(({ region: { number, name }, changes, seen, gone }) => (
+      `${number} ${name}: ${[...changes.map(changeWords), ...seen.map((unit) => `came: ${strangerWords(unit)}`),
+        ...gone.map((unit) => `gone: ${strangerWords(unit)}`)].join('; ')}`))),
+    ...titledList('h3', 'Units', units.map((unit) => `${unitTitle(unit)}: ${
       [...unit.words, ...unit.changes.map(changeWords)].join('; ')}`))];
 }
 
@@ -162,7 +148,7 @@ const changeWords = ({ name, now, change }) => (
   `${change > 0 ? '+' : '\u2212'}${numbered(Math.abs(change))} ${name} (now ${numbered(now)})`);
 
 export function startUnits() {
-  for (const id of ['units-find', 'units-which']) on(id, 'input', showRows);
+  on('units-find', 'input', showRows);
   on(document, 'faction kept imported world tab', showUnits);
   on('click', 'close', showOrders);
 }

@@ -255,8 +255,10 @@ class Cases(PageCases):
     def reading(self):
         text = self.club.report(1, APPLE)
         self.checks.same('the report', text, self.browser.text('#report-text'))
+        self.page.tab('units')
         for number, name, men, money in OWN_UNIT.findall(text):
-            self.read_as(f'unit {number}', 400, number, name, men, money)
+            self.read_as(f'unit {number}', 400, number, name, men, money, part='#units')
+        self.page.tab('report')
         for number, name, terrain, peasants, money, exits in REGION.findall(text):
             self.read_as(f'region {number}', 1000, number, name, terrain, peasants, money, *exits.split(', '))
         for market in MARKET.findall(text):
@@ -270,9 +272,10 @@ class Cases(PageCases):
         self.checks.same('the report once more', text, self.browser.text('#report-text'))
         self.page.shot('5-report')
 
-    def read_as(self, what, most, *parts):
+    def read_as(self, what, most, *parts, part='#report-read'):
         """Some element of the report, of at most so many letters, has all these words and numbers."""
-        texts = self.browser.run('return [...document.querySelectorAll("#report-read *")].map((e) => e.innerText)')
+        texts = self.browser.run('return [...document.querySelectorAll(arguments[0])].map((e) => e.innerText)',
+                                 f'{part} *')
         forms = [re.compile(rf'(?<![\w,]){words_of(part)}(?![\w,]*\d)') for part in parts]
         near = [text for text in texts if len(text) <= most and all(form.search(one_line(text)) for form in forms)]
         self.checks.true(f'the report shows {what}', near, parts, *[one_line(text) for text in texts[:1]])
@@ -553,7 +556,6 @@ class Cases(PageCases):
             '<img src=x onerror=alert(3)>\n<b>x</b> &amp; "\nTAX\n'
         self.page.sign_in(1, SIGNS)
         self.says('the orders', r'\b5 orders\b', self.page.send(mailing))
-        self.checks.same('the text that was accepted', mailing, self.browser.text('#orders-last-text'))
         self.harmless('the orders')
         self.page.shot('13-hostile-orders')
         self.hostile.close(1)
@@ -561,11 +563,15 @@ class Cases(PageCases):
         text = self.hostile.report(1, SIGNS)
         self.checks.same('the report', text, self.browser.text('#report-text'))
         read = self.browser.text('#report-read')
-        for name in [match[1] for match in OWN_UNIT.findall(text)] + [match[1] for match in REGION.findall(text)]:
+        for name in [match[1] for match in REGION.findall(text)]:
             self.checks.true(f'the report shows {name}', name in read, read)
         self.checks.true('the name of the faction is shown', HOSTILE[0] in read, read)
         self.harmless('the report')
         self.page.shot('14-hostile-report')
+        self.page.tab('units')
+        for name in [match[1] for match in OWN_UNIT.findall(text)]:
+            self.checks.true(f'the table shows {name}', name in self.browser.text('#units'))
+        self.harmless('the table of units')
         self.page.tab('map')
         self.browser.click('#map [data-region]')
         self.checks.true('the map shows the region', REGION.search(text)[2] in self.browser.text('#panel-map'))
@@ -594,7 +600,8 @@ class Cases(PageCases):
         self.checks.true(f'{what} ran nothing', not self.browser.has_alert() and not self.browser.run(
             'return (window.ran || []).length'))
         self.checks.same(f'elements made by {what}', 0, self.browser.count(
-            'img, body script, body i, #report-read b, #map b, #orders-lines b, #orders-faults b, #orders-answer b'))
+            'img, body script, body i, #report-read b, #units b, #map b, #orders-lines b, #orders-faults b,'
+            '#orders-answer b'))
 
 
 def words_of(part):

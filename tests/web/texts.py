@@ -144,6 +144,12 @@ class Texts(PageCases):
         self.browser.type('#orders-text', 'x')
         self.checks.same('the answer after an edit', '', self.answer_now())
         self.says('what was accepted last', r'accepted.*1 order', self.browser.shown('#orders-accepted'))
+        self.browser.run('const list = document.querySelector("#orders-earlier-list");'
+                         'list.selectedIndex = list.options.length - 1')
+        self.browser.click('#orders-undo')
+        self.checks.same('the accepted text, brought back', '#ATLANTIS 1\nUNIT 1\nWORK\n',
+                         self.browser.value('#orders-text'))
+        self.browser.type('#orders-text', 'x')
         self.says('the state', 'not sent', self.browser.shown('#orders-state'))
 
     def plain_signs(self) -> None:

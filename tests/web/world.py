@@ -191,15 +191,9 @@ class World(PageCases):
         self.checks.same('found', ['3'], [row[0] for row in self.rows()])
         self.says('how many', '1 of 3 units', self.browser.text('#units-count'))
         self.browser.fill('#units-find', '')
-        self.choose('failed')
-        self.checks.same('what failed', ['1'], [row[0] for row in self.rows()])
-        self.choose('all')
+        self.says('where unit 3 is', 'on guard', rows[2][1])
         self.browser.click('#units thead th:first-child button')
         self.page.shot('22-units')
-
-    def choose(self, which):
-        self.browser.run('const list = document.querySelector("#units-which"); list.value = arguments[0];'
-                         'list.dispatchEvent(new Event("input"))', which)
 
     def jump(self):
         self.write('#ATLANTIS 1\nUNIT 1\nWORK\n\nUNIT 3\nSTUDY mining\n#END\n')

@@ -3,7 +3,7 @@
 import assert from 'node:assert/strict';
 import { test } from 'node:test';
 
-import { completions } from '../../../web/complete.js';
+import { completions } from '../../../web/compose.js';
 
 const LISTS = {
   item: [{ name: 'wood' }, { name: 'wool' }, { name: 'long bow' }], skill: [{ name: 'woodwork' }, { name: 'sailing' }],

@@ -9,7 +9,7 @@ import { worldOf } from '../../../web/world.js';
 
 const KNOWN = { item: new Set(['wood', 'long bow']), skill: new Set(['sailing']), kind: new Set(['boat']) };
 const faultsOf = (text, known = KNOWN) => readMailing(text, known).faults
-  .map(([line, number]) => `${line} ${LINE_FAULTS[number][0]}`);
+  .map(([line, number]) => `${line} ${Object.keys(LINE_FAULTS)[number - 1]}`);
 const faultOf = (line) => faultsOf(`#ATLANTIS 1\nUNIT 1\n${line}`).map((fault) => fault.slice(2))[0] ?? '';
 
 test('the mailings of the rules', () => {

@@ -3,7 +3,7 @@
 import assert from 'node:assert/strict';
 import { test } from 'node:test';
 
-import { followLines } from '../../../web/line_marks.js';
+import { followLines } from '../../../web/texts.js';
 
 const follow = (old, fresh) => followLines([...old], [...fresh]);
 
@@ -20,7 +20,12 @@ test('lines between two changes at once are followed', () => {
   assert.deepEqual(follow('1w2w3w4', 'Xw2w3wY'), [-1, 1, 2, 3, 4, 5, -1]);
 });
 
-test('each line that is followed is equal, and the places rise', () => {
+test('a line that is moved is followed, and of equal lines none is taken for another', () => {
+  assert.deepEqual(follow('abcd', 'bcda'), [3, 0, 1, 2]);
+  assert.deepEqual(follow('awbwc', 'XwbY'), [-1, -1, 2, -1, -1]);
+});
+
+test('each line that is followed is equal, and no two are followed to one place', () => {
   let seed = 7;
   const next = (most) => {
     seed = (seed * 48271) % 2147483647;
@@ -28,12 +33,12 @@ test('each line that is followed is equal, and the places rise', () => {
   };
   for (let round = 0; round < 300; round += 1) {
     const [old, fresh] = [next(12), next(12)].map((length) => Array.from({ length }, () => 'abcdefgh'[next(8)]));
-    let last = -1;
+    const taken = new Set();
     follow(old, fresh).forEach((place, line) => {
       if (place < 0) return;
       assert.equal(fresh[place], old[line]);
-      assert.ok(place > last);
-      last = place;
+      assert.ok(!taken.has(place));
+      taken.add(place);
     });
   }
 });

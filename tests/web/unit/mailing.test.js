@@ -3,10 +3,8 @@
 import assert from 'node:assert/strict';
 import { test } from 'node:test';
 
-import { readMailing, wordsOf } from '../../../web/judge.js';
-import {
-  amountAsked, badLines, firstPlace, fits, plainSigns,
-} from '../../../web/mailing.js';
+import { amountAsked, readMailing, wordsOf } from '../../../web/judge.js';
+import { firstPlace, fits, oddSigns, plainSigns } from '../../../web/mailing.js';
 import { parseReport } from '../../../web/report_parser.js';
 import { byteLength } from '../../../web/texts.js';
 
@@ -51,8 +49,7 @@ test('the number of a faction is from 1 to 9,999', () => {
 test('signs out of a word processor get plain ones', () => {
   assert.equal(plainSigns('NAME\u00a0UNIT \u201cLong\u2026\u201d \u2013 \u2018x\u2019\ufeff'),
     'NAME UNIT "Long..." - \'x\'');
-  assert.deepEqual(badLines(readMailing('caf\u00e9\n#ATLANTIS 1\nNAME UNIT "Caf\u00e9" ; \u00e9\u00df\n').lines),
-    [{ line: 3, signs: ['\u00e9', '\u00df'] }]);
+  assert.deepEqual(oddSigns('NAME UNIT "Caf\u00e9" ; \u00e9\u00df\t\u{1f600}~'), ['\u00e9', '\u00df', '\u{1f600}']);
 });
 
 test('an order asks for an amount', () => {

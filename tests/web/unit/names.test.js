@@ -3,7 +3,7 @@
 import assert from 'node:assert/strict';
 import { test } from 'node:test';
 
-import { nameFault, passFault } from '../../../web/names.js';
+import { nameFault, passFault } from '../../../web/judge.js';
 
 test('a name has 1 to 40 characters of ASCII, no quote, and no space at its ends', () => {
   for (const name of ['A', 'The Grey Havens', "Tom & 'Jerry' <b>", 'x'.repeat(40)]) assert.equal(nameFault(name), null);

@@ -29,7 +29,13 @@ const numbered = (path, title) => rows(path, title)
   .filter(([number, name]) => /^\d+$/.test(number) && /^\w+$/.test(name))
   .map(([number, name]) => [Number(number), name]);
 
-const namesOf = (table) => Object.entries(table).map(([number, [name]]) => [Number(number), name]);
+const namesOf = (table) => Object.keys(table).map((name, index) => [index + 1, name]);
+
+test('each name of a table has words', () => {
+  for (const table of [LINE_FAULTS, EVENT_FAULTS, REFUSALS, STATUSES]) {
+    for (const [name, words] of Object.entries(table)) assert.match(`${name}: ${words}`, /^\w+: [a-z].{15,}\.$/, name);
+  }
+});
 
 // The variants of an enumeration of the program, which are numbered from 1.
 const variants = (path, name) => {
@@ -52,8 +58,6 @@ test('faults of orders', () => {
 
 // What a page that joins, sends and fetches can't get.
 const OF_CLOSING = ['WrongMonth', 'MonthLimit', 'WrongDice'];
-// What is not answered, but may be met as a message of the program to a moderator.
-const NOT_ANSWERED = ['Cut', 'ReadFault', 'WriteFault'];
 
 test('refusals', () => {
   const [, body] = /pub enum Refusal \{\n([^]*?)\n\}/.exec(read('crates/atl_service/src/command.rt'));
@@ -62,7 +66,7 @@ test('refusals', () => {
   const source = read('crates/atl_http/src/problem.rt');
   const problems = [...source.matchAll(/Problem::\w+(?:\(_\))? => "(\w+)"/g)].map(([, name]) => name);
   const answered = [...refusals, ...faults, ...problems].filter((name) => !OF_CLOSING.includes(name));
-  assert.deepEqual(Object.keys(REFUSALS).filter((name) => !NOT_ANSWERED.includes(name)).sort(), answered.sort());
+  assert.deepEqual(Object.keys(REFUSALS).sort(), answered.sort());
   for (const [, name] of numbered('docs/PLAYER.md', 'The answer')) {
     assert.ok(name in REFUSALS || namesOf(LINE_FAULTS).some(([, fault]) => fault === name), name);
   }
@@ -100,5 +104,6 @@ test('orders of which the last one of a unit counts', () => {
 test('forms and examples of orders', () => {
   const wanted = rows('docs/PLAYER.md', 'Orders').flatMap(([forms, example]) => (forms.startsWith('`')
     ? [[forms.replaceAll('`', '').replace('up to', '..'), example.split(',')[0].replaceAll('`', '')]] : []));
-  assert.deepEqual(ORDERS.map(([form, example]) => [form, example]).sort(), wanted.sort());
+  assert.deepEqual(ORDERS.map(([form, example]) => [form, example || form]).sort(), wanted.sort());
+  for (const [form, , does] of ORDERS) assert.match(does, /^\w.{8,}/, form);
 });
