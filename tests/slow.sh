@@ -105,6 +105,18 @@ def sip(client, ended):
         client.recv(4_000)
 
 
+def drip_and_sip(client, ended):
+    """Asks for its 8 MB in 30 seconds, a byte each second, and then takes 40 kB of them each second."""
+    with contextlib.suppress(ConnectionError):
+        client.sendall(b'GET /report/1 HTTP/1.1\r\nHost: club\r\nAtlantis-Pass: pw\r\nX: ')
+        for _ in range(30):
+            time.sleep(1)
+            client.sendall(b'x')
+        client.sendall(b'\r\n\r\n')
+        while not ended.wait(0.1):
+            client.recv(4_000)
+
+
 def mail_slowly(client, ended):
     """Sends the longest mailing in 44 seconds, which is fast enough."""
     head = b'POST /orders/2 HTTP/1.1\r\nHost: club\r\nAtlantis-Pass: pw\r\nContent-Length: %d\r\n\r\n'
@@ -121,6 +133,7 @@ CASES = [
     ('after a client that drips bytes', [drip], 55, 75),
     ('after a client that takes nothing', [take_nothing], 8, 35),
     ('after a client that sips', [sip], 55, 80),
+    ('after a client that drips bytes and then sips', [drip_and_sip], 55, 80),
     ('after four slow clients', [send_nothing, take_nothing, send_nothing, send_nothing], 35, 80),
     ('after a slow mailing', [mail_slowly], 40, 75),
 ]
@@ -154,7 +167,7 @@ def play(name, slow_clients, least, most):
     port = free_port()
     database = f'{DATABASE}.{port}'
     shutil.copy(DATABASE, database)
-    if take_nothing in slow_clients or sip in slow_clients:
+    if {take_nothing, sip, drip_and_sip} & set(slow_clients):
         enlarge_report(database)
     command = [GM, 'serve', '--db', database, '--port', str(port), '--count', str(len(slow_clients) + 1), '--seed', '0']
     with subprocess.Popen(command, stdout=subprocess.PIPE, stderr=subprocess.STDOUT) as server:
