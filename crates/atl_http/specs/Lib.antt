@@ -9,5 +9,6 @@ pub mod Answered
 pub mod Serving
 pub mod Calls
 pub mod Io
+pub mod Patience
 pub mod Listening
 pub mod Finding

@@ -1,6 +1,6 @@
 -- What serving connections one after another leaves of a service, whatever the peers send and take. See
 -- docs/FORMATS.md, "HTTP".
-use Rattle.std.specs.Prelude.{◌≡◌, ◌≢◌, ◌≤◌, ◌<◌, ℕ, zero, suc, Result, Ok, Err}
+use Rattle.std.specs.Prelude.{◌≡◌, ◌≢◌, ◌<◌, ℕ, zero, suc, None, Result, Ok, Err}
 use Rattle.sqlite_trees.specs.declared.store.Store.{Ghosts}
 use Rattle.atl_service.specs.Service.{ServiceValue}
 use Rattle.atl_http.specs.declared.dice.Dice.{Dice}
@@ -10,10 +10,14 @@ use Rattle.atl_http.specs.declared.io.HttpFault.{HttpFault}
 use Rattle.atl_http.specs.declared.io.HttpFault.TheVariants as http
 use Rattle.atl_http.specs.Serving.{IoBytes, Serves}
 
--- One request is served with this result, for some bytes read and written.
+-- the bytes that a socket has left, and those that it holds: no contract knows them
+abbrev pub unknown_bytes : IoBytes
+unknown_bytes = record { left = None; held = None }
+
+-- One request is served with this result, whatever bytes are read and written for it.
 abbrev pub IsServed : {S : Type 0} → Ghosts S → Dice → (old : ServiceValue S)
     → Result ℕ HttpFault → (new : ServiceValue S) → Type 0
-IsServed g dice old outcome new = (before : IoBytes) × (after : IoBytes) × Serves g dice before after old outcome new
+IsServed g dice old outcome new = Serves g dice unknown_bytes unknown_bytes old outcome new
 
 -- One connection's request is served: with Err Memory the service ran out of memory, with Ok it did not. Err Net never
 -- comes.
@@ -29,11 +33,11 @@ ServesInTurn g dice zero old new = new ≡ old
 ServesInTurn {S} g dice (suc count) old new =
     (between : ServiceValue S) × ServesInTurn g dice count old between × ServesConnection g dice between (Ok tt) new
 
--- At most `count` requests are served one after another, fewer if the network fails (Net). If memory runs out for one,
--- it is the last.
+-- With Ok exactly `count` requests are served one after another, and fewer if no connection can be taken (Net). If
+-- memory runs out for one, it is the last of at most `count`.
 abbrev pub ServesEach : {S : Type 0} → Ghosts S → Dice → (count : ℕ) → (old : ServiceValue S)
     → Result (Unit {0}) ListenFault → (new : ServiceValue S) → Type 0
-ServesEach g dice count old (Ok done) new = (served : ℕ) × (served ≤ count) × ServesInTurn g dice served old new
+ServesEach g dice count old (Ok done) new = ServesInTurn g dice count old new
 ServesEach g dice count old (Err Net) new = (served : ℕ) × (served < count) × ServesInTurn g dice served old new
 ServesEach {S} g dice count old (Err Memory) new =
     (served : ℕ) × (served < count) × (between : ServiceValue S)

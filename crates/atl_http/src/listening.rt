@@ -3,8 +3,8 @@ ghost use Rattle.atl_http.specs.Listening.{ServesConnection, ServesEach};
 
 use crate::dice::Dice;
 use crate::io::HttpFault;
-use crate::patience::{Patience, Peer};
-use crate::serving::serve_one;
+use crate::patience::Peer;
+use crate::serving::serve_peer;
 use atl_service::Service;
 use sqlite::Alter;
 use std::alloc::Global;
@@ -12,10 +12,14 @@ use std::io::ErrorKind;
 use std::net::{TcpListener, TcpStream};
 use std::rt::Clock;
 
+/// How many connections in a row may be ended by their peers before one is accepted.
+const MOST_ABORTED: u32 = 1_000_000;
+
 /// Why serving connections stopped early.
 #[derive(Drop, Clone, Copy, Debug, PartialEq, Eq)]
 pub enum ListenFault {
-    /// The system refused to accept a further connection.
+    /// The system refused to accept a further connection, or 1,000,000 in a row were ended by their
+    /// peers before they were accepted.
     Net,
     /// Memory ran out for a request or its reply.
     Memory,
@@ -32,21 +36,32 @@ fn serve_stream<C: Clock, S: Alter>(
 ) -> Result<(), ListenFault>
     ensures { ServesConnection S.Store dice service.old result service.new }
 {
-    let patience = Patience::new(clock);
-    let patience = &patience;
-    let mut reader = Peer { stream, patience };
-    let mut writer = Peer { stream, patience };
-    match serve_one(alloc, &mut reader, &mut writer, service, dice) {
+    let mut peer = Peer::new(stream, clock);
+    match serve_peer(alloc, &mut peer, service, dice) {
         Ok(_) => Ok(()),
         Err(HttpFault::Memory) => Err(ListenFault::Memory),
         Err(HttpFault::Cut | HttpFault::ReadFault | HttpFault::WriteFault) => Ok(()),
     }
 }
 
+/// The next connection of a listener that the system accepts. It passes over connections that their
+/// peers ended before. None if no connection can be accepted, or 1,000,000 in a row were ended so.
+fn next_stream(listener: &TcpListener) -> Option<TcpStream> {
+    for _ in 0..MOST_ABORTED {
+        match listener.accept() {
+            Ok((stream, _)) => return Some(stream),
+            Err(error) if error.kind() == ErrorKind::ConnectionAborted => {}
+            Err(_) => return None,
+        }
+    }
+    None
+}
+
 /// Serves `count` connections of a bound listener, one after another, one request each. A
-/// connection that its peer ends before it is accepted counts, too. Net if no connection can be
-/// accepted; Memory if memory ran out for a request or its reply: the connections before are
-/// served, and no more are accepted. The clock measures how long the service waits for a peer.
+/// connection that the system reports as ended before it was accepted isn't counted. Net if no
+/// connection can be accepted; Memory if memory ran out for a request or its reply: the connections
+/// before are served, and no more are accepted. The clock measures how long the service waits for a
+/// peer.
 pub fn serve_each<C: Clock, S: Alter>(
     alloc: Global,
     clock: &C,
@@ -58,13 +73,12 @@ pub fn serve_each<C: Clock, S: Alter>(
     ensures { ServesEach S.Store dice count service.old result service.new }
 {
     for _ in 0..count {
-        match listener.accept() {
-            Ok((stream, _)) => match serve_stream(alloc, clock, &stream, service, dice) {
-                Ok(()) => {}
-                Err(fault) => return Err(fault),
-            },
-            Err(error) if error.kind() == ErrorKind::ConnectionAborted => {}
-            Err(_) => return Err(ListenFault::Net),
+        let Some(stream) = next_stream(listener) else {
+            return Err(ListenFault::Net);
+        };
+        match serve_stream(alloc, clock, &stream, service, dice) {
+            Ok(()) => {}
+            Err(fault) => return Err(fault),
         }
     }
     Ok(())

@@ -4,6 +4,7 @@ ghost use Rattle.std.specs.FinMap.{len};
 ghost use Rattle.atl_service.specs.Runs.{Runs};
 ghost use Rattle.atl_http.specs.Serving.{command_in, Serves};
 ghost use Rattle.atl_http.specs.Io.{RepliesWith};
+ghost use Rattle.atl_http.specs.Listening.{IsServed};
 ghost use Rattle.atl_http.specs.Calls.{no_reads, no_writes, EndsBy};
 
 use crate::answering::answer_message;
@@ -119,4 +120,30 @@ pub fn serve_one<R: Read, W: Write, S: Alter>(
         service,
         dice,
     )
+}
+
+/// Serves one request of a peer, which is the reader as well as the writer, as `serve_one` does.
+/// Nothing is said of the bytes that are read and written.
+pub fn serve_peer<P: Read + Write, S: Alter>(
+    alloc: Global,
+    peer: &mut P,
+    service: &mut Service<S>,
+    dice: Dice,
+) -> Result<u16, HttpFault>
+    ensures { IsServed S.Store dice service.old result service.new }
+{
+    let mut reads = ReadCalls::none();
+    let mut writes = WriteCalls::none();
+    let mut seen = Vec::new(alloc);
+    let outcome = match receive(alloc, peer, &mut reads, &mut seen) {
+        Ok(outcome) => outcome,
+        Err(fault) => return Err(fault),
+    };
+    let Ok(message) = reply_to(alloc, service, dice, outcome) else {
+        return Err(HttpFault::Memory);
+    };
+    match send(peer, &mut writes, message.bytes.as_bytes()) {
+        Ok(()) => Ok(message.status),
+        Err(fault) => Err(fault),
+    }
 }
