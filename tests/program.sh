@@ -404,16 +404,6 @@ cp "$db" "$work/after"
 [ "$(rows "$work/before")" = "$(rows "$work/after")" ] || fail 'a joining past a limit' 'the rows changed'
 whole "$db"
 
-# A limit on the stack that is below what a command may need ends the program before it has begun anything.
-{ (ulimit -s 160 && exec "$here/gm" --help) >"$out"; } 2>/dev/null
-told=$?
-[ "$told" = 139 ] || fail 'a small stack' "status $told"
-(
-  ulimit -s 512
-  check 'a report with enough stack' 0 "$report" '' report --db "$db" --faction 1 --pass pw
-  exit "$failed"
-) || failed=1
-
 # Ports. One program holds a port until two connections were served; the first shows that it does.
 port=$((20000 + RANDOM % 20000))
 "$here/gm" serve --db "$work/isle.db" --port "$port" --count 2 --seed 0 >"$work/held" 2>&1 &
@@ -457,6 +447,25 @@ check 'the greatest number' 1 '' 'refused: 5 NoFaction' report --db "$db" --fact
 check 'a port past its range' 2 '' - serve --db "$db" --port 65536 --count 0 --seed 0
 check 'a seed past its range' 2 '' - join --db "$db" --name Bree --pass pb --seed 18446744073709551616
 check 'a word that is no text' 2 '' - report --db "$db" --faction 1 --pass $'\377'
+[ "$(head -n 1 "$err")" = 'error: word 7 is not UTF-8' ] || fail 'a word that is no text' "it says $(head -n 1 "$err")"
+check 'a first word that is no text' 2 '' - $'re\200port' --db "$db" --faction 1 --pass $'\377'
+[ "$(head -n 1 "$err")" = 'error: word 1 is not UTF-8' ] || fail 'a first word that is no text' "it says $(head -n 1 "$err")"
+
+# Control characters in the words of a command line are printed as escapes: ESC, CR, LF, BEL, and one of U+0080 to U+009F.
+while IFS='|' read -r first words; do
+  # shellcheck disable=SC2086
+  check "control characters in $first" 2 '' - $(printf "$words")
+  [ "$(head -n 1 "$err")" = "$first" ] || fail "control characters in $first" "$(head -n 1 "$err" | od -c)"
+  ! LC_ALL=C grep -q $'[\001-\011\013-\037\177]\|\302[\200-\237]' "$err" || fail "control characters in $first" 'there are some'
+done <<'END'
+error: unrecognized subcommand 'sa\u{1b}[2Jil'|sa\033[2Jil
+error: unexpected argument '--mo\u{7}re' found|report --mo\007re 1
+error: unexpected argument 'mo\u{9b}re' found|report --db x --faction 1 --pass y mo\302\233re
+error: invalid value '1\u{7f}' for '--faction <N>': invalid digit found in string|report --db x --faction 1\177 --pass y
+END
+check 'the end of a line in a number' 2 '' - report --db x --pass y --faction $'1\r\nfault: Store'
+[ "$(head -n 1 "$err")" = "error: invalid value '1\\r\\nfault: Store' for '--faction <N>': invalid digit found in string" ] ||
+  fail 'the end of a line in a number' "$(head -n 1 "$err" | od -c)"
 for words in help -h --help --version; do
   check "$words" 2 '' - $words </dev/null
 done
