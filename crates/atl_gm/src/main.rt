@@ -26,7 +26,7 @@ use clap::{ArgMatches, Command, Error};
 use std::alloc::{AllocError, Global};
 use std::env::Env;
 use std::process::ExitCode;
-use std::{env, io, str};
+use std::{env, io};
 
 /// The list of all subcommands as nested pairs, in the order in which the help lists them.
 type All = (
@@ -96,15 +96,22 @@ fn escaped_words(alloc: Global, words: &[String]) -> Result<Vec<String>, AllocEr
 /// The most bytes of a word of the command line, by the system's limit.
 const WORD_BYTES: usize = 131_072;
 
-/// Which word of the command line is the first one that is not UTF-8, counted from 1 after the
-/// program's name.
-fn place_of_no_text(rt: &HostRuntime) -> Result<usize, AllocError> {
+/// Whether the command line has a word at this place, and it is UTF-8.
+fn is_text(rt: &HostRuntime, place: usize) -> Result<bool, AllocError> {
     let mut word = vec![in rt.alloc(); 0; WORD_BYTES]?;
+    match rt.arg(place, word.as_mut_slice()) {
+        Ok(length) => {
+            word.truncate(length);
+            Ok(String::from_utf8(word).is_ok())
+        }
+        Err(_) => Ok(false),
+    }
+}
+
+/// The place of the first word that is not UTF-8. The program's name is at 0.
+fn place_of_no_text(rt: &HostRuntime) -> Result<usize, AllocError> {
     for place in 0..usize::MAX {
-        let Ok(length) = rt.arg(place, word.as_mut_slice()) else {
-            return Ok(place);
-        };
-        if str::from_utf8(&word.as_slice()[..length]).is_err() {
+        if !is_text(rt, place)? {
             return Ok(place);
         }
     }

@@ -16,9 +16,6 @@ const RLIMIT_AS: i32 = 9;
 /// The limit that stands for none.
 const NO_LIMIT: u64 = u64::MAX;
 
-/// The number of bytes of a page.
-const PAGE_BYTES: usize = 4_096;
-
 /// The process's limit on a resource; 0 where the system doesn't tell it.
 fn limit_on(resource: i32) -> u64 {
     let mut limit = rlimit {
@@ -38,11 +35,11 @@ fn ask_for_room(alloc: Global) -> Result<(), AllocError> {
     Ok(())
 }
 
-/// Whether the first byte of each page of the buffer is 0.
+/// Whether each byte of the buffer is 0.
 #[inline(never)]
 fn is_clear(room: &[u8]) -> bool {
-    for page in room.chunks(PAGE_BYTES) {
-        if page.first() != Some(&0) {
+    for each in room {
+        if *each != 0 {
             return false;
         }
     }
