@@ -76,7 +76,7 @@ try release python3 tests/release.py "${built[@]}"
 try start 'python3 git xz' tests/start.py
 try package python3 tests/package.py
 try first_hour '' examples/first_hour.sh
-try program sqlite3 tests/program.sh
+try program python3 tests/program.sh
 try limits python3 tests/limits.py
 try large_month python3 tests/large_month.py
 try upgrade sqlite3 tests/upgrade.sh
