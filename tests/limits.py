@@ -240,18 +240,17 @@ class Limits(unittest.TestCase):
 
     def test_small_address_spaces(self) -> None:
         """From small to large: the system can't start the program, its libraries find no room, Memory, the answer."""
-        case = founding("nested tables, then a fault", f"{nested_tables()}b = = c\n", "world: 1 NotToml\n")
-        stages: list[int] = []
-        for limit in range(3_072, 12_289, 16):
-            folder = self.copy_of(case.files)
-            before = contents(folder)
-            told = outcome_of(start(case.words, folder, resource.RLIMIT_AS, limit * KB))
-            stage = stage_of(told, case.wanted, bool(stages) and stages[-1] > 0)
-            self.assertTrue(stage is not None, f"under {limit} kB: {told}")
-            self.assertTrue(stage == 3 or contents(folder) == before, f"under {limit} kB a file changed")
-            stages.append(stage or 0)
-        self.assertEqual(stages, sorted(stages))
-        self.assertEqual({*stages} | {0, 1}, {0, 1, 2, 3})
+        file = make_campaign(self.made, f"{LONG_KEY} = 1\n{SMALL}")
+        case = showing_books("a dotted key in the file", file, Outcome(0, BOOKS, b""))
+        stages: list[int | None] = []
+        for limit in range(3_072, 10_241, 32):
+            with self.subTest(space=f"{limit} kB"):
+                folder = self.copy_of(case.files)
+                told = outcome_of(start(case.words, folder, resource.RLIMIT_AS, limit * KB))
+                stages.append(stage_of(told, case.wanted, any(stages)))
+                self.assertIsNotNone(stages[-1], told)
+                self.assertEqual(contents(folder)["club.db"], file.read_bytes())
+        self.assertEqual((2 in stages, stages[-1]), (True, 3))
 
 
 def stage_of(told: Outcome, wanted: Outcome, has_started: bool) -> int | None:
