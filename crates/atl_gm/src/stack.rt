@@ -4,7 +4,13 @@ use std::alloc::{AllocError, Global};
 
 /// How far the stack may grow, in bytes. A world text that nests tables as deep as TOML allows, and
 /// then has a fault, takes 2.4 MB of them.
-const STACK_BYTES: usize = 2_621_440;
+const STACK_BYTES: usize = STEPS * STEP_BYTES;
+
+/// In how many steps the stack grows so far.
+const STEPS: usize = 10;
+
+/// The number of bytes of a step.
+const STEP_BYTES: usize = 262_144;
 
 /// The least limit on the stack, in bytes. The command line and the environment have a quarter of
 /// it at most.
@@ -46,12 +52,15 @@ fn is_clear(room: &[u8]) -> bool {
     true
 }
 
-/// Has the stack grow as far as a command may need, and returns true. The test of the bytes keeps a
-/// compiler from leaving out the buffer.
+/// Has the stack grow by a number of steps, and returns true. The test of the bytes comes last, so
+/// that a compiler leaves out no buffer, and has all of them at one time.
 #[inline(never)]
-fn grow() -> bool {
-    let room = [0; STACK_BYTES];
-    is_clear(&room)
+fn grow(steps: usize) -> bool {
+    if steps == 0 {
+        return true;
+    }
+    let room = [0; STEP_BYTES];
+    grow(steps - 1) && is_clear(&room)
 }
 
 /// Whether the stack can grow as far as a command may need. Without a limit on the address space,
@@ -61,5 +70,5 @@ pub fn has_room(alloc: Global) -> bool {
     if limit_on(libc::RLIMIT_STACK) < LEAST_LIMIT {
         return false;
     }
-    limit_on(RLIMIT_AS) == NO_LIMIT || (ask_for_room(alloc).is_ok() && grow())
+    limit_on(RLIMIT_AS) == NO_LIMIT || (ask_for_room(alloc).is_ok() && grow(STEPS))
 }
