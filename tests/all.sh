@@ -77,7 +77,6 @@ try start 'python3 git xz' tests/start.py
 try package python3 tests/package.py
 try first_hour '' examples/first_hour.sh
 try program python3 tests/program.sh
-try limits python3 tests/limits.py
 try large_month python3 tests/large_month.py
 try upgrade sqlite3 tests/upgrade.sh
 try pages 'sqlite3 curl' tests/pages.sh
