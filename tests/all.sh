@@ -76,7 +76,8 @@ try release python3 tests/release.py "${built[@]}"
 try start 'python3 git xz' tests/start.py
 try package python3 tests/package.py
 try first_hour '' examples/first_hour.sh
-try program 'sqlite3 python3' tests/program.sh
+try program python3 python3 -B tests/program.py
+try large_month python3 python3 -B tests/large_month.py
 try upgrade sqlite3 tests/upgrade.sh
 try pages 'sqlite3 curl python3' tests/pages.sh
 try links python3 tests/links.py

@@ -1,5 +1,5 @@
-# Shell functions that run a command and compare its output, its errors and its status, in a temporary folder. Sourced by tests/program.sh
-# and upgrade.sh, which have set `here` to the top of the repository.
+# Shell functions that run a command and compare its output, its errors and its status, in a temporary folder. Sourced by tests/upgrade.sh, which has
+# set `here` to the top of the repository.
 work=$(mktemp -d)
 trap 'rm -rf "$work"' EXIT
 cd "$work" || exit 1
